@@ -1,0 +1,3 @@
+mod Examples
+pub mod FilesLemmas
+pub mod Known

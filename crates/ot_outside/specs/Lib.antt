@@ -1,0 +1,7 @@
+-- What the contracts cite.
+pub mod Counts
+pub mod Faults
+pub mod Files
+pub mod MemShelf
+pub mod MemSink
+pub mod Whole

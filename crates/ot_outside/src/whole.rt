@@ -1,0 +1,102 @@
+// A whole file, and all of some bytes.
+ghost use Rattle.std.specs.Prelude.{◌≡◌, ◌<◌, ◌≤◌, ◌↔◌, ℕ, List, [], length, OnOk, OnErr, IsErrOf};
+ghost use Rattle.std.specs.Option.{ForSome};
+ghost use Rattle.std.specs.Io.KnownBytes.{append_known};
+ghost use Rattle.ot_outside.specs.Faults.{Rose};
+ghost use Rattle.ot_outside.specs.Whole.{AppendsFront, IsFront};
+ghost use Rattle.ot_outside.specs.declared.whole.ReadEnd.TheVariants as end;
+
+use crate::{Failed, NoMemory, Shelf, Sink};
+
+/// Why a file was not read to its end.
+#[derive(Clone, Copy, Debug, PartialEq, Eq)]
+pub enum ReadEnd {
+    /// The shelf failed; its count of faults rose.
+    Failed,
+
+    /// The file has more bytes than the limit.
+    TooLong,
+
+    /// The allocator refused memory.
+    NoMemory,
+}
+
+impl From<Failed> for ReadEnd {
+    ghost from_gives = { λ _ e. e ≡ end.Failed };
+
+    fn from(_: Failed) -> ReadEnd {
+        ReadEnd::Failed
+    }
+}
+
+impl From<NoMemory> for ReadEnd {
+    ghost from_gives = { λ _ e. e ≡ end.NoMemory };
+
+    fn from(_: NoMemory) -> ReadEnd {
+        ReadEnd::NoMemory
+    }
+}
+
+// The bytes that one turn of `read_all` asks for.
+const PIECE: usize = 65_536;
+
+/// Reads a file of at most `limit` bytes into `into`.
+///
+/// At `TooLong`, exactly where the file has more bytes, `into` holds its first `limit` bytes. At
+/// `Failed`, only where the shelf's faults rose, and at `NoMemory` it holds a front of the file.
+/// Every turn takes at least one byte, so there are at most `limit + 1` turns.
+pub fn read_all<H: Shelf>(
+    shelf: &mut H,
+    name: &str,
+    limit: usize,
+    into: &mut Vec<u8>,
+) -> Result<(), ReadEnd>
+    requires empty { into.old.items ≡ [] }
+    requires offered { H.offered shelf.old name.now }
+
+    ensures ok { OnOk result (ForSome (H.holds shelf.old name.now) (λ contents. into.new.items ≡ contents)) }
+    ensures front { ForSome (H.holds shelf.old name.now) (IsFront into.new.items) }
+
+    // Whether or not the shelf tells what the name holds.
+    ensures within { length into.new.items ≤ limit }
+
+    ensures holds { (n : List ℕ) → H.holds shelf.new n ≡ H.holds shelf.old n }
+    ensures offered { (n : List ℕ) → H.offered shelf.old n ↔ H.offered shelf.new n }
+    ensures faults { H.faults shelf.old ≤ H.faults shelf.new }
+
+    ensures failed { IsErrOf result ReadEnd.Failed → Rose (H.faults shelf.old) (H.faults shelf.new) }
+    ensures too_long { IsErrOf result ReadEnd.TooLong → ForSome (H.holds shelf.old name.now) (λ contents. limit < length contents) }
+    ensures full { IsErrOf result ReadEnd.TooLong → length into.new.items ≡ limit }
+{
+    shelf.open(name)?;
+    let mut piece = [0u8; PIECE];
+    'turns: loop {
+        let count = shelf.read(&mut piece)?;
+        if count == 0 {
+            return Ok(());
+        }
+        let kept = count.min(limit - into.len());
+        into.extend_from_slice(&piece[..kept])?;
+        if kept < count {
+            return Err(ReadEnd::TooLong);
+        }
+    }
+}
+
+/// Writes all the bytes. After `Failed` a front of them was appended. It takes no memory.
+pub fn write_all<S: Sink>(sink: &mut S, bytes: &[u8]) -> Result<(), Failed>
+    ensures ok { OnOk result (S.written sink.new ≡ append_known (S.written sink.old) bytes.now) }
+    ensures err { OnErr result (AppendsFront (S.written sink.old) bytes.now (S.written sink.new)) }
+    ensures faults { S.faults sink.old ≤ S.faults sink.new }
+
+    ensures failed { OnErr result (Rose (S.faults sink.old) (S.faults sink.new)) }
+{
+    let mut done = 0;
+    while done < bytes.len() {
+        done += sink.write(&bytes[done..])?;
+    }
+    Ok(())
+}
+
+#[cfg(test)]
+mod tests;
