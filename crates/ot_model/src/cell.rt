@@ -1,0 +1,11 @@
+//! Cells, of which documents are made.
+
+/// One character of a document, live or deleted.
+#[derive(Clone, Copy, Debug, PartialEq, Eq)]
+pub struct Cell {
+    /// The character. A deleted cell keeps its own.
+    pub ch: char,
+
+    /// Whether the character is shown. A dead cell is a tombstone.
+    pub live: bool,
+}

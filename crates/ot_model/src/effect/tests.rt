@@ -1,0 +1,81 @@
+use super::*;
+use std::alloc::{AllocError, Global};
+
+fn ins(at: i64) -> Op {
+    Op::Ins {
+        at,
+        ch: 'z',
+        site: 7,
+    }
+}
+
+fn del(at: i64) -> Op {
+    Op::Del { at, site: 7 }
+}
+
+/// The cells of a text in which a capital is a tombstone.
+fn doc_of(alloc: Global, text: &str) -> Result<Doc, AllocError> {
+    let mut doc = Doc::new(alloc);
+    for ch in text.chars() {
+        doc.push(Cell {
+            ch: ch.to_ascii_lowercase(),
+            live: !ch.is_ascii_uppercase(),
+        })?;
+    }
+    Ok(doc)
+}
+
+#[test]
+fn an_operation_is_enabled_at_its_positions(rt: HostRuntime) {
+    for (op, len, want) in [
+        (ins(-1), 2, false),
+        (ins(0), 2, true),
+        (ins(2), 2, true),
+        (ins(3), 2, false),
+        (ins(0), 0, true),
+        (del(-1), 2, false),
+        (del(0), 2, true),
+        (del(1), 2, true),
+        (del(2), 2, false),
+        (del(0), 0, false),
+        (Op::Nop, 0, true),
+    ] {
+        assert_eq!(rt; enabled(&op, len), want, "{op:?} on {len} cells");
+    }
+}
+
+#[test]
+fn a_kind_is_that_of_the_operation(rt: HostRuntime) {
+    assert_eq!(rt; kind(&ins(0)), Some(Kind::Ins));
+    assert_eq!(rt; kind(&del(0)), Some(Kind::Del));
+    assert_eq!(rt; kind(&Op::Nop), None);
+}
+
+#[test]
+fn an_operation_leaves_the_document_of_its_mode(rt: HostRuntime) -> Result<(), AllocError> {
+    for (mode, op, before, result, after) in [
+        (Mode::Plain, ins(1), "ab", Ok(()), "azb"),
+        (Mode::Tomb, ins(0), "Ab", Ok(()), "zAb"),
+        (Mode::Tomb, ins(2), "ab", Ok(()), "abz"),
+        (Mode::Plain, del(1), "abc", Ok(()), "ac"),
+        (Mode::Plain, del(0), "Abc", Ok(()), "bc"),
+        (Mode::Tomb, del(1), "abc", Ok(()), "aBc"),
+        (Mode::Tomb, del(1), "aBc", Ok(()), "aBc"),
+        (Mode::Plain, Op::Nop, "aBc", Ok(()), "aBc"),
+        (Mode::Plain, ins(3), "ab", Err(Apply::NotEnabled), "ab"),
+        (Mode::Tomb, del(2), "ab", Err(Apply::NotEnabled), "ab"),
+        (Mode::Tomb, del(-1), "ab", Err(Apply::NotEnabled), "ab"),
+    ] {
+        let mut doc = doc_of(rt.alloc(), before)?;
+        assert_eq!(rt;
+            apply(mode, &op, &mut doc),
+            result,
+            "{op:?} in {mode:?} on {before}"
+        );
+        assert!(rt;
+            doc.same(&doc_of(rt.alloc(), after)?),
+            "{op:?} in {mode:?} on {before}"
+        );
+    }
+    Ok(())
+}
