@@ -1,0 +1,32 @@
+//! Difference constraints: literals `x <= y + k` over integers with names, and cycles of them.
+//!
+//! A name is a number below the count of names; name 0 stands for zero. A list of literals is seen
+//! as a graph with an edge from `x` to `y` of weight `k` for each literal. A closed walk along the
+//! edges whose weights sum to less than 0 shows that no integers meet its literals.
+//!
+//! The layers above rely on these clauses: `is_negative_cycle` answers by `pick_verdict`, which says
+//! what a list of picks names; `solve` gives values or a negative cycle; `least` gives least values.
+//! `table` has the steps of a closed table of distances, for tables of other crates.
+#![tactic(auto)]
+
+mod adding;
+mod answer;
+mod cycle;
+mod floors;
+mod hop;
+mod lit;
+mod rows;
+mod solved;
+mod solver;
+pub mod table;
+mod theorem;
+
+pub use answer::{answered, negate};
+pub use cycle::is_negative_cycle;
+pub use floors::least;
+pub use hop::Hop;
+pub use lit::{Lit, PickEnd};
+pub use solved::Solved;
+pub use solver::solve;
+pub use std::alloc::AllocError as NoMemory;
+pub use theorem::unsatisfiable_exactly_at_negative_cycles;

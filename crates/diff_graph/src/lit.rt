@@ -1,0 +1,22 @@
+//! Literals.
+
+/// The difference constraint `x <= y + k` over integers that are named by `x` and `y`.
+#[derive(Clone, Copy, Debug, PartialEq, Eq)]
+pub struct Lit {
+    pub x: u8,
+    pub y: u8,
+    pub k: i32,
+}
+
+/// Why picks name no negative cycle, in the order of the tests.
+#[derive(Clone, Copy, Debug, PartialEq, Eq)]
+pub enum PickEnd {
+    /// A pick is not below the number of literals.
+    BadPick,
+
+    /// The literals do not chain into a closed walk, or there is none.
+    NotACycle,
+
+    /// The offsets sum to 0 or more.
+    NotNegative,
+}

@@ -1,0 +1,143 @@
+//! One step of a closed table of distances, row by row. The row of a name keeps what is known from
+//! each name to it. A table of any kind of rows can be kept by these functions.
+ghost use Rattle.std.specs.Prelude.{◌≡◌, ℕ, ◌<◌, ◌≤◌, ◌^◌, ℤ, pos, negsuc, ◌≤ℤ◌, ◌++◌, length, slice_index_or, Option, Some, None, IfOk, OnOk};
+ghost use Rattle.diff_graph.specs.Tables.{IsNamed, IsSmall};
+ghost use Rattle.diff_graph.specs.Steps.{way_of, joined, lower_of, leaves_room, keeps, numbers_along, IsModest};
+
+use crate::NoMemory;
+use crate::hop::Hop;
+use crate::lit::Lit;
+
+/// Whether a literal of offset `k` leaves room for what is kept from its second name to its first.
+pub fn leaves_room(back: Option<Hop>, k: i32) -> bool
+    requires modest { IsModest 1000000 back }
+    requires low { negsuc 1000 ≤ℤ k }
+    requires high { k ≤ℤ pos 1001 }
+    ensures { result ≡ leaves_room back k }
+{
+    match back {
+        None => true,
+        Some(back) => 0 <= back.k + k,
+    }
+}
+
+/// Whether a literal of offset `k` follows from what is kept from its first name to its second.
+pub fn keeps(hop: Option<Hop>, k: i32) -> bool
+    ensures { result ≡ keeps hop k }
+{
+    match hop {
+        None => false,
+        Some(hop) => hop.k <= k,
+    }
+}
+
+/// Turns the row of a literal's first name into the ways from each name along the literal.
+pub fn begin_ways(ways: &mut [Option<Hop>], lit: Lit, number: u32)
+    requires few { length ways.old ≤ 255 }
+    requires small { IsSmall lit }
+    requires modest { (x : ℕ) → x < length ways.old → IsModest 1000000 (slice_index_or ways.old x None) }
+    ensures len { length ways.new ≡ length ways.old }
+    ensures ways { (x : ℕ) → x < length ways.old
+        → slice_index_or ways.new x None ≡ way_of number lit x (slice_index_or ways.old x None) }
+    ensures modest { (x : ℕ) → x < length ways.old → IsModest 2000000 (slice_index_or ways.new x None) }
+{
+    for x in 0..ways.len() {
+        ways[x] = way(ways[x], lit, number, x as u8);
+    }
+}
+
+/// The way from `x` along a chain to the literal's first name, and along the literal.
+fn way(front: Option<Hop>, lit: Lit, number: u32, x: u8) -> Option<Hop>
+    requires small { IsSmall lit }
+    requires modest { IsModest 1000000 front }
+    ensures { result ≡ way_of number lit x front }
+{
+    match front {
+        None => None,
+        Some(front) => Some(if x == lit.x {
+            Hop {
+                k: front.k + lit.k,
+                number,
+                second: lit.y,
+            }
+        } else {
+            Hop {
+                k: front.k + lit.k,
+                number: front.number,
+                second: front.second,
+            }
+        }),
+    }
+}
+
+/// Lowers the row of a name by the ways to the literal's second name, each gone on by `rest`, which
+/// is what is kept from there to the row's name.
+pub fn lower_row(row: &mut [Option<Hop>], ways: &[Option<Hop>], rest: Hop)
+    requires same_length { length ways.now ≡ length row.old }
+    requires modest_ways { (x : ℕ) → x < length ways.now → IsModest 2000000 (slice_index_or ways.now x None) }
+    requires modest_rest { IsModest 1000000 (Some rest) }
+    ensures len { length row.new ≡ length row.old }
+    ensures lowered { (x : ℕ) → x < length row.old
+        → slice_index_or row.new x None
+        ≡ lower_of (slice_index_or row.old x None) (joined (slice_index_or ways.now x None) (Some rest)) }
+{
+    for x in 0..row.len() {
+        row[x] = lower(row[x], ways[x], rest);
+    }
+}
+
+/// The lower of what is kept and the way gone on by `rest`; what is kept where both are equal.
+fn lower(old: Option<Hop>, way: Option<Hop>, rest: Hop) -> Option<Hop>
+    requires modest_way { IsModest 2000000 way }
+    requires modest_rest { IsModest 1000000 (Some rest) }
+    ensures { result ≡ lower_of old (joined way (Some rest)) }
+{
+    let Some(way) = way else {
+        return old;
+    };
+    let new = Hop {
+        k: way.k + rest.k,
+        number: way.number,
+        second: way.second,
+    };
+    match old {
+        None => Some(new),
+        Some(old) => Some(if new.k < old.k { new } else { old }),
+    }
+}
+
+/// Puts at the end of `picks` the numbers of the literals on the chain from one name to another,
+/// whose row it is given.
+pub fn push_chain(
+    picks: &mut Vec<u32>,
+    row: &[Option<Hop>],
+    from: u8,
+    to: u8,
+) -> Result<(), NoMemory>
+    ensures { OnOk result (picks.new.items ≡ picks.old.items
+        ++ numbers_along (λ x. slice_index_or row.now x None) (length row.now) from to) }
+{
+    let mut name = from;
+    for _step in 0..row.len() {
+        if name == to {
+            return Ok(());
+        }
+        let Some(hop) = hop_at(row, name) else {
+            return Ok(());
+        };
+        picks.push(hop.number)?;
+        name = hop.second;
+    }
+    Ok(())
+}
+
+/// What the row keeps for a name, if it is that long.
+fn hop_at(row: &[Option<Hop>], x: u8) -> Option<Hop>
+    ensures { result ≡ slice_index_or row.now x None }
+{
+    if (x as usize) < row.len() {
+        row[x as usize]
+    } else {
+        None
+    }
+}
