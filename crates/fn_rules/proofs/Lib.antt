@@ -1,0 +1,4 @@
+pub mod Blocks
+pub mod LimitsKept
+pub mod Forms
+mod Examples

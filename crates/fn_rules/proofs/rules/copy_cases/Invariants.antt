@@ -1,0 +1,6 @@
+use Rattle.std.proofs.Common.{◌≡◌, map, take}
+use Rattle.fn_rules.specs.Functions.{case_of}
+use Rattle.fn_rules.proofs.rules.copy_cases.Given as goal
+
+abbrev pub invariant-loop-case : goal.invariant-loop-case
+invariant-loop-case l = map case_of l.copy.items ≡ map case_of (take l.case-index l.cases)

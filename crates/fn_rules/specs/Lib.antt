@@ -1,0 +1,13 @@
+pub mod Formulas
+pub mod Functions
+pub mod Validity
+pub mod Building
+pub mod Rules
+pub mod Transformation
+pub mod Conditions
+pub mod Shipped
+pub mod Properties
+pub mod Orders
+pub mod Obligations
+pub use Rattle.ot_model.specs.Cells
+pub use Rattle.ot_model.specs.Effect

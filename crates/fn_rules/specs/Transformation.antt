@@ -1,0 +1,47 @@
+-- What an operation becomes when another one, made on the same document, was executed before it.
+use Rattle.std.specs.Prelude.{◌≡◌, ◌≢◌, ℕ, ℤ, ◌+ℤ◌, true, if◌then◌else◌, List, [], ◌∷◌, Option, Some, None}
+use Rattle.ot_model.specs.declared.op.Op.{Op}
+use Rattle.ot_model.specs.declared.op.Op.TheVariants.{Ins, Del, Nop}
+use Rattle.ot_model.specs.declared.op.Kind.{Kind}
+use Rattle.ot_model.specs.Effect.{kind_of}
+use Rattle.fn_rules.specs.declared.function.Res.{Res}
+use Rattle.fn_rules.specs.declared.function.Res.TheVariants as results
+use Rattle.fn_rules.specs.Formulas.{at_of, site_of, char_of, of_side, holds_of}
+use Rattle.fn_rules.specs.Functions.{Function, GuardedCase, cases_of}
+
+-- the same operation at another position
+abbrev pub placed : Op → ℤ → Op
+placed (Ins at ch site) to = Ins to ch site
+placed (Del at site) to = Del to site
+placed Nop to = Nop
+
+-- what a result makes of the first operation
+abbrev pub result_of : Res → Op → Op → Op
+result_of (results.Keep base k) a b = placed a (at_of (of_side base a b) +ℤ k)
+result_of results.Nop a b = Nop
+
+-- the result of the first case whose guard is true, or none where no guard is
+abbrev pub first_result : List GuardedCase → Op → Op → Option Op
+first_result [] a b = None
+first_result (c ∷ cs) a b = if holds_of c.guard a b then Some (result_of c.res a b) else first_result cs a b
+
+-- by the kinds of the two operations, which nop has not: nop stays nop, and nop changes no other
+abbrev pub transform_by_kinds : Function → Op → Op → Option Kind → Option Kind → Option Op
+transform_by_kinds f a b None other = Some Nop
+transform_by_kinds f a b (Some k) None = Some a
+transform_by_kinds f a b (Some k) (Some l) = first_result (cases_of f k l) a b
+
+-- the first operation, transformed against the second; none where no guard is true
+abbrev pub transform_of : Function → Op → Op → Option Op
+transform_of f a b = transform_by_kinds f a b (kind_of a) (kind_of b)
+
+-- the two are there and equal in no case
+abbrev pub Differ : Option ℕ → Option ℕ → Type 0
+Differ None other = Unit {0}
+Differ (Some x) None = Unit {0}
+Differ (Some x) (Some y) = x ≢ y
+
+-- the two operations differ in what the function assumes to differ
+pub record IsAllowed (f : Function) (a b : Op) : Type 0 where
+  pub sites : f.head.sites_differ ≡ true → Differ (site_of a) (site_of b)
+  pub chars : f.head.chars_differ ≡ true → Differ (char_of a) (char_of b)

@@ -1,0 +1,34 @@
+//! Transformation functions as guarded cases, what one transformation gives, and the two properties.
+//!
+//! A function has a head (its mode, its kinds and what it assumes) and, for each ordered pair of its
+//! kinds, a list of cases. A case is a guard and a result. The first case whose guard is true at two
+//! operations says what the first of them becomes when the second was executed before it.
+//!
+//! The layers above rely on the definitions `transform_of`, `IsAllowed`, `HasTp1` and `HasTp2`.
+#![tactic(auto)]
+
+mod function;
+mod guard;
+mod laws;
+mod limits;
+mod obligation;
+mod rules;
+mod transformation;
+mod truth;
+
+pub use function::{Block, Case, Head, Level, ObName, Res};
+pub use guard::{Atom, Cmp, Guard, Side, Sort, Tightness};
+pub use laws::{
+    allowed_is_symmetric, cases_are_valid, characters_are_compared_where_they_are,
+    nop_changes_nothing, nop_stays_nop, transform_keeps_all_but_the_position,
+    transform_keeps_allowed, transform_stays_near,
+};
+pub use limits::{MAX_ATOMS, MAX_CASES, MAX_NESTING, MAX_OFFSET};
+pub use obligation::obligations;
+pub use rules::{Rules, is_within_limits};
+pub use std::alloc::AllocError as NoMemory;
+pub use transformation::{allowed, transform};
+pub use truth::holds;
+
+#[cfg(test)]
+mod tests;
