@@ -1,0 +1,9 @@
+pub mod Lexing
+pub mod Offsets
+pub mod LexesBack
+pub mod Lines
+pub mod PrintExamples
+pub mod Fitting
+pub mod Only
+pub mod OnlyCases
+pub mod OnlyBlocks

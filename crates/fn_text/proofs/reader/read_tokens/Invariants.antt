@@ -1,0 +1,8 @@
+use Rattle.std.proofs.Common.{◌≡◌, drop}
+use Rattle.fn_text.specs.Reader.{read_from, first_state}
+use Rattle.fn_text.specs.Made.{to_formulas, state_of}
+use Rattle.fn_text.proofs.reader.read_tokens.Given as goal
+
+abbrev pub invariant-loop-at : goal.invariant-loop-at
+invariant-loop-at l =
+    read_from to_formulas (state_of l.reader) (drop l.at-index l.tokens) ≡ read_from to_formulas (first_state to_formulas) l.tokens

@@ -1,0 +1,15 @@
+pub mod Tokens
+pub mod Print
+pub mod Offsets
+pub mod Controls
+pub mod LineMoves
+pub mod GuardMoves
+pub mod Moves
+pub mod Faults
+pub mod Reader
+pub mod Made
+pub mod Reading
+pub mod Grammar
+pub use Rattle.fn_rules.specs.Formulas
+pub use Rattle.fn_rules.specs.Functions
+pub use Rattle.fn_rules.specs.Rules

@@ -1,0 +1,33 @@
+//! Why reading stops.
+
+ghost use Rattle.std.specs.Prelude.{◌≡◌};
+ghost use Rattle.fn_text.specs.declared.stop.ReadError.TheVariants.{NoMemory};
+
+use crate::fault::TextFault;
+use std::alloc::{AllocError, AllocFailed};
+
+/// Why reading stopped.
+#[derive(Clone, Copy, Debug)]
+pub(crate) enum ReadError {
+    /// A token cannot go on.
+    Fault(TextFault),
+
+    /// Memory ran out.
+    NoMemory,
+}
+
+impl From<AllocError> for ReadError {
+    ghost from_gives = { λ _ e. e ≡ NoMemory };
+
+    fn from(_error: AllocError) -> ReadError {
+        ReadError::NoMemory
+    }
+}
+
+impl<T: Drop> From<AllocFailed<T>> for ReadError {
+    ghost from_gives = { λ _ e. e ≡ NoMemory };
+
+    fn from(_failed: AllocFailed<T>) -> ReadError {
+        ReadError::NoMemory
+    }
+}
