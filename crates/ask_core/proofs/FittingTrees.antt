@@ -1,0 +1,64 @@
+-- A plan with a fitting tree holds at every valuation that meets the answers.
+use Rattle.std.proofs.Common.{◌≡◌, ℕ, ℤ, true, false, List, [], ◌∷◌, ◌++◌, arith, inl, inr, refl, Ok}
+use Rattle.std.proofs.lemmas.Bool.{cases_Bool}
+use Rattle.std.proofs.lemmas.Int.{ints}
+use Rattle.diff_graph.specs.declared.lit.Lit.{Lit}
+use Rattle.diff_graph.specs.Literals.{Meets, AreMet, is_met, negated}
+use Rattle.diff_graph.specs.Cycles.{pick_verdict}
+use Rattle.diff_graph.proofs.Walks.{no_values_on_picks}
+use Rattle.ask_core.specs.declared.tree.Tok.{Tok}
+use Rattle.ask_core.specs.Plans.{Plan, Ask, Holds, Fails, value}
+use Rattle.ask_core.specs.Trees.{AnswerTree, Question, End, Impossible, Fits, Branch, Completes, HoldsAt, with_answer}
+
+-- a valuation that meets the answers and one more literal meets both together
+AreMet-push : (v : ℕ → ℤ) (w : List Lit) (l : Lit) → AreMet v w → Meets v l → AreMet v (w ++ l ∷ [])
+AreMet-push v [] l met last = (last, tt)
+AreMet-push v (x ∷ w) l met last = (met.0, AreMet-push v w l met.1 last)
+
+-- what the test of a literal tells
+Meets-is_met : (v : ℕ → ℤ) (l : Lit) → is_met v l ≡ true → Meets v l
+Meets-is_met v l passed = grind (arith, ints)
+
+Meets-negated : (v : ℕ → ℤ) (l : Lit) → is_met v l ≡ false → Meets v (negated l)
+Meets-negated v l failed = grind (arith, ints)
+
+-- a question holds where both its parts do: the valuation leads to one of them, and meets its answer
+pub HoldsAt-question :
+    {W : Type 0} (v : ℕ → ℤ) (l : Lit) (on_yes on_no : Plan W) (w : List Lit)
+    → HoldsAt v (record { plan = on_yes; answers = with_answer w l true })
+    → HoldsAt v (record { plan = on_no; answers = with_answer w l false })
+    → HoldsAt v (record { plan = Ask l on_yes on_no; answers = w })
+HoldsAt-question v l on_yes on_no w at_yes at_no met =
+    elim (cases_Bool (is_met v l)) [
+      | inl passed ↦ rw passed (at_yes (AreMet-push v w l met (Meets-is_met v l passed)))
+      | inr failed ↦ rw failed (at_no (AreMet-push v w (negated l) met (Meets-negated v l failed)))
+    ]
+
+-- a negative cycle among the answers leaves nothing to hold
+pub HoldsAt-cycle :
+    {W : Type 0} (v : ℕ → ℤ) (p : Plan W) (w : List Lit) (picks : List ℕ)
+    → pick_verdict w picks ≡ Ok tt → HoldsAt v (record { plan = p; answers = w })
+HoldsAt-cycle v p w picks ok met = absurd (no_values_on_picks v w picks ok met)
+
+-- so a fitting tree shows, part by part, that its plan holds
+pub fitting_tree_holds :
+    {W : Type 0} (t : AnswerTree) (p : Plan W) (w : List Lit) (v : ℕ → ℤ)
+    → AreMet v w → Fits t p w → value p v ≡ true
+fitting_tree_holds (Question t u) (Ask l on_yes on_no) w v met fits =
+    HoldsAt-question v l on_yes on_no w
+    (λ met_yes. fitting_tree_holds t on_yes (with_answer w l true) v met_yes fits.0)
+    (λ met_no. fitting_tree_holds u on_no (with_answer w l false) v met_no fits.1)
+    met
+fitting_tree_holds (Question t u) Holds w v met fits = absurd fits
+fitting_tree_holds (Question t u) (Fails why) w v met fits = absurd fits
+fitting_tree_holds End (Ask l on_yes on_no) w v met fits = absurd fits
+fitting_tree_holds End Holds w v met fits = refl
+fitting_tree_holds End (Fails why) w v met fits = absurd fits
+fitting_tree_holds (Impossible picks) p w v met fits = HoldsAt-cycle v p w picks fits.2 met
+
+-- tokens that complete one branch are those of a fitting tree
+pub completed_branch_holds :
+    {W : Type 0} (tokens : List Tok) (b : Branch W) (v : ℕ → ℤ)
+    → AreMet v b.answers → Completes tokens (b ∷ []) → value b.plan v ≡ true
+completed_branch_holds tokens b v met (t, rest, fits, same, done) =
+    fitting_tree_holds t b.plan b.answers v met fits

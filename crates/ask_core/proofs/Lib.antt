@@ -1,0 +1,4 @@
+pub mod AskerLemmas
+pub mod FittingTrees
+pub mod PathLemmas
+mod Examples

@@ -1,0 +1,107 @@
+//! An asker over two names, called as generic code calls it.
+ghost use Rattle.std.specs.Prelude.{IfOk};
+ghost use Rattle.ask_core.specs.Askers.{Begins};
+
+use super::*;
+use crate::{Picks, Tok, Tree, fitting_trees_hold};
+use diff_graph::Lit;
+use std::test::Fail;
+
+#[derive(Clone, Copy, Debug, PartialEq, Eq)]
+enum Place {
+    First,
+    Second,
+    Kept,
+    Broken,
+}
+
+#[derive(Drop)]
+struct TwoNames {
+    strict: bool,
+}
+
+impl Asker for TwoNames {
+    ghost use Rattle.std.specs.Prelude.{◌≡◌, ℕ, refl};
+    ghost use Rattle.std.proofs.Common.{lit≤};
+    ghost use Rattle.ask_core.specs.declared.asker.tests.Place.TheVariants.{First, Second, Kept, Broken};
+    ghost use Rattle.ask_core.specs.Plans.{Holds, Fails};
+    ghost use Rattle.ask_core.specs.TwoNames.{second_plan, two_name_plan, IsFine-two_name_plan, IsFine-second_plan};
+
+    type Node = Place;
+
+    type Why = u8;
+
+    ghost is_own = { λ _ _. Unit {0} };
+
+    ghost plan = { λ a. elim [ First ↦ two_name_plan a.strict | Second ↦ second_plan a.strict | Kept ↦ Holds | Broken ↦ Fails 7 ] };
+
+    ghost root = { λ a. two_name_plan a.strict };
+
+    ghost name_count = { λ _. 2 };
+
+    fn names(&self) -> u8 {
+        2
+    }
+
+    fn start(&mut self) -> Result<Place, NoMemory> {
+        Ok(Place::First)
+    }
+
+    fn turn(&mut self, node: Place) -> Result<Turn<Place, u8>, NoMemory> {
+        Ok(match node {
+            Place::First => Turn::Ask {
+                lit: Lit { x: 0, y: 1, k: 0 },
+                yes: Place::Second,
+                no: Place::Kept,
+            },
+            Place::Second => Turn::Ask {
+                lit: Lit {
+                    x: 1,
+                    y: 0,
+                    k: if self.strict { -1 } else { 0 },
+                },
+                yes: Place::Broken,
+                no: Place::Kept,
+            },
+            Place::Kept => Turn::Holds,
+            Place::Broken => Turn::Fails(7),
+        })
+    }
+
+    ghost fine = { λ a. elim [ First ↦ λ _. IsFine-two_name_plan a.strict | Second ↦ λ _. IsFine-second_plan a.strict | Kept ↦ λ _. record { literals = refl; paths = lit≤ tt } | Broken ↦ λ _. record { literals = refl; paths = lit≤ tt } ] };
+}
+
+/// The first turn of any asker.
+fn first_turn<A: Asker>(asker: &mut A) -> Result<Turn<A::Node, A::Why>, NoMemory>
+    ensures { IfOk result (λ t. Begins (A.is_own asker.new) (A.plan asker.new) t (A.root asker.new)) }
+{
+    let first = asker.start()?;
+    Ok(asker.turn(first)?)
+}
+
+#[test]
+fn an_asker_begins_with_its_own_plan(rt: HostRuntime) -> Result<(), Fail> {
+    let mut asker = TwoNames { strict: true };
+    fitting_trees_hold::<u8>();
+    assert_eq!(rt; asker.names(), 2);
+    let want = Turn::Ask {
+        lit: Lit { x: 0, y: 1, k: 0 },
+        yes: Place::Second,
+        no: Place::Kept,
+    };
+    assert_eq!(rt; first_turn(&mut asker)?, want);
+    Ok(())
+}
+
+#[test]
+fn picks_and_trees_keep_what_was_pushed(rt: HostRuntime) -> Result<(), Fail> {
+    let mut picks = Picks::new(rt.alloc());
+    picks.push(3);
+    picks.push(1);
+    assert_eq!(rt; picks.as_slice(), [3, 1].as_slice());
+    let mut tree = Tree::new(rt.alloc());
+    tree.push(Tok::Ask)?;
+    tree.push(Tok::Cycle(picks))?;
+    assert_eq!(rt; tree.toks().len(), 2);
+    Ok(())
+}

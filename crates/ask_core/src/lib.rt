@@ -1,0 +1,25 @@
+//! Plans of questions, and the trees that answer them.
+//!
+//! A plan is a finite tree: it asks a literal and goes on by the answer, or it holds, or it fails with
+//! a cause. Its value at a valuation follows the valuation through the plan. Nothing here knows what
+//! is asked about.
+//!
+//! The layers above rely on `Asker`, whose nodes stand for plans that never change, on `Path`, the open
+//! places of a plan that is being answered, and on `fitting_trees_hold`: a tree that fits a plan shows
+//! that the plan holds at every valuation.
+#![tactic(auto)]
+
+mod asker;
+mod fitting;
+mod path;
+mod picks;
+mod tree;
+mod turn;
+
+pub use asker::Asker;
+pub use fitting::fitting_trees_hold;
+pub use path::Path;
+pub use picks::{MAX_PICKS, Picks};
+pub use std::alloc::AllocError as NoMemory;
+pub use tree::{Tok, Tree};
+pub use turn::Turn;

@@ -1,0 +1,119 @@
+//! The open path through a plan, with the parts for no that still wait.
+ghost use Rattle.std.specs.Prelude.{◌≡◌, ◌↔◌, IsTrue, ◌<◌, [], ◌∷◌, Some, drop, length, slice_get, OnOk, OnErr};
+ghost use Rattle.std.specs.Option.{option_map};
+ghost use Rattle.ask_core.specs.Paths.{Place, after_question};
+
+use crate::NoMemory;
+use diff_graph::{Lit, answered};
+use std::alloc::{AllocError, Global};
+use std::marker::Model;
+
+/// A part for no that waits: its node, how many answers it shares with the open path, and its own
+/// answer after these.
+#[derive(Clone, Copy)]
+struct Waiting<N> {
+    node: N,
+    depth: usize,
+    answer: Lit,
+}
+
+/// The open places of a plan that is being answered. It is seen as their list, each with its node and
+/// the answers that lead there: first the one to answer next, then those that wait, the innermost one
+/// first. The answers are kept once, for the open path alone.
+#[derive(Drop)]
+pub struct Path<N: Copy> {
+    current: Option<N>,
+    answers: Vec<Lit>,
+    waiting: Vec<Waiting<N>>,
+}
+
+impl<N: Copy> Model for Path<N> {
+    ghost use Rattle.std.specs.Prelude.{List, length, reverse};
+    ghost use Rattle.ask_core.specs.Paths.{Place, places_of, IsNested};
+
+    ghost Value = { List (Place N) };
+
+    ghost view = { λ p. places_of p.current p.answers.items p.waiting.items };
+
+    ghost invariant = { λ p. IsNested (length p.answers.items) (reverse p.waiting.items) };
+}
+
+impl<N: Copy> Path<N> {
+    /// The path to a first node, which no answers lead to. The allocator is not asked for memory.
+    pub fn new(alloc: Global, first: N) -> Path<N>
+        ensures { result ≡ record { node = first; answers = [] } ∷ [] }
+    {
+        Path {
+            current: Some(first),
+            answers: Vec::new(alloc),
+            waiting: Vec::new(alloc),
+        }
+    }
+
+    /// Whether a place is open.
+    pub fn is_open(&self) -> bool
+        ensures { IsTrue result ↔ (0 < length self.now) }
+    {
+        self.current.is_some()
+    }
+
+    /// The node to answer next.
+    pub fn node(&self) -> N
+        requires { 0 < length self.now }
+        ensures { option_map (λ p. p.node) (slice_get self.now 0) ≡ Some result }
+    {
+        self.current.unwrap()
+    }
+
+    /// The answers that lead to the node to answer next, the first one first.
+    pub fn answers(&self) -> &[Lit]
+        requires { 0 < length self.now }
+        ensures { option_map (λ p. p.answers) (slice_get self.now 0) ≡ Some result.now }
+    {
+        let _ = &self.current;
+        self.answers.as_slice()
+    }
+
+    /// Asks the literal at the first place: the part for yes is next, and the part for no waits. Where
+    /// memory is wanting the places stay as they were.
+    pub fn ask(&mut self, lit: Lit, yes: N, no: N) -> Result<(), NoMemory>
+        requires { 0 < length self.old }
+        ensures ok { OnOk result (self.new ≡ after_question lit yes no self.old) }
+        ensures err { OnErr result (self.new ≡ self.old) }
+    {
+        let depth = self.answers.len();
+        self.answers.push(answered(lit, true))?;
+        let waiting = Waiting {
+            node: no,
+            depth,
+            answer: answered(lit, false),
+        };
+        if self.waiting.push(waiting).is_err() {
+            self.answers.truncate(depth);
+            return Err(AllocError);
+        }
+        self.current = Some(yes);
+        Ok(())
+    }
+
+    /// Closes the first place: the innermost part that waits is next.
+    pub fn close(&mut self)
+        requires { 0 < length self.old }
+        ensures { self.new ≡ drop 1 self.old }
+    {
+        match self.waiting.pop() {
+            None => {
+                self.current = None;
+                self.answers.clear();
+            }
+            Some(next) => {
+                self.answers[next.depth] = next.answer;
+                self.answers.truncate(next.depth + 1);
+                self.current = Some(next.node);
+            }
+        }
+    }
+}
+
+#[cfg(test)]
+mod tests;
