@@ -1,0 +1,5 @@
+pub mod Completing
+mod Examples
+pub mod Feeding
+pub mod Holding
+pub mod Places

@@ -1,0 +1,5 @@
+pub mod Steps
+pub mod Judging
+pub use Rattle.ask_core.specs.Plans
+pub use Rattle.ask_core.specs.Trees
+pub use Rattle.ask_core.specs.Paths

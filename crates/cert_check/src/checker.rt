@@ -1,0 +1,90 @@
+//! The checker of trees over any asker.
+ghost use Rattle.std.specs.Prelude.{◌≡◌, ◌≢◌, ℕ, ℤ, ◌<◌, ◌≤◌, true, [], ◌∷◌, length, Some, None, Ok, Err, OnErr, IfOk, IfErr};
+ghost use Rattle.ask_core.specs.Plans.{value};
+ghost use Rattle.cert_check.specs.declared.verdict.CheckEnd.TheVariants as end;
+ghost use Rattle.cert_check.specs.declared.verdict.Progress.TheVariants as progress;
+ghost use Rattle.cert_check.specs.Steps.{after};
+ghost use Rattle.cert_check.specs.Judging.{open_branches, GoesOn, BeginsNothing, IsCauseOf};
+
+use crate::token::take_token;
+use crate::verdict::{CheckEnd, Progress};
+use ask_core::{Asker, NoMemory, Path, Tok};
+use std::alloc::Global;
+use std::marker::Model;
+
+/// The most names of an asker whose trees are checked.
+pub const MAX_NAMES: u8 = 12;
+
+/// A judge of the tokens of one tree. It keeps the answers of the open path and the open places, and
+/// gives up what it has closed. It is seen as its asker, the open places and its refusal, if any.
+#[derive(Drop)]
+pub struct Checker<A: Asker> {
+    asker: A,
+    path: Path<A::Node>,
+    refusal: Option<CheckEnd>,
+}
+
+impl<A: Asker> Model for Checker<A> {
+    ghost use Rattle.cert_check.specs.Judging.{Judging, IsUnderWay};
+
+    ghost Value = { Judging A A.Node };
+
+    ghost view = { λ c. record { asker = c.asker; places = c.path; refusal = c.refusal } };
+
+    ghost invariant = { λ c. IsUnderWay (A.is_own c.asker) (A.plan c.asker) (A.root c.asker) c.path };
+}
+
+impl<A: Asker> Checker<A> {
+    /// A checker with one open branch: the asker's plan after no answers.
+    pub fn new(alloc: Global, asker: A) -> Result<Checker<A>, NoMemory>
+        requires { A.name_count asker ≤ MAX_NAMES }
+        ensures branches { IfOk result (λ c. open_branches A.plan c ≡ record { plan = A.root asker; answers = [] } ∷ []) }
+        ensures root { IfOk result (λ c. A.root c.asker ≡ A.root asker) }
+        ensures refusal { IfOk result (λ c. c.refusal ≡ None) }
+    {
+        let mut asker = asker;
+        let first = asker.start()?;
+        Ok(Checker {
+            asker,
+            path: Path::new(alloc, first),
+            refusal: None,
+        })
+    }
+
+    /// Takes the next token of the tree, at the first open place. A refused token leaves the places as
+    /// they were, and every later one is answered by the same refusal.
+    pub fn feed(&mut self, tok: Tok) -> Result<Progress, CheckEnd>
+        requires { 0 < length self.old.places }
+
+        // What a token that is taken leaves, and that the last one shows what the tree is for.
+        ensures step { IfOk result (λ p. after tok (open_branches A.plan self.old) ≡ Ok (open_branches A.plan self.new)) }
+        ensures completes { IfOk result (λ p. GoesOn p tok (open_branches A.plan self.old) (open_branches A.plan self.new)) }
+        ensures done { result ≡ Ok progress.Done → (v : ℕ → ℤ) → value (A.root self.old.asker) v ≡ true }
+        ensures open { result ≡ Ok progress.More → 0 < length self.new.places }
+        ensures closed { result ≡ Ok progress.Done → self.new.places ≡ [] }
+        ensures none_before { IfOk result (λ p. (self.old.refusal ≡ None) × (self.new.refusal ≡ None)) }
+
+        // When each refusal comes, and that it stays.
+        ensures why { self.old.refusal ≡ None → IfErr result (λ e. IsCauseOf e tok (open_branches A.plan self.old)) }
+        ensures refused { self.old.refusal ≡ None → IfErr result (λ e. e ≢ end.NoMemory → BeginsNothing tok (open_branches A.plan self.old)) }
+        ensures stays { IfErr result (λ e. self.new.refusal ≡ Some e) }
+        ensures again { (e : CheckEnd) → self.old.refusal ≡ Some e → result ≡ Err e }
+        ensures err { OnErr result (self.new.places ≡ self.old.places) }
+        ensures root { A.root self.new.asker ≡ A.root self.old.asker }
+    {
+        if let Some(end) = self.refusal {
+            return Err(end);
+        }
+        match take_token(&mut self.asker, &mut self.path, tok) {
+            Ok(()) if self.path.is_open() => Ok(Progress::More),
+            Ok(()) => Ok(Progress::Done),
+            Err(end) => {
+                self.refusal = Some(end);
+                Err(end)
+            }
+        }
+    }
+}
+
+#[cfg(test)]
+mod tests;

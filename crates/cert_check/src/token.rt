@@ -1,0 +1,92 @@
+//! One token at the first open place.
+ghost use Rattle.std.specs.Prelude.{◌≡◌, ◌<◌, ◌≤◌, length, drop, Ok, Err, OnOk, OnErr, IfErr};
+ghost use Rattle.diff_graph.specs.declared.lit.PickEnd.{PickEnd};
+ghost use Rattle.diff_graph.specs.Cycles.{pick_verdict};
+ghost use Rattle.ask_core.specs.declared.tree.Tok.TheVariants as token;
+ghost use Rattle.ask_core.specs.Paths.{branches_at};
+ghost use Rattle.cert_check.specs.Steps.{after, end_of_cycle, HasFewPicks};
+ghost use Rattle.cert_check.specs.Judging.{AreOwn, IsCauseOf, SamePlans, first_answers};
+
+use crate::verdict::CheckEnd;
+use ask_core::{Asker, MAX_PICKS, Path, Picks, Tok, Turn};
+use diff_graph::is_negative_cycle;
+
+/// Takes a cycle: it closes the first place where it is a negative cycle of the answers there.
+pub fn take_cycle<N: Copy>(path: &mut Path<N>, picks: &Picks) -> Result<(), CheckEnd>
+    requires { 0 < length path.old }
+    ensures few { length picks.now ≤ MAX_PICKS }
+    ensures closed { OnOk result (path.new ≡ drop 1 path.old) }
+    ensures ok { OnOk result (pick_verdict (first_answers path.old) picks.now ≡ Ok tt) }
+    ensures err { OnErr result (path.new ≡ path.old) }
+    ensures why { IfErr result (λ e. (p : PickEnd) × (pick_verdict (first_answers path.old) picks.now ≡ Err p) × (e ≡ end_of_cycle p)) }
+{
+    is_negative_cycle(path.answers(), picks.as_slice())?;
+    path.close();
+    Ok(())
+}
+
+/// Takes `.`: it closes the first place where the plan holds there.
+pub fn take_end<A: Asker>(asker: &mut A, path: &mut Path<A::Node>) -> Result<(), CheckEnd>
+    requires open { 0 < length path.old }
+    requires own { AreOwn (A.is_own asker.old) path.old }
+    ensures ok { OnOk result (after token.Holds (branches_at (A.plan asker.new) path.old) ≡ Ok (branches_at (A.plan asker.new) path.new)) }
+    ensures closed { OnOk result (path.new ≡ drop 1 path.old) }
+    ensures err { OnErr result (path.new ≡ path.old) }
+    ensures why { IfErr result (λ e. IsCauseOf e token.Holds (branches_at (A.plan asker.new) path.old)) }
+    ensures same { SamePlans (A.is_own asker.old) (A.is_own asker.new) (A.plan asker.old) (A.plan asker.new) }
+    ensures root { A.root asker.new ≡ A.root asker.old }
+{
+    match asker.turn(path.node())? {
+        Turn::Ask { .. } => Err(CheckEnd::NotDone),
+        Turn::Holds => {
+            path.close();
+            Ok(())
+        }
+        Turn::Fails(_) => Err(CheckEnd::GoalFails),
+    }
+}
+
+/// Takes `?`: the first place becomes its part for yes, and then comes its part for no.
+pub fn take_question<A: Asker>(asker: &mut A, path: &mut Path<A::Node>) -> Result<(), CheckEnd>
+    requires open { 0 < length path.old }
+    requires own { AreOwn (A.is_own asker.old) path.old }
+    ensures ok { OnOk result (after token.Ask (branches_at (A.plan asker.new) path.old) ≡ Ok (branches_at (A.plan asker.new) path.new)) }
+    ensures own { AreOwn (A.is_own asker.new) path.new }
+    ensures err { OnErr result (path.new ≡ path.old) }
+    ensures why { IfErr result (λ e. IsCauseOf e token.Ask (branches_at (A.plan asker.new) path.old)) }
+    ensures same { SamePlans (A.is_own asker.old) (A.is_own asker.new) (A.plan asker.old) (A.plan asker.new) }
+    ensures root { A.root asker.new ≡ A.root asker.old }
+{
+    match asker.turn(path.node())? {
+        Turn::Ask { lit, yes, no } => {
+            path.ask(lit, yes, no)?;
+            Ok(())
+        }
+        Turn::Holds => Err(CheckEnd::NotAQuestion),
+        Turn::Fails(_) => Err(CheckEnd::NotAQuestion),
+    }
+}
+
+/// Takes any token at the first place, or says why it is refused there; a refusal leaves the path as
+/// it was.
+pub fn take_token<A: Asker>(
+    asker: &mut A,
+    path: &mut Path<A::Node>,
+    tok: Tok,
+) -> Result<(), CheckEnd>
+    requires open { 0 < length path.old }
+    requires own { AreOwn (A.is_own asker.old) path.old }
+    ensures ok { OnOk result (after tok (branches_at (A.plan asker.new) path.old) ≡ Ok (branches_at (A.plan asker.new) path.new)) }
+    ensures few { OnOk result (HasFewPicks tok) }
+    ensures own { AreOwn (A.is_own asker.new) path.new }
+    ensures err { OnErr result (path.new ≡ path.old) }
+    ensures why { IfErr result (λ e. IsCauseOf e tok (branches_at (A.plan asker.new) path.old)) }
+    ensures same { SamePlans (A.is_own asker.old) (A.is_own asker.new) (A.plan asker.old) (A.plan asker.new) }
+    ensures root { A.root asker.new ≡ A.root asker.old }
+{
+    match tok {
+        Tok::Ask => take_question(asker, path),
+        Tok::Holds => take_end(asker, path),
+        Tok::Cycle(picks) => take_cycle(path, &picks),
+    }
+}
