@@ -1,0 +1,17 @@
+pub mod Examples
+pub mod Ends
+pub mod Nears
+pub mod Tests
+pub mod Values
+pub mod Operations
+pub mod Documents
+pub mod Seen
+pub mod Sameness
+pub mod Pairs
+pub mod Walks
+pub mod Instances
+pub mod PairMeaning
+pub mod Triples
+pub mod TripleMeaning
+pub mod Depths
+pub mod Laws

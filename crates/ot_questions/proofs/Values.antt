@@ -1,0 +1,243 @@
+-- Where a valuation leads through the questions: each `ask_` function goes on as the test at the
+-- valuation says.
+use Rattle.std.proofs.Common.{◌≡◌, ℕ, ℤ, pos, negsuc, ◌+ℤ◌, Bool, true, false, not, ◌&&◌, ◌||◌, if◌then◌else◌, nat_eq, int_le, int_lt, Option, Some, None, List, [], ◌∷◌, refl, ap, ◌∙◌, inl, inr}
+use Rattle.std.specs.Ordering.{int_eq}
+use Rattle.std.proofs.lemmas.Bool.{cases_Bool}
+use Rattle.std.proofs.lemmas.Bool.Decides.{Decides-eqb}
+use Rattle.ot_model.specs.declared.op.Mode.{Mode}
+use Rattle.ot_model.specs.declared.op.Mode.TheVariants.{Plain, Tomb}
+use Rattle.ot_model.specs.declared.op.Kind.{Kind}
+use Rattle.ot_model.specs.declared.op.Op.{Op}
+use Rattle.ot_model.specs.declared.op.Op.TheVariants as ops
+use Rattle.fn_rules.specs.declared.function.Head.{Head}
+use Rattle.fn_rules.specs.declared.guard.Cmp.{Cmp}
+use Rattle.fn_rules.specs.declared.guard.Cmp.TheVariants.{Lt, Le, Eq}
+use Rattle.fn_rules.specs.declared.guard.Atom.{Atom}
+use Rattle.fn_rules.specs.Formulas.{Formula, Always, Compare, And, Or, Not, of_side, other_side, is_compared}
+use Rattle.fn_rules.specs.Functions.{Function, GuardedCase, cases_of}
+use Rattle.ask_core.specs.Plans.{Plan, Holds, end_of}
+use Rattle.ot_questions.specs.declared.cell.Finished.{Finished}
+use Rattle.ot_questions.specs.declared.place.Place.{Place}
+use Rattle.ot_questions.specs.declared.place.SymOp.{SymOp}
+use Rattle.ot_questions.specs.declared.place.SymOp.TheVariants.{Ins, Del, Nop}
+use Rattle.ot_questions.specs.declared.why.Why.{Why}
+use Rattle.ot_questions.specs.declared.why.Why.TheVariants.{Undefined}
+use Rattle.ot_questions.specs.Places.{place, plus, zero_place, length_and, index_and, integer_at, sym_kind, sym_site, sym_char, sym_result, sym_thing}
+use Rattle.ot_questions.specs.Questions.{ask_le, ask_lt, ask_eq, ask_compared, ask_atom, ask_guard, ask_cases, ask_by_kinds, ask_transform, ask_enabled, ask_differ, ask_allowed}
+use Rattle.ot_questions.specs.Reading.{base_cell, put_cell, buried_cell, ask_cell}
+use Rattle.ot_questions.specs.Meaning.{op_at}
+use Rattle.ot_questions.proofs.Tests.{int_le-same_name, int_le-shifted, int_le-before, if_and, if_or, if_not, if_through, if_eq}
+
+pub if_end : (b : Bool) (p q : Plan Why) (v : ℕ → ℤ) → end_of (if b then p else q) v ≡ (if b then end_of p v else end_of q v)
+if_end true p q v = refl
+if_end false p q v = refl
+
+-- by a test at the valuation
+abbrev pub by_test : Bool → Plan Why → Plan Why → (ℕ → ℤ) → Option Why
+by_test b p q v = if b then end_of p v else end_of q v
+
+pub end-le : (a b : Place) (p q : Plan Why) (v : ℕ → ℤ) → end_of (ask_le a b p q) v ≡ by_test (int_le (integer_at v a) (integer_at v b)) p q v
+unfolding ask_le
+end-le a b p q v =
+    elim (cases_Bool (nat_eq a.var b.var)) [
+      | inl same ↦
+          rw same
+          (if_end (int_le a.off b.off) p q v
+          ∙ ap (λ t. by_test t p q v) (int_le-same_name (v a.var) (v b.var) a.off b.off (ap v ((Decides-eqb a.var b.var).0 same))))
+      | inr other ↦ rw other (ap (λ t. by_test t p q v) (int_le-shifted (v a.var) (v b.var) a.off b.off))
+    ]
+
+pub end-lt : (a b : Place) (p q : Plan Why) (v : ℕ → ℤ) → end_of (ask_lt a b p q) v ≡ by_test (int_lt (integer_at v a) (integer_at v b)) p q v
+unfolding ask_lt
+end-lt a b p q v =
+    end-le a (plus b (negsuc 0)) p q v ∙ ap (λ t. by_test t p q v) (int_le-before (integer_at v a) (v b.var) b.off)
+
+pub end-eq : (a b : Place) (p q : Plan Why) (v : ℕ → ℤ) → end_of (ask_eq a b p q) v ≡ by_test (int_eq (integer_at v a) (integer_at v b)) p q v
+unfolding ask_eq
+end-eq a b p q v =
+    end-le a b (ask_le b a p q) q v
+    ∙ (ap (λ e. if int_le (integer_at v a) (integer_at v b) then e else end_of q v) (end-le b a p q v)
+    ∙ if_eq (integer_at v a) (integer_at v b) (end_of p v) (end_of q v))
+
+end-compared : (cmp : Cmp) (a b : Place) (p q : Plan Why) (v : ℕ → ℤ) → end_of (ask_compared cmp a b p q) v ≡ by_test (is_compared cmp (integer_at v a) (integer_at v b)) p q v
+unfolding ask_compared
+end-compared Lt a b p q v = end-lt a b p q v
+end-compared Le a b p q v = end-le a b p q v
+end-compared Eq a b p q v = end-eq a b p q v
+
+-- the truth of an atom and of a guard at the valuation
+abbrev pub sym_atom_holds : (ℕ → ℤ) → Atom → SymOp → SymOp → Bool
+sym_atom_holds v atom a b =
+    is_compared atom.cmp (integer_at v (sym_thing atom.sort (of_side atom.left a b)))
+    (integer_at v (plus (sym_thing atom.sort (of_side (other_side atom.left) a b)) atom.k))
+
+abbrev pub sym_holds : (ℕ → ℤ) → Formula → SymOp → SymOp → Bool
+sym_holds v Always a b = true
+sym_holds v (Compare atom) a b = sym_atom_holds v atom a b
+sym_holds v (And g h) a b = sym_holds v g a b && sym_holds v h a b
+sym_holds v (Or g h) a b = sym_holds v g a b || sym_holds v h a b
+sym_holds v (Not g) a b = not (sym_holds v g a b)
+
+end-atom : (atom : Atom) (a b : SymOp) (p q : Plan Why) (v : ℕ → ℤ) → end_of (ask_atom atom a b p q) v ≡ by_test (sym_atom_holds v atom a b) p q v
+unfolding ask_atom
+end-atom atom a b p q v =
+    end-compared atom.cmp (sym_thing atom.sort (of_side atom.left a b))
+    (plus (sym_thing atom.sort (of_side (other_side atom.left) a b)) atom.k) p q v
+
+pub end-guard : (g : Formula) (a b : SymOp) (p q : Plan Why) (v : ℕ → ℤ) → end_of (ask_guard g a b p q) v ≡ by_test (sym_holds v g a b) p q v
+unfolding ask_guard
+end-guard Always a b p q v = refl
+end-guard (Compare atom) a b p q v = end-atom atom a b p q v
+end-guard (And g h) a b p q v =
+    end-guard g a b (ask_guard h a b p q) q v
+    ∙ (ap (λ e. if sym_holds v g a b then e else end_of q v) (end-guard h a b p q v)
+    ∙ if_and (sym_holds v g a b) (sym_holds v h a b) (end_of p v) (end_of q v))
+end-guard (Or g h) a b p q v =
+    end-guard g a b p (ask_guard h a b p q) v
+    ∙ (ap (λ e. if sym_holds v g a b then end_of p v else e) (end-guard h a b p q v)
+    ∙ if_or (sym_holds v g a b) (sym_holds v h a b) (end_of p v) (end_of q v))
+end-guard (Not g) a b p q v =
+    end-guard g a b q p v ∙ if_not (sym_holds v g a b) (end_of q v) (end_of p v)
+
+-- the result of the first case whose guard is true at the valuation
+abbrev pub sym_first : (ℕ → ℤ) → List GuardedCase → SymOp → SymOp → Option SymOp
+sym_first v [] a b = None
+sym_first v (c ∷ cs) a b = if sym_holds v c.guard a b then Some (sym_result c.res a b) else sym_first v cs a b
+
+abbrev pub sym_by_kinds : (ℕ → ℤ) → Function → SymOp → SymOp → Option Kind → Option Kind → Option SymOp
+sym_by_kinds v f a b None other = Some Nop
+sym_by_kinds v f a b (Some k) None = Some a
+sym_by_kinds v f a b (Some k) (Some l) = sym_first v (cases_of f k l) a b
+
+abbrev pub sym_transformed : (ℕ → ℤ) → Function → SymOp → SymOp → Option SymOp
+sym_transformed v f a b = sym_by_kinds v f a b (sym_kind a) (sym_kind b)
+
+-- goes on with a form that exists
+abbrev pub goes_on : Option SymOp → (SymOp → Option Why) → Option Why
+goes_on None go = Some Undefined
+goes_on (Some r) go = go r
+
+if_goes : (b : Bool) (r : SymOp) (o : Option SymOp) (go : SymOp → Option Why) → (if b then go r else goes_on o go) ≡ goes_on (if b then Some r else o) go
+if_goes true r o go = refl
+if_goes false r o go = refl
+
+end-cases : (cs : List GuardedCase) (a b : SymOp) (go : SymOp → Plan Why) (v : ℕ → ℤ) → end_of (ask_cases cs a b go) v ≡ goes_on (sym_first v cs a b) (λ r. end_of (go r) v)
+unfolding ask_cases
+end-cases [] a b go v = refl
+end-cases (c ∷ cs) a b go v =
+    end-guard c.guard a b (go (sym_result c.res a b)) (ask_cases cs a b go) v
+    ∙ (ap (λ e. if sym_holds v c.guard a b then end_of (go (sym_result c.res a b)) v else e) (end-cases cs a b go v)
+    ∙ if_goes (sym_holds v c.guard a b) (sym_result c.res a b) (sym_first v cs a b) (λ r. end_of (go r) v))
+
+end-by_kinds : (f : Function) (a b : SymOp) (j k : Option Kind) (go : SymOp → Plan Why) (v : ℕ → ℤ) → end_of (ask_by_kinds f a b j k go) v ≡ goes_on (sym_by_kinds v f a b j k) (λ r. end_of (go r) v)
+unfolding ask_by_kinds
+end-by_kinds f a b None other go v = refl
+end-by_kinds f a b (Some k) None go v = refl
+end-by_kinds f a b (Some k) (Some l) go v = end-cases (cases_of f k l) a b go v
+
+pub end-transform : (f : Function) (a b : SymOp) (go : SymOp → Plan Why) (v : ℕ → ℤ) → end_of (ask_transform f a b go) v ≡ goes_on (sym_transformed v f a b) (λ r. end_of (go r) v)
+unfolding ask_transform
+end-transform f a b go v = end-by_kinds f a b (sym_kind a) (sym_kind b) go v
+
+-- whether an operation is enabled on a document of so many cells
+abbrev pub enabled_to : Op → ℤ → Bool
+enabled_to (ops.Ins at ch site) n = int_le (pos 0) at && int_le at n
+enabled_to (ops.Del at site) n = int_le (pos 0) at && int_lt at n
+enabled_to ops.Nop n = true
+
+pub end-enabled : (o : SymOp) (k : ℤ) (p q : Plan Why) (v : ℕ → ℤ) → v 0 ≡ pos 0 → end_of (ask_enabled o k p q) v ≡ by_test (enabled_to (op_at v o) (v 1 +ℤ k)) p q v
+unfolding ask_enabled
+end-enabled (Ins at c s) k p q v z =
+    end-le zero_place at (ask_le at (length_and k) p q) q v
+    ∙ (ap (λ e. if int_le (integer_at v zero_place) (integer_at v at) then e else end_of q v) (end-le at (length_and k) p q v)
+    ∙ (if_and (int_le (integer_at v zero_place) (integer_at v at)) (int_le (integer_at v at) (v 1 +ℤ k)) (end_of p v) (end_of q v)
+    ∙ ap (λ x. by_test (int_le (x +ℤ pos 0) (integer_at v at) && int_le (integer_at v at) (v 1 +ℤ k)) p q v) z))
+end-enabled (Del at s) k p q v z =
+    end-le zero_place at (ask_lt at (length_and k) p q) q v
+    ∙ (ap (λ e. if int_le (integer_at v zero_place) (integer_at v at) then e else end_of q v) (end-lt at (length_and k) p q v)
+    ∙ (if_and (int_le (integer_at v zero_place) (integer_at v at)) (int_lt (integer_at v at) (v 1 +ℤ k)) (end_of p v) (end_of q v)
+    ∙ ap (λ x. by_test (int_le (x +ℤ pos 0) (integer_at v at) && int_lt (integer_at v at) (v 1 +ℤ k)) p q v) z))
+end-enabled Nop k p q v z = refl
+
+-- whether two names stand for different integers, as far as both are there
+abbrev pub sym_differ : (ℕ → ℤ) → Option ℕ → Option ℕ → Bool
+sym_differ v None y = true
+sym_differ v (Some x) None = true
+sym_differ v (Some x) (Some y) = not (int_eq (v x +ℤ pos 0) (v y +ℤ pos 0))
+
+end-differ : (x y : Option ℕ) (p : Plan Why) (v : ℕ → ℤ) → end_of (ask_differ x y p) v ≡ by_test (sym_differ v x y) p Holds v
+unfolding ask_differ
+end-differ None y p v = refl
+end-differ (Some x) None p v = refl
+end-differ (Some x) (Some y) p v =
+    end-eq (place x (pos 0)) (place y (pos 0)) Holds p v
+    ∙ if_not (int_eq (v x +ℤ pos 0) (v y +ℤ pos 0)) None (end_of p v)
+
+abbrev pub sym_allowed : (ℕ → ℤ) → Head → SymOp → SymOp → Bool
+sym_allowed v head a b =
+    (if head.sites_differ then sym_differ v (sym_site a) (sym_site b) else true)
+    && (if head.chars_differ then sym_differ v (sym_char a) (sym_char b) else true)
+
+differ_if : (b : Bool) (x y : Option ℕ) (p : Plan Why) (v : ℕ → ℤ) → end_of (if b then ask_differ x y p else p) v ≡ by_test (if b then sym_differ v x y else true) p Holds v
+differ_if true x y p v = end-differ x y p v
+differ_if false x y p v = refl
+
+pub end-allowed : (head : Head) (a b : SymOp) (p : Plan Why) (v : ℕ → ℤ) → end_of (ask_allowed head a b p) v ≡ by_test (sym_allowed v head a b) p Holds v
+unfolding ask_allowed
+end-allowed head a b p v =
+    let sites = (if head.sites_differ then sym_differ v (sym_site a) (sym_site b) else true) in
+    let chars = (if head.chars_differ then sym_differ v (sym_char a) (sym_char b) else true) in
+    differ_if head.sites_differ (sym_site a) (sym_site b) (if head.chars_differ then ask_differ (sym_char a) (sym_char b) p else p) v
+    ∙ (ap (λ e. if sites then e else None) (differ_if head.chars_differ (sym_char a) (sym_char b) p v)
+    ∙ if_and sites chars (end_of p v) None)
+
+-- the finished cell that a reading comes to at the valuation
+abbrev pub seen : (ℕ → ℤ) → Mode → List SymOp → ℤ → Finished
+seen v mode [] k = base_cell k
+seen v mode (Ins p c s ∷ ops) k =
+    if int_lt (v 2 +ℤ k) (integer_at v p) then seen v mode ops k
+    else (if int_le (v 2 +ℤ k) (integer_at v p) then put_cell c else seen v mode ops (k +ℤ negsuc 0))
+seen v Plain (Del p s ∷ ops) k =
+    if int_lt (v 2 +ℤ k) (integer_at v p) then seen v Plain ops k else seen v Plain ops (k +ℤ pos 1)
+seen v Tomb (Del p s ∷ ops) k =
+    if int_lt (v 2 +ℤ k) (integer_at v p) then seen v Tomb ops k
+    else (if int_le (v 2 +ℤ k) (integer_at v p) then buried_cell (seen v Tomb ops k) else seen v Tomb ops k)
+seen v mode (Nop ∷ ops) k = seen v mode ops k
+
+-- a choice of cells goes through what follows
+pub through_two : (b c : Bool) (x y z : Finished) (g : Finished → Option Why) → (if b then g x else (if c then g y else g z)) ≡ g (if b then x else (if c then y else z))
+through_two true c x y z g = refl
+through_two false true x y z g = refl
+through_two false false x y z g = refl
+
+end-put :
+    (mode : Mode) (p : Place) (c s : ℕ) (ops : List SymOp) (k : ℤ) (go : Finished → Plan Why) (v : ℕ → ℤ)
+    → end_of (ask_cell mode ops k go) v ≡ end_of (go (seen v mode ops k)) v
+    → end_of (ask_cell mode ops (k +ℤ negsuc 0) go) v ≡ end_of (go (seen v mode ops (k +ℤ negsuc 0))) v
+    → end_of (ask_cell mode (Ins p c s ∷ ops) k go) v ≡ end_of (go (seen v mode (Ins p c s ∷ ops) k)) v
+unfolding ask_cell
+end-put mode p c s ops k go v here behind =
+    end-lt (index_and k) p (ask_cell mode ops k go) (ask_le (index_and k) p (go (put_cell c)) (ask_cell mode ops (k +ℤ negsuc 0) go)) v
+    ∙ (ap (λ e. if int_lt (v 2 +ℤ k) (integer_at v p) then end_of (ask_cell mode ops k go) v else e) (end-le (index_and k) p (go (put_cell c)) (ask_cell mode ops (k +ℤ negsuc 0) go) v)
+    ∙ (ap (λ e. if int_lt (v 2 +ℤ k) (integer_at v p) then e else (if int_le (v 2 +ℤ k) (integer_at v p) then end_of (go (put_cell c)) v else end_of (ask_cell mode ops (k +ℤ negsuc 0) go) v)) here
+    ∙ (ap (λ e. if int_lt (v 2 +ℤ k) (integer_at v p) then end_of (go (seen v mode ops k)) v else (if int_le (v 2 +ℤ k) (integer_at v p) then end_of (go (put_cell c)) v else e)) behind
+    ∙ through_two (int_lt (v 2 +ℤ k) (integer_at v p)) (int_le (v 2 +ℤ k) (integer_at v p)) (seen v mode ops k) (put_cell c) (seen v mode ops (k +ℤ negsuc 0)) (λ x. end_of (go x) v))))
+
+pub end-cell : (mode : Mode) (ops : List SymOp) (k : ℤ) (go : Finished → Plan Why) (v : ℕ → ℤ) → end_of (ask_cell mode ops k go) v ≡ end_of (go (seen v mode ops k)) v
+unfolding ask_cell
+end-cell mode [] k go v = refl
+end-cell Plain (Ins p c s ∷ ops) k go v = end-put Plain p c s ops k go v (end-cell Plain ops k go v) (end-cell Plain ops (k +ℤ negsuc 0) go v)
+end-cell Tomb (Ins p c s ∷ ops) k go v = end-put Tomb p c s ops k go v (end-cell Tomb ops k go v) (end-cell Tomb ops (k +ℤ negsuc 0) go v)
+end-cell Plain (Del p s ∷ ops) k go v =
+    end-lt (index_and k) p (ask_cell Plain ops k go) (ask_cell Plain ops (k +ℤ pos 1) go) v
+    ∙ (ap (λ e. if int_lt (v 2 +ℤ k) (integer_at v p) then e else end_of (ask_cell Plain ops (k +ℤ pos 1) go) v) (end-cell Plain ops k go v)
+    ∙ (ap (λ e. if int_lt (v 2 +ℤ k) (integer_at v p) then end_of (go (seen v Plain ops k)) v else e) (end-cell Plain ops (k +ℤ pos 1) go v)
+    ∙ if_through (λ x. end_of (go x) v) (int_lt (v 2 +ℤ k) (integer_at v p)) (seen v Plain ops k) (seen v Plain ops (k +ℤ pos 1))))
+end-cell Tomb (Del p s ∷ ops) k go v =
+    end-lt (index_and k) p (ask_cell Tomb ops k go) (ask_le (index_and k) p (ask_cell Tomb ops k (λ cell. go (buried_cell cell))) (ask_cell Tomb ops k go)) v
+    ∙ (ap (λ e. if int_lt (v 2 +ℤ k) (integer_at v p) then end_of (ask_cell Tomb ops k go) v else e) (end-le (index_and k) p (ask_cell Tomb ops k (λ cell. go (buried_cell cell))) (ask_cell Tomb ops k go) v)
+    ∙ (ap (λ e. if int_lt (v 2 +ℤ k) (integer_at v p) then e else (if int_le (v 2 +ℤ k) (integer_at v p) then end_of (ask_cell Tomb ops k (λ cell. go (buried_cell cell))) v else e)) (end-cell Tomb ops k go v)
+    ∙ (ap (λ e. if int_lt (v 2 +ℤ k) (integer_at v p) then end_of (go (seen v Tomb ops k)) v else (if int_le (v 2 +ℤ k) (integer_at v p) then e else end_of (go (seen v Tomb ops k)) v)) (end-cell Tomb ops k (λ cell. go (buried_cell cell)) v)
+    ∙ through_two (int_lt (v 2 +ℤ k) (integer_at v p)) (int_le (v 2 +ℤ k) (integer_at v p)) (seen v Tomb ops k) (buried_cell (seen v Tomb ops k)) (seen v Tomb ops k) (λ x. end_of (go x) v))))
+end-cell Plain (Nop ∷ ops) k go v = end-cell Plain ops k go v
+end-cell Tomb (Nop ∷ ops) k go v = end-cell Tomb ops k go v

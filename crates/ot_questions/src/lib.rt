@@ -1,0 +1,31 @@
+//! What an obligation asks, and why that decides it.
+//!
+//! An obligation is two or three kinds of operations. Its plan asks literals over the positions, sites
+//! and characters of such operations, the length of the document and one index into the final
+//! documents, and ends in `Holds` or in a cause. The definition is `plan_of`.
+//!
+//! The layers above rely on three promises. `next_question` says how the plan goes on after given
+//! answers. The plan of a pair has the value true at every valuation exactly where the first property
+//! holds for all operations of the pair's kinds, and the plan of a triple where the second does. And
+//! every plan keeps the limits of plans.
+#![tactic(auto)]
+
+mod ask;
+mod cell;
+mod conditions;
+mod guards;
+mod meaning;
+mod name;
+mod next;
+mod obligation;
+mod place;
+mod reading;
+mod why;
+
+pub use cell::{Finished, Flag, Source};
+pub use meaning::{pair_plans_mean_tp1, plans_keep_limits, triple_plans_mean_tp2};
+pub use name::{INDEX, LENGTH, Who, ZERO, char_name, position_name, site_name};
+pub use next::Next;
+pub use obligation::next_question;
+pub use place::{Place, SymOp};
+pub use why::Why;

@@ -1,0 +1,38 @@
+//! What the plans of obligations mean. These functions do nothing: their contracts are the laws.
+ghost use Rattle.std.specs.Prelude.{◌↔◌, ◌≤◌, ℕ, IsTrue};
+ghost use Rattle.ot_model.specs.declared.op.Kind.{Kind};
+ghost use Rattle.fn_rules.specs.declared.function.Level.TheVariants.{Tp1, Tp2};
+ghost use Rattle.fn_rules.specs.declared.function.ObName.{ObName};
+ghost use Rattle.fn_rules.specs.declared.function.ObName.TheVariants.{Pair, Triple};
+ghost use Rattle.fn_rules.specs.Functions.{Function};
+ghost use Rattle.fn_rules.specs.Obligations.{obligations_of};
+ghost use Rattle.fn_rules.specs.Properties.{HasTp1, HasTp2};
+ghost use Rattle.fn_rules.specs.Validity.{is_valid};
+ghost use Rattle.ask_core.specs.Askers.{IsFine, longest_path};
+ghost use Rattle.ot_questions.specs.Names.{name_count};
+ghost use Rattle.ot_questions.specs.Obligation.{plan_of};
+ghost use Rattle.ot_questions.specs.Meaning.{HasPair, HasTriple, HoldsAtLength, AllHold};
+
+/// The plan of a pair holds at every valuation at which the document has `n` cells exactly where the
+/// first property holds for all operations of the two kinds on all documents of `n` cells. And the
+/// plans of all pairs of a function hold at every valuation exactly where it has the first property.
+pub fn pair_plans_mean_tp1()
+    ensures pair { (f : Function) (k l : Kind) (n : ℕ) → IsTrue (is_valid f) → HoldsAtLength f (Pair k l) n ↔ HasPair f k l n }
+    ensures whole { (f : Function) → IsTrue (is_valid f) → AllHold f (obligations_of f.head Tp1) ↔ HasTp1 f }
+{}
+
+/// The plan of a triple holds at every valuation at which the document has `n` cells exactly where the
+/// second property holds for all operations of the three kinds on documents of `n` cells. And the
+/// plans of all pairs and triples of a function hold at every valuation exactly where it has both
+/// properties.
+pub fn triple_plans_mean_tp2()
+    ensures triple { (f : Function) (k l m : Kind) (n : ℕ) → IsTrue (is_valid f) → HoldsAtLength f (Triple k l m) n ↔ HasTriple f k l m n }
+    ensures whole { (f : Function) → IsTrue (is_valid f) → AllHold f (obligations_of f.head Tp2) ↔ (HasTp1 f × HasTp2 f) }
+{}
+
+/// Each question of a plan is about two different names of the obligation, with an offset of at most
+/// 1,000 either way, and no path of a plan has more than 12,309 questions.
+pub fn plans_keep_limits()
+    ensures fine { (f : Function) (ob : ObName) → IsTrue (is_valid f) → IsFine (name_count ob) (plan_of f ob) }
+    ensures short { (f : Function) (ob : ObName) → IsTrue (is_valid f) → longest_path (plan_of f ob) ≤ 12309 }
+{}

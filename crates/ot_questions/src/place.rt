@@ -1,0 +1,209 @@
+//! Places, and operations whose parts have names.
+ghost use Rattle.std.specs.Prelude.{◌≡◌, pos, IsTrue};
+ghost use Rattle.ot_questions.specs.Nears.{IsNear, IsNearOp, IsResultOf, IsDeclaredOp};
+ghost use Rattle.ot_questions.specs.Places as places;
+ghost use Rattle.fn_rules.specs.declared.function.Head.{Head};
+ghost use Rattle.fn_rules.specs.Functions.{is_declared};
+
+use crate::name::{INDEX, LENGTH, Who, ZERO, char_name, position_name, site_name};
+use fn_rules::{Res, Side, Sort};
+use ot_model::{Kind, Mode};
+
+/// The integer that is named by `var`, plus `off`.
+#[derive(Clone, Copy, Debug, PartialEq, Eq)]
+pub struct Place {
+    pub var: u8,
+    pub off: i32,
+}
+
+/// An operation whose position is a place and whose character and site are names.
+#[derive(Clone, Copy, Debug, PartialEq, Eq)]
+pub enum SymOp {
+    /// Puts the character named `ch` at the place.
+    Ins { at: Place, ch: u8, site: u8 },
+
+    /// Deletes the cell at the place.
+    Del { at: Place, site: u8 },
+
+    /// Changes nothing.
+    Nop,
+}
+
+// The integer of a name.
+pub(crate) fn place_named(var: u8) -> Place
+    ensures { result ≡ places.place var (pos 0) }
+{
+    Place { var, off: 0 }
+}
+
+pub(crate) fn zero_place() -> Place
+    ensures { result ≡ places.zero_place }
+{
+    place_named(ZERO)
+}
+
+// The length of the document, plus an offset.
+pub(crate) fn length_and(off: i32) -> Place
+    ensures { result ≡ places.length_and off }
+{
+    Place { var: LENGTH, off }
+}
+
+// The index, plus an offset.
+pub(crate) fn index_and(off: i32) -> Place
+    ensures { result ≡ places.index_and off }
+{
+    Place { var: INDEX, off }
+}
+
+impl Place {
+    pub(crate) fn plus(self, off: i32) -> Place
+        requires self_near { IsNear 1000 self.off }
+        requires off_near { IsNear 1000 off }
+        ensures { result ≡ places.plus self off }
+    {
+        Place {
+            var: self.var,
+            off: self.off + off,
+        }
+    }
+}
+
+// The integer of a name, or zero where there is no name.
+fn place_of_name(name: Option<u8>) -> Place
+    ensures { result ≡ places.place_of_name name }
+{
+    match name {
+        None => zero_place(),
+        Some(var) => place_named(var),
+    }
+}
+
+impl SymOp {
+    /// An operation of a kind, each part of which is a name of its own.
+    pub fn named(kind: Kind, who: Who) -> SymOp
+        ensures value { result ≡ places.sym_op kind who }
+        ensures near { IsNearOp 0 result }
+        ensures declared { (head : Head) → IsTrue (is_declared head kind) → IsDeclaredOp head result }
+    {
+        let at = place_named(position_name(who));
+        match kind {
+            Kind::Ins => SymOp::Ins {
+                at,
+                ch: char_name(who),
+                site: site_name(who),
+            },
+            Kind::Del => SymOp::Del {
+                at,
+                site: site_name(who),
+            },
+        }
+    }
+
+    pub(crate) fn kind(self) -> Option<Kind>
+        ensures { result ≡ places.sym_kind self }
+    {
+        match self {
+            SymOp::Ins { .. } => Some(Kind::Ins),
+            SymOp::Del { .. } => Some(Kind::Del),
+            SymOp::Nop => None,
+        }
+    }
+
+    pub(crate) fn at(self) -> Place
+        ensures { result ≡ places.sym_at self }
+    {
+        match self {
+            SymOp::Ins { at, .. } => at,
+            SymOp::Del { at, .. } => at,
+            SymOp::Nop => zero_place(),
+        }
+    }
+
+    pub(crate) fn site(self) -> Option<u8>
+        ensures { result ≡ places.sym_site self }
+    {
+        match self {
+            SymOp::Ins { site, .. } => Some(site),
+            SymOp::Del { site, .. } => Some(site),
+            SymOp::Nop => None,
+        }
+    }
+
+    pub(crate) fn ch(self) -> Option<u8>
+        ensures { result ≡ places.sym_char self }
+    {
+        match self {
+            SymOp::Ins { ch, .. } => Some(ch),
+            SymOp::Del { .. } => None,
+            SymOp::Nop => None,
+        }
+    }
+
+    // The same operation at another place.
+    fn placed(self, to: Place) -> SymOp
+        ensures { result ≡ places.sym_placed self to }
+    {
+        match self {
+            SymOp::Ins { ch, site, .. } => SymOp::Ins { at: to, ch, site },
+            SymOp::Del { site, .. } => SymOp::Del { at: to, site },
+            SymOp::Nop => SymOp::Nop,
+        }
+    }
+
+    // What an atom of the sort compares.
+    pub(crate) fn thing(self, sort: Sort) -> Place
+        ensures { result ≡ places.sym_thing sort self }
+    {
+        match sort {
+            Sort::Pos => self.at(),
+            Sort::Site => place_of_name(self.site()),
+            Sort::Char => place_of_name(self.ch()),
+        }
+    }
+
+    // How many cells the operation adds to a document.
+    pub(crate) fn growth(self, mode: Mode) -> i32
+        ensures value { result ≡ places.growth mode self }
+        ensures small { IsNear 1 result }
+    {
+        match self {
+            SymOp::Ins { .. } => 1,
+            SymOp::Del { .. } => match mode {
+                Mode::Plain => -1,
+                Mode::Tomb => 0,
+            },
+            SymOp::Nop => 0,
+        }
+    }
+}
+
+// What a result makes of the first operation.
+fn made_by(res: Res, a: SymOp, b: SymOp) -> SymOp
+    requires a_near { IsNearOp 500 a }
+    requires b_near { IsNearOp 500 b }
+    requires near { IsNear 99 (places.offset_of res) }
+    ensures { result ≡ places.sym_result res a b }
+{
+    match res {
+        Res::Keep { base, k } => {
+            let from = match base {
+                Side::First => a.at(),
+                Side::Second => b.at(),
+            };
+            a.placed(from.plus(k))
+        }
+        Res::Nop => SymOp::Nop,
+    }
+}
+
+// The same, and how far it is from the two operations.
+pub(crate) fn result_of(res: Res, a: SymOp, b: SymOp) -> SymOp
+    requires a_near { IsNearOp 500 a }
+    requires b_near { IsNearOp 500 b }
+    requires near { IsNear 99 (places.offset_of res) }
+    ensures value { result ≡ places.sym_result res a b }
+    ensures near { IsResultOf a b result }
+{
+    made_by(res, a, b)
+}
