@@ -1,0 +1,3 @@
+pub mod Examples
+pub mod Reading
+pub mod Writing

@@ -1,0 +1,15 @@
+use Rattle.std.proofs.Common.{◌∷◌, [], ◌++◌, List, ℕ, subst}
+use Rattle.std.specs.Prelude.{encode_utf8_all}
+use lib.Utf8.{encode}
+use Rattle.case_json.specs.DocText.{AppendsFront, tilde, char_text}
+use Rattle.case_json.proofs.Writing.{front_behind, on_err}
+use Rattle.case_json.proofs.doc_text.write_cell.Goals as goal
+
+pub returns-in_err-write_char-clause-err : goal.returns-in_err-write_char-clause-err
+unfolding encode
+returns-in_err-write_char-clause-err c =
+    let front : AppendsFront (c.args.out.now.items ++ tilde ∷ []) c.write_char-2.new.out.items (encode_utf8_all (char_text c.args.cell.ch)) =
+    subst (λ (old : List ℕ). AppendsFront old c.write_char-2.new.out.items (encode_utf8_all (char_text c.args.cell.ch))) c.in_ok-push.ensures.items
+    c.in_err-write_char.ensures.err in
+    on_err c.from_residual-in_err-write_char.result
+    (rw c.if-cell.false (front_behind c.args.out.now.items (tilde ∷ []) c.write_char-2.new.out.items (encode_utf8_all (char_text c.args.cell.ch)) front))

@@ -1,0 +1,3 @@
+pub mod Faults
+pub mod DocText
+pub use Rattle.ot_model.specs.Cells
