@@ -1,0 +1,14 @@
+//! Integration of operations that were made on one document, in an order.
+//!
+//! Each operation is transformed, in turn, by the operations that were executed before it, as they were
+//! executed, and the result is executed.
+//!
+//! The layers above rely on one clause: `integrate` ends as `integrated` says, with a document, or stuck
+//! at the first place of the order that can't be executed.
+#![tactic(auto)]
+
+mod end;
+mod order;
+
+pub use end::End;
+pub use order::{MAX_CELLS, MAX_OPS, are_integrable, integrate};

@@ -1,0 +1,99 @@
+//! Integrating in an order.
+ghost use Rattle.std.specs.Prelude.{◌≡◌, ◌≤◌, ◌↔◌, length, All, IsTrue, IfOk, IfSome};
+ghost use Rattle.ot_model.specs.Effect.{kind_of};
+ghost use Rattle.fn_rules.specs.Rules.{function_of};
+ghost use Rattle.fn_rules.specs.Conditions.{IsForKind, IsWithin};
+ghost use Rattle.fn_rules.specs.Orders.{through, operation_at, integrated};
+ghost use Rattle.ot_integrate.specs.Conditions.{IsIntegrable, IsExecuted};
+ghost use Rattle.ot_integrate.specs.Ends.{outcome_of};
+
+use crate::end::End;
+use fn_rules::{Rules, transform, transform_keeps_all_but_the_position, transform_stays_near};
+use ot_model::{Apply, Doc, Kind, NoMemory, Op, apply, enabled, kind};
+use std::alloc::Global;
+
+/// The greatest number of operations that are integrated.
+pub const MAX_OPS: usize = 1_000;
+
+/// The greatest number of cells of the document that they were made on.
+pub const MAX_CELLS: usize = 1_000_000;
+
+/// Whether the operations may be integrated on a document of so many cells: each is of a kind that the
+/// function is for, or nop, and is enabled there.
+pub fn are_integrable(rules: &Rules, cells: usize, ops: &[Op]) -> bool
+    ensures { IsTrue result ↔ All (IsIntegrable (function_of rules.now) cells) ops.now }
+{
+    ops.iter().all(|op| is_integrable(rules, cells, op))
+}
+
+fn is_integrable(rules: &Rules, cells: usize, op: &Op) -> bool
+    ensures { IsTrue result ↔ IsIntegrable (function_of rules.now) cells op.now }
+{
+    let head = rules.head();
+    let declared = match kind(op) {
+        Some(Kind::Ins) => head.ins,
+        Some(Kind::Del) => head.del,
+        None => true,
+    };
+    declared && enabled(op, cells)
+}
+
+/// Integrates the operations in the order that the numbers say, counted from 0; they were all made on
+/// the document. A number that names no operation stands for nop.
+pub fn integrate(
+    alloc: Global,
+    rules: &Rules,
+    doc: &Doc,
+    ops: &[Op],
+    order: &[u32],
+) -> Result<End, NoMemory>
+    requires integrable { All (IsIntegrable (function_of rules.now) (length doc.now)) ops.now }
+    requires cells { length doc.now ≤ MAX_CELLS }
+    requires places { length order.now ≤ MAX_OPS }
+    ensures { IfOk result (λ end. outcome_of end ≡ integrated (function_of rules.now) doc.now ops.now order.now) }
+{
+    let mode = rules.head().mode;
+    let mut current = doc.try_clone()?;
+    let mut executed = Vec::new(alloc);
+    for (place, number) in order.iter().enumerate() {
+        let Some(form) = form_behind(rules, named(ops, *number), &executed) else {
+            return Ok(End::Stuck(place as u32));
+        };
+        match apply(mode, &form, &mut current) {
+            Ok(()) => executed.push(form)?,
+            Err(Apply::NotEnabled) => return Ok(End::Stuck(place as u32)),
+            Err(Apply::NoMemory) => return Err(NoMemory),
+        }
+    }
+    Ok(End::Doc(current))
+}
+
+/// The operation that a number names.
+fn named(ops: &[Op], number: u32) -> Op
+    ensures { result ≡ operation_at ops.now number }
+{
+    ops.get(number as usize).copied().unwrap_or(Op::Nop)
+}
+
+/// The operation, transformed in turn by the operations that were executed. None where one of these
+/// transformations has no result.
+fn form_behind(rules: &Rules, op: Op, executed: &[Op]) -> Option<Op>
+    requires declared { IsForKind (function_of rules.now).head (kind_of op) }
+    requires near { IsWithin 1001000 op }
+    requires executed { All (IsExecuted (function_of rules.now)) executed.now }
+    requires few { length executed.now ≤ MAX_OPS }
+    ensures form { result ≡ through (function_of rules.now) op executed.now }
+    ensures declared { IfSome result (λ form. IsForKind (function_of rules.now).head (kind_of form)) }
+{
+    let _head = rules.head();
+    transform_stays_near();
+    transform_keeps_all_but_the_position();
+    let mut form = op;
+    for other in executed {
+        form = transform(rules, &form, other)?;
+    }
+    Some(form)
+}
+
+#[cfg(test)]
+mod tests;
