@@ -1,0 +1,6 @@
+mod Closing
+mod Completing
+mod Showing
+mod SoleObligation
+mod Taking
+mod Turning

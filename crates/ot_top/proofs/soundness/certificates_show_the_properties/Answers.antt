@@ -1,0 +1,16 @@
+use Rattle.fn_rules.specs.declared.function.Level.TheVariants.{Tp1, Tp2}
+use Rattle.fn_rules.specs.Obligations.{obligations_of}
+use Rattle.ot_top.proofs.Showing.{answers_hold}
+use Rattle.ot_top.proofs.soundness.certificates_show_the_properties.Goals as goal
+
+pub returns-clause-tp1 : goal.returns-clause-tp1
+returns-clause-tp1 c =
+    λ bytes f valid certificate.
+    (c.pair_plans_mean_tp1.ensures.whole f valid).0
+    (answers_hold (c.fitting_trees_hold.ensures.whole) f (obligations_of f.head Tp1) certificate.0 certificate.1)
+
+pub returns-clause-tp2 : goal.returns-clause-tp2
+returns-clause-tp2 c =
+    λ bytes f valid certificate.
+    (c.triple_plans_mean_tp2.ensures.whole f valid).0
+    (answers_hold (c.fitting_trees_hold.ensures.whole) f (obligations_of f.head Tp2) certificate.0 certificate.1)

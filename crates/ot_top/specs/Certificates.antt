@@ -1,0 +1,53 @@
+-- Certificates: the one spelling of a tree for each obligation of a level, each fitting its plan.
+use Rattle.std.specs.Prelude.{◌≡◌, ℕ, List, [], ◌∷◌, ◌++◌, codes}
+use Rattle.fn_rules.specs.declared.function.Level.{Level}
+use Rattle.fn_rules.specs.declared.function.Level.TheVariants.{Tp1}
+use Rattle.fn_rules.specs.declared.function.ObName.{ObName}
+use Rattle.fn_rules.specs.Functions.{Function}
+use Rattle.fn_rules.specs.Obligations.{obligations_of}
+use Rattle.ask_core.specs.Plans.{Plan}
+use Rattle.ask_core.specs.Trees.{AnswerTree, tokens_of, Fits}
+use Rattle.cert_text.specs.Spelling.{AreSpellable, tokens_text, header_text, ob_text, end_text}
+use Rattle.ot_questions.specs.Obligation.{plan_of}
+
+-- one tree for each obligation: it fits the plan of the obligation, and it can be spelled
+abbrev pub AreAnswers : Function → List ObName → List AnswerTree → Type 0
+AreAnswers f [] [] = Unit {0}
+AreAnswers f [] (t ∷ trees) = ⊥
+AreAnswers f (ob ∷ obs) [] = ⊥
+AreAnswers f (ob ∷ obs) (t ∷ trees) =
+    Fits t (plan_of f ob) [] × AreSpellable (tokens_of t) × AreAnswers f obs trees
+
+-- for each obligation its line, its tree, and a newline
+abbrev pub sections_text : List ObName → List AnswerTree → List ℕ
+sections_text [] trees = []
+sections_text (ob ∷ obs) [] = []
+sections_text (ob ∷ obs) (t ∷ trees) =
+    ob_text ob ++ tokens_text (tokens_of t) ++ 10 ∷ sections_text obs trees
+
+-- the bytes are a certificate of the function at the level: the header, a tree for each obligation in
+-- order, and the end
+abbrev pub IsCertificate : List ℕ → Function → Level → Type 0
+IsCertificate bytes f level =
+    (trees : List AnswerTree)
+    × AreAnswers f (obligations_of f.head level) trees
+    × (bytes ≡ header_text level ++ sections_text (obligations_of f.head level) trees ++ end_text)
+
+-- the bytes before the tree of a certificate that has the one obligation of two insertions, at level tp1
+abbrev pub opening_text : List ℕ
+opening_text = codes "otcert 1 tp1" ++ 10 ∷ codes "ob ins ins" ++ 10 ∷ []
+
+-- the bytes behind it
+abbrev pub closing_text : List ℕ
+closing_text = 10 ∷ codes "end" ++ 10 ∷ []
+
+-- the bytes spell a tree that fits the plan
+abbrev pub IsFittingText : {W : Type 0} → List ℕ → Plan W → Type 0
+IsFittingText text p =
+    (t : AnswerTree) × Fits t p [] × AreSpellable (tokens_of t) × (text ≡ tokens_text (tokens_of t))
+
+-- the bytes are such a certificate, where this is the plan of its obligation
+abbrev pub IsSoleCertificate : {W : Type 0} → List ℕ → Plan W → Type 0
+IsSoleCertificate bytes p =
+    (t : AnswerTree) × Fits t p [] × AreSpellable (tokens_of t)
+    × (bytes ≡ opening_text ++ tokens_text (tokens_of t) ++ closing_text)

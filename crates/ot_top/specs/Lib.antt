@@ -1,0 +1,4 @@
+pub mod Judging
+pub mod Certificates
+pub mod Words
+pub mod Replies

@@ -1,0 +1,22 @@
+//! The answer to a command: from words, files and a sink to an exit status.
+//!
+//! The one command so far is `check FN CERT`. It says whether the certificate shows that the
+//! transformation function has TP1.
+//!
+//! The program above relies on one clause: `run` writes the reply that `IsReply` tells, and ends with
+//! its status; it ends with another status only where a file or the sink failed or memory is wanting.
+//! Status 0 shows TP1 of the function, on every document.
+#![tactic(auto)]
+
+mod answer;
+mod certificate;
+mod judge;
+mod obligation;
+mod program;
+mod reply;
+mod soundness;
+mod words;
+
+pub use program::{NO_MEMORY, SHELF_FAULT, SINK_FAULT, run};
+pub use reply::Reply;
+pub use soundness::certificates_show_the_properties;

@@ -1,0 +1,64 @@
+//! The call that does all that the program does.
+ghost use Rattle.std.specs.Prelude.{◌≡◌, ◌≢◌, ◌≤◌, ◌↔◌, ℕ, List, map, IfSome, string_bytes};
+ghost use Rattle.std.specs.Io.KnownBytes.{append_known};
+ghost use Rattle.ot_outside.specs.Faults.{Rose};
+ghost use Rattle.ot_outside.specs.Whole.{AppendsFront};
+ghost use Rattle.ot_top.specs.declared.reply.Reply.{Reply};
+ghost use Rattle.ot_top.specs.Replies.{IsReply, IsShown, GoesOn, status_of, text_of};
+ghost use Rattle.ot_top.specs.Words.{checked_names};
+
+use crate::answer::{Unanswered, reply_to};
+use crate::soundness::certificates_show_the_properties;
+use ot_outside::{Shelf, Sink, write_all};
+use std::alloc::Global;
+
+/// A file could not be opened or read.
+pub const SHELF_FAULT: u8 = 6;
+
+/// The reply could not be written to its end.
+pub const SINK_FAULT: u8 = 7;
+
+/// Memory is wanting.
+pub const NO_MEMORY: u8 = 10;
+
+/// Answers the words behind the program's name: writes the reply, and gives the exit status.
+///
+/// `SHELF_FAULT` comes only where the shelf's faults rose, and `SINK_FAULT` only where the sink's did.
+/// Nothing is written at `SHELF_FAULT` and `NO_MEMORY`, and a front of the reply at `SINK_FAULT`.
+/// No name is opened but those that the words give, and the second one only after the first was
+/// judged.
+pub fn run<H: Shelf, S: Sink>(alloc: Global, words: &[String], shelf: &mut H, out: &mut S) -> u8
+    requires function { IfSome (checked_names (map string_bytes words.now)) (λ names. H.offered shelf.old names.0) }
+    requires certificate { IfSome (checked_names (map string_bytes words.now)) (λ names. GoesOn (H.holds shelf.old names.0) → H.offered shelf.old names.1) }
+
+    // Every other status is that of the reply, whose text was appended.
+    ensures replied { result ≢ SHELF_FAULT → result ≢ SINK_FAULT → result ≢ NO_MEMORY →
+        (reply : Reply) × IsReply (map string_bytes words.now) (H.holds shelf.old) reply × (result ≡ status_of reply)
+        × (S.written out.new ≡ append_known (S.written out.old) (text_of reply)) }
+
+    // What is accepted has the first property, where the shelf tells both files.
+    ensures sound { result ≡ 0 → IsShown (map string_bytes words.now) (H.holds shelf.old) }
+
+    ensures shelf_fault { result ≡ SHELF_FAULT → Rose (H.faults shelf.old) (H.faults shelf.new) × (S.written out.new ≡ S.written out.old) }
+    ensures sink_fault { result ≡ SINK_FAULT →
+        Rose (S.faults out.old) (S.faults out.new)
+        × ((reply : Reply) × IsReply (map string_bytes words.now) (H.holds shelf.old) reply
+        × AppendsFront (S.written out.old) (text_of reply) (S.written out.new)) }
+    ensures no_memory { result ≡ NO_MEMORY → S.written out.new ≡ S.written out.old }
+
+    ensures holds { (n : List ℕ) → H.holds shelf.new n ≡ H.holds shelf.old n }
+    ensures offered { (n : List ℕ) → H.offered shelf.old n ↔ H.offered shelf.new n }
+    ensures shelf_faults { H.faults shelf.old ≤ H.faults shelf.new }
+    ensures sink_faults { S.faults out.old ≤ S.faults out.new }
+{
+    certificates_show_the_properties();
+    let reply = match reply_to(alloc, words, shelf) {
+        Ok(reply) => reply,
+        Err(Unanswered::Shelf) => return SHELF_FAULT,
+        Err(Unanswered::NoMemory) => return NO_MEMORY,
+    };
+    match write_all(out, reply.text().as_bytes()) {
+        Ok(()) => reply.status(),
+        Err(_) => SINK_FAULT,
+    }
+}
