@@ -1,0 +1,37 @@
+//! A command over files in memory.
+use ot_outside::{MemShelf, MemSink};
+use ot_top::run;
+use std::alloc::{AllocError, Global};
+
+/// The files of a shelf: names and contents.
+pub type Files<'a> = &'a [(&'a str, &'a str)];
+
+fn strings(alloc: Global, words: &[&str]) -> Result<Vec<String>, AllocError> {
+    let mut strings = Vec::new(alloc);
+    for word in words {
+        strings.push(String::from_str(alloc, word)?)?;
+    }
+    Ok(strings)
+}
+
+/// A shelf with these files, whose calls of these numbers fail.
+pub fn shelf_of(alloc: Global, files: Files<'_>, failing: &[u32]) -> Result<MemShelf, AllocError> {
+    let mut held = Vec::new(alloc);
+    for (name, text) in files {
+        let name = String::from_str(alloc, name)?;
+        let bytes = Vec::from_slice(alloc, text.as_bytes())?;
+        held.push((name, bytes))?;
+    }
+    Ok(MemShelf::new(held, Vec::from_slice(alloc, failing)?))
+}
+
+/// The status of a command over a shelf, which writes to the sink.
+pub fn status_of(
+    alloc: Global,
+    words: &[&str],
+    shelf: &mut MemShelf,
+    sink: &mut MemSink,
+) -> Result<u8, AllocError> {
+    let words = strings(alloc, words)?;
+    Ok(run(alloc, words.as_slice(), shelf, sink))
+}
