@@ -8,6 +8,8 @@ mod faults;
 #[cfg(test)]
 mod maker;
 #[cfg(test)]
+mod questions;
+#[cfg(test)]
 mod rows;
 #[cfg(test)]
 mod samples;

@@ -16,6 +16,9 @@ pub const SITES_OT: &str =
 pub const TTF_OT: &str =
     "otfn 1\ntext tomb\nkinds ins del\nassume sites differ\nblock ins ins\ncase p1 < p2 : ins p1\ncase p1 = p2 and s1 < s2 : ins p1\ncase true : ins p1 + 1\nblock ins del\ncase true : ins p1\nblock del ins\ncase p1 < p2 : del p1\ncase true : del p1 + 1\nblock del del\ncase true : del p1\nend\n";
 
+/// Deletions that leave tombstones and stay where they are.
+pub const MARKS_OT: &str = "otfn 1\ntext tomb\nkinds del\nblock del del\ncase true : del p1\nend\n";
+
 /// Insertions with no case for equal positions.
 pub const TIES_OT: &str =
     "otfn 1\ntext plain\nkinds ins\nassume sites differ\nblock ins ins\ncase p1 < p2 : ins p1\ncase p2 < p1 : ins p1 + 1\nend\n";
