@@ -11,7 +11,8 @@ import os
 import subprocess
 import sys
 import tempfile
-import time
+
+from measure import measure
 
 HERE = os.path.dirname(os.path.abspath(__file__))
 TOP = os.path.dirname(HERE)
@@ -26,14 +27,10 @@ def many_cases():
     return "\n".join(lines) + "\n"
 
 
-def measure(name, function, certificate):
-    start = time.monotonic()
-    run = subprocess.Popen([PROGRAM, "check", function, certificate], stdout=subprocess.PIPE, text=True)
-    text = run.stdout.read().strip()
-    _, status, usage = os.wait4(run.pid, 0)
-    seconds = time.monotonic() - start
+def report(name, function, certificate):
+    text, status, seconds, peak = measure([PROGRAM, "check", function, certificate])
     size = os.path.getsize(certificate)
-    print(f"{name}: {size} bytes, {seconds:.3f} s, {usage.ru_maxrss} KiB at the peak: {text} ({os.waitstatus_to_exitcode(status)})")
+    print(f"{name}: {size} bytes, {seconds:.3f} s, {peak} KiB at the peak: {text} ({status})")
 
 
 def main():
@@ -48,7 +45,7 @@ def main():
             with open(certificate, "w") as file:
                 made = subprocess.run([sys.executable, os.path.join(HERE, "certificate.py"), function], stdout=file)
             if made.returncode == 0:
-                measure(name, function, certificate)
+                report(name, function, certificate)
             else:
                 print(f"{name}: no certificate")
 

@@ -4,13 +4,10 @@
 usage: deep_path.py      (after `rt run` in crates/deep_path, or `rt ci`)
 """
 import os
-import subprocess
-import time
+
+from measure import measure
 
 TOP = os.path.dirname(os.path.dirname(os.path.abspath(__file__)))
 
-start = time.monotonic()
-run = subprocess.Popen([os.path.join(TOP, "crates/deep_path/out/deep_path")], stdout=subprocess.PIPE, text=True)
-text = run.stdout.read().strip()
-_, _, usage = os.wait4(run.pid, 0)
-print(f"199,999 tokens: {time.monotonic() - start:.3f} s, {usage.ru_maxrss} KiB at the peak: {text}")
+text, _, seconds, peak = measure([os.path.join(TOP, "crates/deep_path/out/deep_path")])
+print(f"199,999 tokens: {seconds:.3f} s, {peak} KiB at the peak: {text}")
