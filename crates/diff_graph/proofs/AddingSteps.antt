@@ -85,7 +85,7 @@ IsAdding-more n m initial rows new ls place so_far inside len square same insert
       same (inserted (ps ++ numbered_from 0 (take place ls))) (so_far.stands ps stands));
 }
 
-pub AreModest-adding : (n : ℕ) (initial rows : List (List (Option Hop))) (ls : List Lit) (place : ℕ) → IsAdding n initial rows ls place → n ≤ 255 → (ps : List Numbered) → StandsFor n (kept_of initial) ps → AreSmall (literals_of ps) → AreSmall ls → (x y : ℕ) → IsModest 1000000 (kept_of rows x y)
+pub AreModest-adding : (n : ℕ) (initial rows : List (List (Option Hop))) (ls : List Lit) (place : ℕ) → IsAdding n initial rows ls place → n ≤ 256 → (ps : List Numbered) → StandsFor n (kept_of initial) ps → AreSmall (literals_of ps) → AreSmall ls → (x y : ℕ) → IsModest 1000000 (kept_of rows x y)
 AreModest-adding n initial rows ls place so_far few ps stands small_before small =
     IsModest-from_stands n (kept_of rows) (ps ++ numbered_from 0 (take place ls)) (so_far.stands ps stands)
     (All-with (λ l. IsSmall l) ps (take place ls) small_before (All-take (λ l. IsSmall l) ls place small)) few
@@ -225,7 +225,7 @@ bound_of : List Lit → ℕ
 bound_of [] = 0
 bound_of (l ∷ ls) = l.x + l.y + 1 + bound_of ls
 
-AreNamed-wider : (m n : ℕ) (ls : List Lit) → m ≤ n → AreNamed m ls → AreNamed n ls
+pub AreNamed-wider : (m n : ℕ) (ls : List Lit) → m ≤ n → AreNamed m ls → AreNamed n ls
 AreNamed-wider m n [] wider named = tt
 AreNamed-wider m n (l ∷ ls) wider named =
     ((omega (arith, named.0.0), omega (arith, named.0.1)), AreNamed-wider m n ls wider named.1)

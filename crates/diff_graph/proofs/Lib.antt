@@ -5,4 +5,5 @@ pub mod Stands
 pub mod RowSteps
 pub mod AddingSteps
 pub mod FloorSteps
+pub mod FloorsBeyond
 pub mod Examples

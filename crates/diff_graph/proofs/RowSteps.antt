@@ -33,6 +33,18 @@ DoneBelow-more change old new place hop so_far inside changed =
           get_or-set_other new place x hop None other ∙ so_far.left x (omega arith));
     }
 
+-- an element that the change leaves as it was
+pub DoneBelow-same : (change : ℕ → Option Hop → Option Hop) (old new : List (Option Hop)) (place : ℕ) → DoneBelow change old new place → change place (get_or new place None) ≡ get_or new place None → DoneBelow change old new (place + 1)
+DoneBelow-same change old new place so_far same = record {
+  len = so_far.len;
+  done = λ x below.
+      elim (cases_eq x place) [
+        | inl here ↦ rw here (sym same ∙ ap (change place) (so_far.left place (omega arith)))
+        | inr other ↦ so_far.done x (omega arith)
+      ];
+  left = λ x above. so_far.left x (omega arith);
+}
+
 -- one hop of a chain
 pub numbers_along-here : (f : ℕ → Option Hop) (most i x y : ℕ) → i < most → x ≡ y → numbers_along f (most - i) x y ≡ []
 numbers_along-here f most i x y below same =

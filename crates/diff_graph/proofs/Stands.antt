@@ -240,7 +240,7 @@ at_most-from_keeps None k kept = absurd (false≢true kept)
 at_most-from_keeps (Some h) k kept = int_le-true h.k k kept
 
 -- ---- sizes
-pub IsModest-from_stands : (n : ℕ) (t : ℕ → ℕ → Option Hop) (ps : List Numbered) → StandsFor n t ps → AreSmall (literals_of ps) → n ≤ 255 → (x y : ℕ) → IsModest 1000000 (t x y)
+pub IsModest-from_stands : (n : ℕ) (t : ℕ → ℕ → Option Hop) (ps : List Numbered) → StandsFor n t ps → AreSmall (literals_of ps) → n ≤ 256 → (x y : ℕ) → IsModest 1000000 (t x y)
 IsModest-from_stands n t ps stands small few x y = by (t x y) refl
   where
     by : (o : Option Hop) → t x y ≡ o → IsModest 1000000 o

@@ -18,8 +18,8 @@ AreSolution n ls values = (length values ≡ n) × (valuation_of values 0 ≡ po
 
 -- such values, or a negative cycle of at most n picks
 abbrev pub Solves : ℕ → List Lit → Solved → Type 0
-Solves n ls (Values values) = AreSolution n ls values.items
-Solves n ls (Cycle picks) = (pick_verdict ls picks.items ≡ Ok tt) × (length picks.items ≤ n)
+Solves n ls (Values values) = AreSolution n ls values
+Solves n ls (Cycle picks) = (pick_verdict ls picks ≡ Ok tt) × (length picks ≤ n)
 
 abbrev pub is_cycle : Solved → Bool
 is_cycle (Values values) = false

@@ -10,7 +10,7 @@ use crate::rows::{Row, add, allows, follows};
 
 /// Adds a literal that closes no negative cycle. One that follows already changes nothing.
 fn insert(rows: &mut [Row], ways: &mut [Option<Hop>], lit: Lit, number: u32)
-    requires few { length rows.old ≤ 255 }
+    requires few { length rows.old ≤ 256 }
     requires square { IsSquare rows.old }
     requires modest { AreModest rows.old }
     requires room { length ways.old ≡ length rows.old }
@@ -30,7 +30,7 @@ fn insert(rows: &mut [Row], ways: &mut [Option<Hop>], lit: Lit, number: u32)
 /// Adds the literals in their order, each under its place, up to the first that closes a negative
 /// cycle with those before it, and gives that place. `ways` is room for one row.
 pub fn add_all(rows: &mut [Row], ways: &mut [Option<Hop>], lits: &[Lit]) -> Option<usize>
-    requires few { length rows.old ≤ 255 }
+    requires few { length rows.old ≤ 256 }
     requires square { IsSquare rows.old }
     requires stands { (ps : List Numbered) × StandsFor (length rows.old) (kept_of rows.old) ps
         × AreSmall (literals_of ps) }

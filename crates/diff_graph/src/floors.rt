@@ -1,7 +1,7 @@
 //! Least values above floors.
 ghost use Rattle.std.specs.Prelude.{◌≡◌, ◌↔◌, ℕ, ◌<◌, ◌≤◌, ◌^◌, ℤ, pos, negsuc, ◌-ℤ◌, ◌≤ℤ◌, List, ◌++◌, length, slice_index_or, Option, None, IfOk, IfSome, IsNone};
 ghost use Rattle.diff_graph.specs.Literals.{IsPossible};
-ghost use Rattle.diff_graph.specs.Tables.{AreNamed, AreSmall, kept_of};
+ghost use Rattle.diff_graph.specs.Tables.{IsNamed, AreNamed, AreSmall, kept_of};
 ghost use Rattle.diff_graph.specs.Steps.{AreNewRows, IsSquare, AreModest, IsModest};
 ghost use Rattle.diff_graph.specs.Solutions.{AreLeast, IsPossibleAbove, AreFloors, floors_from, least_of, AreLeastMeeting, IsBoundedBelow};
 
@@ -16,7 +16,6 @@ use std::alloc::Global;
 /// name 0; None exactly where there are none. There are as many names as floors.
 pub fn least(alloc: Global, lits: &[Lit], floors: &[i32]) -> Result<Option<Vec<i32>>, NoMemory>
     requires names { 0 < length floors.now }
-    requires few { length floors.now ≤ 255 }
     requires zero_first { slice_index_or floors.now 0 (pos 0) ≡ pos 0 }
     requires floors { AreFloors floors.now }
     requires named { AreNamed (length floors.now) lits.now }
@@ -25,7 +24,53 @@ pub fn least(alloc: Global, lits: &[Lit], floors: &[i32]) -> Result<Option<Vec<i
     ensures least { IfOk result (λ found. IfSome found (λ values. AreLeast lits.now floors.now values.items)) }
     ensures none { IfOk result (λ found. IsNone found ↔ ¬ IsPossibleAbove floors.now lits.now) }
 {
-    let n = floors.len() as u8;
+    // A name that no literal speaks of has its floor as its least value. So the table, which is
+    // square, has rows only up to the greatest name that a literal speaks of, 256 at most.
+    let (named, others) = floors.split_at(name_count(lits));
+    let Some(mut values) = least_of_named(alloc, lits, named)? else {
+        return Ok(None);
+    };
+    values.extend_from_slice(others)?;
+    Ok(Some(values))
+}
+
+/// One more than the greatest name that the literals speak of, name 0 being spoken of always.
+fn name_count(lits: &[Lit]) -> usize
+    ensures some { 0 < result }
+    ensures few { result ≤ 256 }
+    ensures named { AreNamed result lits.now }
+    ensures fewest { (n : ℕ) → 0 < n → AreNamed n lits.now → result ≤ n }
+{
+    let mut count = 1;
+    for lit in lits {
+        count = more_names(count, *lit);
+    }
+    count
+}
+
+/// The count of names, or as many as the literal needs.
+fn more_names(count: usize, lit: Lit) -> usize
+    requires few { count ≤ 256 }
+    ensures kept { count ≤ result }
+    ensures few { result ≤ 256 }
+    ensures named { IsNamed result lit }
+    ensures fewest { (n : ℕ) → count ≤ n → IsNamed n lit → result ≤ n }
+{
+    count.max(lit.x as usize + 1).max(lit.y as usize + 1)
+}
+
+/// The same by a table with a row for each floor.
+fn least_of_named(alloc: Global, lits: &[Lit], floors: &[i32]) -> Result<Option<Vec<i32>>, NoMemory>
+    requires names { 0 < length floors.now }
+    requires few { length floors.now ≤ 256 }
+    requires floors { AreFloors floors.now }
+    requires named { AreNamed (length floors.now) lits.now }
+    requires small { AreSmall lits.now }
+    requires count { length lits.now < 2 ^ 32 }
+    ensures least { IfOk result (λ found. IfSome found (λ values. AreLeast lits.now floors.now values.items)) }
+    ensures none { IfOk result (λ found. IsNone found ↔ ¬ IsPossibleAbove floors.now lits.now) }
+{
+    let n = floors.len();
     let mut rows = new_rows(alloc, n)?;
     let mut ways = new_ways(alloc, n)?;
     let bounds = floor_literals(alloc, floors)?;
@@ -35,7 +80,7 @@ pub fn least(alloc: Global, lits: &[Lit], floors: &[i32]) -> Result<Option<Vec<i
 
 /// The floors as literals.
 fn floor_literals(alloc: Global, floors: &[i32]) -> Result<Vec<Lit>, NoMemory>
-    requires few { length floors.now ≤ 255 }
+    requires few { length floors.now ≤ 256 }
     requires floors { AreFloors floors.now }
     ensures { IfOk result (λ bounds. bounds.items ≡ floors_from 0 floors.now) }
 {
@@ -48,7 +93,7 @@ fn floor_literals(alloc: Global, floors: &[i32]) -> Result<Vec<Lit>, NoMemory>
 
 /// The floor of a name as a literal.
 fn floor_literal(floors: &[i32], x: usize) -> Lit
-    requires few { length floors.now ≤ 255 }
+    requires few { length floors.now ≤ 256 }
     requires below { x < length floors.now }
     requires low { negsuc 999 ≤ℤ slice_index_or floors.now x (pos 0) }
     requires high { slice_index_or floors.now x (pos 0) ≤ℤ pos 1000 }
@@ -70,7 +115,7 @@ fn least_in(
     bounds: &[Lit],
 ) -> Result<Option<Vec<i32>>, NoMemory>
     requires names { 0 < length rows.old }
-    requires few { length rows.old ≤ 255 }
+    requires few { length rows.old ≤ 256 }
     requires new { AreNewRows (length rows.old) (length rows.old) rows.old }
     requires room { length ways.old ≡ length rows.old }
     requires named { AreNamed (length rows.old) lits.now }

@@ -12,8 +12,11 @@
 mod adding;
 mod answer;
 mod cycle;
+#[cfg(test)]
+mod fixtures;
 mod floors;
 mod hop;
+mod lists;
 mod lit;
 mod rows;
 mod solved;
@@ -25,6 +28,7 @@ pub use answer::{answered, negate};
 pub use cycle::is_negative_cycle;
 pub use floors::least;
 pub use hop::Hop;
+pub use lists::{Places, Values};
 pub use lit::{Lit, PickEnd};
 pub use solved::Solved;
 pub use solver::solve;

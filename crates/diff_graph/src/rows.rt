@@ -27,12 +27,13 @@ impl Model for Row {
 
 impl Row {
     /// The row of a name in a table of `n` names to which nothing was added.
-    pub fn new(alloc: Global, n: u8, own: u8) -> Result<Row, NoMemory>
+    pub fn new(alloc: Global, n: usize, own: u8) -> Result<Row, NoMemory>
+        requires few { n ≤ 256 }
         ensures { IfOk result (λ row. IsNewRow n own row) }
     {
         let mut cells = Vec::new(alloc);
         for x in 0..n {
-            cells.push(own_hop(own, x))?;
+            cells.push(own_hop(own, x as u8))?;
         }
         Ok(Row { cells })
     }
@@ -82,18 +83,19 @@ fn own_hop(own: u8, x: u8) -> Option<Hop>
 }
 
 /// The rows of a table of `n` names to which nothing was added.
-pub fn new_rows(alloc: Global, n: u8) -> Result<Vec<Row>, NoMemory>
+pub fn new_rows(alloc: Global, n: usize) -> Result<Vec<Row>, NoMemory>
+    requires few { n ≤ 256 }
     ensures { IfOk result (λ rows. AreNewRows n n rows.items) }
 {
     let mut rows = Vec::new(alloc);
     for own in 0..n {
-        rows.push(Row::new(alloc, n, own)?)?;
+        rows.push(Row::new(alloc, n, own as u8)?)?;
     }
     Ok(rows)
 }
 
 /// Room for the ways of one literal in a table of `n` names.
-pub fn new_ways(alloc: Global, n: u8) -> Result<Vec<Option<Hop>>, NoMemory>
+pub fn new_ways(alloc: Global, n: usize) -> Result<Vec<Option<Hop>>, NoMemory>
     ensures { IfOk result (λ ways. length ways.items ≡ n) }
 {
     let mut ways = Vec::new(alloc);
@@ -125,7 +127,7 @@ pub fn follows(rows: &[Row], lit: Lit) -> bool
 
 /// Adds the literal. `ways` is room for one row, which it overwrites.
 pub fn add(rows: &mut [Row], ways: &mut [Option<Hop>], lit: Lit, number: u32)
-    requires few { length rows.old ≤ 255 }
+    requires few { length rows.old ≤ 256 }
     requires square { IsSquare rows.old }
     requires modest { AreModest rows.old }
     requires room { length ways.old ≡ length rows.old }
@@ -140,7 +142,7 @@ pub fn add(rows: &mut [Row], ways: &mut [Option<Hop>], lit: Lit, number: u32)
 
 /// The ways from each name along the literal.
 fn fill_ways(rows: &[Row], ways: &mut [Option<Hop>], lit: Lit, number: u32)
-    requires few { length rows.now ≤ 255 }
+    requires few { length rows.now ≤ 256 }
     requires square { IsSquare rows.now }
     requires modest { AreModest rows.now }
     requires room { length ways.old ≡ length rows.now }

@@ -8,6 +8,7 @@ ghost use Rattle.diff_graph.specs.Solutions.{Solves, is_cycle};
 use crate::NoMemory;
 use crate::adding::add_all;
 use crate::hop::Hop;
+use crate::lists::{Places, Values};
 use crate::lit::Lit;
 use crate::rows::{Row, cycle_at, new_rows, new_ways};
 use crate::solved::Solved;
@@ -23,8 +24,8 @@ pub fn solve(alloc: Global, lits: &[Lit], n: u8) -> Result<Solved, NoMemory>
     ensures solved { IfOk result (λ solved. Solves n lits.now solved) }
     ensures cycle { IfOk result (λ solved. IsTrue (is_cycle solved) ↔ ¬ IsPossible lits.now) }
 {
-    let mut rows = new_rows(alloc, n)?;
-    let mut ways = new_ways(alloc, n)?;
+    let mut rows = new_rows(alloc, n as usize)?;
+    let mut ways = new_ways(alloc, n as usize)?;
     solve_in(alloc, &mut rows, &mut ways, lits)
 }
 
@@ -36,7 +37,7 @@ fn solve_in(
     lits: &[Lit],
 ) -> Result<Solved, NoMemory>
     requires names { 0 < length rows.old }
-    requires few { length rows.old ≤ 255 }
+    requires few { length rows.old ≤ 256 }
     requires new { AreNewRows (length rows.old) (length rows.old) rows.old }
     requires room { length ways.old ≡ length rows.old }
     requires named { AreNamed (length rows.old) lits.now }
@@ -46,8 +47,13 @@ fn solve_in(
     ensures cycle { IfOk result (λ solved. IsTrue (is_cycle solved) ↔ ¬ IsPossible lits.now) }
 {
     match add_all(rows, ways, lits) {
-        None => Ok(Solved::Values(values_of(alloc, rows)?)),
-        Some(place) => Ok(Solved::Cycle(cycle_at(alloc, rows, lits[place], place as u32)?)),
+        None => Ok(Solved::Values(Values::new(values_of(alloc, rows)?))),
+        Some(place) => Ok(Solved::Cycle(Places::new(cycle_at(
+            alloc,
+            rows,
+            lits[place],
+            place as u32,
+        )?))),
     }
 }
 

@@ -1,6 +1,6 @@
 //! One step of a closed table of distances, row by row. The row of a name keeps what is known from
 //! each name to it. A table of any kind of rows can be kept by these functions.
-ghost use Rattle.std.specs.Prelude.{◌≡◌, ℕ, ◌<◌, ◌≤◌, ◌^◌, ℤ, pos, negsuc, ◌≤ℤ◌, ◌++◌, length, slice_index_or, Option, Some, None, IfOk, OnOk};
+ghost use Rattle.std.specs.Prelude.{◌≡◌, ℕ, ◌<◌, ◌≤◌, ◌^◌, ℤ, pos, negsuc, ◌≤ℤ◌, ◌++◌, length, slice_index_or, Option, Some, None, IfSome, IsNone, IfOk, OnOk};
 ghost use Rattle.diff_graph.specs.Tables.{IsNamed, IsSmall};
 ghost use Rattle.diff_graph.specs.Steps.{way_of, joined, lower_of, leaves_room, keeps, numbers_along, IsModest};
 
@@ -33,7 +33,7 @@ pub fn keeps(hop: Option<Hop>, k: i32) -> bool
 
 /// Turns the row of a literal's first name into the ways from each name along the literal.
 pub fn begin_ways(ways: &mut [Option<Hop>], lit: Lit, number: u32)
-    requires few { length ways.old ≤ 255 }
+    requires few { length ways.old ≤ 256 }
     requires small { IsSmall lit }
     requires modest { (x : ℕ) → x < length ways.old → IsModest 1000000 (slice_index_or ways.old x None) }
     ensures len { length ways.new ≡ length ways.old }
@@ -82,18 +82,21 @@ pub fn lower_row(row: &mut [Option<Hop>], ways: &[Option<Hop>], rest: Hop)
         ≡ lower_of (slice_index_or row.old x None) (joined (slice_index_or ways.now x None) (Some rest)) }
 {
     for x in 0..row.len() {
-        row[x] = lower(row[x], ways[x], rest);
+        if let Some(lower) = lower(row[x], ways[x], rest) {
+            row[x] = Some(lower);
+        }
     }
 }
 
-/// The lower of what is kept and the way gone on by `rest`; what is kept where both are equal.
+/// The way gone on by `rest`, where it is lower than what is kept. None where both are equal.
 fn lower(old: Option<Hop>, way: Option<Hop>, rest: Hop) -> Option<Hop>
     requires modest_way { IsModest 2000000 way }
     requires modest_rest { IsModest 1000000 (Some rest) }
-    ensures { result ≡ lower_of old (joined way (Some rest)) }
+    ensures lower { IfSome result (λ lower. lower_of old (joined way (Some rest)) ≡ Some lower) }
+    ensures none { IsNone result → lower_of old (joined way (Some rest)) ≡ old }
 {
     let Some(way) = way else {
-        return old;
+        return None;
     };
     let new = Hop {
         k: way.k + rest.k,
@@ -102,7 +105,7 @@ fn lower(old: Option<Hop>, way: Option<Hop>, rest: Hop) -> Option<Hop>
     };
     match old {
         None => Some(new),
-        Some(old) => Some(if new.k < old.k { new } else { old }),
+        Some(old) => { if new.k < old.k { Some(new) } else { None } }
     }
 }
 
