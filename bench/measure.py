@@ -7,9 +7,19 @@ import tempfile
 import time
 
 
+def run_under_time(words, wanted):
+    with tempfile.NamedTemporaryFile("r") as numbers:
+        run = subprocess.run(["/usr/bin/time", "-q", "-f", wanted, "-o", numbers.name, *words], stdout=subprocess.PIPE, text=True)
+        return run.stdout.strip(), run.returncode, numbers.read().split()
+
+
 def measure(words):
-    with tempfile.NamedTemporaryFile("r") as peak:
-        start = time.monotonic()
-        run = subprocess.run(["/usr/bin/time", "-q", "-f", "%M", "-o", peak.name, *words], stdout=subprocess.PIPE, text=True)
-        seconds = time.monotonic() - start
-        return run.stdout.strip(), run.returncode, seconds, int(peak.read())
+    start = time.monotonic()
+    text, status, numbers = run_under_time(words, "%M")
+    return text, status, time.monotonic() - start, int(numbers[0])
+
+
+def measure_processor(words):
+    """The seconds are those of the processor, to compare programs on a machine that does other work."""
+    text, status, numbers = run_under_time(words, "%U %M")
+    return text, status, float(numbers[0]), int(numbers[1])

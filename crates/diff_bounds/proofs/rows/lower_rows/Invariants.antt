@@ -1,0 +1,5 @@
+use Rattle.diff_graph.proofs.RowSteps.{AreLowered}
+use Rattle.diff_bounds.proofs.rows.lower_rows.Given as goal
+
+abbrev pub invariant-loop-y : goal.invariant-loop-y
+invariant-loop-y g l = AreLowered l.ways l.from l.initial.rows l.rows l.y

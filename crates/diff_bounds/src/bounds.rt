@@ -1,0 +1,90 @@
+//! The table of distances.
+ghost use Rattle.std.specs.Prelude.{◌≡◌, ◌↔◌, ℕ, ◌<◌, ◌≤◌, IsTrue, true, false, List, [], ◌∷◌, ◌++◌, Option, IfOk};
+ghost use Rattle.diff_graph.specs.declared.hop.Hop.{Hop};
+ghost use Rattle.diff_graph.specs.Tables.{IsNamed, IsSmall, Numbered, literals_of, kept_of, StandsFor, Follows, IsPossibleWith, IsCycleOf};
+ghost use Rattle.diff_bounds.specs.Kept.{AreBounds, is_allowed, IsTightest};
+
+use crate::rows::{allows, begin_rows, cycle_at, insert, kept};
+use diff_graph::{Hop, Lit, NoMemory};
+use std::alloc::Global;
+use std::marker::Model;
+
+/// What follows from a list of numbered literals over `N` names, at most 16. Each clause holds for
+/// every list that the table stands for. Contracts see its rows: the row of `y` has what is kept for
+/// each pair `x`, `y`.
+#[derive(Clone, Copy)]
+pub struct Bounds<const N: usize> {
+    rows: [[Option<Hop>; N]; N],
+}
+
+impl<const N: usize> Model for Bounds<N> {
+    ghost Value = { List (List (Option Hop)) };
+
+    ghost view = { λ b. b.rows };
+
+    ghost inverse = { λ rows. record { rows = rows } };
+
+    ghost invariant = { λ b. AreBounds N b.rows };
+}
+
+impl<const N: usize> Bounds<N> {
+    /// A table to which nothing was added.
+    pub fn new() -> Self
+        requires some { 1 ≤ N }
+        requires few { N ≤ 16 }
+        ensures { StandsFor N (kept_of result) [] }
+    {
+        let mut rows = [[None; N]; N];
+        begin_rows(&mut rows);
+        Bounds { rows }
+    }
+
+    /// Whether some integers meet the literals added so far and `lit`.
+    pub fn allows(&self, lit: Lit) -> bool
+        requires named { IsNamed N lit }
+        requires small { IsSmall lit }
+        ensures room { result ≡ is_allowed (kept_of self.now) lit }
+        ensures exact { (ps : List Numbered) → StandsFor N (kept_of self.now) ps
+            → (IsTrue result ↔ IsPossibleWith (literals_of ps) lit) }
+    {
+        allows(&self.rows, lit)
+    }
+
+    /// The least `k` for which `x <= y + k` follows from the literals added so far. None where none
+    /// follows.
+    pub fn tightest(&self, x: u8, y: u8) -> Option<i32>
+        requires x_below { x < N }
+        requires y_below { y < N }
+        ensures { (ps : List Numbered) → StandsFor N (kept_of self.now) ps → IsTightest (literals_of ps) x y result }
+    {
+        kept(&self.rows, x, y).map(|hop| hop.k)
+    }
+
+    /// Adds a literal that is allowed, under a number. One that follows already changes nothing.
+    pub fn add(&mut self, lit: Lit, number: u32)
+        requires named { IsNamed N lit }
+        requires small { IsSmall lit }
+        requires allowed { is_allowed (kept_of self.old) lit ≡ true }
+        ensures stands { (ps : List Numbered) → StandsFor N (kept_of self.old) ps
+            → StandsFor N (kept_of self.new) (ps ++ record { number = number; lit = lit } ∷ []) }
+        ensures same { (ps : List Numbered) → StandsFor N (kept_of self.old) ps
+            → Follows (literals_of ps) lit.x lit.y lit.k → self.new ≡ self.old }
+    {
+        insert(&mut self.rows, lit, number);
+    }
+
+    /// Why a literal is not allowed: the numbers of the literals of a negative cycle, at most `N`,
+    /// each of an added literal or `number`. The error is want of memory.
+    pub fn why_not(&self, alloc: Global, lit: Lit, number: u32) -> Result<Vec<u32>, NoMemory>
+        requires named { IsNamed N lit }
+        requires small { IsSmall lit }
+        requires not_allowed { is_allowed (kept_of self.now) lit ≡ false }
+        ensures { (ps : List Numbered) → StandsFor N (kept_of self.now) ps
+            → IfOk result (λ picks. IsCycleOf N (ps ++ record { number = number; lit = lit } ∷ []) picks.items) }
+    {
+        Ok(cycle_at(alloc, &self.rows, lit, number)?)
+    }
+}
+
+#[cfg(test)]
+mod tests;

@@ -1,0 +1,147 @@
+//! The rows of a table in arrays. The row of a name keeps what is known from each name to it.
+ghost use Rattle.std.specs.Prelude.{◌≡◌, ℕ, ◌<◌, ◌≤◌, true, List, [], ◌∷◌, ◌++◌, length, slice_index_or, Option, Some, None, IfOk};
+ghost use Rattle.diff_graph.specs.Tables.{IsNamed, IsSmall, Numbered, kept_of, StandsFor, IsAtMost};
+ghost use Rattle.diff_graph.specs.Steps.{added, keeps, numbers_along, IsModest, IsNewRow, AreNewRows, IsSquare, AreModest, IsLowered};
+ghost use Rattle.diff_bounds.specs.Kept.{is_allowed};
+
+use diff_graph::table::{begin_ways, keeps, leaves_room, lower_row, push_chain};
+use diff_graph::{Hop, Lit, NoMemory};
+use std::alloc::Global;
+
+/// Keeps each name at 0 to itself, in rows that keep nothing.
+// Out of line: where the compiler sees through it, a new table is spelled out cell by cell.
+#[inline(never)]
+pub fn begin_rows<const N: usize>(rows: &mut [[Option<Hop>; N]])
+    requires few { length rows.old ≤ 255 }
+    requires square { IsSquare rows.old }
+    requires nothing { (x y : ℕ) → kept_of rows.old x y ≡ None }
+    ensures { AreNewRows (length rows.old) (length rows.old) rows.new }
+{
+    for own in 0..rows.len() {
+        keep_own(&mut rows[own][..], own as u8);
+    }
+}
+
+/// Keeps the name at 0 to itself, in a row that keeps nothing.
+fn keep_own(row: &mut [Option<Hop>], own: u8)
+    requires below { own < length row.old }
+    requires nothing { (x : ℕ) → slice_index_or row.old x None ≡ None }
+    ensures { IsNewRow (length row.old) own row.new }
+{
+    row[own as usize] = Some(Hop {
+        k: 0,
+        number: 0,
+        second: own,
+    });
+}
+
+/// What is kept from `x` to `y`.
+pub fn kept<const N: usize>(rows: &[[Option<Hop>; N]], x: u8, y: u8) -> Option<Hop>
+    requires x_below { x < length rows.now }
+    requires y_below { y < length rows.now }
+    requires square { IsSquare rows.now }
+    ensures { result ≡ kept_of rows.now x y }
+{
+    let row = &rows[y as usize][..];
+    row[x as usize]
+}
+
+/// Whether the literal closes no negative cycle.
+pub fn allows<const N: usize>(rows: &[[Option<Hop>; N]], lit: Lit) -> bool
+    requires square { IsSquare rows.now }
+    requires modest { AreModest rows.now }
+    requires named { IsNamed (length rows.now) lit }
+    requires small { IsSmall lit }
+    ensures { result ≡ is_allowed (kept_of rows.now) lit }
+{
+    leaves_room(kept(rows, lit.y, lit.x), lit.k)
+}
+
+/// Whether the literal already follows, so that adding it changes nothing.
+fn follows<const N: usize>(rows: &[[Option<Hop>; N]], lit: Lit) -> bool
+    requires square { IsSquare rows.now }
+    requires named { IsNamed (length rows.now) lit }
+    ensures { result ≡ keeps (kept_of rows.now lit.x lit.y) lit.k }
+{
+    keeps(kept(rows, lit.x, lit.y), lit.k)
+}
+
+/// Adds a literal that closes no negative cycle. One that follows already changes nothing.
+pub fn insert<const N: usize>(rows: &mut [[Option<Hop>; N]], lit: Lit, number: u32)
+    requires few { length rows.old ≤ 255 }
+    requires square { IsSquare rows.old }
+    requires modest { AreModest rows.old }
+    requires named { IsNamed (length rows.old) lit }
+    requires small { IsSmall lit }
+    requires allowed { is_allowed (kept_of rows.old) lit ≡ true }
+    ensures square { IsSquare rows.new }
+    ensures stands { (ps : List Numbered) → StandsFor (length rows.old) (kept_of rows.old) ps
+        → StandsFor (length rows.old) (kept_of rows.new) (ps ++ record { number = number; lit = lit } ∷ []) }
+    ensures same { IsAtMost (kept_of rows.old lit.x lit.y) lit.k → rows.new ≡ rows.old }
+{
+    if follows(rows, lit) {
+        return;
+    }
+    add(rows, lit, number);
+}
+
+/// Adds the literal.
+fn add<const N: usize>(rows: &mut [[Option<Hop>; N]], lit: Lit, number: u32)
+    requires few { length rows.old ≤ 255 }
+    requires square { IsSquare rows.old }
+    requires modest { AreModest rows.old }
+    requires named { IsNamed (length rows.old) lit }
+    requires small { IsSmall lit }
+    ensures square { IsSquare rows.new }
+    ensures added { (x y : ℕ) → kept_of rows.new x y ≡ added (kept_of rows.old) number lit x y }
+{
+    let mut ways = rows[lit.x as usize];
+    begin_ways(&mut ways, lit, number);
+    lower_rows(rows, &ways, lit.y);
+}
+
+/// Lowers each row by the ways to `from`, each gone on by what the row keeps from there.
+fn lower_rows<const N: usize>(rows: &mut [[Option<Hop>; N]], ways: &[Option<Hop>], from: u8)
+    requires from_below { from < length rows.old }
+    requires square { IsSquare rows.old }
+    requires same_length { length ways.now ≡ length rows.old }
+    requires modest_ways { (x : ℕ) → x < length ways.now → IsModest 2000000 (slice_index_or ways.now x None) }
+    requires modest { AreModest rows.old }
+    ensures { (y : ℕ) → y < length rows.old
+        → IsLowered ways.now from (slice_index_or rows.old y []) (slice_index_or rows.new y []) }
+{
+    for y in 0..rows.len() {
+        lower(&mut rows[y][..], ways, from);
+    }
+}
+
+/// Lowers a row by the ways to `from`, each gone on by what the row keeps from there.
+fn lower(row: &mut [Option<Hop>], ways: &[Option<Hop>], from: u8)
+    requires from_below { from < length row.old }
+    requires same_length { length ways.now ≡ length row.old }
+    requires modest_ways { (x : ℕ) → x < length ways.now → IsModest 2000000 (slice_index_or ways.now x None) }
+    requires modest_rest { IsModest 1000000 (slice_index_or row.old from None) }
+    ensures { IsLowered ways.now from row.old row.new }
+{
+    if let Some(rest) = row[from as usize] {
+        lower_row(row, ways, rest);
+    }
+}
+
+/// The numbers of the negative cycle that a literal closes which is not allowed.
+pub fn cycle_at<const N: usize>(
+    alloc: Global,
+    rows: &[[Option<Hop>; N]],
+    lit: Lit,
+    number: u32,
+) -> Result<Vec<u32>, NoMemory>
+    requires square { IsSquare rows.now }
+    requires named { IsNamed (length rows.now) lit }
+    ensures { IfOk result (λ picks. picks.items
+        ≡ number ∷ numbers_along (λ x. kept_of rows.now x lit.x) (length rows.now) lit.y lit.x) }
+{
+    let mut picks = Vec::new(alloc);
+    picks.push(number)?;
+    push_chain(&mut picks, &rows[lit.x as usize][..], lit.y, lit.x)?;
+    Ok(picks)
+}
