@@ -1,11 +1,11 @@
 -- The tests of a move hold where the move was chosen.
-use Rattle.std.proofs.Common.{◌≡◌, ℕ, ◌<◌, Bool, true, false, ◌&&◌, Option, Some, None, refl, subst, nat_lt, rules, arith}
+use Rattle.std.proofs.Common.{◌≡◌, ℕ, ◌<◌, Bool, true, false, ◌&&◌, Some, refl, subst, nat_lt, rules}
 use Rattle.std.proofs.lemmas.Bool.Decides.{nat_tests}
 use Rattle.fn_rules.specs.declared.guard.Sort.{Sort}
 use Rattle.fn_rules.specs.declared.guard.Sort.TheVariants.{Pos, Site, Char}
 use Rattle.fn_rules.specs.declared.guard.Side.{Side}
 use Rattle.fn_text.specs.declared.token.Token.{Token}
-use Rattle.fn_text.specs.declared.token.Token.TheVariants.{Byte, Unknown, Known, Number, Less, LessEqual, Equal, Plus, Minus, Open, Close, Colon, LineEnd, FileEnd}
+use Rattle.fn_text.specs.declared.token.Token.TheVariants.{Known, Number, Less, LessEqual, Equal, Plus, Minus, Open, Close, Colon, LineEnd, FileEnd}
 use Rattle.fn_text.specs.declared.token.Word.TheVariants as words
 use Rattle.fn_text.specs.declared.token.Placed.{Placed}
 use Rattle.fn_rules.specs.declared.guard.Side.TheVariants.{First, Second}

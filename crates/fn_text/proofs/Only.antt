@@ -1,5 +1,5 @@
 -- What is written by the grammar is read: the guards.
-use Rattle.std.proofs.Common.{◌≡◌, ℕ, zero, suc, ◌+◌, ◌<◌, ◌≤◌, Bool, true, false, ◌&&◌, max, List, [], ◌∷◌, ◌++◌, map, Option, Some, None, Result, Ok, Err, refl, sym, ap, ◌∙◌, subst, ◌⊎◌, inl, inr, nat_lt, nat_le, append_assoc, add-one, rules, arith}
+use Rattle.std.proofs.Common.{◌≡◌, ℕ, zero, suc, ◌+◌, ◌<◌, ◌≤◌, Bool, true, false, ◌&&◌, List, [], ◌∷◌, ◌++◌, map, Some, None, Result, Ok, Err, refl, sym, ap, ◌∙◌, nat_lt, append_assoc, add-one, rules, arith}
 use Rattle.std.proofs.lemmas.Bool.Decides.{nat_tests}
 use Rattle.fn_rules.specs.declared.guard.Sort.{Sort}
 use Rattle.fn_rules.specs.declared.guard.Sort.TheVariants.{Pos, Site, Char}
@@ -25,7 +25,7 @@ use Rattle.fn_text.specs.declared.control.Move.{Move}
 use Rattle.fn_text.specs.declared.control.Move.TheVariants as moves
 use Rattle.fn_text.specs.Moves.{move_for}
 use Rattle.fn_text.specs.Controls.{allowed, has_chars, depth_of}
-use Rattle.fn_text.specs.GuardMoves.{at_operand, at_operator, at_comparison, at_right, at_offset, ends_atom, begins_atom}
+use Rattle.fn_text.specs.GuardMoves.{at_operand, at_operator, at_comparison, at_right, at_offset, begins_atom}
 use Rattle.fn_text.specs.Print.{thing_word, compare_token}
 use Rattle.fn_text.specs.Reader.{Maker, Level, State, negate, join, choose, conjunction, disjunction, moved, closed, read_from, after_move, want_behind}
 use Rattle.fn_text.specs.Grammar.{Phrase, Always, Compare, Shifted, Negated, Round, One, Both, Single, Either, written_as, sign_token, made, atoms_in, nesting_in, is_allowed, may_compare}

@@ -1,11 +1,10 @@
 -- What is written by the grammar is read: the lines of a block.
-use Rattle.std.proofs.Common.{◌≡◌, ℕ, zero, suc, ◌+◌, ◌<◌, ◌≤◌, Bool, true, false, not, ◌&&◌, List, [], ◌∷◌, ◌++◌, length, map, Option, Some, None, refl, sym, ap, ◌∙◌, nat_lt, nat_le, cond, append_assoc, append-nil, rules, arith}
+use Rattle.std.proofs.Common.{◌≡◌, ℕ, ◌+◌, ◌<◌, ◌≤◌, Bool, true, false, not, List, [], ◌∷◌, ◌++◌, length, map, Some, refl, sym, ap, ◌∙◌, cond, append_assoc, append-nil, arith}
 use Rattle.std.specs.List.{flat_map, list_all}
 use Rattle.ot_model.specs.declared.op.Kind.{Kind}
 use Rattle.ot_model.specs.declared.op.Kind.TheVariants as kinds
 use Rattle.fn_rules.specs.declared.guard.Tightness.{Tightness}
 use Rattle.fn_rules.specs.Functions.{is_declared}
-use Rattle.fn_rules.specs.Validity.{compares_chars}
 use Rattle.fn_text.specs.declared.token.Token.{Token}
 use Rattle.fn_text.specs.declared.token.Token.TheVariants.{Known, LineEnd}
 use Rattle.fn_text.specs.declared.token.Word.TheVariants as words
@@ -17,9 +16,9 @@ use Rattle.fn_text.specs.Controls.{has_chars, has_seen}
 use Rattle.fn_text.specs.LineMoves.{at_block_first, at_block_second, first_declared, second_declared}
 use Rattle.fn_text.specs.Moves.{move_for}
 use Rattle.fn_text.specs.Print.{kind_word}
-use Rattle.fn_text.specs.Reader.{Maker, State, moved, blocks_of, with_pair, after_move, read_from}
+use Rattle.fn_text.specs.Reader.{Maker, State, moved, blocks_of, with_pair, after_move}
 use Rattle.fn_text.specs.Grammar.{WrittenCase, WrittenBlock, case_written_as, block_written_as, case_made, block_made, is_allowed_case, is_allowed_block}
-use Rattle.fn_text.proofs.Only.{bare, Leads, leads_by, leads_on, behind, behind_keeps, at_wanted, allowed_true, both_true, left_true, right_true, going, forget}
+use Rattle.fn_text.proofs.Only.{bare, Leads, leads_by, leads_on, behind_keeps, allowed_true, both_true, left_true, right_true, going, forget}
 use Rattle.fn_text.proofs.OnlyCases.{AtLine, behind_case, leads_case, case_is_made, case_is_at_line, at_most}
 
 -- what a case leaves as it was

@@ -1,6 +1,5 @@
 -- What is written by the grammar is read: the lines of cases.
-use Rattle.std.proofs.Common.{◌≡◌, ℕ, zero, suc, ◌+◌, ◌<◌, ◌≤◌, ◌==◌, Bool, true, false, ◌&&◌, List, [], ◌∷◌, ◌++◌, length, map, Option, Some, None, refl, sym, ap, ◌∙◌, nat_lt, nat_le, append_assoc, rules, arith}
-use Rattle.std.specs.List.{flat_map, list_all}
+use Rattle.std.proofs.Common.{◌≡◌, ℕ, ◌+◌, ◌<◌, ◌≤◌, ◌==◌, true, List, [], ◌∷◌, ◌++◌, Some, None, refl, sym, ap, ◌∙◌, nat_le, append_assoc, rules, arith}
 use Rattle.std.proofs.lemmas.Bool.Decides.{nat_tests}
 use Rattle.ot_model.specs.declared.op.Kind.{Kind}
 use Rattle.ot_model.specs.declared.op.Kind.TheVariants as kinds
@@ -23,9 +22,9 @@ use Rattle.fn_text.specs.declared.control.Move.TheVariants as moves
 use Rattle.fn_text.specs.Controls.{has_chars}
 use Rattle.fn_text.specs.GuardMoves.{at_result, at_result_position, at_result_offset, kept_kind}
 use Rattle.fn_text.specs.Print.{thing_word, kind_word}
-use Rattle.fn_text.specs.Reader.{Maker, State, disjunction, moved, read_from}
+use Rattle.fn_text.specs.Reader.{Maker, State, disjunction, moved}
 use Rattle.fn_text.specs.Grammar.{written_as, sign_token, made, atoms_in, nesting_in, is_allowed, WrittenCase, result_written_as, case_written_as, case_made, is_allowed_result, is_allowed_case}
-use Rattle.fn_text.proofs.Only.{bare, Leads, leads_by, leads_on, behind, behind_keeps, want_is_behind, same_chars, same_outside, leads, says, at_wanted, allowed_true, below_test, both_true, left_true, right_true, operator_goes}
+use Rattle.fn_text.proofs.Only.{bare, Leads, leads_by, leads_on, behind, behind_keeps, want_is_behind, same_outside, leads, says, at_wanted, allowed_true, below_test, both_true, left_true, right_true, operator_goes}
 
 -- between two lines
 pub record AtLine {V : Tightness → Type 0} {K B : Type 0} (s : State V K B) : Type 0 where

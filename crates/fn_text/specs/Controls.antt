@@ -1,5 +1,5 @@
 -- The limits of the grammar, and what the reader's control tells of the function so far.
-use Rattle.std.specs.Prelude.{ℕ, ◌+◌, Bool, true, not, ◌&&◌, ◌||◌, if◌then◌else◌, Option, Some, None}
+use Rattle.std.specs.Prelude.{ℕ, ◌+◌, Bool, not, ◌&&◌, ◌||◌, if◌then◌else◌, Option, Some, None}
 use Rattle.ot_model.specs.declared.op.Kind.{Kind}
 use Rattle.ot_model.specs.declared.op.Kind.TheVariants as kinds
 use Rattle.fn_rules.specs.Validity.{is_declared_pair, compares_chars}

@@ -1,6 +1,6 @@
 -- Function files as they are written: the phrases of the grammar, the tokens by which they are written,
 -- and what they mean.
-use Rattle.std.specs.Prelude.{◌≡◌, ℕ, ◌+◌, Bool, true, false, ◌&&◌, ◌||◌, max, nat_le, IsTrue, List, [], ◌∷◌, ◌++◌, length, map}
+use Rattle.std.specs.Prelude.{◌≡◌, ℕ, ◌+◌, Bool, true, ◌&&◌, ◌||◌, max, nat_le, IsTrue, List, [], ◌∷◌, ◌++◌, length, map}
 use Rattle.std.specs.List.{flat_map, list_all}
 use Rattle.ot_model.specs.declared.op.Kind.{Kind}
 use Rattle.fn_rules.specs.declared.guard.Sort.{Sort}
@@ -14,7 +14,6 @@ use Rattle.fn_rules.specs.Formulas.{other_side}
 use Rattle.fn_rules.specs.Functions.{Function}
 use Rattle.fn_rules.specs.Validity.{compares_chars}
 use Rattle.fn_rules.specs.Building.{function_from, has_own_blocks}
-use Rattle.fn_text.specs.declared.token.Word.{Word}
 use Rattle.fn_text.specs.declared.token.Word.TheVariants as words
 use Rattle.fn_text.specs.declared.token.Token.{Token}
 use Rattle.fn_text.specs.declared.token.Token.TheVariants.{Known, Number, Plus, Minus, Open, Close, Colon, LineEnd, FileEnd}

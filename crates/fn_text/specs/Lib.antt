@@ -10,6 +10,8 @@ pub mod Reader
 pub mod Made
 pub mod Reading
 pub mod Grammar
+pub mod Theorems
+pub mod Continuing
 pub use Rattle.fn_rules.specs.Formulas
 pub use Rattle.fn_rules.specs.Functions
 pub use Rattle.fn_rules.specs.Rules

@@ -1,10 +1,6 @@
 -- What the reader has in memory, as the state that it stands for: formulas in place of guards.
-use Rattle.std.specs.Prelude.{◌≡◌, ℕ, ℤ, pos, neg_ℤ, List, [], ◌∷◌, map, Option, Some, None, option_map, Result, Ok, Err}
-use Rattle.ot_model.specs.declared.op.Kind.{Kind}
-use Rattle.fn_rules.specs.declared.guard.Sort.{Sort}
+use Rattle.std.specs.Prelude.{◌≡◌, ℕ, ℤ, pos, neg_ℤ, List, [], ◌∷◌, map, option_map, Result, Ok, Err}
 use Rattle.fn_rules.specs.declared.guard.Sort.TheVariants.{Pos}
-use Rattle.fn_rules.specs.declared.guard.Side.{Side}
-use Rattle.fn_rules.specs.declared.guard.Cmp.{Cmp}
 use Rattle.fn_rules.specs.declared.guard.Tightness.{Tightness}
 use Rattle.fn_rules.specs.declared.function.Res.{Res}
 use Rattle.fn_rules.specs.declared.function.Res.TheVariants as results

@@ -1,9 +1,8 @@
 -- Reading tokens one after another, over anything that phrases may be made into: the phrases themselves,
 -- or the formulas that they mean.
-use Rattle.std.specs.Prelude.{◌≡◌, ℕ, zero, suc, ◌+◌, ◌-◌, Bool, true, false, ◌||◌, if◌then◌else◌, List, [], ◌∷◌, ◌++◌, Option, Some, None, Result, Ok, Err}
+use Rattle.std.specs.Prelude.{ℕ, zero, suc, ◌+◌, true, false, if◌then◌else◌, List, [], ◌∷◌, ◌++◌, Option, Some, None, Result, Ok, Err}
 use Rattle.ot_model.specs.declared.op.Kind.{Kind}
 use Rattle.ot_model.specs.declared.op.Kind.TheVariants as kinds
-use Rattle.ot_model.specs.declared.op.Mode.{Mode}
 use Rattle.ot_model.specs.declared.op.Mode.TheVariants as modes
 use Rattle.fn_rules.specs.declared.guard.Sort.{Sort}
 use Rattle.fn_rules.specs.declared.guard.Sort.TheVariants.{Pos, Site, Char}

@@ -1,21 +1,17 @@
 -- What a file is read as: a function, or the fault of the first token that cannot go on.
-use Rattle.std.specs.Prelude.{◌≡◌, ℕ, List, Result, Ok, Err, if◌then◌else◌, ◌⊎◌}
+use Rattle.std.specs.Prelude.{◌≡◌, ℕ, List, Result, Ok, Err, ◌⊎◌}
 use Rattle.fn_rules.specs.declared.function.Head.{Head}
 use Rattle.fn_rules.specs.Functions.{Function}
-use Rattle.fn_rules.specs.Building.{PairCases, function_from, is_buildable}
+use Rattle.fn_rules.specs.Building.{PairCases, function_from}
 use Rattle.fn_text.specs.declared.fault.TextFault.{TextFault}
 use Rattle.fn_text.specs.declared.fault.FaultKind.TheVariants as faults
 use Rattle.fn_text.specs.Tokens.{tokens_of}
 use Rattle.fn_text.specs.Reader.{read_from, first_state}
 use Rattle.fn_text.specs.Made.{to_formulas}
 
--- a head and blocks as a function within the limits, which those of a file always are
-abbrev pub built : Head → List PairCases → Result Function TextFault
-built head blocks =
-    if is_buildable head blocks then Ok (function_from head blocks) else Err record { line = 1; column = 1; kind = faults.Expected }
-
+-- the function that a head and blocks stand for
 abbrev pub built_from : Result (Head × List PairCases) TextFault → Result Function TextFault
-built_from (Ok parts) = built parts.0 parts.1
+built_from (Ok parts) = Ok (function_from parts.0 parts.1)
 built_from (Err fault) = Err fault
 
 -- the function that bytes are read as, or the first fault

@@ -1,11 +1,13 @@
 //! The canonical text of a function: first its tokens, then their bytes.
-ghost use Rattle.std.specs.Prelude.{◌≡◌, ◌≤◌, ◌++◌, ◌||◌, [], ◌∷◌, true, IfOk, OnOk, unsigned_abs, map, not};
+ghost use Rattle.std.specs.Prelude.{◌≡◌, ◌≤◌, ◌++◌, ◌||◌, [], ◌∷◌, true, Ok, IsTrue, IfOk, OnOk, unsigned_abs, map, not};
 ghost use Rattle.std.specs.Fmt.{decimal};
 ghost use Rattle.std.specs.List.{All, flat_map};
 ghost use Rattle.fn_rules.specs.Formulas.{formula_of, other_side};
 ghost use Rattle.fn_rules.specs.Functions.{case_of, is_declared};
 ghost use Rattle.fn_rules.specs.Rules.{function_of};
+ghost use Rattle.fn_rules.specs.Validity.{is_valid};
 ghost use Rattle.fn_text.specs.Print.{thing_word, compare_token, offset_tokens, atom_tokens, guard_tokens, kind_word, mode_word, result_tokens, case_tokens, block_tokens, declared_block, function_tokens, printed, LexesBack, head_tokens, present, assumption_tokens, first_lines, text_of, ends_line, space_before, spelled_from};
+ghost use Rattle.fn_text.specs.Reading.{function_in};
 ghost use Rattle.fn_text.specs.Offsets.{HasOffset, HasOffsets, HasResultOffset, HasCaseOffsets};
 
 use crate::NoMemory;
@@ -272,7 +274,8 @@ fn push_declared(
 }
 
 fn push_function(out: &mut Vec<Token>, rules: &Rules) -> Result<(), NoMemory>
-    ensures { OnOk result (out.new.items ≡ out.old.items ++ function_tokens (function_of rules.now)) }
+    ensures tokens { OnOk result (out.new.items ≡ out.old.items ++ function_tokens (function_of rules.now)) }
+    ensures valid { OnOk result (IsTrue (is_valid (function_of rules.now))) }
 {
     push_head(out, &rules.head())?;
     push_declared(out, rules, Kind::Ins, Kind::Ins)?;
@@ -390,7 +393,9 @@ pub fn canonical_text_lexes_back()
 
 /// The canonical text of a function.
 pub fn print(alloc: Global, rules: &Rules) -> Result<Vec<u8>, NoMemory>
-    ensures { IfOk result (λ text. text.items ≡ printed (function_of rules.now)) }
+    ensures text { IfOk result (λ text. text.items ≡ printed (function_of rules.now)) }
+    // What is printed is read as the function again.
+    ensures reads_back { IfOk result (λ text. function_in text.items ≡ Ok (function_of rules.now)) }
 {
     let mut tokens = Vec::new(alloc);
     push_function(&mut tokens, rules)?;

@@ -1,50 +1,38 @@
 //! From the bytes of a file to a function.
 
-ghost use Rattle.std.specs.Prelude.{◌≡◌, ◌<◌, ◌^◌, length, map, Ok, Err};
-ghost use Rattle.fn_rules.specs.Building.{block_of};
+ghost use Rattle.std.specs.Prelude.{◌≡◌, ◌<◌, ◌^◌, length, map, Ok, Err, IfOk, IsTrue};
+ghost use Rattle.fn_rules.specs.Building.{block_of, is_buildable};
 ghost use Rattle.fn_rules.specs.Rules.{function_of};
 ghost use Rattle.fn_text.specs.Tokens.{tokens_of};
 ghost use Rattle.fn_text.specs.Reader.{read_from, first_state};
 ghost use Rattle.fn_text.specs.Made.{to_formulas, Gives};
-ghost use Rattle.fn_text.specs.Reading.{built, function_in, Answers};
+ghost use Rattle.fn_text.specs.Reading.{function_in, Answers};
 
 use crate::fault::{FaultKind, TextFault};
 use crate::lexer::lex;
 use crate::reader::read_tokens;
 use crate::stop::ReadError;
-use fn_rules::{Block, Head, Rules, is_within_limits};
+use fn_rules::{Block, Head, Rules};
 use std::alloc::Global;
 
-/// The head and the blocks of a file.
+/// The head and the blocks of a file, which are within the limits.
 fn parts(alloc: Global, bytes: &[u8]) -> Result<(Head, Vec<Block>), ReadError>
     requires { length bytes.now < 2 ^ 31 }
-    ensures { Gives (λ x. (x.0, map block_of x.1.items)) result (read_from to_formulas (first_state to_formulas) (tokens_of bytes.now)) }
+    ensures read { Gives (λ x. (x.0, map block_of x.1.items)) result (read_from to_formulas (first_state to_formulas) (tokens_of bytes.now)) }
+    ensures within_limits { IfOk result (λ x. IsTrue (is_buildable x.0 (map block_of x.1.items))) }
 {
     let tokens = lex(alloc, bytes)?;
     read_tokens(alloc, &tokens)
 }
 
-/// A head and blocks as a function.
-fn build(head: Head, blocks: Vec<Block>) -> Result<Rules, ReadError>
-    ensures { Gives function_of result (built head (map block_of blocks.items)) }
-{
-    if !is_within_limits(&head, &blocks) {
-        return Err(ReadError::Fault(TextFault {
-            line: 1,
-            column: 1,
-            kind: FaultKind::Expected,
-        }));
-    }
-    Ok(Rules::build(head, blocks))
-}
-
+/// A file as a function.
 #[tactic(auto, unfolding(crate::specs::Reading::function_in))]
 fn function(alloc: Global, bytes: &[u8]) -> Result<Rules, ReadError>
     requires { length bytes.now < 2 ^ 31 }
     ensures { Gives function_of result (function_in bytes.now) }
 {
     let (head, blocks) = parts(alloc, bytes)?;
-    build(head, blocks)
+    Ok(Rules::build(head, blocks))
 }
 
 /// Reads the text of a function.

@@ -1,4 +1,5 @@
 use super::*;
+use crate::reading::read;
 use fn_rules::{Block, is_within_limits};
 use std::test::Fail;
 
@@ -39,5 +40,57 @@ fn a_function_on_deletions_is_printed(rt: HostRuntime) -> Result<(), Fail> {
     let wanted =
         "otfn 1\ntext tomb\nkinds del\nassume sites differ\nblock del del\ncase p2 <= p1 - 10 : del p1 - 1\ncase true : nop\nend\n";
     assert_eq!(rt; text.as_slice(), wanted.as_bytes());
+    Ok(())
+}
+
+/// The lines up to the guard of a function's one case, and those behind it.
+const FRONT: &str = "otfn 1\ntext plain\nkinds ins\nblock ins ins\ncase ";
+
+const REST: &str = " : nop\nend\n";
+
+fn with_guard(alloc: Global, guard: &str) -> Result<String, Fail> {
+    Ok(format!(in alloc; "{FRONT}{guard}{REST}")?)
+}
+
+#[test]
+fn guards_are_printed_with_the_fewest_parentheses(rt: HostRuntime) -> Result<(), Fail> {
+    let alloc = rt.alloc();
+    for (written, printed) in [
+        ("true", "true"),
+        ("(p1 < p2)", "p1 < p2"),
+        ("((s2 = s1))", "s2 = s1"),
+        ("p1 <= p2 + 007", "p1 <= p2 + 7"),
+        ("p2 = p1 - 99", "p2 = p1 - 99"),
+        ("p1 < p2 - 0", "p1 < p2"),
+        ("not (c1 = c2)", "not c1 = c2"),
+        ("not (not true)", "not not true"),
+        ("(not true) and true", "not true and true"),
+        ("true and (not true)", "true and not true"),
+        ("not (true and true)", "not ( true and true )"),
+        ("not (true or true)", "not ( true or true )"),
+        ("(not true) or true", "not true or true"),
+        ("(true and true) and true", "true and true and true"),
+        ("true and (true and true)", "true and ( true and true )"),
+        ("(true or true) or true", "true or true or true"),
+        ("true or (true or true)", "true or ( true or true )"),
+        ("(true and true) or true", "true and true or true"),
+        ("true or (true and true)", "true or true and true"),
+        ("(true or true) and true", "( true or true ) and true"),
+        ("true and (true or true)", "true and ( true or true )"),
+        ("((p1 < p2 or (s1 < s2)))", "p1 < p2 or s1 < s2"),
+        (
+            "not ((true or true) and true)",
+            "not ( ( true or true ) and true )",
+        ),
+    ] {
+        let text = with_guard(alloc, written)?;
+        let want = with_guard(alloc, printed)?;
+        if text.len() >= 0x7fff_ffff {
+            return Err("too long".into());
+        }
+        let rules = read(alloc, text.as_bytes()).ok().ok_or(written)?;
+        let found = print(alloc, &rules)?;
+        assert_eq!(rt; found.as_slice(), want.as_bytes(), "{written}");
+    }
     Ok(())
 }

@@ -22,5 +22,5 @@ pub returns-clause-only : goal.returns-clause-only
 returns-clause-only c = λ f first e.
     let found = function_found c.args.bytes.now f c.deref.result.now c.in_ok-sites.sites (map case_of c.in_ok-sites.cases.items) c.canonical_text_lexes_back.ensures first e (c.deref.ensures.value ∙ c.in_ok-tokens.ensures) c.in_ok-sites.ensures.0 c.in_ok-sites.ensures.1 in
     let built = rw c.in-Some.is at c.in_ok-build_first.ensures in
-    let same = c.same_bytes.ensures.1 (c.deref-in-Some.ensures.value ∙ c.in_ok-text-in-Some.ensures ∙ ap printed (built.0 ∙ found) ∙ sym e) in
+    let same = c.same_bytes.ensures.1 (c.deref-in-Some.ensures.value ∙ c.in_ok-text-in-Some.ensures.text ∙ ap printed (built.0 ∙ found) ∙ sym e) in
     false≢true (sym c.if-same_bytes.false ∙ same)

@@ -1,0 +1,5 @@
+use Rattle.fn_text.proofs.NoMore.{refusals_are_final}
+use Rattle.fn_text.proofs.theorems.refusals_are_final.Goals as goal
+
+pub returns : goal.returns
+returns c = refusals_are_final
