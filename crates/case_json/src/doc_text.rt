@@ -113,7 +113,7 @@ fn unescaped(letter: char) -> Option<char>
 }
 
 /// The first character of a text, and the text behind it.
-fn split_char(text: &str) -> Option<(char, &str)>
+pub(crate) fn split_char(text: &str) -> Option<(char, &str)>
     ensures some { IfSome result (λ first. chars text.now ≡ first.0 ∷ chars first.1.now) }
     ensures none { IfNone result (chars text.now ≡ []) }
     ensures shorter { IfSome result (λ first. length first.1.now < length text.now) }

@@ -78,3 +78,19 @@ impl<T: Drop> From<AllocFailed<T>> for CaseFault {
         CaseFault::NoMemory
     }
 }
+
+impl From<serde_json::Error> for CaseFault {
+    ghost use Rattle.serde_json.specs.Errors.{IsMemory};
+    ghost use Rattle.serde_json.specs.declared.error.Error as json;
+    ghost use Rattle.case_json.specs.declared.fault.CaseFault.TheVariants.{Json};
+
+    ghost from_gives = { λ error fault. (IsMemory error → fault ≡ NoMemory) × (¬ (IsMemory error) → fault ≡ Json) };
+
+    fn from(error: serde_json::Error) -> CaseFault {
+        if error.is_memory() {
+            CaseFault::NoMemory
+        } else {
+            CaseFault::Json
+        }
+    }
+}

@@ -1,11 +1,25 @@
-//! The text of documents, and cases: a document, operations that were made on it, and orders in which
-//! to integrate them.
+//! Cases, which are a document, operations that were made on it, and orders in which to integrate them;
+//! and the text of documents.
 //!
-//! The layers above rely on the definitions of what a text is read as: a value, or its first fault.
+//! A *reading* says what bytes or a text are read as: a value, or the first fault in the order of the
+//! tests. The layers above rely on two clauses: `trial_read` answers the reading of a case for a function,
+//! `trial_in`, unless memory is wanting, and what was read can be integrated.
 #![tactic(auto)]
 
+mod case;
 mod doc_text;
 mod fault;
+mod first_fault;
+mod json;
+mod laws;
+mod list;
+mod operation;
+mod trial;
 
+pub use case::trial_read;
 pub use doc_text::{MAX_CELLS, doc_read, doc_write};
 pub use fault::{CaseFault, Name};
+pub use laws::read_trials_are_ready;
+pub use list::List;
+pub use operation::MAX_POSITION;
+pub use trial::{MAX_OPS, MAX_ORDERS, Trial};

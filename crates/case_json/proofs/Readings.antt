@@ -1,0 +1,153 @@
+-- Readings one behind another, and what a trial that was read keeps.
+use Rattle.std.proofs.Common.{◌≡◌, ◌⊎◌, ◌≤◌, ℕ, zero, suc, Bool, true, false, List, [], ◌∷◌, length, Option, Some, None, Result, Ok, Err, refl, sym, ap, ◌∙◌, subst, inl, inr, arith, is_some, codes, if◌then◌else◌}
+use Rattle.std.specs.Prelude.{IsUtf8, IsErrAnd}
+use Rattle.std.specs.Option.{ok_or, option_and_then}
+use Rattle.std.specs.Str.{is_utf8, chars}
+use Rattle.std.proofs.lemmas.Str.{IsUtf8-from_is_utf8, is_utf8-from_IsUtf8}
+use Rattle.serde_json.specs.Data.{Data}
+use Rattle.serde_json.specs.Read.{read}
+use Rattle.serde_json.specs.Find.{get, as_str}
+use Rattle.serde_json.specs.Errors.{IsMemory}
+use Rattle.serde_json.specs.View.{view}
+use Rattle.serde_json.specs.declared.value.Value.{Value}
+use Rattle.serde_json.specs.declared.error.Error.{Error}
+use Rattle.serde_json.specs.declared.error.Code.{Code}
+use Rattle.serde_json.specs.declared.error.Code.TheVariants.{Invalid, NumberOutOfRange, OutOfMemory}
+use Rattle.ot_model.specs.declared.cell.Cell.{Cell}
+use Rattle.ot_model.specs.declared.op.Op.{Op}
+use Rattle.fn_rules.specs.Functions.{Function}
+use Rattle.case_json.specs.declared.fault.CaseFault.{CaseFault}
+use Rattle.case_json.specs.declared.fault.CaseFault.TheVariants.{Json, Field, Limit, NoMemory}
+use Rattle.case_json.specs.declared.fault.Name.TheVariants.{Doc, Ops, Orders, Cells}
+use Rattle.case_json.specs.declared.trial.Trial.{Trial}
+use Rattle.case_json.specs.Faults.{Reads, and_then, seen_as}
+use Rattle.case_json.specs.DocText.{cells_within, no_cells, with_first, with_cells_behind, cell_at}
+use Rattle.case_json.specs.Json.{json_in, elements_of}
+use Rattle.case_json.specs.Operations.{operation_in}
+use Rattle.case_json.specs.Tests.{fault_of, IsReady}
+use Rattle.case_json.specs.Cases.{document_from, document_in, operations_in, order_in, orders_in, parts_in, case_in, tested, trial_in}
+use Rattle.case_json.proofs.Elements.{elements_from-few}
+use Rattle.case_json.proofs.FirstFault.{faultless-ready}
+
+-- a fault of the first reading is the fault of both
+pub fault_first : {A B : Type 0} (fault : CaseFault) (reading : Result A CaseFault) (further : A → Result B CaseFault)
+    → Reads (Err fault) reading → Reads (Err fault) (and_then reading further)
+fault_first fault reading further (inl wanting) = let is : fault ≡ NoMemory = cc in inl (ap Err is)
+fault_first fault reading further (inr is) = inr (rw (← is) refl)
+
+-- the same of an answer that passes the fault on
+pub fault_passed_on : {A B : Type 0} (answer : Result B CaseFault) (fault : CaseFault) (reading : Result A CaseFault) (further : A → Result B CaseFault)
+    → IsErrAnd answer (λ passed. passed ≡ fault) → Reads (Err fault) reading → Reads answer (and_then reading further)
+fault_passed_on {A} {B} (Ok value) fault reading further passes reads = absurd passes
+fault_passed_on {A} {B} (Err passed) fault reading further passes reads =
+    rw passes (fault_first fault reading further reads)
+
+-- a value that was read is the reading
+pub value_read : {A : Type 0} (value : A) (reading : Result A CaseFault) → Reads (Ok value) reading → reading ≡ Ok value
+value_read value reading (inl wanting) = cc
+value_read value reading (inr is) = sym is
+
+memory_or_not : (code : Code) → (code ≡ OutOfMemory) ⊎ (¬ (code ≡ OutOfMemory))
+memory_or_not Invalid = inr (λ is. cc)
+memory_or_not NumberOutOfRange = inr (λ is. cc)
+memory_or_not OutOfMemory = inl refl
+
+-- bytes that were read as a value
+pub json_value : (bytes : List ℕ) (json : Data) → IsUtf8 bytes → read bytes ≡ Some json → ok_or (json_in bytes) Json ≡ Ok json
+json_value bytes json utf8 is = rw (is_utf8-from_IsUtf8 bytes utf8, is) refl
+
+-- bytes that were not
+pub json_fault : (bytes : List ℕ) (error : Error) (answer : Result Value CaseFault)
+    → IsErrAnd answer (λ fault. (IsMemory error → fault ≡ NoMemory) × (¬ (IsMemory error) → fault ≡ Json))
+    → (¬ (IsMemory error) → IsUtf8 bytes → read bytes ≡ None)
+    → Reads (seen_as view answer) (ok_or (json_in bytes) Json)
+json_fault bytes error (Ok value) gives refuses = absurd gives
+json_fault bytes error (Err fault) gives refuses = elim (memory_or_not error.code) [
+  | inl memory ↦ inl (ap Err (gives.0 memory))
+  | inr other ↦ inr (ap Err (gives.1 other) ∙ sym (unread (is_utf8 bytes) refl (refuses other)))
+]
+  where
+    unread : (utf8 : Bool) → is_utf8 bytes ≡ utf8 → (IsUtf8 bytes → read bytes ≡ None) → ok_or (if utf8 then read bytes else None) Json ≡ Err Json
+    unread true is none = rw (none (IsUtf8-from_is_utf8 bytes is)) refl
+    unread false is none = refl
+
+with_first-ok : (cell : Cell) (reading : Result (List Cell) CaseFault) (doc : List Cell) → with_first cell reading ≡ Ok doc
+    → (cells : List Cell) × (reading ≡ Ok cells) × (length doc ≡ suc (length cells))
+with_first-ok cell (Ok cells) doc is = let same : cell ∷ cells ≡ doc = cc in (cells, refl, sym (ap length same))
+with_first-ok cell (Err fault) doc is = cc
+
+no_cells-few : (text : List ℕ) (doc : List Cell) → no_cells text ≡ Ok doc → length doc ≤ 0
+no_cells-few [] doc is = let none : [] ≡ doc = cc in omega (arith, ap length none)
+no_cells-few (c ∷ behind) doc is = by (is_some (cell_at (c ∷ behind))) is
+  where
+    by : (some : Bool) → (if some then Err (Limit Cells) else Err (Field Doc)) ≡ Ok doc → length doc ≤ 0
+    by true is = cc
+    by false is = cc
+
+-- no more cells than are allowed
+cells_within-few : (room : ℕ) (text : List ℕ) (doc : List Cell) → cells_within room text ≡ Ok doc → length doc ≤ room
+unfolding cells_within
+cells_within-few zero [] doc is = let none : [] ≡ doc = cc in omega (arith, ap length none)
+cells_within-few zero (c ∷ behind) doc is = no_cells-few (c ∷ behind) doc is
+cells_within-few (suc room) [] doc is = let none : [] ≡ doc = cc in omega (arith, ap length none)
+cells_within-few (suc room) (c ∷ behind) doc is = by (cell_at (c ∷ behind)) (cells_within-few room) is
+  where
+    by : (first : Option (Cell × List ℕ)) → ((text : List ℕ) (cells : List Cell) → cells_within room text ≡ Ok cells → length cells ≤ room)
+        → with_cells_behind first (cells_within room) ≡ Ok doc → length doc ≤ suc room
+    by None few is = cc
+    by (Some first) few is =
+        let parts = with_first-ok first.0 (cells_within room first.1) doc is in
+        let bound : length parts.0 ≤ room = few first.1 parts.0 parts.1 in
+        omega (arith, parts.2, bound)
+
+document_from-few : (text : Option (List ℕ)) (doc : List Cell) → document_from text ≡ Ok doc → length doc ≤ 1000000
+document_from-few None doc is = cc
+document_from-few (Some text) doc is = cells_within-few 1000000 (chars text) doc is
+
+-- no more cells, operations and orders than are allowed
+abbrev pub IsLimited : Trial → Type 0
+IsLimited trial = (length trial.doc ≤ 1000000) × (length trial.ops ≤ 1000) × (length trial.orders ≤ 16)
+
+parts-few : (doc : Result (List Cell) CaseFault) (ops : Result (List Op) CaseFault) (orders : Result (List (List ℕ)) CaseFault) (trial : Trial)
+    → ((cells : List Cell) → doc ≡ Ok cells → length cells ≤ 1000000)
+    → ((list : List Op) → ops ≡ Ok list → length list ≤ 1000)
+    → ((list : List (List ℕ)) → orders ≡ Ok list → length list ≤ 16)
+    → and_then doc (λ d. and_then ops (λ o. and_then orders (λ r. Ok (let whole : Trial = record { doc = d; ops = o; orders = r } in whole)))) ≡ Ok trial
+    → IsLimited trial
+parts-few (Err fault) ops orders trial few_cells few_ops few_orders is = cc
+parts-few (Ok d) (Err fault) orders trial few_cells few_ops few_orders is = cc
+parts-few (Ok d) (Ok o) (Err fault) trial few_cells few_ops few_orders is = cc
+parts-few (Ok d) (Ok o) (Ok r) trial few_cells few_ops few_orders is =
+    let whole : Trial = record { doc = d; ops = o; orders = r } in
+    let same : whole ≡ trial = cc in
+    subst IsLimited same (few_cells d refl, few_ops o refl, few_orders r refl)
+
+case_in-limited : (json : Result Data CaseFault) (trial : Trial) → and_then json parts_in ≡ Ok trial → IsLimited trial
+case_in-limited (Err fault) trial is = cc
+case_in-limited (Ok json) trial is =
+    parts-few (document_in json) (operations_in json) (orders_in json) trial
+    (document_from-few (option_and_then as_str (get (codes "doc") json)))
+    (elements_from-few Ops 1000 operation_in (option_and_then elements_of (get (codes "ops") json)))
+    (elements_from-few Orders 16 order_in (option_and_then elements_of (get (codes "orders") json)))
+    is
+
+-- what was read is within the limits
+pub case_in-few : (bytes : List ℕ) (trial : Trial) → case_in bytes ≡ Ok trial → IsLimited trial
+case_in-few bytes trial is = case_in-limited (ok_or (json_in bytes) Json) trial is
+
+tested-ready : (f : Function) (reading : Result Trial CaseFault) (trial : Trial) → ((parts : Trial) → reading ≡ Ok parts → IsLimited parts)
+    → and_then reading (λ parts. tested (fault_of f parts) parts) ≡ Ok trial → IsReady f trial
+tested-ready f (Err fault) trial few is = cc
+tested-ready f (Ok parts) trial few is = by (fault_of f parts) refl is
+  where
+    by : (fault : Option CaseFault) → fault_of f parts ≡ fault → tested fault parts ≡ Ok trial → IsReady f trial
+    by (Some fault) none is = cc
+    by None none is =
+        let same : parts ≡ trial = cc in
+        let limits : IsLimited parts = few parts refl in
+        subst (λ (t : Trial). IsReady f t) same (faultless-ready f parts none limits.0 limits.1 limits.2)
+
+-- so a trial that a case is read as for a function is ready
+pub read_trial_is_ready : (f : Function) (bytes : List ℕ) (trial : Trial) → trial_in f bytes ≡ Ok trial → IsReady f trial
+unfolding trial_in
+read_trial_is_ready f bytes trial is = tested-ready f (case_in bytes) trial (case_in-few bytes) is

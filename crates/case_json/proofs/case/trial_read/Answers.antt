@@ -1,0 +1,36 @@
+use Rattle.std.proofs.Common.{inr, sym, refl}
+use Rattle.fn_rules.specs.Rules.{function_of}
+use Rattle.case_json.specs.Cases.{case_in, tested, trial_in}
+use Rattle.case_json.specs.Tests.{fault_of}
+use Rattle.case_json.proofs.FirstFault.{faultless-ready}
+use Rattle.case_json.proofs.Readings.{fault_passed_on, value_read, case_in-few}
+use Rattle.case_json.proofs.case.trial_read.Goals as goal
+
+pub returns-in_err-trial-clause-reading : goal.returns-in_err-trial-clause-reading
+unfolding trial_in
+returns-in_err-trial-clause-reading c =
+    fault_passed_on c.from_residual.result c.in_err-trial.field-0.0 (case_in c.args.bytes.now)
+    (λ trial. tested (fault_of (function_of c.args.rules.now) trial) trial) c.from_residual.ensures.1 c.in_err-trial.ensures
+
+pub fault_of-requires-clause-ops : goal.fault_of-requires-clause-ops
+fault_of-requires-clause-ops c =
+    (case_in-few c.args.bytes.now c.in_ok-trial.trial (value_read c.in_ok-trial.trial (case_in c.args.bytes.now) c.in_ok-trial.ensures)).1
+
+pub fault_of-requires-clause-orders : goal.fault_of-requires-clause-orders
+fault_of-requires-clause-orders c =
+    (case_in-few c.args.bytes.now c.in_ok-trial.trial (value_read c.in_ok-trial.trial (case_in c.args.bytes.now) c.in_ok-trial.ensures)).2
+
+pub returns-in-Some-clause-reading : goal.returns-in-Some-clause-reading
+unfolding trial_in
+returns-in-Some-clause-reading c =
+    inr (rw (value_read c.in_ok-trial.trial (case_in c.args.bytes.now) c.in_ok-trial.ensures, ← c.in-Some.ensures) refl)
+
+pub returns-in-None-clause-reading : goal.returns-in-None-clause-reading
+unfolding trial_in
+returns-in-None-clause-reading c =
+    inr (rw (value_read c.in_ok-trial.trial (case_in c.args.bytes.now) c.in_ok-trial.ensures, ← c.in-None.ensures) refl)
+
+pub returns-in-None-clause-ready : goal.returns-in-None-clause-ready
+returns-in-None-clause-ready c =
+    let few = case_in-few c.args.bytes.now c.in_ok-trial.trial (value_read c.in_ok-trial.trial (case_in c.args.bytes.now) c.in_ok-trial.ensures) in
+    faultless-ready (function_of c.args.rules.now) c.in_ok-trial.trial (sym c.in-None.ensures) few.0 few.1 few.2

@@ -1,0 +1,7 @@
+use Rattle.std.proofs.Common.{◌≡◌, true}
+use Rattle.case_json.specs.Tests.{names_below}
+use Rattle.case_json.proofs.first_fault.names_all_below.Given as goal
+
+-- the numbers so far are named
+abbrev pub invariant-loop-i : goal.invariant-loop-i
+invariant-loop-i l = names_below l.i l.order ≡ true

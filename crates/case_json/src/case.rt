@@ -1,0 +1,67 @@
+//! The reading of a case for a function.
+ghost use Rattle.std.specs.Prelude.{◌≡◌, ok_or, IfOk, codes};
+ghost use Rattle.std.specs.Option.{option_and_then};
+ghost use Rattle.serde_json.specs.View.{view};
+ghost use Rattle.fn_rules.specs.Rules.{function_of};
+ghost use Rattle.case_json.specs.Faults.{Reads, seen_as};
+ghost use Rattle.case_json.specs.Json.{json_in};
+ghost use Rattle.case_json.specs.Tests.{IsReady};
+ghost use Rattle.case_json.specs.Cases.{document_in, parts_in, case_in, trial_in};
+ghost use Rattle.case_json.specs.declared.fault.CaseFault.TheVariants.{Json};
+
+use crate::doc_text::doc_read;
+use crate::fault::{CaseFault, Name};
+use crate::first_fault::fault_of;
+use crate::json::list_at;
+use crate::trial::{MAX_OPS, MAX_ORDERS, Trial};
+use fn_rules::Rules;
+use ot_model::Doc;
+use serde_json::Value;
+use std::alloc::Global;
+
+/// Reads a case for a function, and answers the first fault in the order of the tests.
+pub fn trial_read(alloc: Global, rules: &Rules, bytes: &[u8]) -> Result<Trial, CaseFault>
+    ensures reading { Reads result (trial_in (function_of rules.now) bytes.now) }
+    ensures ready { IfOk result (λ trial. IsReady (function_of rules.now) trial) }
+{
+    let trial = case_read(alloc, bytes)?;
+    match fault_of(rules, &trial) {
+        Some(fault) => Err(fault),
+        None => Ok(trial),
+    }
+}
+
+/// Reads the parts of a case.
+fn case_read(alloc: Global, bytes: &[u8]) -> Result<Trial, CaseFault>
+    ensures { Reads result (case_in bytes.now) }
+{
+    let json = json_read(alloc, bytes)?;
+    parts_read(alloc, &json)
+}
+
+fn json_read(alloc: Global, bytes: &[u8]) -> Result<Value, CaseFault>
+    ensures { Reads (seen_as view result) (ok_or (json_in bytes.now) Json) }
+{
+    Ok(Value::from_slice(alloc, bytes)?)
+}
+
+fn parts_read(alloc: Global, json: &Value) -> Result<Trial, CaseFault>
+    ensures { Reads result (parts_in (view json.now)) }
+{
+    let doc = document(alloc, json)?;
+    let ops = list_at(alloc, json, "ops", Name::Ops, MAX_OPS)?;
+    let orders = list_at(alloc, json, "orders", Name::Orders, MAX_ORDERS)?;
+    Ok(Trial { doc, ops, orders })
+}
+
+fn document(alloc: Global, json: &Value) -> Result<Doc, CaseFault>
+    ensures { Reads result (document_in (view json.now)) }
+{
+    match json.get("doc").and_then(Value::as_str) {
+        Some(text) => doc_read(alloc, text),
+        None => Err(CaseFault::Field(Name::Doc)),
+    }
+}
+
+#[cfg(test)]
+mod tests;
