@@ -1,3 +1,8 @@
+pub mod Carried
 pub mod Examples
 pub mod Forms
+pub mod Instances
+pub mod OneOutcome
 pub mod Outcomes
+pub mod Permutations
+pub mod Swaps

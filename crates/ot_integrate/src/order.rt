@@ -3,11 +3,13 @@ ghost use Rattle.std.specs.Prelude.{◌≡◌, ◌≤◌, ◌↔◌, length, All
 ghost use Rattle.ot_model.specs.Effect.{kind_of};
 ghost use Rattle.fn_rules.specs.Rules.{function_of};
 ghost use Rattle.fn_rules.specs.Conditions.{IsForKind, IsWithin};
-ghost use Rattle.fn_rules.specs.Orders.{through, operation_at, integrated};
+ghost use Rattle.fn_rules.specs.Properties.{AreConcurrent, HasTp1, HasTp2};
+ghost use Rattle.fn_rules.specs.Orders.{through, operation_at, integrated, NamesEachOnce};
 ghost use Rattle.ot_integrate.specs.Conditions.{IsIntegrable, IsExecuted};
-ghost use Rattle.ot_integrate.specs.Ends.{outcome_of};
+ghost use Rattle.ot_integrate.specs.Ends.{outcome_of, EndsAsListed};
 
 use crate::end::End;
+use crate::one_outcome::both_properties_give_one_outcome;
 use fn_rules::{Rules, transform, transform_keeps_all_but_the_position, transform_stays_near};
 use ot_model::{Apply, Doc, Kind, NoMemory, Op, apply, enabled, kind};
 use std::alloc::Global;
@@ -50,8 +52,16 @@ pub fn integrate(
     requires integrable { All (IsIntegrable (function_of rules.now) (length doc.now)) ops.now }
     requires cells { length doc.now ≤ MAX_CELLS }
     requires places { length order.now ≤ MAX_OPS }
-    ensures { IfOk result (λ end. outcome_of end ≡ integrated (function_of rules.now) doc.now ops.now order.now) }
+    ensures outcome { IfOk result (λ end. outcome_of end ≡ integrated (function_of rules.now) doc.now ops.now order.now) }
+
+    // Where the function has both properties, no order of concurrent operations is stuck, and each ends
+    // with one document.
+    ensures one_document { IfOk result (λ end.
+        HasTp1 (function_of rules.now) → HasTp2 (function_of rules.now)
+        → AreConcurrent (function_of rules.now) doc.now ops.now → NamesEachOnce (length ops.now) order.now
+        → EndsAsListed (function_of rules.now) doc.now ops.now (outcome_of end)) }
 {
+    both_properties_give_one_outcome();
     let mode = rules.head().mode;
     let mut current = doc.try_clone()?;
     let mut executed = Vec::new(alloc);

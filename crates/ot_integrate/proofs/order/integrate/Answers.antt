@@ -3,9 +3,10 @@ use Rattle.std.proofs.lemmas.List.Elements.{All-nil, All-push}
 use Rattle.fn_rules.specs.declared.function.Head.{Head}
 use Rattle.fn_rules.specs.Functions.{Function}
 use Rattle.fn_rules.specs.Rules.{function_of}
-use Rattle.fn_rules.specs.Orders.{through, operation_at}
+use Rattle.fn_rules.specs.Orders.{Document, StuckAt, through, operation_at, integrated}
 use Rattle.ot_integrate.specs.Conditions.{IsIntegrable, IsExecuted}
 use Rattle.ot_integrate.proofs.Forms.{IsWithin-more, IsWithin-enabled}
+use Rattle.ot_integrate.proofs.OneOutcome.{EndsAsListed-from_law}
 use Rattle.ot_integrate.proofs.Outcomes.{operation_at-fact, length-document_after, outcome-without_form, outcome-refused, outcome-executed, outcome-end}
 use Rattle.ot_integrate.proofs.order.integrate.Goals as goal
 
@@ -36,18 +37,30 @@ pub returns-in_default : goal.returns-in_default
 returns-in_default c =
     let none : through (function_of c.args.rules.now) (operation_at c.args.ops.now (get_or c.args.order.now c.loop-place.place 0)) c.loop-place.executed.items ≡ None =
     rw (← c.named.ensures, ← c.deref.ensures.value) (sym c.in_default.ensures.form) in
+    let is : StuckAt c.loop-place.place ≡ integrated (function_of c.args.rules.now) c.args.doc.now c.args.ops.now c.args.order.now =
     sym (c.loop-place.invariant.outcome
     ∙ outcome-without_form (function_of c.args.rules.now) c.loop-place.current c.loop-place.executed.items c.args.ops.now c.args.order.now c.loop-place.place
-    c.loop-place-test.true none)
+    c.loop-place-test.true none) in
+    record {
+      outcome = is;
+      one_document = EndsAsListed-from_law c.both_properties_give_one_outcome.ensures (function_of c.args.rules.now) c.args.doc.now c.args.ops.now c.args.order.now
+          (StuckAt c.loop-place.place) is;
+    }
 
 pub returns-in-Err-NotEnabled : goal.returns-in-Err-NotEnabled
 returns-in-Err-NotEnabled c =
     let form : through (function_of c.args.rules.now) (operation_at c.args.ops.now (get_or c.args.order.now c.loop-place.place 0)) c.loop-place.executed.items
     ≡ Some c.in-Some.form =
     rw (← c.named.ensures, ← c.deref.ensures.value) (sym c.in-Some.ensures.form) in
+    let is : StuckAt c.loop-place.place ≡ integrated (function_of c.args.rules.now) c.args.doc.now c.args.ops.now c.args.order.now =
     sym (c.loop-place.invariant.outcome
     ∙ outcome-refused (function_of c.args.rules.now) c.loop-place.current c.loop-place.executed.items c.args.ops.now c.args.order.now c.loop-place.place
-    c.loop-place-test.true c.in-Some.form form (c.in-Err-NotEnabled.ensures.not_enabled.0 (ap Err c.in-Err-NotEnabled.field-0-is)))
+    c.loop-place-test.true c.in-Some.form form (c.in-Err-NotEnabled.ensures.not_enabled.0 (ap Err c.in-Err-NotEnabled.field-0-is))) in
+    record {
+      outcome = is;
+      one_document = EndsAsListed-from_law c.both_properties_give_one_outcome.ensures (function_of c.args.rules.now) c.args.doc.now c.args.ops.now c.args.order.now
+          (StuckAt c.loop-place.place) is;
+    }
 
 pub loop-place-preserved : goal.loop-place-preserved
 loop-place-preserved c =
@@ -73,5 +86,11 @@ loop-place-preserved c =
 
 pub returns : goal.returns
 returns c =
+    let is : Document c.loop-place.current ≡ integrated (function_of c.args.rules.now) c.args.doc.now c.args.ops.now c.args.order.now =
     sym (c.loop-place.invariant.outcome
-    ∙ outcome-end (function_of c.args.rules.now) c.loop-place.current c.loop-place.executed.items c.args.ops.now c.args.order.now c.loop-place.place c.loop-place-test.false)
+    ∙ outcome-end (function_of c.args.rules.now) c.loop-place.current c.loop-place.executed.items c.args.ops.now c.args.order.now c.loop-place.place c.loop-place-test.false) in
+    record {
+      outcome = is;
+      one_document = EndsAsListed-from_law c.both_properties_give_one_outcome.ensures (function_of c.args.rules.now) c.args.doc.now c.args.ops.now c.args.order.now
+          (Document c.loop-place.current) is;
+    }
