@@ -1,6 +1,6 @@
 -- The end of a list, and what the path to the next place that waits is.
-use Rattle.std.proofs.Common.{◌≡◌, ℕ, zero, suc, ◌+◌, ◌-◌, ◌<◌, Bool, true, false, List, [], ◌∷◌, ◌++◌, length, Option, Some, None, refl, sym, ap, subst, ◌∙◌, arith, rules, length-append, cond}
-use Rattle.std.proofs.lemmas.List.{reverse-append, reverse-reverse, length-reverse, set-append_right}
+use Rattle.std.proofs.Common.{◌≡◌, ℕ, ◌-◌, Bool, true, List, [], ◌∷◌, ◌++◌, length, Some, refl, sym, ap, ◌∙◌, arith, length-append}
+use Rattle.std.proofs.lemmas.List.{reverse-append, reverse-reverse}
 use Rattle.std.specs.Prelude.{slice_get, slice_set, reverse, if◌then◌else◌}
 use Rattle.ot_top.specs.declared.judge.Answer.{Answer}
 use Rattle.ot_top.specs.Judging.{next_path, other_answer}

@@ -1,10 +1,10 @@
 -- What the first of the tokens makes of the places that they complete.
-use Rattle.std.proofs.Common.{◌≡◌, ℕ, Bool, true, false, List, [], ◌∷◌, ◌++◌, refl, sym, ap, subst, ◌∙◌, append_assoc, ◌↔◌, Ok}
+use Rattle.std.proofs.Common.{◌≡◌, ℕ, true, false, List, ◌∷◌, ◌++◌, refl, sym, ap, subst, ◌∙◌, append_assoc}
 use Rattle.diff_graph.specs.declared.lit.Lit.{Lit}
 use Rattle.ask_core.specs.declared.tree.Tok.{Tok}
 use Rattle.ask_core.specs.declared.tree.Tok.TheVariants as token
 use Rattle.ask_core.specs.Plans.{Plan, Ask, Holds, Fails}
-use Rattle.ask_core.specs.Trees.{AnswerTree, Question, End, Impossible, tokens_of, Fits, IsCycleAmong, Branch, Completes, with_answer}
+use Rattle.ask_core.specs.Trees.{Question, End, Impossible, tokens_of, IsCycleAmong, Branch, Completes, with_answer}
 
 -- equal lists have equal heads and equal rests
 same_parts : {X : Type 0} (a b : X) (xs ys : List X) → a ∷ xs ≡ b ∷ ys → (a ≡ b) × (xs ≡ ys)

@@ -1,5 +1,7 @@
 mod Closing
 mod Completing
+mod Ends
+mod FirstFormLemmas
 mod Showing
 mod SoleObligation
 mod Taking

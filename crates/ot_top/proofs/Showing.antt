@@ -1,5 +1,5 @@
 -- A certificate shows that all plans of its level hold, and an accepted one the first property.
-use Rattle.std.proofs.Common.{◌≡◌, ◌≢◌, ℕ, ℤ, pos, true, List, [], ◌∷◌, Option, Some, None, refl, sym, ap, subst, ◌∙◌, inl, inr, arith}
+use Rattle.std.proofs.Common.{◌≡◌, ℕ, ◌<◌, ℤ, pos, true, List, [], ◌∷◌, Option, Result, Ok, Err, refl, ap, subst, ◌∙◌, inl, inr, arith}
 use Rattle.std.specs.Prelude.{IsTrue, MatchOption}
 use Rattle.std.specs.Option.{ForSome}
 use Rattle.fn_rules.specs.declared.function.Level.TheVariants.{Tp1}
@@ -7,16 +7,19 @@ use Rattle.fn_rules.specs.declared.function.ObName.{ObName}
 use Rattle.fn_rules.specs.Functions.{Function}
 use Rattle.fn_rules.specs.Properties.{HasTp1}
 use Rattle.fn_rules.specs.Validity.{is_valid}
+use Rattle.fn_text.specs.declared.fault.TextFault.{TextFault}
+use Rattle.fn_text.specs.Grammar.{IsTextOf}
+use Rattle.fn_text.specs.Reading.{function_in}
 use Rattle.ask_core.specs.Plans.{Plan, value}
 use Rattle.ask_core.specs.Trees.{AnswerTree, Fits}
 use Rattle.ot_questions.specs.declared.why.Why.{Why}
 use Rattle.ot_questions.specs.Obligation.{plan_of}
 use Rattle.ot_questions.specs.Meaning.{AllHold}
-use Rattle.ot_top.specs.declared.reply.Reply.{Reply}
-use Rattle.ot_top.specs.declared.reply.Reply.TheVariants.{Accepted, Refused, FunctionForm, Usage, FunctionLimit, CertificateLimit}
+use Rattle.ot_top.specs.declared.words.Task.TheVariants.{Check}
 use Rattle.ot_top.specs.Certificates.{AreAnswers, IsCertificate}
-use Rattle.ot_top.specs.Replies.{status_of, IsReply, IsReplyToFunction, IsReplyToCertificate, IsShown, IsTextOf}
-use Rattle.ot_top.specs.Words.{checked_names}
+use Rattle.ot_top.specs.Replies.{Reply, Refused, FunctionForm, FunctionRefused, Usage, FunctionLimit, CertificateLimit, IsReply, IsReplyToFunction, IsReplyToText, IsReplyToCertificate, IsShown}
+use Rattle.ot_top.specs.Texts.{status_of}
+use Rattle.ot_top.specs.Words.{Asked}
 
 -- where each tree fits its plan, each plan holds
 pub answers_hold :
@@ -28,51 +31,42 @@ answers_hold law f (ob ∷ obs) [] answers = absurd answers
 answers_hold law f (ob ∷ obs) (t ∷ trees) answers =
     (λ v zero. law t (plan_of f ob) v answers.0 zero, answers_hold law f obs trees answers.2)
 
--- status 0 is that of one reply alone
-accepted_alone : (reply : Reply) → 0 ≡ status_of reply → reply ≡ Accepted
-accepted_alone Accepted e = refl
-accepted_alone Refused e = absurd (omega (arith, e))
-accepted_alone FunctionForm e = absurd (omega (arith, e))
-accepted_alone Usage e = absurd (omega (arith, e))
-accepted_alone FunctionLimit e = absurd (omega (arith, e))
-accepted_alone CertificateLimit e = absurd (omega (arith, e))
+-- a reply of another status than 0
+other_status : (r other : Reply) (status : ℕ) → 0 ≡ status_of r → r ≡ other → status_of other ≡ status → 0 < status → ⊥
+other_status r other status is_zero e named more =
+    let same = is_zero ∙ (ap (λ x. status_of x) e ∙ named) in omega (arith, same, more)
 
-accepted_is_no_limit : Accepted ≡ FunctionLimit → ⊥
-accepted_is_no_limit e = cc
+-- status 0 of a certificate's reply is that of an accepted one
+certificate_accepted : (f : Function) (bytes : List ℕ) (r : Reply) → 0 ≡ status_of r → IsReplyToCertificate f bytes r → IsCertificate bytes f Tp1
+certificate_accepted f bytes r is_zero (inl h) = absurd (other_status r CertificateLimit 9 is_zero h.1 refl (omega arith))
+certificate_accepted f bytes r is_zero (inr (inl h)) = h.1
+certificate_accepted f bytes r is_zero (inr (inr h)) = absurd (other_status r Refused 2 is_zero h.2 refl (omega arith))
 
-accepted_is_no_form : Accepted ≡ FunctionForm → ⊥
-accepted_is_no_form e = cc
-
-accepted_is_no_usage : Accepted ≡ Usage → ⊥
-accepted_is_no_usage e = cc
-
-accepted_is_no_certificate_limit : Accepted ≡ CertificateLimit → ⊥
-accepted_is_no_certificate_limit e = cc
-
-accepted_is_no_refusal : Accepted ≡ Refused → ⊥
-accepted_is_no_refusal e = cc
-
-certificate_accepted : (f : Function) (bytes : List ℕ) → IsReplyToCertificate f bytes Accepted → IsCertificate bytes f Tp1
-certificate_accepted f bytes (inl h) = absurd (accepted_is_no_certificate_limit h.1)
-certificate_accepted f bytes (inr (inl h)) = h.1
-certificate_accepted f bytes (inr (inr h)) = absurd (accepted_is_no_refusal h.2)
+-- the function is read, and the certificate judged
+text_accepted :
+    (read : Result Function TextFault) (second : Option (List ℕ)) (r : Reply) → 0 ≡ status_of r → IsReplyToText Check read second r
+    → (f : Function) × (read ≡ Ok f) × ForSome second (λ bytes. IsReplyToCertificate f bytes r)
+text_accepted (Err fault) second r is_zero h = absurd (other_status r (FunctionRefused fault) 3 is_zero h refl (omega arith))
+text_accepted (Ok f) second r is_zero (inl h) = absurd (other_status r FunctionForm 3 is_zero h.1 refl (omega arith))
+text_accepted (Ok f) second r is_zero (inr h) = (f, refl, h.1)
 
 function_accepted :
-    (bytes : List ℕ) (told : Option (List ℕ)) → IsReplyToFunction bytes told Accepted
-    → (f : Function) × IsTextOf bytes f × ForSome told (λ c. IsReplyToCertificate f c Accepted)
-function_accepted bytes told (inl h) = absurd (accepted_is_no_limit h.1)
-function_accepted bytes told (inr (inl h)) = absurd (accepted_is_no_form h.2)
-function_accepted bytes told (inr (inr h)) = h.1
+    (bytes : List ℕ) (second : Option (List ℕ)) (r : Reply) → 0 ≡ status_of r → IsReplyToFunction Check bytes second r
+    → (f : Function) × (function_in bytes ≡ Ok f) × ForSome second (λ c. IsReplyToCertificate f c r)
+function_accepted bytes second r is_zero (inl h) = absurd (other_status r FunctionLimit 9 is_zero h.1 refl (omega arith))
+function_accepted bytes second r is_zero (inr h) = text_accepted (function_in bytes) second r is_zero h.1
 
 pub shown :
     ((bytes : List ℕ) (f : Function) → IsTrue (is_valid f) → IsCertificate bytes f Tp1 → HasTp1 f)
-    → (words : List (List ℕ)) (holds : List ℕ → Option (List ℕ)) (reply : Reply)
-    → 0 ≡ status_of reply → IsReply words holds reply → IsShown words holds
-shown law words holds reply is_zero is_reply name certificate_name bytes certificate named told certificate_told =
-    let accepted : IsReply words holds Accepted = subst (λ (r : Reply). IsReply words holds r) (accepted_alone reply is_zero) is_reply in
-    let here : ForSome (holds name) (λ b. IsReplyToFunction b (holds certificate_name) Accepted) =
-    subst (λ (o : Option (List ℕ × List ℕ)). MatchOption o (Accepted ≡ Usage)
-    (λ names. ForSome (holds names.0) (λ b. IsReplyToFunction b (holds names.1) Accepted))) named accepted in
-    let found = function_accepted bytes (holds certificate_name) (here bytes told) in
-    let shows = certificate_accepted found.0 certificate (found.2 certificate certificate_told) in
-    (found.0, found.1, shows, law certificate found.0 found.1.0.within_limits shows)
+    → ((bytes : List ℕ) (f : Function) → function_in bytes ≡ Ok f → IsTextOf bytes f)
+    → ((bytes : List ℕ) (f : Function) → IsTextOf bytes f → IsTrue (is_valid f))
+    → (words : List (List ℕ)) (holds : List ℕ → Option (List ℕ)) (r : Reply)
+    → 0 ≡ status_of r → IsReply words holds r → IsShown words holds
+shown law is_text is_within words holds r is_zero is_reply name certificate_name bytes certificate named told certificate_told =
+    let here : ForSome (holds name) (λ b. IsReplyToFunction Check b (holds certificate_name) r) =
+    subst (λ (o : Option Asked). MatchOption o (r ≡ Usage)
+    (λ asked. ForSome (holds asked.function) (λ b. IsReplyToFunction asked.task b (holds asked.second) r))) named is_reply in
+    let found = function_accepted bytes (holds certificate_name) r is_zero (here bytes told) in
+    let text = is_text bytes found.0 found.1 in
+    let shows = certificate_accepted found.0 certificate r is_zero (found.2 certificate certificate_told) in
+    (found.0, text, shows, law certificate found.0 (is_within bytes found.0 text) shows)

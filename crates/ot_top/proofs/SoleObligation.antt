@@ -1,15 +1,15 @@
 -- A function for insertions alone has one obligation at level tp1, and its certificates one tree.
 use Rattle.std.proofs.Common.{◌≡◌, ℕ, Bool, true, false, List, [], ◌∷◌, ◌++◌, Result, Ok, Err, refl, sym, ap, subst, ◌∙◌, ◌↔◌, append_assoc}
 use Rattle.std.specs.Prelude.{IsTrue, IfOk}
-use Rattle.ot_model.specs.declared.op.Kind.TheVariants.{Ins, Del}
+use Rattle.ot_model.specs.declared.op.Kind.TheVariants.{Ins}
 use Rattle.fn_rules.specs.declared.function.Head.{Head}
 use Rattle.fn_rules.specs.declared.function.Level.TheVariants.{Tp1}
 use Rattle.fn_rules.specs.declared.function.ObName.{ObName}
 use Rattle.fn_rules.specs.declared.function.ObName.TheVariants.{Pair}
 use Rattle.fn_rules.specs.Functions.{Function}
 use Rattle.fn_rules.specs.Obligations.{obligations_of}
-use Rattle.ask_core.specs.Trees.{AnswerTree, tokens_of, Fits}
-use Rattle.cert_text.specs.Spelling.{AreSpellable, tokens_text, header_text, end_text}
+use Rattle.ask_core.specs.Trees.{AnswerTree, tokens_of}
+use Rattle.cert_text.specs.Spelling.{tokens_text, header_text, end_text}
 use Rattle.ot_questions.specs.Obligation.{plan_of}
 use Rattle.ot_top.specs.Certificates.{AreAnswers, sections_text, IsCertificate, opening_text, closing_text, IsSoleCertificate}
 

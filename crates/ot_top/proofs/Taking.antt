@@ -9,7 +9,7 @@ use Rattle.ask_core.specs.Plans.{Plan}
 use Rattle.ask_core.specs.Trees.{AnswerTree, Question, End, Impossible, tokens_of, Branch, Completes}
 use Rattle.ot_questions.specs.declared.why.Why.{Why}
 use Rattle.ot_top.specs.declared.judge.Answer.{Answer}
-use Rattle.ot_top.specs.Judging.{place_at, other_answer, waiting, next_path, open_places, Opens, Closes, Refuses, Takes, AreFitting}
+use Rattle.ot_top.specs.Judging.{place_at, other_answer, waiting, next_path, open_places, Opens, Closes, Takes, AreFitting}
 
 -- the first place that waits is the one of the next path
 pub waiting-next :

@@ -1,7 +1,6 @@
 -- Certificates: the one spelling of a tree for each obligation of a level, each fitting its plan.
 use Rattle.std.specs.Prelude.{◌≡◌, ℕ, List, [], ◌∷◌, ◌++◌, codes}
 use Rattle.fn_rules.specs.declared.function.Level.{Level}
-use Rattle.fn_rules.specs.declared.function.Level.TheVariants.{Tp1}
 use Rattle.fn_rules.specs.declared.function.ObName.{ObName}
 use Rattle.fn_rules.specs.Functions.{Function}
 use Rattle.fn_rules.specs.Obligations.{obligations_of}

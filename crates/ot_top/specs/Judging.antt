@@ -1,5 +1,5 @@
 -- The open places of a plan whose tree is being judged, as the answers on the open path tell them.
-use Rattle.std.specs.Prelude.{◌≡◌, ℕ, ◌≤◌, Bool, true, false, List, [], ◌∷◌, ◌++◌, Option, Some, None, map, reverse, if◌then◌else◌, ◌↔◌}
+use Rattle.std.specs.Prelude.{◌≡◌, Bool, true, false, List, [], ◌∷◌, Option, Some, None, map, reverse, if◌then◌else◌, ◌↔◌}
 use Rattle.diff_graph.specs.declared.lit.Lit.{Lit}
 use Rattle.diff_graph.specs.Literals.{negated}
 use Rattle.ask_core.specs.declared.tree.Tok.{Tok}

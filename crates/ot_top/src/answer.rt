@@ -1,120 +1,167 @@
 //! From words and files to a reply, in the order of refusals.
-ghost use Rattle.std.specs.Prelude.{◌≡◌, ◌≤◌, ℕ, List, map, IfOk, IfSome, IsErrOf, IsTrue, string_bytes, ◌↔◌};
+ghost use Rattle.std.specs.Prelude.{◌≡◌, ◌≤◌, ℕ, List, map, length, Some, true, IfOk, IfSome, IsErrOf, IsTrue, string_bytes, ◌↔◌};
 ghost use Rattle.std.specs.Option.{ForSome};
 ghost use Rattle.fn_rules.specs.Rules.{function_of};
-ghost use Rattle.first_form.specs.FirstForm.{IsFirstForm};
-ghost use Rattle.fn_rules.specs.declared.function.Level.TheVariants.{Tp1};
 ghost use Rattle.ot_outside.specs.Faults.{Rose};
-ghost use Rattle.ot_top.specs.Certificates.{IsCertificate};
-ghost use Rattle.ot_top.specs.Replies.{IsReply, IsReplyToFunction, IsReplyToCertificate, IsTextOf, GoesOn};
-ghost use Rattle.ot_top.specs.Words.{checked_names};
+ghost use Rattle.ot_top.specs.FirstForm.{has_first_form};
+ghost use Rattle.ot_top.specs.Replies.{serves, IsReply, IsReplyToFunction, IsReplyToText, IsReplyToSecond, IsReplyToCertificate, IsReplyToCase, GoesOn};
+ghost use Rattle.ot_top.specs.Views.{reply_of, IsReading};
+ghost use Rattle.ot_top.specs.Words.{asked_by};
+ghost use Rattle.fn_text.specs.Reading.{function_in};
 
-use crate::certificate::is_certificate;
-use crate::obligation::TwoInsertions;
+use crate::check::{CERTIFICATE_LIMIT, reply_to_certificate};
+use crate::first_form::has_first_form;
+use crate::integrate::{CASE_LIMIT, reply_to_case};
+use crate::load::{Unanswered, read_file};
 use crate::reply::Reply;
-use crate::words::{Check, read_words};
-use ask_core::NoMemory;
-use first_form::read_first_form;
+use crate::words::{Command, Task, read_words};
 use fn_rules::Rules;
-use ot_outside::{ReadEnd, Shelf, read_all};
+use fn_text::{FaultKind, TextFault, read};
+use ot_model::NoMemory;
+use ot_outside::Shelf;
 use std::alloc::Global;
 
 /// The most bytes of a function file.
 const FUNCTION_LIMIT: usize = 1_048_576;
 
-/// The most bytes of a certificate file.
-const CERTIFICATE_LIMIT: usize = 83_886_080;
-
-/// Why there is no reply.
-#[derive(Clone, Copy, Debug, PartialEq, Eq)]
-pub(crate) enum Unanswered {
-    /// The shelf failed; its count of faults rose.
-    Shelf,
-
-    /// The allocator refused memory.
-    NoMemory,
-}
-
-// Whether the bytes are a certificate of a function of the first form.
-fn is_certificate_of(alloc: Global, rules: &Rules, bytes: &[u8]) -> Result<bool, NoMemory>
-    requires { IsFirstForm (function_of rules.now) }
-    ensures { IfOk result (λ yes. IsTrue yes ↔ IsCertificate bytes.now (function_of rules.now) Tp1) }
+// Whether the task can be done with the function.
+fn serves(task: Task, rules: &Rules) -> bool
+    ensures { result ≡ serves task (function_of rules.now) }
 {
-    is_certificate(alloc, &TwoInsertions { rules }, bytes)
+    match task {
+        Task::Check => has_first_form(rules),
+        Task::Integrate => true,
+    }
 }
 
-// The reply to the certificate file of a function of the first form.
-fn reply_to_certificate<H: Shelf>(
+// The reply to the second file of a check.
+fn reply_to_certificate_file<H: Shelf>(
     alloc: Global,
     shelf: &mut H,
     name: &str,
     rules: &Rules,
 ) -> Result<Reply, Unanswered>
-    requires first { IsFirstForm (function_of rules.now) }
+    requires first { IsTrue (has_first_form (function_of rules.now)) }
     requires offered { H.offered shelf.old name.now }
 
-    ensures ok { IfOk result (λ reply. ForSome (H.holds shelf.old name.now) (λ bytes. IsReplyToCertificate (function_of rules.now) bytes reply)) }
+    ensures ok { IfOk result (λ reply. ForSome (H.holds shelf.old name.now) (λ bytes. IsReplyToCertificate (function_of rules.now) bytes (reply_of reply))) }
     ensures shelf { IsErrOf result Unanswered.Shelf → Rose (H.faults shelf.old) (H.faults shelf.new) }
 
     ensures holds { (n : List ℕ) → H.holds shelf.new n ≡ H.holds shelf.old n }
     ensures offered { (n : List ℕ) → H.offered shelf.old n ↔ H.offered shelf.new n }
     ensures faults { H.faults shelf.old ≤ H.faults shelf.new }
 {
-    let mut bytes = Vec::new(alloc);
-    match read_all(shelf, name, CERTIFICATE_LIMIT, &mut bytes) {
-        Ok(()) => (),
-        Err(ReadEnd::TooLong) => return Ok(Reply::CertificateLimit),
-        Err(ReadEnd::Failed) => return Err(Unanswered::Shelf),
-        Err(ReadEnd::NoMemory) => return Err(Unanswered::NoMemory),
+    match read_file(alloc, shelf, name, CERTIFICATE_LIMIT)? {
+        Some(bytes) => Ok(reply_to_certificate(alloc, rules, &bytes)?),
+        None => Ok(Reply::CertificateLimit),
     }
-    match is_certificate_of(alloc, rules, bytes.as_slice()) {
-        Ok(true) => Ok(Reply::Accepted),
-        Ok(false) => Ok(Reply::Refused),
-        Err(_) => Err(Unanswered::NoMemory),
+}
+
+// The reply to the second file of an integration.
+fn reply_to_case_file<H: Shelf>(
+    alloc: Global,
+    shelf: &mut H,
+    name: &str,
+    rules: &Rules,
+) -> Result<Reply, Unanswered>
+    requires { H.offered shelf.old name.now }
+
+    ensures ok { IfOk result (λ reply. ForSome (H.holds shelf.old name.now) (λ bytes. IsReplyToCase (function_of rules.now) bytes (reply_of reply))) }
+    ensures shelf { IsErrOf result Unanswered.Shelf → Rose (H.faults shelf.old) (H.faults shelf.new) }
+
+    ensures holds { (n : List ℕ) → H.holds shelf.new n ≡ H.holds shelf.old n }
+    ensures offered { (n : List ℕ) → H.offered shelf.old n ↔ H.offered shelf.new n }
+    ensures faults { H.faults shelf.old ≤ H.faults shelf.new }
+{
+    match read_file(alloc, shelf, name, CASE_LIMIT)? {
+        Some(bytes) => Ok(reply_to_case(alloc, rules, &bytes)?),
+        None => Ok(Reply::CaseLimit),
+    }
+}
+
+// The reply to the second file.
+fn reply_to_second<H: Shelf>(
+    alloc: Global,
+    shelf: &mut H,
+    command: &Command<'_>,
+    rules: &Rules,
+) -> Result<Reply, Unanswered>
+    requires serves { serves command.now.task (function_of rules.now) ≡ true }
+    requires offered { H.offered shelf.old command.now.second.now }
+
+    ensures ok { IfOk result (λ reply. ForSome (H.holds shelf.old command.now.second.now)
+        (λ bytes. IsReplyToSecond command.now.task (function_of rules.now) bytes (reply_of reply))) }
+    ensures shelf { IsErrOf result Unanswered.Shelf → Rose (H.faults shelf.old) (H.faults shelf.new) }
+
+    ensures holds { (n : List ℕ) → H.holds shelf.new n ≡ H.holds shelf.old n }
+    ensures offered { (n : List ℕ) → H.offered shelf.old n ↔ H.offered shelf.new n }
+    ensures faults { H.faults shelf.old ≤ H.faults shelf.new }
+{
+    match command.task {
+        Task::Check => reply_to_certificate_file(alloc, shelf, command.second, rules),
+        Task::Integrate => reply_to_case_file(alloc, shelf, command.second, rules),
+    }
+}
+
+// What a function file is read as, where memory suffices.
+fn read_function(alloc: Global, bytes: &[u8]) -> Result<Result<Rules, TextFault>, NoMemory>
+    requires { length bytes.now ≤ FUNCTION_LIMIT }
+    ensures { IfOk result (λ read. IsReading read (function_in bytes.now)) }
+{
+    match read(alloc, bytes) {
+        Ok(rules) => Ok(Ok(rules)),
+        Err(fault) => {
+            if fault.kind == FaultKind::NoMemory {
+                Err(NoMemory)
+            } else {
+                Ok(Err(fault))
+            }
+        }
     }
 }
 
 // The reply to the two files of a command.
-fn reply_to_check<H: Shelf>(
+fn reply_to_files<H: Shelf>(
     alloc: Global,
-    check: &Check<'_>,
+    command: &Command<'_>,
     shelf: &mut H,
 ) -> Result<Reply, Unanswered>
-    requires function { H.offered shelf.old check.now.function.now }
-    requires certificate { GoesOn (H.holds shelf.old check.now.function.now) → H.offered shelf.old check.now.certificate.now }
+    requires function { H.offered shelf.old command.now.function.now }
+    requires second { GoesOn command.now.task (H.holds shelf.old command.now.function.now) → H.offered shelf.old command.now.second.now }
 
-    ensures ok { IfOk result (λ reply. ForSome (H.holds shelf.old check.now.function.now)
-        (λ bytes. IsReplyToFunction bytes (H.holds shelf.old check.now.certificate.now) reply)) }
+    ensures ok { IfOk result (λ reply. ForSome (H.holds shelf.old command.now.function.now)
+        (λ bytes. IsReplyToFunction command.now.task bytes (H.holds shelf.old command.now.second.now) (reply_of reply))) }
     ensures shelf { IsErrOf result Unanswered.Shelf → Rose (H.faults shelf.old) (H.faults shelf.new) }
 
     ensures holds { (n : List ℕ) → H.holds shelf.new n ≡ H.holds shelf.old n }
     ensures offered { (n : List ℕ) → H.offered shelf.old n ↔ H.offered shelf.new n }
     ensures faults { H.faults shelf.old ≤ H.faults shelf.new }
 {
-    let mut bytes = Vec::new(alloc);
-    match read_all(shelf, check.function, FUNCTION_LIMIT, &mut bytes) {
-        Ok(()) => (),
-        Err(ReadEnd::TooLong) => return Ok(Reply::FunctionLimit),
-        Err(ReadEnd::Failed) => return Err(Unanswered::Shelf),
-        Err(ReadEnd::NoMemory) => return Err(Unanswered::NoMemory),
-    }
-    match read_first_form(alloc, bytes.as_slice()) {
-        Ok(Some(rules)) => reply_to_certificate(alloc, shelf, check.certificate, &rules),
-        Ok(None) => Ok(Reply::FunctionForm),
-        Err(_) => Err(Unanswered::NoMemory),
+    let Some(bytes) = read_file(alloc, shelf, command.function, FUNCTION_LIMIT)? else {
+        return Ok(Reply::FunctionLimit);
+    };
+    match read_function(alloc, &bytes)? {
+        Ok(rules) => {
+            if serves(command.task, &rules) {
+                reply_to_second(alloc, shelf, command, &rules)
+            } else {
+                Ok(Reply::FunctionForm)
+            }
+        }
+        Err(fault) => Ok(Reply::FunctionRefused(fault)),
     }
 }
 
-/// The reply to words, in the order of refusals: the words, the function's file, the certificate's.
+/// The reply to words, in the order of refusals: the words, the function's file, the other file.
 pub(crate) fn reply_to<H: Shelf>(
     alloc: Global,
     words: &[String],
     shelf: &mut H,
 ) -> Result<Reply, Unanswered>
-    requires function { IfSome (checked_names (map string_bytes words.now)) (λ names. H.offered shelf.old names.0) }
-    requires certificate { IfSome (checked_names (map string_bytes words.now)) (λ names. GoesOn (H.holds shelf.old names.0) → H.offered shelf.old names.1) }
+    requires function { IfSome (asked_by (map string_bytes words.now)) (λ asked. H.offered shelf.old asked.function) }
+    requires second { IfSome (asked_by (map string_bytes words.now)) (λ asked. GoesOn asked.task (H.holds shelf.old asked.function) → H.offered shelf.old asked.second) }
 
-    ensures ok { IfOk result (IsReply (map string_bytes words.now) (H.holds shelf.old)) }
+    ensures ok { IfOk result (λ reply. IsReply (map string_bytes words.now) (H.holds shelf.old) (reply_of reply)) }
     ensures shelf { IsErrOf result Unanswered.Shelf → Rose (H.faults shelf.old) (H.faults shelf.new) }
 
     ensures holds { (n : List ℕ) → H.holds shelf.new n ≡ H.holds shelf.old n }
@@ -122,7 +169,7 @@ pub(crate) fn reply_to<H: Shelf>(
     ensures faults { H.faults shelf.old ≤ H.faults shelf.new }
 {
     match read_words(words) {
-        Some(check) => reply_to_check(alloc, &check, shelf),
+        Some(command) => reply_to_files(alloc, &command, shelf),
         None => Ok(Reply::Usage),
     }
 }

@@ -3,12 +3,15 @@ ghost use Rattle.std.specs.Prelude.{◌≡◌, ◌≢◌, ◌≤◌, ◌↔◌, 
 ghost use Rattle.std.specs.Io.KnownBytes.{append_known};
 ghost use Rattle.ot_outside.specs.Faults.{Rose};
 ghost use Rattle.ot_outside.specs.Whole.{AppendsFront};
-ghost use Rattle.ot_top.specs.declared.reply.Reply.{Reply};
-ghost use Rattle.ot_top.specs.Replies.{IsReply, IsShown, GoesOn, status_of, text_of};
-ghost use Rattle.ot_top.specs.Words.{checked_names};
+ghost use Rattle.ot_top.specs.Replies.{Reply, IsReply, IsShown, GoesOn};
+ghost use Rattle.ot_top.specs.Texts.{status_of, text_of};
+ghost use Rattle.ot_top.specs.Words.{asked_by};
 
-use crate::answer::{Unanswered, reply_to};
+use crate::answer::reply_to;
+use crate::load::Unanswered;
 use crate::soundness::certificates_show_the_properties;
+use crate::text::{status, text};
+use fn_text::what_is_read_is_in_the_grammar;
 use ot_outside::{Shelf, Sink, write_all};
 use std::alloc::Global;
 
@@ -28,8 +31,8 @@ pub const NO_MEMORY: u8 = 10;
 /// No name is opened but those that the words give, and the second one only after the first was
 /// judged.
 pub fn run<H: Shelf, S: Sink>(alloc: Global, words: &[String], shelf: &mut H, out: &mut S) -> u8
-    requires function { IfSome (checked_names (map string_bytes words.now)) (λ names. H.offered shelf.old names.0) }
-    requires certificate { IfSome (checked_names (map string_bytes words.now)) (λ names. GoesOn (H.holds shelf.old names.0) → H.offered shelf.old names.1) }
+    requires function { IfSome (asked_by (map string_bytes words.now)) (λ asked. H.offered shelf.old asked.function) }
+    requires second { IfSome (asked_by (map string_bytes words.now)) (λ asked. GoesOn asked.task (H.holds shelf.old asked.function) → H.offered shelf.old asked.second) }
 
     // Every other status is that of the reply, whose text was appended.
     ensures replied { result ≢ SHELF_FAULT → result ≢ SINK_FAULT → result ≢ NO_MEMORY →
@@ -52,13 +55,17 @@ pub fn run<H: Shelf, S: Sink>(alloc: Global, words: &[String], shelf: &mut H, ou
     ensures sink_faults { S.faults out.old ≤ S.faults out.new }
 {
     certificates_show_the_properties();
+    what_is_read_is_in_the_grammar();
     let reply = match reply_to(alloc, words, shelf) {
         Ok(reply) => reply,
         Err(Unanswered::Shelf) => return SHELF_FAULT,
         Err(Unanswered::NoMemory) => return NO_MEMORY,
     };
-    match write_all(out, reply.text().as_bytes()) {
-        Ok(()) => reply.status(),
+    let Ok(text) = text(alloc, &reply) else {
+        return NO_MEMORY;
+    };
+    match write_all(out, &text) {
+        Ok(()) => status(&reply),
         Err(_) => SINK_FAULT,
     }
 }

@@ -1,9 +1,10 @@
-//! What a command replies, with its exit status and its text.
-ghost use Rattle.std.specs.Prelude.{◌≡◌};
-ghost use Rattle.ot_top.specs.Replies.{status_of, text_of};
+//! What a command replies.
+use case_json::CaseFault;
+use fn_text::TextFault;
+use ot_integrate::End;
 
-/// The replies of the command `check`, and of words that are no command.
-#[derive(Clone, Copy, Debug, PartialEq, Eq)]
+/// The replies to words and files. Contracts see them as the plain replies of `specs/Replies.antt`.
+#[derive(Debug, Drop)]
 pub enum Reply {
     /// The file is a certificate of the function.
     Accepted,
@@ -11,8 +12,17 @@ pub enum Reply {
     /// The file is none.
     Refused,
 
-    /// The function's file has not the first form.
+    /// Certificates of the function can't be judged.
     FunctionForm,
+
+    /// The function's file is refused for its first fault.
+    FunctionRefused(TextFault),
+
+    /// The case is refused for its first fault.
+    CaseRefused(CaseFault),
+
+    /// How integrating ended, an order each, and whether every order gave the same document.
+    Integrated(Vec<End>, bool),
 
     /// The words are not those of a command.
     Usage,
@@ -22,33 +32,7 @@ pub enum Reply {
 
     /// The certificate's file is longer than its limit.
     CertificateLimit,
-}
 
-impl Reply {
-    /// The exit status.
-    pub fn status(self) -> u8
-        ensures { result ≡ status_of self }
-    {
-        match self {
-            Reply::Accepted => 0,
-            Reply::Refused => 2,
-            Reply::FunctionForm => 3,
-            Reply::Usage => 5,
-            Reply::FunctionLimit | Reply::CertificateLimit => 9,
-        }
-    }
-
-    /// The text that is written, one line.
-    pub fn text(self) -> &'static str
-        ensures { result.now ≡ text_of self }
-    {
-        match self {
-            Reply::Accepted => "accepted tp1\n",
-            Reply::Refused => "certificate refused\n",
-            Reply::FunctionForm => "function form\n",
-            Reply::Usage => "usage: otp COMMAND ARGUMENTS\n",
-            Reply::FunctionLimit => "limit function\n",
-            Reply::CertificateLimit => "limit certificate\n",
-        }
-    }
+    /// The case's file is longer than its limit.
+    CaseLimit,
 }

@@ -64,7 +64,7 @@ fn a_write_that_fails_is_answered(rt: HostRuntime) -> Result<(), Fail> {
 fn a_function_file_has_a_limit(rt: HostRuntime) -> Result<(), Fail> {
     let alloc = rt.alloc();
     for (size, status, text) in [
-        (1_048_576, 3, "function form\n"),
+        (1_048_576, 3, "function 1:1048577 expected\n"),
         (1_048_577, 9, "limit function\n"),
     ] {
         let mut files = Vec::new(alloc);

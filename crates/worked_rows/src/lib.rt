@@ -8,6 +8,8 @@ mod faults;
 #[cfg(test)]
 mod maker;
 #[cfg(test)]
+mod orders;
+#[cfg(test)]
 mod questions;
 #[cfg(test)]
 mod rows;

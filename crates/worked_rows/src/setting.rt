@@ -2,6 +2,8 @@
 use ot_outside::{MemShelf, MemSink};
 use ot_top::run;
 use std::alloc::{AllocError, Global};
+use std::process::Abort;
+use std::test::Fail;
 
 /// The files of a shelf: names and contents.
 pub type Files<'a> = &'a [(&'a str, &'a str)];
@@ -34,4 +36,21 @@ pub fn status_of(
 ) -> Result<u8, AllocError> {
     let words = strings(alloc, words)?;
     Ok(run(alloc, words.as_slice(), shelf, sink))
+}
+
+/// Fails the test unless the command over these files has the status and the text.
+pub fn expect(
+    rt: &impl Abort,
+    alloc: Global,
+    files: Files<'_>,
+    words: &[&str],
+    status: u8,
+    text: &str,
+) -> Result<(), Fail> {
+    let mut shelf = shelf_of(alloc, files, &[])?;
+    let mut sink = MemSink::new(alloc, 256, 64, Vec::new(alloc))?;
+    let found = status_of(alloc, words, &mut shelf, &mut sink)?;
+    assert_eq!(rt; found, status, "the status of {words:?}");
+    assert_eq!(rt; sink.written(), text.as_bytes(), "the text of {words:?}");
+    Ok(())
 }

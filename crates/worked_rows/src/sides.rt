@@ -7,8 +7,8 @@ ghost use Rattle.fn_rules.specs.Rules.{function_of};
 
 use crate::samples::{FAR_OT, INS_OT, TIES_OT};
 use diff_graph::Lit;
-use first_form::read_first_form;
 use fn_rules::{ObName, Rules, allowed, transform};
+use fn_text::read;
 use ot_model::{Cell, Doc, Kind, Op, apply};
 use ot_questions::{Next, next_question};
 use std::alloc::{AllocError, Global};
@@ -155,7 +155,7 @@ fn interpreter_agrees(
 fn questions_and_interpreter_agree(rt: HostRuntime) -> Result<(), Fail> {
     let alloc = rt.alloc();
     for text in [INS_OT, FAR_OT, TIES_OT] {
-        let rules = read_first_form(alloc, text.as_bytes())?.ok_or("a function of the first form")?;
+        let rules = read(alloc, text.as_bytes()).ok().ok_or("a function")?;
         for (len, p, q) in [
             (0, 0, 0),
             (1, 0, 0),

@@ -1,5 +1,5 @@
 -- The last answer was yes: the path goes on with no in its place.
-use Rattle.std.proofs.Common.{◌≡◌, ◌-◌, ◌∙◌, Some, length, true, false, ℕ, refl, sym, ap, arith, rules}
+use Rattle.std.proofs.Common.{◌≡◌, ◌-◌, ◌∙◌, Some, length, false, ℕ, ap, arith, rules}
 use Rattle.std.specs.Prelude.{slice_get, slice_set, reverse}
 use Rattle.diff_graph.specs.declared.lit.Lit.{Lit}
 use Rattle.ot_top.specs.declared.judge.Answer.{Answer}

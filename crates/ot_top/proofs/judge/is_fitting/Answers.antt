@@ -1,6 +1,6 @@
 -- Each token is taken at the open places.
-use Rattle.std.proofs.Common.{◌≡◌, ℕ, suc, ◌+◌, ◌<◌, get_or, add-one, drop-cons, ◌↔◌, Bool, true, false, List, [], ◌∷◌, drop, Option, Some, None, length, refl, sym, ap, subst, ◌∙◌, arith, rules}
-use Rattle.std.specs.Prelude.{reverse, IsTrue, not}
+use Rattle.std.proofs.Common.{◌≡◌, ℕ, suc, ◌+◌, ◌<◌, get_or, add-one, drop-cons, ◌↔◌, Bool, true, false, List, [], ◌∷◌, drop, Option, length, refl, sym, ap, subst, ◌∙◌}
+use Rattle.std.specs.Prelude.{reverse, not}
 use Rattle.std.proofs.lemmas.Bool.{false≢true}
 use Rattle.std.proofs.lemmas.List.{drop_all}
 use Rattle.ask_core.specs.declared.tree.Tok.{Tok}
@@ -9,7 +9,7 @@ use Rattle.ask_core.specs.Trees.{Completes}
 use Rattle.ot_questions.specs.declared.why.Why.{Why}
 use Rattle.ot_top.specs.declared.judge.Answer.{Answer}
 use Rattle.ot_top.specs.Judging.{AreFitting, open_places, Takes}
-use Rattle.ot_top.proofs.Taking.{fits_as_open, take_more, take_refused, none_left}
+use Rattle.ot_top.proofs.Taking.{take_more, take_refused, none_left}
 use Rattle.ot_top.proofs.judge.is_fitting.Goals as goal
 
 not_true : (b : Bool) → not b ≡ true → b ≡ false

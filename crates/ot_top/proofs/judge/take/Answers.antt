@@ -1,5 +1,5 @@
 -- What the token does at the end of the path, and the next place that waits.
-use Rattle.std.proofs.Common.{◌≡◌, List, ◌∷◌, subst}
+use Rattle.std.proofs.Common.{List, subst}
 use Rattle.std.specs.Prelude.{reverse}
 use Rattle.ask_core.specs.Plans.{Plan}
 use Rattle.ot_questions.specs.declared.why.Why.{Why}

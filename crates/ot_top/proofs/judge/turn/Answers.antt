@@ -1,15 +1,13 @@
 -- What the token does follows from how the plan goes on at the end of the path.
-use Rattle.std.proofs.Common.{◌≡◌, ℕ, Bool, true, false, List, [], ◌∷◌, ◌++◌, refl, sym, ap, subst, ◌∙◌, rules}
-use Rattle.std.specs.Prelude.{map, reverse, IsTrue}
+use Rattle.std.proofs.Common.{◌≡◌, Bool, true, List, [], ◌∷◌, refl, sym, ap, subst, ◌∙◌}
+use Rattle.std.specs.Prelude.{map, reverse}
 use Rattle.std.proofs.lemmas.List.{reverse-append}
 use Rattle.std.proofs.lemmas.Bool.{false≢true}
 use Rattle.diff_graph.specs.declared.lit.Lit.{Lit}
 use Rattle.ask_core.specs.declared.tree.Tok.{Tok}
-use Rattle.ask_core.specs.declared.tree.Tok.TheVariants as token
 use Rattle.ask_core.specs.Plans.{Plan}
 use Rattle.ask_core.specs.Trees.{IsCycleAmong}
 use Rattle.ot_questions.specs.declared.next.Next.{Next}
-use Rattle.ot_questions.specs.declared.next.Next.TheVariants as next
 use Rattle.ot_questions.specs.declared.why.Why.{Why}
 use Rattle.ot_questions.specs.Nexts.{next_after}
 use Rattle.ot_top.specs.declared.judge.Answer.{Answer}

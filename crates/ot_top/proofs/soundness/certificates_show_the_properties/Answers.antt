@@ -14,3 +14,10 @@ returns-clause-tp2 c =
     λ bytes f valid certificate.
     (c.triple_plans_mean_tp2.ensures.whole f valid).0
     (answers_hold (c.fitting_trees_hold.ensures.whole) f (obligations_of f.head Tp2) certificate.0 certificate.1)
+
+pub returns-clause-one_outcome : goal.returns-clause-one_outcome
+returns-clause-one_outcome c =
+    λ bytes f valid certificate.
+    let both = (c.triple_plans_mean_tp2.ensures.whole f valid).0
+    (answers_hold (c.fitting_trees_hold.ensures.whole) f (obligations_of f.head Tp2) certificate.0 certificate.1) in
+    c.both_properties_give_one_outcome.ensures f both.0 both.1

@@ -1,2 +1,0 @@
-pub mod ReadsBack
-pub mod Founds
