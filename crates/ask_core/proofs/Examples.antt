@@ -1,11 +1,10 @@
 -- The definitions on a small plan over two names: it asks whether name 0 is at most name 1, holds at
 -- no, and at yes asks whether name 1 is below name 0, which no integers meet after yes.
-use Rattle.std.proofs.Common.{◌≡◌, ℕ, ℤ, pos, true, false, [], ◌∷◌, refl, Result, Ok, Err, Some, None, lit≤, inl, inr, arith}
+use Rattle.std.proofs.Common.{◌≡◌, ℕ, ℤ, pos, negsuc, ◌+ℤ◌, ◌≤ℤ◌, true, false, [], ◌∷◌, refl, Result, Ok, Err, Some, None, lit≤, inl, inr, arith}
 use Rattle.std.proofs.lemmas.Int.{ints}
 use Rattle.diff_graph.specs.declared.lit.PickEnd.{PickEnd}
 use Rattle.diff_graph.specs.declared.lit.PickEnd.TheVariants.{NotACycle}
 use Rattle.diff_graph.specs.Literals.{IsPossible}
-use Rattle.diff_graph.proofs.Walks.{no_values_on_picks}
 use Rattle.ask_core.specs.declared.tree.Tok.TheVariants as token
 use Rattle.ask_core.specs.Trees.{Question, End, Impossible, Fits, tokens_of}
 use Rattle.ask_core.specs.Questions.{QuestionList, no_questions, failing_at}
@@ -77,7 +76,9 @@ QuestionList-strict =
   where
     not_both : IsPossible (at_most ∷ is_under true ∷ []) → ⊥
     not_both (v, zero_is_0, met) =
-        no_values_on_picks v (at_most ∷ is_under true ∷ []) (0 ∷ 1 ∷ []) refl met
+        let at_yes : v 0 ≤ℤ (v 1 +ℤ pos 0) = met.0 in
+        let under : v 1 ≤ℤ (v 0 +ℤ negsuc 0) = met.1.0 in
+        omega (arith, ints)
 
 -- where name 1 need not be below name 0, yes twice is possible and fails, and the list ends there
 QuestionList-lax :

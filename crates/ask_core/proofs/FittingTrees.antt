@@ -5,7 +5,6 @@ use Rattle.std.proofs.lemmas.Int.{ints}
 use Rattle.diff_graph.specs.declared.lit.Lit.{Lit}
 use Rattle.diff_graph.specs.Literals.{Meets, AreMet, is_met, negated}
 use Rattle.diff_graph.specs.Cycles.{pick_verdict}
-use Rattle.diff_graph.proofs.Walks.{no_values_on_picks}
 use Rattle.ask_core.specs.declared.tree.Tok.{Tok}
 use Rattle.ask_core.specs.Plans.{Plan, Ask, Holds, Fails, value}
 use Rattle.ask_core.specs.Trees.{AnswerTree, Question, End, Impossible, Fits, Branch, Completes, HoldsAt, with_answer}
@@ -34,31 +33,24 @@ HoldsAt-question v l on_yes on_no w at_yes at_no met =
       | inr failed ↦ rw failed (at_no (AreMet-push v w (negated l) met (Meets-negated v l failed)))
     ]
 
--- a negative cycle among the answers leaves nothing to hold
-pub HoldsAt-cycle :
-    {W : Type 0} (v : ℕ → ℤ) (p : Plan W) (w : List Lit) (picks : List ℕ)
-    → pick_verdict w picks ≡ Ok tt → HoldsAt v (record { plan = p; answers = w })
-HoldsAt-cycle v p w picks ok met = absurd (no_values_on_picks v w picks ok met)
+module _ (never_met : (v : ℕ → ℤ) (w : List Lit) (picks : List ℕ) → pick_verdict w picks ≡ Ok tt → ¬ AreMet v w) {W : Type 0} where
+  -- a fitting tree shows, part by part, that its plan holds: a negative cycle among the answers leaves
+  -- nothing to hold
+  pub fitting_tree_holds :
+      (t : AnswerTree) (p : Plan W) (w : List Lit) (v : ℕ → ℤ) → AreMet v w → Fits t p w → value p v ≡ true
+  fitting_tree_holds (Question t u) (Ask l on_yes on_no) w v met fits =
+      HoldsAt-question v l on_yes on_no w
+      (λ met_yes. fitting_tree_holds t on_yes (with_answer w l true) v met_yes fits.0)
+      (λ met_no. fitting_tree_holds u on_no (with_answer w l false) v met_no fits.1)
+      met
+  fitting_tree_holds (Question t u) Holds w v met fits = absurd fits
+  fitting_tree_holds (Question t u) (Fails why) w v met fits = absurd fits
+  fitting_tree_holds End (Ask l on_yes on_no) w v met fits = absurd fits
+  fitting_tree_holds End Holds w v met fits = refl
+  fitting_tree_holds End (Fails why) w v met fits = absurd fits
+  fitting_tree_holds (Impossible picks) p w v met fits = absurd (never_met v w picks fits.2 met)
 
--- so a fitting tree shows, part by part, that its plan holds
-pub fitting_tree_holds :
-    {W : Type 0} (t : AnswerTree) (p : Plan W) (w : List Lit) (v : ℕ → ℤ)
-    → AreMet v w → Fits t p w → value p v ≡ true
-fitting_tree_holds (Question t u) (Ask l on_yes on_no) w v met fits =
-    HoldsAt-question v l on_yes on_no w
-    (λ met_yes. fitting_tree_holds t on_yes (with_answer w l true) v met_yes fits.0)
-    (λ met_no. fitting_tree_holds u on_no (with_answer w l false) v met_no fits.1)
-    met
-fitting_tree_holds (Question t u) Holds w v met fits = absurd fits
-fitting_tree_holds (Question t u) (Fails why) w v met fits = absurd fits
-fitting_tree_holds End (Ask l on_yes on_no) w v met fits = absurd fits
-fitting_tree_holds End Holds w v met fits = refl
-fitting_tree_holds End (Fails why) w v met fits = absurd fits
-fitting_tree_holds (Impossible picks) p w v met fits = HoldsAt-cycle v p w picks fits.2 met
-
--- tokens that complete one branch are those of a fitting tree
-pub completed_branch_holds :
-    {W : Type 0} (tokens : List Tok) (b : Branch W) (v : ℕ → ℤ)
-    → AreMet v b.answers → Completes tokens (b ∷ []) → value b.plan v ≡ true
-completed_branch_holds tokens b v met (t, rest, fits, same, done) =
-    fitting_tree_holds t b.plan b.answers v met fits
+  -- tokens that complete one branch are those of a fitting tree
+  pub completed_branch_holds :
+      (tokens : List Tok) (b : Branch W) (v : ℕ → ℤ) → AreMet v b.answers → Completes tokens (b ∷ []) → value b.plan v ≡ true
+  completed_branch_holds tokens b v met (t, rest, fits, same, done) = fitting_tree_holds t b.plan b.answers v met fits

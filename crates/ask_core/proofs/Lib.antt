@@ -1,4 +1,4 @@
-pub mod AskerLemmas
 pub mod FittingTrees
 pub mod PathLemmas
+pub mod TokenByToken
 mod Examples

@@ -4,7 +4,7 @@ use Rattle.std.proofs.lemmas.List.{reverse-append, take-take, take-append-le, ta
 use Rattle.diff_graph.specs.declared.lit.Lit.{Lit}
 use Rattle.diff_graph.specs.Literals.{answered_of}
 use Rattle.ask_core.specs.declared.path.Waiting.{Waiting}
-use Rattle.ask_core.specs.Paths.{Place, places_of, waiting_place, after_question, IsNested}
+use Rattle.ask_core.specs.Paths.{OpenPlace, places_of, waiting_place, after_question, IsNested}
 
 -- a last element is the first from behind
 reverse-push : {X : Type 0} (xs : List X) (x : X) → reverse (xs ++ x ∷ []) ≡ x ∷ reverse xs
@@ -34,13 +34,16 @@ waiting_places-same limit u w (x ∷ waiting) same nested =
 pub places_of-question :
     {N : Type 0} (current : Option N) (on_yes on_no : N) (l : Lit) (w : List Lit) (waiting : List (Waiting N))
     → 0 < length (places_of current w waiting) → IsNested (length w) (reverse waiting)
-    → places_of (Some on_yes) (w ++ answered_of l true ∷ []) (waiting ++ record { node = on_no; depth = length w; answer = answered_of l false } ∷ [])
+    → places_of (Some on_yes) (w ++ answered_of l true ∷ [])
+    (waiting ++ record { node = on_no; depth = length w; answer = answered_of l false } ∷ [])
     ≡ after_question l on_yes on_no (places_of current w waiting)
 places_of-question None on_yes on_no l w waiting opened nested = absurd (omega arith)
 places_of-question (Some n) on_yes on_no l w waiting opened nested =
     rw reverse-push
     (let here : take (length w) (w ++ answered_of l true ∷ []) ≡ w = take_at w (answered_of l true ∷ []) (length w) refl in
-    let later = waiting_places-same (length w) (w ++ answered_of l true ∷ []) w (reverse waiting) (λ k below. take-append-le k w (answered_of l true ∷ []) below) nested in
+    let later =
+    waiting_places-same (length w) (w ++ answered_of l true ∷ []) w (reverse waiting)
+    (λ k below. take-append-le k w (answered_of l true ∷ []) below) nested in
     cc)
 
 -- where the innermost part that waits is next, the others still share fewer answers
@@ -69,7 +72,8 @@ places_of-close (Some n) w waiting rest x opened same nested =
 
 -- the same, the new vectors and the places being given by equations
 pub asked_places :
-    {N : Type 0} (current : Option N) (on_yes on_no : N) (l : Lit) (w u : List Lit) (waiting later : List (Waiting N)) (places : List (Place N))
+    {N : Type 0} (current : Option N) (on_yes on_no : N) (l : Lit) (w u : List Lit) (waiting later : List (Waiting N))
+    (places : List (OpenPlace N))
     → places_of current w waiting ≡ places → 0 < length places → IsNested (length w) (reverse waiting)
     → u ≡ w ++ answered_of l true ∷ []
     → later ≡ waiting ++ record { node = on_no; depth = length w; answer = answered_of l false } ∷ []
@@ -80,7 +84,7 @@ asked_places current on_yes on_no l w u waiting later places shown opened nested
     rw (longer, deeper, ← shown) e
 
 pub closed_places :
-    {N : Type 0} (current : Option N) (w u : List Lit) (waiting rest : List (Waiting N)) (x : Waiting N) (places : List (Place N))
+    {N : Type 0} (current : Option N) (w u : List Lit) (waiting rest : List (Waiting N)) (x : Waiting N) (places : List (OpenPlace N))
     → places_of current w waiting ≡ places → 0 < length places → waiting ≡ rest ++ x ∷ []
     → IsNested (length w) (reverse waiting) → u ≡ take (x.depth + 1) (set w x.depth x.answer)
     → places_of (Some x.node) u rest ≡ drop 1 places

@@ -1,6 +1,8 @@
 -- What an asker answers at a node, seen as a plan, and the limits of every plan.
-use Rattle.std.specs.Prelude.{◌≡◌, ℕ, ◌+◌, ◌≤◌, pos, negsuc, max, Bool, true, not, ◌&&◌, nat_eq, nat_lt, int_le, IsTrue}
+use Rattle.std.specs.Prelude.{◌≡◌, ℕ, ◌+◌, ◌≤◌, neg_ℤ, max, Bool, true, not, ◌&&◌, nat_eq, nat_lt, int_le, IsTrue}
 use Rattle.diff_graph.specs.declared.lit.Lit.{Lit}
+use Rattle.diff_graph.specs.declared.lit.TheConstants.{MAX_LITERAL_OFFSET}
+use Rattle.ask_core.specs.declared.asker.TheConstants.{MAX_QUESTIONS}
 use Rattle.ask_core.specs.declared.turn.Turn.{Turn}
 use Rattle.ask_core.specs.declared.turn.Turn.TheVariants as turn
 use Rattle.ask_core.specs.Plans.{Plan, Ask, Holds, Fails}
@@ -13,11 +15,11 @@ Begins is_own plan (turn.Ask lit on_yes on_no) p =
 Begins is_own plan turn.Holds p = p ≡ Holds
 Begins is_own plan (turn.Fails why) p = p ≡ Fails why
 
--- a literal over two different names below the count, with an offset of at most 1,000 either way
+-- a literal over two different names below the count, with an offset that may be asked
 abbrev pub is_fine_literal : ℕ → Lit → Bool
 is_fine_literal count l =
-    not (nat_eq l.x l.y) && nat_lt l.x count && nat_lt l.y count && int_le (negsuc 999) l.k
-    && int_le l.k (pos 1000)
+    not (nat_eq l.x l.y) && nat_lt l.x count && nat_lt l.y count && int_le (neg_ℤ MAX_LITERAL_OFFSET) l.k
+    && int_le l.k MAX_LITERAL_OFFSET
 
 -- each literal of the plan is so
 abbrev pub has_fine_literals : {W : Type 0} → ℕ → Plan W → Bool
@@ -32,7 +34,7 @@ longest_path (Ask l on_yes on_no) = 1 + max (longest_path on_yes) (longest_path 
 longest_path Holds = 0
 longest_path (Fails why) = 0
 
--- the plan keeps the limits: its literals, and at most 99,999 questions on a path
+-- the plan keeps the limits: its literals, and the questions on a path
 pub record IsFine {W : Type 0} (count : ℕ) (p : Plan W) : Type 0 where
   pub literals : IsTrue (has_fine_literals count p)
-  pub paths : longest_path p ≤ 99999
+  pub paths : longest_path p ≤ MAX_QUESTIONS

@@ -7,19 +7,19 @@ use Rattle.ask_core.specs.Plans.{Plan}
 use Rattle.ask_core.specs.Trees.{Branch, with_answer}
 
 -- a node, and the answers that lead to it
-pub record Place (N : Type 0) : Type 0 where
+pub record OpenPlace (N : Type 0) : Type 0 where
   pub node : N
   pub answers : List Lit
 
 -- the branch that a place is, given what its node stands for
-abbrev pub branch_at : {N W : Type 0} → (N → Plan W) → Place N → Branch W
+abbrev pub branch_at : {N W : Type 0} → (N → Plan W) → OpenPlace N → Branch W
 branch_at plan p = record { plan = plan p.node; answers = p.answers }
 
-abbrev pub branches_at : {N W : Type 0} → (N → Plan W) → List (Place N) → List (Branch W)
+abbrev pub branches_at : {N W : Type 0} → (N → Plan W) → List (OpenPlace N) → List (Branch W)
 branches_at plan places = map (branch_at plan) places
 
 -- the places after the literal was asked at the first one
-abbrev pub after_question : {N : Type 0} → Lit → N → N → List (Place N) → List (Place N)
+abbrev pub after_question : {N : Type 0} → Lit → N → N → List (OpenPlace N) → List (OpenPlace N)
 after_question l on_yes on_no [] = []
 after_question l on_yes on_no (p ∷ places) =
     record { node = on_yes; answers = with_answer p.answers l true }
@@ -27,11 +27,11 @@ after_question l on_yes on_no (p ∷ places) =
     ∷ places
 
 -- the place of a part that waits, of which the first answers are those of the open path
-abbrev pub waiting_place : {N : Type 0} → List Lit → Waiting N → Place N
+abbrev pub waiting_place : {N : Type 0} → List Lit → Waiting N → OpenPlace N
 waiting_place w x = record { node = x.node; answers = take x.depth w ++ x.answer ∷ [] }
 
 -- the places of a path, the parts that wait being listed with the innermost one last
-abbrev pub places_of : {N : Type 0} → Option N → List Lit → List (Waiting N) → List (Place N)
+abbrev pub places_of : {N : Type 0} → Option N → List Lit → List (Waiting N) → List (OpenPlace N)
 places_of None w waiting = []
 places_of (Some n) w waiting =
     record { node = n; answers = w } ∷ map (waiting_place w) (reverse waiting)

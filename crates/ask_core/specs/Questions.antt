@@ -32,9 +32,9 @@ abbrev pub asked_with_both : {W : Type 0} → List Lit → Questions W → Quest
 asked_with_both w y n = record { asked = w ∷ y.asked ++ n.asked; failing = n.failing }
 
 -- the questions of a question, its part for yes given, and its part for no as a fact of a list
-abbrev pub GoesOn :
+abbrev pub JoinsParts :
     {W : Type 0} → List Lit → Questions W → (Questions W → Type 0) → Questions W → Type 0
-GoesOn {W = W} w y IsNoPart q =
+JoinsParts {W = W} w y IsNoPart q =
     MatchOption y.failing ((n : Questions W) × IsNoPart n × (q ≡ asked_with_both w y n)) (λ _. q ≡ asked_with_yes w y)
 
 -- `q` is the question list of the plan after the answers `w`: depth first, yes before no, up to the
@@ -43,7 +43,8 @@ GoesOn {W = W} w y IsNoPart q =
 abbrev pub QuestionList : {W : Type 0} → Plan W → List Lit → Questions W → Type 0
 QuestionList {W = W} (Ask l on_yes on_no) w q =
     (¬ IsPossible w × (q ≡ no_questions))
-    ⊎ (IsPossible w × ((y : Questions W) × QuestionList on_yes (with_answer w l true) y × GoesOn w y (QuestionList on_no (with_answer w l false)) q))
+    ⊎ (IsPossible w × ((y : Questions W) × QuestionList on_yes (with_answer w l true) y
+    × JoinsParts w y (QuestionList on_no (with_answer w l false)) q))
 QuestionList Holds w q = q ≡ no_questions
 QuestionList (Fails why) w q =
     (¬ IsPossible w × (q ≡ no_questions)) ⊎ (IsPossible w × (q ≡ failing_at w why))

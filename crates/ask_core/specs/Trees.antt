@@ -53,6 +53,23 @@ Completes tokens (b ∷ branches) =
     (t : AnswerTree) × (rest : List Tok) × Fits t b.plan b.answers × (tokens ≡ tokens_of t ++ rest)
     × Completes rest branches
 
+-- the tokens complete the two parts of a question and the other branches. No other plan is asked
+abbrev pub CompletesParts : {W : Type 0} → List Tok → Plan W → List Lit → List (Branch W) → Type 0
+CompletesParts tokens (Ask l on_yes on_no) w branches =
+    Completes tokens
+    (record { plan = on_yes; answers = with_answer w l true }
+    ∷ record { plan = on_no; answers = with_answer w l false }
+    ∷ branches)
+CompletesParts tokens Holds w branches = ⊥
+CompletesParts tokens (Fails why) w branches = ⊥
+
+-- the token may stand at the first branch, and the tokens behind it complete what it leaves open
+abbrev pub CompletesBehind : {W : Type 0} → Tok → List Tok → List (Branch W) → Type 0
+CompletesBehind tok tokens [] = ⊥
+CompletesBehind token.Ask tokens (b ∷ branches) = CompletesParts tokens b.plan b.answers branches
+CompletesBehind token.Holds tokens (b ∷ branches) = Fits End b.plan b.answers × Completes tokens branches
+CompletesBehind (token.Cycle picks) tokens (b ∷ branches) = IsCycleAmong b.answers picks × Completes tokens branches
+
 -- where the valuation meets the answers of the branch, it leads through its plan to `Holds`
 abbrev pub HoldsAt : {W : Type 0} → (ℕ → ℤ) → Branch W → Type 0
 HoldsAt v b = AreMet v b.answers → value b.plan v ≡ true

@@ -6,6 +6,9 @@ ghost use Rattle.ask_core.specs.Askers.{Begins, IsFine};
 use crate::NoMemory;
 use crate::turn::Turn;
 
+/// The most questions on one path of a plan.
+pub const MAX_QUESTIONS: u32 = 99_999;
+
 /// A source of questions. Each of its nodes stands for a finite plan, and `turn` says how that plan
 /// begins. No call changes which nodes are the asker's, what they stand for, the asker's own plan or
 /// its count of names, and neither does a call that answers want of memory.

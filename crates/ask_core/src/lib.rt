@@ -16,8 +16,8 @@ mod picks;
 mod tree;
 mod turn;
 
-pub use asker::Asker;
-pub use fitting::fitting_trees_hold;
+pub use asker::{Asker, MAX_QUESTIONS};
+pub use fitting::{fitting_trees_hold, trees_are_judged_token_by_token};
 pub use path::Path;
 pub use picks::{MAX_PICKS, Picks};
 pub use std::alloc::AllocError as NoMemory;

@@ -1,7 +1,7 @@
 //! The open path through a plan, with the parts for no that still wait.
 ghost use Rattle.std.specs.Prelude.{◌≡◌, ◌↔◌, IsTrue, ◌<◌, [], ◌∷◌, Some, drop, length, slice_get, OnOk, OnErr};
 ghost use Rattle.std.specs.Option.{option_map};
-ghost use Rattle.ask_core.specs.Paths.{Place, after_question};
+ghost use Rattle.ask_core.specs.Paths.{OpenPlace, after_question};
 
 use crate::NoMemory;
 use diff_graph::{Lit, answered};
@@ -29,9 +29,9 @@ pub struct Path<N: Copy> {
 
 impl<N: Copy> Model for Path<N> {
     ghost use Rattle.std.specs.Prelude.{List, length, reverse};
-    ghost use Rattle.ask_core.specs.Paths.{Place, places_of, IsNested};
+    ghost use Rattle.ask_core.specs.Paths.{OpenPlace, places_of, IsNested};
 
-    ghost Value = { List (Place N) };
+    ghost Value = { List (OpenPlace N) };
 
     ghost view = { λ p. places_of p.current p.answers.items p.waiting.items };
 

@@ -43,7 +43,8 @@ after-second_question :
 after-second_question = refl
 
 after-cycle :
-    after (token.Cycle (0 ∷ 1 ∷ [])) (branch (Fails 7) (at_most ∷ above ∷ []) ∷ branch Holds (at_most ∷ at_most ∷ []) ∷ branch no_part (above ∷ []) ∷ [])
+    after (token.Cycle (0 ∷ 1 ∷ []))
+    (branch (Fails 7) (at_most ∷ above ∷ []) ∷ branch Holds (at_most ∷ at_most ∷ []) ∷ branch no_part (above ∷ []) ∷ [])
     ≡ Ok (branch Holds (at_most ∷ at_most ∷ []) ∷ branch no_part (above ∷ []) ∷ [])
 after-cycle = refl
 

@@ -1,5 +1,4 @@
 pub mod Completing
 mod Examples
 pub mod Feeding
-pub mod Holding
 pub mod Places

@@ -6,14 +6,14 @@ use Rattle.diff_graph.specs.declared.lit.PickEnd.{PickEnd}
 use Rattle.diff_graph.specs.Cycles.{pick_verdict}
 use Rattle.ask_core.specs.declared.tree.Tok.TheVariants as token
 use Rattle.ask_core.specs.Plans.{Plan, Ask, Holds, Fails}
-use Rattle.ask_core.specs.Paths.{Place, branches_at, after_question}
+use Rattle.ask_core.specs.Paths.{OpenPlace, branches_at, after_question}
 use Rattle.cert_check.specs.declared.verdict.CheckEnd.TheVariants as end
 use Rattle.cert_check.specs.Steps.{after, end_of_cycle}
 use Rattle.cert_check.specs.Judging.{AreOwn, SamePlans, first_answers}
 
 -- the same plans give the same branches
 pub branches_at-same :
-    {N W : Type 0} (was_own is_own : N → Type 0) (old new : N → Plan W) (places : List (Place N))
+    {N W : Type 0} (was_own is_own : N → Type 0) (old new : N → Plan W) (places : List (OpenPlace N))
     → SamePlans was_own is_own old new → AreOwn was_own places
     → branches_at new places ≡ branches_at old places
 branches_at-same was_own is_own old new [] same own = refl
@@ -23,7 +23,7 @@ branches_at-same was_own is_own old new (p ∷ places) same own =
     cc
 
 pub AreOwn-same :
-    {N W : Type 0} (was_own is_own : N → Type 0) (old new : N → Plan W) (places : List (Place N))
+    {N W : Type 0} (was_own is_own : N → Type 0) (old new : N → Plan W) (places : List (OpenPlace N))
     → SamePlans was_own is_own old new → AreOwn was_own places → AreOwn is_own places
 AreOwn-same was_own is_own old new [] same own = tt
 AreOwn-same was_own is_own old new (p ∷ places) same own =
@@ -31,20 +31,20 @@ AreOwn-same was_own is_own old new (p ∷ places) same own =
 
 -- the node of the first place is own
 pub first_is_own :
-    {N : Type 0} (is_own : N → Type 0) (places : List (Place N)) (n : N)
+    {N : Type 0} (is_own : N → Type 0) (places : List (OpenPlace N)) (n : N)
     → option_map (λ p. p.node) (slice_get places 0) ≡ Some n → AreOwn is_own places → is_own n
 first_is_own is_own [] n first own = absurd (cc)
 first_is_own is_own (p ∷ places) n first own = let e : p.node ≡ n = cc in rw (← e) own.0
 
 -- what the first node stands for, the first place is asked
 first_plan :
-    {N W : Type 0} (plan : N → Plan W) (p : Place N) (places : List (Place N)) (n : N) (begins : Plan W)
+    {N W : Type 0} (plan : N → Plan W) (p : OpenPlace N) (places : List (OpenPlace N)) (n : N) (begins : Plan W)
     → option_map (λ p. p.node) (slice_get (p ∷ places) 0) ≡ Some n → plan n ≡ begins → plan p.node ≡ begins
 first_plan plan p places n begins first asks = let e : p.node ≡ n = cc in ap plan e ∙ asks
 
 -- `?` where the plan asks
 pub question_taken :
-    {N W : Type 0} (plan : N → Plan W) (places : List (Place N)) (n : N) (l : Lit) (on_yes on_no : N)
+    {N W : Type 0} (plan : N → Plan W) (places : List (OpenPlace N)) (n : N) (l : Lit) (on_yes on_no : N)
     → option_map (λ p. p.node) (slice_get places 0) ≡ Some n → plan n ≡ Ask l (plan on_yes) (plan on_no)
     → after token.Ask (branches_at plan places) ≡ Ok (branches_at plan (after_question l on_yes on_no places))
 question_taken plan [] n l on_yes on_no first asks = absurd (cc)
@@ -53,14 +53,14 @@ question_taken plan (p ∷ places) n l on_yes on_no first asks =
 
 -- `?` elsewhere
 pub question_at_held :
-    {N W : Type 0} (plan : N → Plan W) (places : List (Place N)) (n : N)
+    {N W : Type 0} (plan : N → Plan W) (places : List (OpenPlace N)) (n : N)
     → option_map (λ p. p.node) (slice_get places 0) ≡ Some n → plan n ≡ Holds
     → after token.Ask (branches_at plan places) ≡ Err end.NotAQuestion
 question_at_held plan [] n first held = absurd (cc)
 question_at_held plan (p ∷ places) n first held = rw (first_plan plan p places n Holds first held)
 
 pub question_at_failed :
-    {N W : Type 0} (plan : N → Plan W) (places : List (Place N)) (n : N) (why : W)
+    {N W : Type 0} (plan : N → Plan W) (places : List (OpenPlace N)) (n : N) (why : W)
     → option_map (λ p. p.node) (slice_get places 0) ≡ Some n → plan n ≡ Fails why
     → after token.Ask (branches_at plan places) ≡ Err end.NotAQuestion
 question_at_failed plan [] n why first failed = absurd (cc)
@@ -68,7 +68,7 @@ question_at_failed plan (p ∷ places) n why first failed = rw (first_plan plan 
 
 -- `.` where the plan holds
 pub end_taken :
-    {N W : Type 0} (plan : N → Plan W) (places : List (Place N)) (n : N)
+    {N W : Type 0} (plan : N → Plan W) (places : List (OpenPlace N)) (n : N)
     → option_map (λ p. p.node) (slice_get places 0) ≡ Some n → plan n ≡ Holds
     → after token.Holds (branches_at plan places) ≡ Ok (branches_at plan (drop 1 places))
 end_taken plan [] n first held = absurd (cc)
@@ -76,7 +76,7 @@ end_taken plan (p ∷ places) n first held = rw (first_plan plan p places n Hold
 
 -- `.` elsewhere
 pub end_at_question :
-    {N W : Type 0} (plan : N → Plan W) (places : List (Place N)) (n : N) (l : Lit) (on_yes on_no : Plan W)
+    {N W : Type 0} (plan : N → Plan W) (places : List (OpenPlace N)) (n : N) (l : Lit) (on_yes on_no : Plan W)
     → option_map (λ p. p.node) (slice_get places 0) ≡ Some n → plan n ≡ Ask l on_yes on_no
     → after token.Holds (branches_at plan places) ≡ Err end.NotDone
 end_at_question plan [] n l on_yes on_no first asks = absurd (cc)
@@ -84,7 +84,7 @@ end_at_question plan (p ∷ places) n l on_yes on_no first asks =
     rw (first_plan plan p places n (Ask l on_yes on_no) first asks)
 
 pub end_at_failed :
-    {N W : Type 0} (plan : N → Plan W) (places : List (Place N)) (n : N) (why : W)
+    {N W : Type 0} (plan : N → Plan W) (places : List (OpenPlace N)) (n : N) (why : W)
     → option_map (λ p. p.node) (slice_get places 0) ≡ Some n → plan n ≡ Fails why
     → after token.Holds (branches_at plan places) ≡ Err end.GoalFails
 end_at_failed plan [] n why first failed = absurd (cc)
@@ -92,14 +92,14 @@ end_at_failed plan (p ∷ places) n why first failed = rw (first_plan plan p pla
 
 -- a cycle, by its verdict
 pub cycle_taken :
-    {N W : Type 0} (plan : N → Plan W) (places : List (Place N)) (picks : List ℕ)
+    {N W : Type 0} (plan : N → Plan W) (places : List (OpenPlace N)) (picks : List ℕ)
     → 0 < length places → pick_verdict (first_answers places) picks ≡ Ok tt
     → after (token.Cycle picks) (branches_at plan places) ≡ Ok (branches_at plan (drop 1 places))
 cycle_taken plan [] picks opened ok = absurd (omega arith)
 cycle_taken plan (p ∷ places) picks opened ok = rw ok
 
 pub cycle_refused :
-    {N W : Type 0} (plan : N → Plan W) (places : List (Place N)) (picks : List ℕ) (why : PickEnd)
+    {N W : Type 0} (plan : N → Plan W) (places : List (OpenPlace N)) (picks : List ℕ) (why : PickEnd)
     → 0 < length places → pick_verdict (first_answers places) picks ≡ Err why
     → after (token.Cycle picks) (branches_at plan places) ≡ Err (end_of_cycle why)
 cycle_refused plan [] picks why opened bad = absurd (omega arith)
@@ -107,7 +107,7 @@ cycle_refused plan (p ∷ places) picks why opened bad = rw bad
 
 -- the answers of the first place
 pub first_answers-get :
-    {N : Type 0} (places : List (Place N)) (w : List Lit)
+    {N : Type 0} (places : List (OpenPlace N)) (w : List Lit)
     → option_map (λ p. p.answers) (slice_get places 0) ≡ Some w → first_answers places ≡ w
 first_answers-get [] w first = absurd (cc)
 first_answers-get (p ∷ places) w first = cc

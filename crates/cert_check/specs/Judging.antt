@@ -4,8 +4,8 @@ use Rattle.std.specs.List.{AllByRecursion}
 use Rattle.diff_graph.specs.declared.lit.Lit.{Lit}
 use Rattle.ask_core.specs.Plans.{Plan, value}
 use Rattle.ask_core.specs.declared.tree.Tok.{Tok}
-use Rattle.ask_core.specs.Trees.{Branch, Completes, HoldsAt}
-use Rattle.ask_core.specs.Paths.{Place, branches_at}
+use Rattle.ask_core.specs.Trees.{Branch, Completes}
+use Rattle.ask_core.specs.Paths.{OpenPlace, branches_at}
 use Rattle.cert_check.specs.declared.verdict.CheckEnd.{CheckEnd}
 use Rattle.cert_check.specs.declared.verdict.CheckEnd.TheVariants.{NoMemory}
 use Rattle.cert_check.specs.declared.verdict.Progress.{Progress}
@@ -14,7 +14,7 @@ use Rattle.cert_check.specs.Steps.{after}
 
 pub record Judging (A N : Type 0) : Type 0 where
   pub asker : A
-  pub places : List (Place N)
+  pub places : List (OpenPlace N)
   pub refusal : Option CheckEnd
 
 -- the open branches, given what an asker's nodes stand for
@@ -22,12 +22,12 @@ abbrev pub open_branches : {A N W : Type 0} → (A → N → Plan W) → Judging
 open_branches plan c = branches_at (plan c.asker) c.places
 
 -- the answers of the first place
-abbrev pub first_answers : {N : Type 0} → List (Place N) → List Lit
+abbrev pub first_answers : {N : Type 0} → List (OpenPlace N) → List Lit
 first_answers [] = []
 first_answers (p ∷ places) = p.answers
 
 -- the nodes of the places are the asker's own
-abbrev pub AreOwn : {N : Type 0} → (N → Type 0) → List (Place N) → Type 0
+abbrev pub AreOwn : {N : Type 0} → (N → Type 0) → List (OpenPlace N) → Type 0
 AreOwn is_own places = AllByRecursion (λ p. is_own p.node) places
 
 -- own nodes stay own, and stand for the same plans
@@ -35,14 +35,10 @@ pub record SamePlans {N W : Type 0} (was_own is_own : N → Type 0) (old new : N
   pub own : (n : N) → was_own n ↔ is_own n
   pub plans : (n : N) → was_own n → new n ≡ old n
 
--- each place holds at the valuation
-abbrev pub AllHold : {N W : Type 0} → (ℕ → ℤ) → (N → Plan W) → List (Place N) → Type 0
-AllHold v plan places = AllByRecursion (λ b. HoldsAt v b) (branches_at plan places)
-
--- the places are the asker's own, and where they hold so does the asker's plan
-pub record IsUnderWay {N W : Type 0} (is_own : N → Type 0) (plan : N → Plan W) (root : Plan W) (places : List (Place N)) : Type 0 where
+-- the places are the asker's own, and tokens that complete them show that the asker's plan holds
+pub record IsUnderWay {N W : Type 0} (is_own : N → Type 0) (plan : N → Plan W) (root : Plan W) (places : List (OpenPlace N)) : Type 0 where
   pub own : AreOwn is_own places
-  pub follows : (v : ℕ → ℤ) → AllHold v plan places → value root v ≡ true
+  pub follows : (tokens : List Tok) → Completes tokens (branches_at plan places) → (v : ℕ → ℤ) → value root v ≡ true
 
 -- the tokens complete what is still open after More, and there are none after Done
 abbrev pub LeavesOpen : {W : Type 0} → Progress → List Tok → List (Branch W) → Type 0
@@ -51,8 +47,8 @@ LeavesOpen Done tokens branches = tokens ≡ []
 
 -- the token followed by any tokens completes the old branches exactly where those leave nothing of the
 -- new ones open
-abbrev pub GoesOn : {W : Type 0} → Progress → Tok → List (Branch W) → List (Branch W) → Type 0
-GoesOn p tok old new = (tokens : List Tok) → Completes (tok ∷ tokens) old ↔ LeavesOpen p tokens new
+abbrev pub IsStep : {W : Type 0} → Progress → Tok → List (Branch W) → List (Branch W) → Type 0
+IsStep p tok old new = (tokens : List Tok) → Completes (tok ∷ tokens) old ↔ LeavesOpen p tokens new
 
 -- the token begins no tokens that complete the branches
 abbrev pub BeginsNothing : {W : Type 0} → Tok → List (Branch W) → Type 0

@@ -4,11 +4,11 @@ ghost use Rattle.ask_core.specs.Plans.{value};
 ghost use Rattle.cert_check.specs.declared.verdict.CheckEnd.TheVariants as end;
 ghost use Rattle.cert_check.specs.declared.verdict.Progress.TheVariants as progress;
 ghost use Rattle.cert_check.specs.Steps.{after};
-ghost use Rattle.cert_check.specs.Judging.{open_branches, GoesOn, BeginsNothing, IsCauseOf};
+ghost use Rattle.cert_check.specs.Judging.{open_branches, IsStep, BeginsNothing, IsCauseOf};
 
 use crate::token::take_token;
 use crate::verdict::{CheckEnd, Progress};
-use ask_core::{Asker, NoMemory, Path, Tok};
+use ask_core::{Asker, NoMemory, Path, Tok, fitting_trees_hold, trees_are_judged_token_by_token};
 use std::alloc::Global;
 use std::marker::Model;
 
@@ -42,6 +42,7 @@ impl<A: Asker> Checker<A> {
         ensures root { IfOk result (λ c. A.root c.asker ≡ A.root asker) }
         ensures refusal { IfOk result (λ c. c.refusal ≡ None) }
     {
+        fitting_trees_hold::<A::Why>();
         let mut asker = asker;
         let first = asker.start()?;
         Ok(Checker {
@@ -58,7 +59,7 @@ impl<A: Asker> Checker<A> {
 
         // What a token that is taken leaves, and that the last one shows what the tree is for.
         ensures step { IfOk result (λ p. after tok (open_branches A.plan self.old) ≡ Ok (open_branches A.plan self.new)) }
-        ensures completes { IfOk result (λ p. GoesOn p tok (open_branches A.plan self.old) (open_branches A.plan self.new)) }
+        ensures completes { IfOk result (λ p. IsStep p tok (open_branches A.plan self.old) (open_branches A.plan self.new)) }
         ensures done { result ≡ Ok progress.Done → (v : ℕ → ℤ) → value (A.root self.old.asker) v ≡ true }
         ensures open { result ≡ Ok progress.More → 0 < length self.new.places }
         ensures closed { result ≡ Ok progress.Done → self.new.places ≡ [] }
@@ -66,7 +67,8 @@ impl<A: Asker> Checker<A> {
 
         // When each refusal comes, and that it stays.
         ensures why { self.old.refusal ≡ None → IfErr result (λ e. IsCauseOf e tok (open_branches A.plan self.old)) }
-        ensures refused { self.old.refusal ≡ None → IfErr result (λ e. e ≢ end.NoMemory → BeginsNothing tok (open_branches A.plan self.old)) }
+        ensures refused { self.old.refusal ≡ None
+            → IfErr result (λ e. e ≢ end.NoMemory → BeginsNothing tok (open_branches A.plan self.old)) }
         ensures stays { IfErr result (λ e. self.new.refusal ≡ Some e) }
         ensures again { (e : CheckEnd) → self.old.refusal ≡ Some e → result ≡ Err e }
         ensures err { OnErr result (self.new.places ≡ self.old.places) }
@@ -75,6 +77,7 @@ impl<A: Asker> Checker<A> {
         if let Some(end) = self.refusal {
             return Err(end);
         }
+        trees_are_judged_token_by_token::<A::Why>();
         match take_token(&mut self.asker, &mut self.path, tok) {
             Ok(()) if self.path.is_open() => Ok(Progress::More),
             Ok(()) => Ok(Progress::Done),

@@ -1,6 +1,7 @@
 -- A plan with many questions on one path.
-use Rattle.std.specs.Prelude.{◌≡◌, ℕ, ◌+◌, ◌-◌, ◌<◌, ◌≤◌, max, true, IsTrue, refl}
+use Rattle.std.specs.Prelude.{◌≡◌, ℕ, ◌-◌, ◌<◌, ◌≤◌, true, refl}
 use Rattle.std.proofs.Common.{zero, suc, arith}
+use Rattle.ask_core.specs.declared.asker.TheConstants.{MAX_QUESTIONS}
 use Rattle.ask_core.specs.Plans.{Plan, Ask, Holds}
 use Rattle.ask_core.specs.Askers.{IsFine, has_fine_literals, longest_path}
 use Rattle.ask_core.specs.TwoNames.{at_most}
@@ -32,5 +33,5 @@ paths zero = refl
 paths (suc n) = omega (arith, paths n)
 
 -- the plan keeps the limits
-pub IsFine-deep_plan : (n : ℕ) → n ≤ 99999 → IsFine 2 (deep_plan n)
+pub IsFine-deep_plan : (n : ℕ) → n ≤ MAX_QUESTIONS → IsFine 2 (deep_plan n)
 IsFine-deep_plan n below = record { literals = literals n; paths = omega (arith, paths n, below) }

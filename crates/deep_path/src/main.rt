@@ -3,32 +3,31 @@
 #![tactic(auto)]
 
 ghost use Rattle.std.specs.Prelude.{◌≡◌, ◌≤◌};
+ghost use Rattle.ask_core.specs.declared.asker.TheConstants.{MAX_QUESTIONS};
 
-use ask_core::{Asker, NoMemory, Tok, Turn};
+use ask_core::{Asker, MAX_QUESTIONS, NoMemory, Tok, Turn};
 use cert_check::{CheckEnd, Checker, Progress};
 use diff_graph::Lit;
 use std::alloc::Global;
 use std::io;
 
-/// How many questions the path has.
-const DEPTH: u32 = 99_999;
-
 /// An asker whose plan asks one literal again and again, as long as it is answered by yes.
 #[derive(Drop)]
 pub struct Deep {
     depth: u32,
-    ghost small: { depth ≤ 99999 },
+    ghost small: { depth ≤ MAX_QUESTIONS },
 }
 
 impl Asker for Deep {
     ghost use Rattle.std.specs.Prelude.{◌≤◌};
+    ghost use Rattle.ask_core.specs.declared.asker.TheConstants.{MAX_QUESTIONS};
     ghost use Rattle.deep_path.specs.Deep.{deep_plan, IsFine-deep_plan};
 
     type Node = u32;
 
     type Why = u8;
 
-    ghost is_own = { λ _ n. n ≤ 99999 };
+    ghost is_own = { λ _ n. n ≤ MAX_QUESTIONS };
 
     ghost plan = { λ _ n. deep_plan n };
 
@@ -61,9 +60,18 @@ impl Asker for Deep {
 
 // Feeds all questions, then all ends.
 fn run(alloc: Global) -> Result<Result<Progress, CheckEnd>, NoMemory> {
-    let mut checker = Checker::new(alloc, Deep { depth: DEPTH })?;
-    for i in 0..2 * DEPTH + 1 {
-        let tok = if i < DEPTH { Tok::Ask } else { Tok::Holds };
+    let mut checker = Checker::new(
+        alloc,
+        Deep {
+            depth: MAX_QUESTIONS,
+        },
+    )?;
+    for i in 0..2 * MAX_QUESTIONS + 1 {
+        let tok = if i < MAX_QUESTIONS {
+            Tok::Ask
+        } else {
+            Tok::Holds
+        };
         match checker.feed(tok) {
             Ok(Progress::More) => {}
             other => return Ok(other),

@@ -15,8 +15,8 @@ pub record AreBounds (n : ℕ) (rows : List (List (Option Hop))) : Type 0 where
   pub small : AreSmall (literals_of list)
 
 -- the literal leaves room for what the table keeps from its second name to its first
-abbrev pub is_allowed : (ℕ → ℕ → Option Hop) → Lit → Bool
-is_allowed t l = leaves_room (t l.y l.x) l.k
+abbrev pub has_room : (ℕ → ℕ → Option Hop) → Lit → Bool
+has_room t l = leaves_room (t l.y l.x) l.k
 
 -- the least offset for which `x <= y + k` follows from the list, or none where none follows
 abbrev pub IsTightest : List Lit → ℕ → ℕ → Option ℤ → Type 0

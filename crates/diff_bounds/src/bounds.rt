@@ -2,10 +2,10 @@
 ghost use Rattle.std.specs.Prelude.{◌≡◌, ◌↔◌, ℕ, ◌<◌, ◌≤◌, IsTrue, true, false, List, [], ◌∷◌, ◌++◌, Option, IfOk};
 ghost use Rattle.diff_graph.specs.declared.hop.Hop.{Hop};
 ghost use Rattle.diff_graph.specs.Tables.{IsNamed, IsSmall, Numbered, literals_of, kept_of, StandsFor, Follows, IsPossibleWith, IsCycleOf};
-ghost use Rattle.diff_bounds.specs.Kept.{AreBounds, is_allowed, IsTightest};
+ghost use Rattle.diff_bounds.specs.Kept.{AreBounds, has_room, IsTightest};
 
 use crate::rows::{allows, begin_rows, cycle_at, insert, kept};
-use diff_graph::{Hop, Lit, NoMemory};
+use diff_graph::{Hop, Lit, NoMemory, new_rows_stand_for_nothing, tables_tell_what_is_possible};
 use std::alloc::Global;
 use std::marker::Model;
 
@@ -36,6 +36,7 @@ impl<const N: usize> Bounds<N> {
     {
         let mut rows = [[None; N]; N];
         begin_rows(&mut rows);
+        new_rows_stand_for_nothing();
         Bounds { rows }
     }
 
@@ -43,10 +44,11 @@ impl<const N: usize> Bounds<N> {
     pub fn allows(&self, lit: Lit) -> bool
         requires named { IsNamed N lit }
         requires small { IsSmall lit }
-        ensures room { result ≡ is_allowed (kept_of self.now) lit }
+        ensures room { result ≡ has_room (kept_of self.now) lit }
         ensures exact { (ps : List Numbered) → StandsFor N (kept_of self.now) ps
             → (IsTrue result ↔ IsPossibleWith (literals_of ps) lit) }
     {
+        tables_tell_what_is_possible();
         allows(&self.rows, lit)
     }
 
@@ -64,12 +66,13 @@ impl<const N: usize> Bounds<N> {
     pub fn add(&mut self, lit: Lit, number: u32)
         requires named { IsNamed N lit }
         requires small { IsSmall lit }
-        requires allowed { is_allowed (kept_of self.old) lit ≡ true }
+        requires allowed { has_room (kept_of self.old) lit ≡ true }
         ensures stands { (ps : List Numbered) → StandsFor N (kept_of self.old) ps
             → StandsFor N (kept_of self.new) (ps ++ record { number = number; lit = lit } ∷ []) }
         ensures same { (ps : List Numbered) → StandsFor N (kept_of self.old) ps
             → Follows (literals_of ps) lit.x lit.y lit.k → self.new ≡ self.old }
     {
+        tables_tell_what_is_possible();
         insert(&mut self.rows, lit, number);
     }
 
@@ -78,10 +81,11 @@ impl<const N: usize> Bounds<N> {
     pub fn why_not(&self, alloc: Global, lit: Lit, number: u32) -> Result<Vec<u32>, NoMemory>
         requires named { IsNamed N lit }
         requires small { IsSmall lit }
-        requires not_allowed { is_allowed (kept_of self.now) lit ≡ false }
+        requires not_allowed { has_room (kept_of self.now) lit ≡ false }
         ensures { (ps : List Numbered) → StandsFor N (kept_of self.now) ps
             → IfOk result (λ picks. IsCycleOf N (ps ++ record { number = number; lit = lit } ∷ []) picks.items) }
     {
+        tables_tell_what_is_possible();
         Ok(cycle_at(alloc, &self.rows, lit, number)?)
     }
 }

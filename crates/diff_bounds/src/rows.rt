@@ -2,10 +2,10 @@
 ghost use Rattle.std.specs.Prelude.{◌≡◌, ℕ, ◌<◌, ◌≤◌, true, List, [], ◌∷◌, ◌++◌, length, slice_index_or, Option, Some, None, IfOk};
 ghost use Rattle.diff_graph.specs.Tables.{IsNamed, IsSmall, Numbered, kept_of, StandsFor, IsAtMost};
 ghost use Rattle.diff_graph.specs.Steps.{added, keeps, numbers_along, IsModest, IsNewRow, AreNewRows, IsSquare, AreModest, IsLowered};
-ghost use Rattle.diff_bounds.specs.Kept.{is_allowed};
+ghost use Rattle.diff_bounds.specs.Kept.{has_room};
 
 use diff_graph::table::{begin_ways, keeps, leaves_room, lower_row, push_chain};
-use diff_graph::{Hop, Lit, NoMemory};
+use diff_graph::{Hop, Lit, NoMemory, lowered_rows_keep_the_step, tables_stand_for_what_is_added};
 use std::alloc::Global;
 
 /// Keeps each name at 0 to itself, in rows that keep nothing.
@@ -52,7 +52,7 @@ pub fn allows<const N: usize>(rows: &[[Option<Hop>; N]], lit: Lit) -> bool
     requires modest { AreModest rows.now }
     requires named { IsNamed (length rows.now) lit }
     requires small { IsSmall lit }
-    ensures { result ≡ is_allowed (kept_of rows.now) lit }
+    ensures { result ≡ has_room (kept_of rows.now) lit }
 {
     leaves_room(kept(rows, lit.y, lit.x), lit.k)
 }
@@ -73,12 +73,13 @@ pub fn insert<const N: usize>(rows: &mut [[Option<Hop>; N]], lit: Lit, number: u
     requires modest { AreModest rows.old }
     requires named { IsNamed (length rows.old) lit }
     requires small { IsSmall lit }
-    requires allowed { is_allowed (kept_of rows.old) lit ≡ true }
+    requires allowed { has_room (kept_of rows.old) lit ≡ true }
     ensures square { IsSquare rows.new }
     ensures stands { (ps : List Numbered) → StandsFor (length rows.old) (kept_of rows.old) ps
         → StandsFor (length rows.old) (kept_of rows.new) (ps ++ record { number = number; lit = lit } ∷ []) }
     ensures same { IsAtMost (kept_of rows.old lit.x lit.y) lit.k → rows.new ≡ rows.old }
 {
+    tables_stand_for_what_is_added();
     if follows(rows, lit) {
         return;
     }
@@ -98,6 +99,7 @@ fn add<const N: usize>(rows: &mut [[Option<Hop>; N]], lit: Lit, number: u32)
     let mut ways = rows[lit.x as usize];
     begin_ways(&mut ways, lit, number);
     lower_rows(rows, &ways, lit.y);
+    lowered_rows_keep_the_step();
 }
 
 /// Lowers each row by the ways to `from`, each gone on by what the row keeps from there.
@@ -110,21 +112,9 @@ fn lower_rows<const N: usize>(rows: &mut [[Option<Hop>; N]], ways: &[Option<Hop>
     ensures { (y : ℕ) → y < length rows.old
         → IsLowered ways.now from (slice_index_or rows.old y []) (slice_index_or rows.new y []) }
 {
+    lowered_rows_keep_the_step();
     for y in 0..rows.len() {
-        lower(&mut rows[y][..], ways, from);
-    }
-}
-
-/// Lowers a row by the ways to `from`, each gone on by what the row keeps from there.
-fn lower(row: &mut [Option<Hop>], ways: &[Option<Hop>], from: u8)
-    requires from_below { from < length row.old }
-    requires same_length { length ways.now ≡ length row.old }
-    requires modest_ways { (x : ℕ) → x < length ways.now → IsModest 2000000 (slice_index_or ways.now x None) }
-    requires modest_rest { IsModest 1000000 (slice_index_or row.old from None) }
-    ensures { IsLowered ways.now from row.old row.new }
-{
-    if let Some(rest) = row[from as usize] {
-        lower_row(row, ways, rest);
+        lower_row(&mut rows[y][..], ways, from);
     }
 }
 

@@ -70,7 +70,9 @@ module _ (n : ℕ) (t : ℕ → ℕ → Option Hop) (ps : List Numbered) (closed
       (subst (λ (c : ℕ). Leads t ps count c y (k -ℤ leads.1.3.0.k)) second rest) too.1.3.4)
 
 -- a chain of a list is one of a longer list
-pub Leads-longer : (n : ℕ) (t : ℕ → ℕ → Option Hop) (ps qs : List Numbered) (count x y : ℕ) (k : ℤ) → Leads t ps count x y k → Leads t (ps ++ qs) count x y k
+pub Leads-longer :
+    (n : ℕ) (t : ℕ → ℕ → Option Hop) (ps qs : List Numbered) (count x y : ℕ) (k : ℤ) → Leads t ps count x y k
+    → Leads t (ps ++ qs) count x y k
 Leads-longer n t ps qs zero x y k leads = leads
 Leads-longer n t ps qs (suc count) x y k leads = (
   leads.0,
@@ -101,14 +103,18 @@ names_on t ps zero x y k leads = x ∷ []
 names_on t ps (suc count) x y k leads =
     x ∷ names_on t ps count leads.1.0.second y (k -ℤ leads.1.3.0.k) leads.1.3.4
 
-length-names_on : (t : ℕ → ℕ → Option Hop) (ps : List Numbered) (count x y : ℕ) (k : ℤ) (leads : Leads t ps count x y k) → length (names_on t ps count x y k leads) ≡ suc count
+length-names_on :
+    (t : ℕ → ℕ → Option Hop) (ps : List Numbered) (count x y : ℕ) (k : ℤ) (leads : Leads t ps count x y k)
+    → length (names_on t ps count x y k leads) ≡ suc count
 unfolding names_on
 length-names_on t ps zero x y k leads = refl
 length-names_on t ps (suc count) x y k leads =
     ap suc (length-names_on t ps count leads.1.0.second y (k -ℤ leads.1.3.0.k) leads.1.3.4)
 
 -- from each name on a chain the rest of it leads on
-from_name : (t : ℕ → ℕ → Option Hop) (ps : List Numbered) (count x y : ℕ) (k : ℤ) (leads : Leads t ps count x y k) (q : ℕ) → list_any (eqb q) (names_on t ps count x y k leads) ≡ true → FromName t ps count q y
+from_name :
+    (t : ℕ → ℕ → Option Hop) (ps : List Numbered) (count x y : ℕ) (k : ℤ) (leads : Leads t ps count x y k) (q : ℕ)
+    → list_any (eqb q) (names_on t ps count x y k leads) ≡ true → FromName t ps count q y
 unfolding names_on
 from_name t ps zero x y k leads q on =
     elim (or_cases (eqb q x) false on) [
@@ -153,7 +159,8 @@ module _ (n : ℕ) (t : ℕ → ℕ → Option Hop) (ps : List Numbered) (closed
       (names_differ count leads.1.0.second y (k -ℤ leads.1.3.0.k) leads.1.3.4)
 
   -- a chain has fewer literals than there are names
-  pub Leads-short : ((x y : ℕ) (h : Hop) → t x y ≡ Some h → (x < n) × (y < n)) → (count x y : ℕ) (k : ℤ) → y < n → Leads t ps count x y k → count < n
+  pub Leads-short :
+      ((x y : ℕ) (h : Hop) → t x y ≡ Some h → (x < n) × (y < n)) → (count x y : ℕ) (k : ℤ) → y < n → Leads t ps count x y k → count < n
   Leads-short inside count x y k below leads =
       let most : length (names_on t ps count x y k leads) ≤ n =
       length-le_from_distinct_below (names_on t ps count x y k leads) n (names_differ count x y k leads)
@@ -177,26 +184,33 @@ IsSmall-among (p ∷ ps) number l small among =
     ]
 
 -- so the offset of a chain is small for each of its literals
-pub Leads-small : (t : ℕ → ℕ → Option Hop) (ps : List Numbered) → AreSmall (literals_of ps) → (count x y : ℕ) (k : ℤ) → Leads t ps count x y k → (neg_ℤ (pos (1001 * count)) ≤ℤ k) × (k ≤ℤ pos (1001 * count))
+pub Leads-small :
+    (t : ℕ → ℕ → Option Hop) (ps : List Numbered) → AreSmall (literals_of ps) → (count x y : ℕ) (k : ℤ) → Leads t ps count x y k
+    → (neg_ℤ (pos (1001 * count)) ≤ℤ k) × (k ≤ℤ pos (1001 * count))
 Leads-small t ps small zero x y k leads = (let none : k ≡ pos 0 = leads.1 in (omega (arith, ints), omega (arith, ints)))
 Leads-small t ps small (suc count) x y k leads =
     let l : Lit = leads.1.3.0 in
     let here : (negsuc 1000 ≤ℤ l.k) × (l.k ≤ℤ pos 1001) = IsSmall-among ps leads.1.0.number l small leads.1.3.1 in
-    let rest : (neg_ℤ (pos (1001 * count)) ≤ℤ (k -ℤ l.k)) × ((k -ℤ l.k) ≤ℤ pos (1001 * count)) = Leads-small t ps small count leads.1.0.second y (k -ℤ l.k) leads.1.3.4 in
+    let rest : (neg_ℤ (pos (1001 * count)) ≤ℤ (k -ℤ l.k)) × ((k -ℤ l.k) ≤ℤ pos (1001 * count)) =
+    Leads-small t ps small count leads.1.0.second y (k -ℤ l.k) leads.1.3.4 in
     (omega (arith, ints), omega (arith, ints))
 
 -- no way through the new literal is lower than what is kept
 pub record IsKept (t : ℕ → ℕ → Option Hop) (l : Lit) (x y : ℕ) : Type 0 where
   pub at : (i j : ℤ) → IsAtMost (t x l.x) i → IsAtMost (t l.y y) j → IsAtMost (t x y) (i +ℤ l.k +ℤ j)
 
-module _ (n : ℕ) (t : ℕ → ℕ → Option Hop) (ps : List Numbered) (closed : IsClosed n t) (kept : AreKept n t ps) (number : ℕ) (l : Lit) (x_below : l.x < n) (y_below : l.y < n) (allowed : IsAllowed t l) where
+module _ (n : ℕ) (t : ℕ → ℕ → Option Hop) (ps : List Numbered) (closed : IsClosed n t) (kept : AreKept n t ps) (number : ℕ) (l : Lit)
+    (x_below : l.x < n) (y_below : l.y < n) (allowed : IsAllowed t l) where
   added-kept : (x y : ℕ) → IsKept t l x y → added t number l x y ≡ t x y
   added-kept x y stays = lower_of-same (t x y) (joined (way_of number l x (t x l.x)) (t l.y y)) (λ k most.
       (let parts : Parts l (t x l.x) (t l.y y) k = joined-parts number l x (t x l.x) (t l.y y) k most in
-      IsAtMost-weaker (t x y) (parts.before +ℤ l.k +ℤ parts.after) k (stays.at parts.before parts.after parts.front_at_most parts.rest_at_most) parts.room))
+      IsAtMost-weaker (t x y) (parts.before +ℤ l.k +ℤ parts.after) k
+      (stays.at parts.before parts.after parts.front_at_most parts.rest_at_most) parts.room))
 
   -- a kept chain leads through kept pairs
-  pub Leads-kept : (count x y : ℕ) (k : ℤ) → x < n → y < n → IsKept t l x y → Leads t ps count x y k → Leads (added t number l) (ps ++ record { number = number; lit = l } ∷ []) count x y k
+  pub Leads-kept :
+      (count x y : ℕ) (k : ℤ) → x < n → y < n → IsKept t l x y → Leads t ps count x y k
+      → Leads (added t number l) (ps ++ record { number = number; lit = l } ∷ []) count x y k
   Leads-kept zero x y k xn yn stays leads = leads
   Leads-kept (suc count) x y k xn yn stays leads =
       let h : Hop = leads.1.0 in
@@ -206,7 +220,9 @@ module _ (n : ℕ) (t : ℕ → ℕ → Option Hop) (ps : List Numbered) (closed
       let from : m.x ≡ x = leads.1.3.2 in
       let to : m.y ≡ h.second = leads.1.3.3 in
       let second_below : h.second < n = (let b : m.y < n = kept.second_below h.number m leads.1.3.1 in omega arith) in
-      let step : IsAtMost (t x h.second) m.k = subst (λ (z : ℕ). IsAtMost (t x z) m.k) to (subst (λ (z : ℕ). IsAtMost (t z m.y) m.k) from (kept.at_most h.number m leads.1.3.1)) in
+      let step : IsAtMost (t x h.second) m.k =
+      subst (λ (z : ℕ). IsAtMost (t x z) m.k) to
+      (subst (λ (z : ℕ). IsAtMost (t z m.y) m.k) from (kept.at_most h.number m leads.1.3.1)) in
       let rest : IsAtMost (t h.second y) (k -ℤ m.k) = Leads-at_most n t ps closed count h.second y (k -ℤ m.k) yn leads.1.3.4 in
       let stays' : IsKept t l h.second y = record {
         at = λ i j front back.
@@ -235,8 +251,10 @@ module _ (n : ℕ) (t : ℕ → ℕ → Option Hop) (ps : List Numbered) (closed
   apart x y f g xn front back lower same =
       let back' : t l.y x ≡ Some g = rw same back in
       let round : pos 0 ≤ℤ (f.k +ℤ l.k +ℤ g.k) =
-      round_is_positive n t closed number l x_below y_below allowed x xn f.k g.k (rw front (omega (arith, ints))) (rw back' (omega (arith, ints))) in
-      lower (subst (λ (z : ℕ). IsAtMost (t x z) (f.k +ℤ l.k +ℤ g.k)) same (IsAtMost-weaker (t x x) (pos 0) (f.k +ℤ l.k +ℤ g.k) (closed.own x xn) round))
+      round_is_positive n t closed number l x_below y_below allowed x xn f.k g.k (rw front (omega (arith, ints)))
+      (rw back' (omega (arith, ints))) in
+      lower (subst (λ (z : ℕ). IsAtMost (t x z) (f.k +ℤ l.k +ℤ g.k)) same
+      (IsAtMost-weaker (t x x) (pos 0) (f.k +ℤ l.k +ℤ g.k) (closed.own x xn) round))
 
   -- what is kept where the way through the literal is lower
   lowered_hop : ℕ → Hop → Hop → Hop
@@ -246,7 +264,9 @@ module _ (n : ℕ) (t : ℕ → ℕ → Option Hop) (ps : List Numbered) (closed
     second = if x == l.x then l.y else f.second;
   }
 
-  added-lowered : (x y : ℕ) (f g : Hop) → t x l.x ≡ Some f → t l.y y ≡ Some g → (IsAtMost (t x y) (f.k +ℤ l.k +ℤ g.k) → ⊥) → added t number l x y ≡ Some (lowered_hop x f g)
+  added-lowered :
+      (x y : ℕ) (f g : Hop) → t x l.x ≡ Some f → t l.y y ≡ Some g → (IsAtMost (t x y) (f.k +ℤ l.k +ℤ g.k) → ⊥)
+      → added t number l x y ≡ Some (lowered_hop x f g)
   unfolding lowered_hop
   added-lowered x y f g front back lower = rw (front, back) (lower_of-taken (t x y) (lowered_hop x f g) lower)
 
@@ -256,7 +276,10 @@ module _ (n : ℕ) (t : ℕ → ℕ → Option Hop) (ps : List Numbered) (closed
   count_through (suc before) after = suc (count_through before after)
 
   -- a lowered chain leads to the literal's start through lowered pairs, along the literal, and on through kept pairs
-  pub Leads-lowered : (before after x y : ℕ) (f g : Hop) → x < n → y < n → t x l.x ≡ Some f → t l.y y ≡ Some g → (IsAtMost (t x y) (f.k +ℤ l.k +ℤ g.k) → ⊥) → Leads t ps before x l.x f.k → Leads t ps after l.y y g.k → Leads (added t number l) (ps ++ record { number = number; lit = l } ∷ []) (count_through before after) x y (f.k +ℤ l.k +ℤ g.k)
+  pub Leads-lowered :
+      (before after x y : ℕ) (f g : Hop) → x < n → y < n → t x l.x ≡ Some f → t l.y y ≡ Some g
+      → (IsAtMost (t x y) (f.k +ℤ l.k +ℤ g.k) → ⊥) → Leads t ps before x l.x f.k → Leads t ps after l.y y g.k
+      → Leads (added t number l) (ps ++ record { number = number; lit = l } ∷ []) (count_through before after) x y (f.k +ℤ l.k +ℤ g.k)
   unfolding lowered_hop count_through
   Leads-lowered zero after x y f g xn yn front back lower to_start on =
       let same : x ≡ l.x = to_start.0 in
@@ -296,11 +319,15 @@ module _ (n : ℕ) (t : ℕ → ℕ → Option Hop) (ps : List Numbered) (closed
       let from : m.x ≡ x = to_start.1.3.2 in
       let to : m.y ≡ first.second = to_start.1.3.3 in
       let second_below : first.second < n = (let b : m.y < n = kept.second_below first.number m to_start.1.3.1 in omega arith) in
-      let step : IsAtMost (t x first.second) m.k = subst (λ (z : ℕ). IsAtMost (t x z) m.k) to (subst (λ (z : ℕ). IsAtMost (t z m.y) m.k) from (kept.at_most first.number m to_start.1.3.1)) in
-      let next : (e : Hop) × (t first.second l.x ≡ Some e) × (e.k ≡ f.k -ℤ m.k) = offset_of before first.second (f.k -ℤ m.k) to_start.1.3.4 in
+      let step : IsAtMost (t x first.second) m.k =
+      subst (λ (z : ℕ). IsAtMost (t x z) m.k) to
+      (subst (λ (z : ℕ). IsAtMost (t z m.y) m.k) from (kept.at_most first.number m to_start.1.3.1)) in
+      let next : (e : Hop) × (t first.second l.x ≡ Some e) × (e.k ≡ f.k -ℤ m.k) =
+      offset_of before first.second (f.k -ℤ m.k) to_start.1.3.4 in
       let e : Hop = next.0 in
       let least : e.k ≡ f.k -ℤ m.k = next.2 in
-      let to_start' : Leads t ps before first.second l.x e.k = subst (λ (k : ℤ). Leads t ps before first.second l.x k) (sym least) to_start.1.3.4 in
+      let to_start' : Leads t ps before first.second l.x e.k =
+      subst (λ (k : ℤ). Leads t ps before first.second l.x k) (sym least) to_start.1.3.4 in
       let lower' : IsAtMost (t first.second y) (e.k +ℤ l.k +ℤ g.k) → ⊥ = (λ most.
       lower (IsAtMost-weaker (t x y) (m.k +ℤ (e.k +ℤ l.k +ℤ g.k)) (f.k +ℤ l.k +ℤ g.k)
       (closed.along x first.second y xn second_below yn m.k (e.k +ℤ l.k +ℤ g.k) step most) (omega (arith, ints)))) in
@@ -315,7 +342,8 @@ module _ (n : ℕ) (t : ℕ → ℕ → Option Hop) (ps : List Numbered) (closed
             IsAmong-append ps _ first.number m to_start.1.3.1,
             from,
             to,
-            subst (λ (k : ℤ). Leads (added t number l) (ps ++ record { number = number; lit = l } ∷ []) (count_through before after) first.second y k) rest
+            subst (λ (k : ℤ). Leads (added t number l) (ps ++ record { number = number; lit = l } ∷ [])
+                (count_through before after) first.second y k) rest
                 (Leads-lowered before after first.second y e g second_below yn next.1 back lower' to_start' on),
           ),
         ),
@@ -328,7 +356,11 @@ module _ (n : ℕ) (t : ℕ → ℕ → Option Hop) (ps : List Numbered) (closed
       offset_of (suc count) z k leads = (leads.1.0, leads.1.1, leads.1.2)
 
   -- so chains stay chains
-  pub chains-added : ((x y : ℕ) (h : Hop) → t x y ≡ Some h → (x < n) × (y < n)) → ((x y : ℕ) (h : Hop) → t x y ≡ Some h → (count : ℕ) × Leads t ps count x y h.k) → (x y : ℕ) (h : Hop) → x < n → y < n → added t number l x y ≡ Some h → (count : ℕ) × Leads (added t number l) (ps ++ record { number = number; lit = l } ∷ []) count x y h.k
+  pub chains-added :
+      ((x y : ℕ) (h : Hop) → t x y ≡ Some h → (x < n) × (y < n))
+      → ((x y : ℕ) (h : Hop) → t x y ≡ Some h → (count : ℕ) × Leads t ps count x y h.k) → (x y : ℕ) (h : Hop) → x < n → y < n
+      → added t number l x y ≡ Some h
+      → (count : ℕ) × Leads (added t number l) (ps ++ record { number = number; lit = l } ∷ []) count x y h.k
   unfolding lowered_hop
   chains-added inside chains x y h xn yn is_h = by (t x l.x) (t l.y y) refl refl
     where
@@ -337,7 +369,9 @@ module _ (n : ℕ) (t : ℕ → ℕ → Option Hop) (ps : List Numbered) (closed
           let chain = chains x y h (sym (added-kept x y kept') ∙ is_h) in
           (chain.0, Leads-kept chain.0 x y h.k xn yn kept' chain.1)
 
-      by : (front back : Option Hop) → t x l.x ≡ front → t l.y y ≡ back → (count : ℕ) × Leads (added t number l) (ps ++ record { number = number; lit = l } ∷ []) count x y h.k
+      by :
+          (front back : Option Hop) → t x l.x ≡ front → t l.y y ≡ back
+          → (count : ℕ) × Leads (added t number l) (ps ++ record { number = number; lit = l } ∷ []) count x y h.k
       by None back front_is back_is = stays (record { at = λ i j front' back'. absurd (let none : ⊥ = rw front_is at front' in none) })
       by (Some f) None front_is back_is = stays (record { at = λ i j front' back'. absurd (let none : ⊥ = rw back_is at back' in none) })
       by (Some f) (Some g) front_is back_is =
@@ -351,10 +385,12 @@ module _ (n : ℕ) (t : ℕ → ℕ → Option Hop) (ps : List Numbered) (closed
             | inr lower ↦
                 (let before = chains x l.x f front_is in
                 let after = chains l.y y g back_is in
-                let same : h ≡ lowered_hop x f g = (let e : Some h ≡ Some (lowered_hop x f g) = sym is_h ∙ added-lowered x y f g front_is back_is lower in cc) in
+                let same : h ≡ lowered_hop x f g =
+                (let e : Some h ≡ Some (lowered_hop x f g) = sym is_h ∙ added-lowered x y f g front_is back_is lower in cc) in
                 let offset : h.k ≡ f.k +ℤ l.k +ℤ g.k = ap (λ (z : Hop). z.k) same in (
                   count_through before.0 after.0,
-                  subst (λ (k : ℤ). Leads (added t number l) (ps ++ record { number = number; lit = l } ∷ []) (count_through before.0 after.0) x y k) (sym offset)
+                  subst (λ (k : ℤ). Leads (added t number l) (ps ++ record { number = number; lit = l } ∷ [])
+                      (count_through before.0 after.0) x y k) (sym offset)
                       (Leads-lowered before.0 after.0 x y f g xn yn front_is back_is lower before.1 after.1),
                 ))
           ]

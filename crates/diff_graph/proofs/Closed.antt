@@ -58,7 +58,9 @@ lower_of-either (Some h) (Some g) k most =
     ]
 
 -- an offset through the literal is at most k where its two parts leave room
-pub joined-at_most : (number : ℕ) (l : Lit) (x : ℕ) (front rest : Option Hop) (i j k : ℤ) → IsAtMost front i → IsAtMost rest j → (i +ℤ l.k +ℤ j) ≤ℤ k → IsAtMost (joined (way_of number l x front) rest) k
+pub joined-at_most :
+    (number : ℕ) (l : Lit) (x : ℕ) (front rest : Option Hop) (i j k : ℤ) → IsAtMost front i → IsAtMost rest j → (i +ℤ l.k +ℤ j) ≤ℤ k
+    → IsAtMost (joined (way_of number l x front) rest) k
 joined-at_most number l x None rest i j k front_most rest_most room = absurd front_most
 joined-at_most number l x (Some f) None i j k front_most rest_most room = absurd rest_most
 joined-at_most number l x (Some f) (Some g) i j k front_most rest_most room = omega (arith, ints)
@@ -71,7 +73,9 @@ pub record Parts (l : Lit) (front rest : Option Hop) (k : ℤ) : Type 0 where
   pub rest_at_most : IsAtMost rest after
   pub room : (before +ℤ l.k +ℤ after) ≤ℤ k
 
-pub joined-parts : (number : ℕ) (l : Lit) (x : ℕ) (front rest : Option Hop) (k : ℤ) → IsAtMost (joined (way_of number l x front) rest) k → Parts l front rest k
+pub joined-parts :
+    (number : ℕ) (l : Lit) (x : ℕ) (front rest : Option Hop) (k : ℤ) → IsAtMost (joined (way_of number l x front) rest) k
+    → Parts l front rest k
 joined-parts number l x None rest k most = absurd most
 joined-parts number l x (Some f) None k most = absurd most
 joined-parts number l x (Some f) (Some g) k most = record {
@@ -94,11 +98,14 @@ module _ (n : ℕ) (t : ℕ → ℕ → Option Hop) (number : ℕ) (l : Lit) whe
   pub added-old : (x y : ℕ) (k : ℤ) → IsAtMost (t x y) k → IsAtMost (added t number l x y) k
   added-old x y k most = lower_of-old (t x y) (joined (way_of number l x (t x l.x)) (t l.y y)) k most
 
-  pub added-new : (x y : ℕ) (i j k : ℤ) → IsAtMost (t x l.x) i → IsAtMost (t l.y y) j → (i +ℤ l.k +ℤ j) ≤ℤ k → IsAtMost (added t number l x y) k
+  pub added-new :
+      (x y : ℕ) (i j k : ℤ) → IsAtMost (t x l.x) i → IsAtMost (t l.y y) j → (i +ℤ l.k +ℤ j) ≤ℤ k → IsAtMost (added t number l x y) k
   added-new x y i j k front rest room =
-      lower_of-new (t x y) (joined (way_of number l x (t x l.x)) (t l.y y)) k (joined-at_most number l x (t x l.x) (t l.y y) i j k front rest room)
+      lower_of-new (t x y) (joined (way_of number l x (t x l.x)) (t l.y y)) k
+      (joined-at_most number l x (t x l.x) (t l.y y) i j k front rest room)
 
-module _ (n : ℕ) (t : ℕ → ℕ → Option Hop) (closed : IsClosed n t) (number : ℕ) (l : Lit) (x_below : l.x < n) (y_below : l.y < n) (allowed : IsAllowed t l) where
+module _ (n : ℕ) (t : ℕ → ℕ → Option Hop) (closed : IsClosed n t) (number : ℕ) (l : Lit) (x_below : l.x < n) (y_below : l.y < n)
+    (allowed : IsAllowed t l) where
   -- the way round the literal is never negative
   pub round_is_positive : (x : ℕ) → x < n → (i j : ℤ) → IsAtMost (t x l.x) i → IsAtMost (t l.y x) j → pos 0 ≤ℤ (i +ℤ l.k +ℤ j)
   round_is_positive x below i j front rest =
@@ -106,7 +113,9 @@ module _ (n : ℕ) (t : ℕ → ℕ → Option Hop) (closed : IsClosed n t) (num
       let least : pos 0 ≤ℤ (j +ℤ i +ℤ l.k) = allowed (j +ℤ i) round in
       omega (arith, ints)
 
-  added-along : (x y z : ℕ) → x < n → y < n → z < n → (i j : ℤ) → IsAtMost (added t number l x y) i → IsAtMost (added t number l y z) j → IsAtMost (added t number l x z) (i +ℤ j)
+  added-along :
+      (x y z : ℕ) → x < n → y < n → z < n → (i j : ℤ) → IsAtMost (added t number l x y) i → IsAtMost (added t number l y z) j
+      → IsAtMost (added t number l x z) (i +ℤ j)
   added-along x y z xn yn zn i j first onward =
       elim (added-cases n t number l x y i first) [
         | inl old ↦
@@ -127,7 +136,8 @@ module _ (n : ℕ) (t : ℕ → ℕ → Option Hop) (closed : IsClosed n t) (num
                   added-new n t number l x z new.before new'.after (i +ℤ j) new.front_at_most new'.rest_at_most
                   (let room : (new.before +ℤ l.k +ℤ new.after) ≤ℤ i = new.room in
                   let room' : (new'.before +ℤ l.k +ℤ new'.after) ≤ℤ j = new'.room in
-                  let round : pos 0 ≤ℤ (new'.before +ℤ l.k +ℤ new.after) = round_is_positive y yn new'.before new.after new'.front_at_most new.rest_at_most in
+                  let round : pos 0 ≤ℤ (new'.before +ℤ l.k +ℤ new.after) =
+                  round_is_positive y yn new'.before new.after new'.front_at_most new.rest_at_most in
                   omega (arith, ints))
             ]
       ]
@@ -142,13 +152,16 @@ module _ (n : ℕ) (t : ℕ → ℕ → Option Hop) (closed : IsClosed n t) (num
           | inl old ↦ closed.own_least x below k old
           | inr new ↦
               (let room : (new.before +ℤ l.k +ℤ new.after) ≤ℤ k = new.room in
-              let round : pos 0 ≤ℤ (new.before +ℤ l.k +ℤ new.after) = round_is_positive x below new.before new.after new.front_at_most new.rest_at_most in
+              let round : pos 0 ≤ℤ (new.before +ℤ l.k +ℤ new.after) =
+              round_is_positive x below new.before new.after new.front_at_most new.rest_at_most in
               omega (arith, ints))
         ];
   }
 
 -- within the new table is within the old one and meets the literal
-pub IsWithin-added : (n : ℕ) (t : ℕ → ℕ → Option Hop) (number : ℕ) (l : Lit) (v : ℕ → ℤ) → l.x < n → l.y < n → IsWithin n t v → Meets v l → IsWithin n (added t number l) v
+pub IsWithin-added :
+    (n : ℕ) (t : ℕ → ℕ → Option Hop) (number : ℕ) (l : Lit) (v : ℕ → ℤ) → l.x < n → l.y < n → IsWithin n t v → Meets v l
+    → IsWithin n (added t number l) v
 IsWithin-added n t number l v x_below y_below within met = record {
   at = λ x y xn yn k most.
       elim (added-cases n t number l x y k most) [
@@ -162,12 +175,15 @@ IsWithin-added n t number l v x_below y_below within met = record {
       ];
 }
 
-pub IsWithin-from_added : (n : ℕ) (t : ℕ → ℕ → Option Hop) (number : ℕ) (l : Lit) (v : ℕ → ℤ) → IsWithin n (added t number l) v → IsWithin n t v
+pub IsWithin-from_added :
+    (n : ℕ) (t : ℕ → ℕ → Option Hop) (number : ℕ) (l : Lit) (v : ℕ → ℤ) → IsWithin n (added t number l) v → IsWithin n t v
 IsWithin-from_added n t number l v within = record {
   at = λ x y xn yn k most. within.at x y xn yn k (added-old n t number l x y k most);
 }
 
-pub Meets-from_added : (n : ℕ) (t : ℕ → ℕ → Option Hop) (closed : IsClosed n t) (number : ℕ) (l : Lit) (v : ℕ → ℤ) → l.x < n → l.y < n → IsWithin n (added t number l) v → Meets v l
+pub Meets-from_added :
+    (n : ℕ) (t : ℕ → ℕ → Option Hop) (closed : IsClosed n t) (number : ℕ) (l : Lit) (v : ℕ → ℤ) → l.x < n → l.y < n
+    → IsWithin n (added t number l) v → Meets v l
 Meets-from_added n t closed number l v x_below y_below within =
     within.at l.x l.y x_below y_below l.k
     (added-new n t number l l.x l.y (pos 0) (pos 0) l.k (closed.own l.x x_below) (closed.own l.y y_below) (omega (arith, ints)))
@@ -244,7 +260,8 @@ IsWithin-value_in n t closed = record {
         | inr r ↦
             (let low : ℤ = low_of (λ j. t j x) n in
             let below : low_of (λ j. t j y) n ≤ℤ (low_of (λ j. t j x) n +ℤ k) =
-            low_of-below (λ j. t j y) n r.name r.below (low_of (λ j. t j x) n +ℤ k) (closed.along r.name x y r.below xn yn (low_of (λ j. t j x) n) k r.at_most most) in
+            low_of-below (λ j. t j y) n r.name r.below (low_of (λ j. t j x) n +ℤ k)
+            (closed.along r.name x y r.below xn yn (low_of (λ j. t j x) n) k r.at_most most) in
             omega (arith, ints))
       ];
 }
@@ -266,7 +283,9 @@ cases_at_most (Some h) k =
 
 -- A closed table keeps the least offset: where `x <= y + k` is not kept, its negation is allowed, so
 -- it can be added, and the values of the new table do not meet `x <= y + k`.
-pub at_most-from_within : (n : ℕ) (t : ℕ → ℕ → Option Hop) → IsClosed n t → (x y : ℕ) → x < n → y < n → (k : ℤ) → ((v : ℕ → ℤ) → IsWithin n t v → v x ≤ℤ (v y +ℤ k)) → IsAtMost (t x y) k
+pub at_most-from_within :
+    (n : ℕ) (t : ℕ → ℕ → Option Hop) → IsClosed n t → (x y : ℕ) → x < n → y < n → (k : ℤ)
+    → ((v : ℕ → ℤ) → IsWithin n t v → v x ≤ℤ (v y +ℤ k)) → IsAtMost (t x y) k
 at_most-from_within n t closed x y xn yn k follows =
     elim (cases_at_most (t x y) k) [
       | inl most ↦ most

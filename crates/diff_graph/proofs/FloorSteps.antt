@@ -28,10 +28,15 @@ All-has P [] l all has = absurd has
 All-has P (m ∷ ms) l all has = elim has [ inl here ↦ subst P here all.0 | inr there ↦ All-has P ms l all.1 there ]
 
 -- where a literal is refused, no valuation meets the list so far and the literals
-pub no_values_at_stop : (n : ℕ) (t : ℕ → ℕ → Option Hop) (ps : List Numbered) (ls : List Lit) (place : ℕ) → StandsFor n t (ps ++ numbered_from 0 (take place ls)) → AreNamed n ls → place < length ls → leaves_room (t (literal_at ls place).y (literal_at ls place).x) (literal_at ls place).k ≡ false → (v : ℕ → ℤ) → AreMet v (literals_of ps) → AreMet v ls → ⊥
+pub no_values_at_stop :
+    (n : ℕ) (t : ℕ → ℕ → Option Hop) (ps : List Numbered) (ls : List Lit) (place : ℕ)
+    → StandsFor n t (ps ++ numbered_from 0 (take place ls)) → AreNamed n ls → place < length ls
+    → leaves_room (t (literal_at ls place).y (literal_at ls place).x) (literal_at ls place).k ≡ false → (v : ℕ → ℤ)
+    → AreMet v (literals_of ps) → AreMet v ls → ⊥
 no_values_at_stop n t ps ls place stands named inside no_room v met_before met =
     let l : Lit = literal_at ls place in
-    let met_so_far : AreMet v (literals_of (ps ++ numbered_from 0 (take place ls))) = All-with (λ m. Meets v m) ps (take place ls) met_before (All-take (λ m. Meets v m) ls place met) in
+    let met_so_far : AreMet v (literals_of (ps ++ numbered_from 0 (take place ls))) =
+    All-with (λ m. Meets v m) ps (take place ls) met_before (All-take (λ m. Meets v m) ls place met) in
     not_allowed-from_back t l (back-from_no_room t l no_room)
     (allowed-from_possible n t (ps ++ numbered_from 0 (take place ls)) stands place l (All-at (λ m. IsNamed n m) ls place named inside)
     (v, (met_so_far, All-at (λ m. Meets v m) ls place met inside)))
@@ -49,7 +54,9 @@ at_most-some None k most = absurd most
 at_most-some (Some h) k most = (h, refl)
 
 -- something is kept from name 0 to each name that is bounded from it
-kept_from_zero : (n : ℕ) (t : ℕ → ℕ → Option Hop) (ks ls : List Lit) → StandsFor n t (numbered_from 0 ks ++ numbered_from 0 ls) → 0 < n → IsBoundedBelow n ls → (x : ℕ) → x < n → (h : Hop) × (t 0 x ≡ Some h)
+kept_from_zero :
+    (n : ℕ) (t : ℕ → ℕ → Option Hop) (ks ls : List Lit) → StandsFor n t (numbered_from 0 ks ++ numbered_from 0 ls) → 0 < n
+    → IsBoundedBelow n ls → (x : ℕ) → x < n → (h : Hop) × (t 0 x ≡ Some h)
 kept_from_zero n t ks ls stands some bounded x xn =
     let bound = bounded x xn in
     at_most-some (t 0 x) bound.0
@@ -58,7 +65,10 @@ kept_from_zero n t ks ls stands some bounded x xn =
     (All-second (λ m. Meets v m) ks ls (subst (λ (xs : List Lit). AreMet v xs) (literals_of-both ks ls) met)) bound.1))
 
 -- the negations of what is kept from name 0 are the least values
-pub AreLeastMeeting-from_stands : (n m : ℕ) (t : ℕ → ℕ → Option Hop) (ks ls : List Lit) (values : List ℤ) → StandsFor n t (numbered_from 0 ks ++ numbered_from 0 ls) → m ≡ n → 0 < n → IsBoundedBelow n ls → length values ≡ m → ((x : ℕ) → x < m → get_or values x (pos 0) ≡ least_of (t 0 x)) → AreLeastMeeting n (ks ++ ls) values
+pub AreLeastMeeting-from_stands :
+    (n m : ℕ) (t : ℕ → ℕ → Option Hop) (ks ls : List Lit) (values : List ℤ) → StandsFor n t (numbered_from 0 ks ++ numbered_from 0 ls)
+    → m ≡ n → 0 < n → IsBoundedBelow n ls → length values ≡ m → ((x : ℕ) → x < m → get_or values x (pos 0) ≡ least_of (t 0 x))
+    → AreLeastMeeting n (ks ++ ls) values
 AreLeastMeeting-from_stands n m t ks ls values stands same some bounded len is_value = record {
   len = len ∙ same;
   zero_first =
@@ -72,7 +82,8 @@ AreLeastMeeting-from_stands n m t ks ls values stands same some bounded len is_v
         at = λ x y xn yn k most.
             (let front : (h : Hop) × (t 0 x ≡ Some h) = kept_from_zero n t ks ls stands some bounded x xn in
             let back : (h : Hop) × (t 0 y ≡ Some h) = kept_from_zero n t ks ls stands some bounded y yn in
-            let through : IsAtMost (t 0 y) (front.0.k +ℤ k) = closed.along 0 x y some xn yn front.0.k k (rw front.1 (omega (arith, ints))) most in
+            let through : IsAtMost (t 0 y) (front.0.k +ℤ k) =
+            closed.along 0 x y some xn yn front.0.k k (rw front.1 (omega (arith, ints))) most in
             let through' : back.0.k ≤ℤ (front.0.k +ℤ k) = rw back.1 at through in
             let left : get_or values x (pos 0) ≡ pos 0 -ℤ front.0.k = value_at x xn ∙ ap least_of front.1 in
             let right : get_or values y (pos 0) ≡ pos 0 -ℤ back.0.k = value_at y yn ∙ ap least_of back.1 in
@@ -81,8 +92,10 @@ AreLeastMeeting-from_stands n m t ks ls values stands same some bounded len is_v
   least = λ v at_zero met x xn.
       (let front : (h : Hop) × (t 0 x ≡ Some h) = kept_from_zero n t ks ls stands some bounded x xn in
       let left : get_or values x (pos 0) ≡ pos 0 -ℤ front.0.k = value_at x xn ∙ ap least_of front.1 in
-      let met' : AreMet v (literals_of (numbered_from 0 ks ++ numbered_from 0 ls)) = subst (λ (xs : List Lit). AreMet v xs) (sym (literals_of-both ks ls)) met in
-      let within : v 0 ≤ℤ (v x +ℤ front.0.k) = (IsWithin-from_met n t ps stands v met').at 0 x some xn front.0.k (rw front.1 (omega (arith, ints))) in
+      let met' : AreMet v (literals_of (numbered_from 0 ks ++ numbered_from 0 ls)) =
+      subst (λ (xs : List Lit). AreMet v xs) (sym (literals_of-both ks ls)) met in
+      let within : v 0 ≤ℤ (v x +ℤ front.0.k) =
+      (IsWithin-from_met n t ps stands v met').at 0 x some xn front.0.k (rw front.1 (omega (arith, ints))) in
       omega (arith, ints));
 }
   where
@@ -96,7 +109,9 @@ AreLeastMeeting-from_stands n m t ks ls values stands same some bounded len is_v
     value_at x xn = is_value x (omega arith)
 
 -- ---- floors
-pub floors_from-push : (x : ℕ) (floors : List ℤ) (f : ℤ) → floors_from x (floors ++ f ∷ []) ≡ floors_from x floors ++ record { x = 0; y = x + length floors; k = pos 0 -ℤ f } ∷ []
+pub floors_from-push :
+    (x : ℕ) (floors : List ℤ) (f : ℤ)
+    → floors_from x (floors ++ f ∷ []) ≡ floors_from x floors ++ record { x = 0; y = x + length floors; k = pos 0 -ℤ f } ∷ []
 floors_from-push x [] f =
     let e : x ≡ x + 0 = omega arith in
     ap (λ y. record { x = 0; y = y; k = pos 0 -ℤ f } ∷ []) e
@@ -106,7 +121,10 @@ floors_from-push x (g ∷ floors) f =
     (floors_from-push (x + 1) floors f ∙ ap (λ y. floors_from (x + 1) floors ++ record { x = 0; y = y; k = pos 0 -ℤ f } ∷ []) e)
 
 -- one more floor
-pub floors_from-take : (floors : List ℤ) (x : ℕ) → x < length floors → floors_from 0 (take (x + 1) floors) ≡ floors_from 0 (take x floors) ++ record { x = 0; y = x; k = pos 0 -ℤ get_or floors x (pos 0) } ∷ []
+pub floors_from-take :
+    (floors : List ℤ) (x : ℕ) → x < length floors
+    → floors_from 0 (take (x + 1) floors)
+    ≡ floors_from 0 (take x floors) ++ record { x = 0; y = x; k = pos 0 -ℤ get_or floors x (pos 0) } ∷ []
 floors_from-take floors x inside =
     let e : 0 + length (take x floors) ≡ x = omega (arith, length-take-le x floors (omega arith)) in
     ap (λ fs. floors_from 0 fs) (take_more floors x (pos 0) inside)
@@ -128,17 +146,23 @@ pub length-floors_from : (x : ℕ) (floors : List ℤ) → length (floors_from x
 length-floors_from x [] = refl
 length-floors_from x (f ∷ fs) = ap suc (length-floors_from (x + 1) fs)
 
-has_floor : (x : ℕ) (floors : List ℤ) (y : ℕ) → y < length floors → HasLiteral (floors_from x floors) (record { x = 0; y = x + y; k = pos 0 -ℤ get_or floors y (pos 0) })
+has_floor :
+    (x : ℕ) (floors : List ℤ) (y : ℕ) → y < length floors
+    → HasLiteral (floors_from x floors) (record { x = 0; y = x + y; k = pos 0 -ℤ get_or floors y (pos 0) })
 has_floor x [] y inside = absurd (omega arith)
 has_floor x (f ∷ fs) zero inside = inl (let e : x ≡ x + 0 = omega arith in ap (λ y. record { x = 0; y = y; k = pos 0 -ℤ f }) e)
 has_floor x (f ∷ fs) (suc y) inside =
     inr (let e : x + 1 + y ≡ x + suc y = omega arith in
-    subst (λ (z : ℕ). HasLiteral (floors_from (x + 1) fs) (record { x = 0; y = z; k = pos 0 -ℤ get_or fs y (pos 0) })) e (has_floor (x + 1) fs y (omega arith)))
+    subst (λ (z : ℕ). HasLiteral (floors_from (x + 1) fs) (record { x = 0; y = z; k = pos 0 -ℤ get_or fs y (pos 0) })) e
+    (has_floor (x + 1) fs y (omega arith)))
 
-has_floor_at : (floors : List ℤ) (y : ℕ) → y < length floors → HasLiteral (floors_from 0 floors) (record { x = 0; y = y; k = pos 0 -ℤ get_or floors y (pos 0) })
+has_floor_at :
+    (floors : List ℤ) (y : ℕ) → y < length floors
+    → HasLiteral (floors_from 0 floors) (record { x = 0; y = y; k = pos 0 -ℤ get_or floors y (pos 0) })
 has_floor_at floors y inside =
     let e : 0 + y ≡ y = omega arith in
-    subst (λ (z : ℕ). HasLiteral (floors_from 0 floors) (record { x = 0; y = z; k = pos 0 -ℤ get_or floors y (pos 0) })) e (has_floor 0 floors y inside)
+    subst (λ (z : ℕ). HasLiteral (floors_from 0 floors) (record { x = 0; y = z; k = pos 0 -ℤ get_or floors y (pos 0) })) e
+    (has_floor 0 floors y inside)
 
 pub IsBoundedBelow-floors_from : (floors : List ℤ) → IsBoundedBelow (length floors) (floors_from 0 floors)
 IsBoundedBelow-floors_from floors y inside = (pos 0 -ℤ get_or floors y (pos 0), has_floor_at floors y inside)
@@ -146,10 +170,14 @@ IsBoundedBelow-floors_from floors y inside = (pos 0 -ℤ get_or floors y (pos 0)
 -- a valuation with 0 at name 0 meets the floors as literals exactly where it is at least the floors
 pub floors-from_met : (floors : List ℤ) (v : ℕ → ℤ) → v 0 ≡ pos 0 → AreMet v (floors_from 0 floors) → MeetsFloors floors v
 floors-from_met floors v at_zero met x inside =
-    let here : v 0 ≤ℤ (v x +ℤ (pos 0 -ℤ get_or floors x (pos 0))) = All-has (λ m. Meets v m) (floors_from 0 floors) (record { x = 0; y = x; k = pos 0 -ℤ get_or floors x (pos 0) }) met (has_floor_at floors x inside) in
+    let here : v 0 ≤ℤ (v x +ℤ (pos 0 -ℤ get_or floors x (pos 0))) =
+    All-has (λ m. Meets v m) (floors_from 0 floors) (record { x = 0; y = x; k = pos 0 -ℤ get_or floors x (pos 0) }) met
+    (has_floor_at floors x inside) in
     omega (arith, ints)
 
-met-from_floors : (x : ℕ) (floors : List ℤ) (v : ℕ → ℤ) → v 0 ≡ pos 0 → ((y : ℕ) → y < length floors → get_or floors y (pos 0) ≤ℤ v (x + y)) → AreMet v (floors_from x floors)
+met-from_floors :
+    (x : ℕ) (floors : List ℤ) (v : ℕ → ℤ) → v 0 ≡ pos 0 → ((y : ℕ) → y < length floors → get_or floors y (pos 0) ≤ℤ v (x + y))
+    → AreMet v (floors_from x floors)
 met-from_floors x [] v at_zero above = tt
 met-from_floors x (f ∷ fs) v at_zero above =
     let e : x + 0 ≡ x = omega arith in
@@ -166,24 +194,34 @@ AreMet-floors_from floors v at_zero above =
     (let e : y ≡ 0 + y = omega arith in subst (λ (z : ℕ). get_or floors y (pos 0) ≤ℤ v z) e (above y inside)))
 
 -- least values that meet the literals and the floors as literals
-pub AreLeast-from_meeting : (ls : List Lit) (floors values : List ℤ) (n : ℕ) → n ≡ length floors → AreLeastMeeting n (ls ++ floors_from 0 floors) values → AreLeast ls floors values
+pub AreLeast-from_meeting :
+    (ls : List Lit) (floors values : List ℤ) (n : ℕ) → n ≡ length floors → AreLeastMeeting n (ls ++ floors_from 0 floors) values
+    → AreLeast ls floors values
 AreLeast-from_meeting ls floors values n same least = record {
   len = least.len ∙ same;
   zero_first = least.zero_first;
   met = All-first (λ m. Meets (valuation_of values) m) ls (floors_from 0 floors) least.met;
-  above = floors-from_met floors (valuation_of values) least.zero_first (All-second (λ m. Meets (valuation_of values) m) ls (floors_from 0 floors) least.met);
+  above =
+      floors-from_met floors (valuation_of values) least.zero_first
+      (All-second (λ m. Meets (valuation_of values) m) ls (floors_from 0 floors) least.met);
   least = λ v at_zero met above x inside.
-      least.least v at_zero (All-append (λ m. Meets v m) ls (floors_from 0 floors) met (AreMet-floors_from floors v at_zero above)) x (omega arith);
+      least.least v at_zero (All-append (λ m. Meets v m) ls (floors_from 0 floors) met (AreMet-floors_from floors v at_zero above)) x
+      (omega arith);
 }
 
 -- a floor at a place
-pub floor-at : (floors : List ℤ) (x : ℕ) → AreFloors floors → x < length floors → (negsuc 999 ≤ℤ get_or floors x (pos 0)) × (get_or floors x (pos 0) ≤ℤ pos 1000)
+pub floor-at :
+    (floors : List ℤ) (x : ℕ) → AreFloors floors → x < length floors
+    → (negsuc 999 ≤ℤ get_or floors x (pos 0)) × (get_or floors x (pos 0) ≤ℤ pos 1000)
 floor-at [] x are inside = absurd (omega arith)
 floor-at (f ∷ fs) zero are inside = are.0
 floor-at (f ∷ fs) (suc x) are inside = floor-at fs x are.1 (omega arith)
 
 -- what the table stands for once the first list is added to new rows
-pub StandsFor-first : (n m : ℕ) (old new : List (List (Option Hop))) (ls : List Lit) → AreNewRows n n old → m ≡ n → ((ps : List Numbered) → StandsFor n (kept_of old) ps → StandsFor n (kept_of new) (ps ++ numbered_from 0 ls)) → StandsFor m (kept_of new) (numbered_from 0 ls)
+pub StandsFor-first :
+    (n m : ℕ) (old new : List (List (Option Hop))) (ls : List Lit) → AreNewRows n n old → m ≡ n
+    → ((ps : List Numbered) → StandsFor n (kept_of old) ps → StandsFor n (kept_of new) (ps ++ numbered_from 0 ls))
+    → StandsFor m (kept_of new) (numbered_from 0 ls)
 StandsFor-first n m old new ls are_new same added =
     subst (λ (w : ℕ). StandsFor w (kept_of new) (numbered_from 0 ls)) (sym same) (added [] (StandsFor-new_rows n old are_new))
 

@@ -11,7 +11,9 @@ use Rattle.diff_graph.specs.Solutions.{valuation_of, MeetsFloors, AreLeast}
 use Rattle.diff_graph.proofs.AddingSteps.{AreNamed-wider, All-append}
 
 -- one more literal is named
-pub AreNamed-more : (n m : ℕ) (ls : List Lit) (place : ℕ) → place < length ls → n ≤ m → AreNamed n (take place ls) → IsNamed m (literal_at ls place) → AreNamed m (take (place + 1) ls)
+pub AreNamed-more :
+    (n m : ℕ) (ls : List Lit) (place : ℕ) → place < length ls → n ≤ m → AreNamed n (take place ls) → IsNamed m (literal_at ls place)
+    → AreNamed m (take (place + 1) ls)
 AreNamed-more n m ls place inside wider named last =
     subst (λ (xs : List Lit). AreNamed m xs) (sym (take_more ls place (record { x = 0; y = 0; k = pos 0 }) inside))
     (All-append (λ l. IsNamed m l) (take place ls) (literal_at ls place ∷ []) (AreNamed-wider n m (take place ls) wider named) (last, tt))
@@ -36,14 +38,18 @@ MeetsFloors-first n floors v fits above x inside =
 
 -- least values above the first floors, with the other floors behind them, where no literal speaks of
 -- the other names
-pub AreLeast-with_floors : (ls : List Lit) (floors values : List ℤ) (n : ℕ) → 0 < n → n ≤ length floors → AreNamed n ls → AreLeast ls (take n floors) values → AreLeast ls floors (values ++ drop n floors)
+pub AreLeast-with_floors :
+    (ls : List Lit) (floors values : List ℤ) (n : ℕ) → 0 < n → n ≤ length floors → AreNamed n ls → AreLeast ls (take n floors) values
+    → AreLeast ls floors (values ++ drop n floors)
 AreLeast-with_floors ls floors values n some fits named first = record {
   len =
       (let behind : length (drop n floors) ≡ length floors - n = length-drop n floors in
       let whole : length (values ++ drop n floors) ≡ length values + length (drop n floors) = length-append values (drop n floors) in
       omega (arith, len));
   zero_first = value_below 0 some ∙ first.zero_first;
-  met = AreMet-agreeing n (valuation_of values) (valuation_of (values ++ drop n floors)) ls named (λ x below. sym (value_below x below)) first.met;
+  met =
+      AreMet-agreeing n (valuation_of values) (valuation_of (values ++ drop n floors)) ls named
+      (λ x below. sym (value_below x below)) first.met;
   above = λ x inside.
       elim (cases_lt x n) [
         | inl below ↦
@@ -51,12 +57,15 @@ AreLeast-with_floors ls floors values n some fits named first = record {
             let floor : get_or (take n floors) x (pos 0) ≡ get_or floors x (pos 0) = get_or-take n floors x (pos 0) below in
             let value : get_or (values ++ drop n floors) x (pos 0) ≡ get_or values x (pos 0) = value_below x below in
             omega (arith, ints))
-        | inr past ↦ (let value : get_or (values ++ drop n floors) x (pos 0) ≡ get_or floors x (pos 0) = value_from x past in omega (arith, ints))
+        | inr past ↦
+            (let value : get_or (values ++ drop n floors) x (pos 0)
+            ≡ get_or floors x (pos 0) = value_from x past in omega (arith, ints))
       ];
   least = λ v at_zero met above x inside.
       elim (cases_lt x n) [
         | inl below ↦
-            (let here : get_or values x (pos 0) ≤ℤ v x = first.least v at_zero met (MeetsFloors-first n floors v fits above) x (omega (arith, short)) in
+            (let here : get_or values x (pos 0) ≤ℤ v x = first.least v at_zero met (MeetsFloors-first n floors v fits above) x
+            (omega (arith, short)) in
             let value : get_or (values ++ drop n floors) x (pos 0) ≡ get_or values x (pos 0) = value_below x below in
             omega (arith, ints))
         | inr past ↦

@@ -1,12 +1,12 @@
 -- Rows of a table: an element-wise change of a row, as far as it has come.
-use Rattle.std.proofs.Common.{◌≡◌, ◌≢◌, ℕ, suc, ◌+◌, ◌-◌, ◌<◌, ◌≤◌, List, [], ◌∷◌, ◌++◌, length, get_or, set, Option, Some, None, ◌==◌, true, false, arith, refl, sym, ap, ◌∙◌, subst, inl, inr, if◌then◌else◌, pos, negsuc, ◌≤ℤ◌}
+use Rattle.std.proofs.Common.{◌≡◌, ◌≢◌, ℕ, suc, ◌+◌, ◌-◌, ◌<◌, ◌≤◌, List, [], ◌∷◌, ◌++◌, length, get_or, set, take, Option, Some, None, ◌==◌, true, false, arith, refl, sym, ap, ◌∙◌, subst, inl, inr, if◌then◌else◌, pos, negsuc, ◌≤ℤ◌}
 use Rattle.std.proofs.lemmas.Int.{ints}
 use Rattle.std.proofs.lemmas.Bool.{cases_eq, cases_lt, ne_eqb}
-use Rattle.std.proofs.lemmas.List.{length_push, get_or_push, get_or_append_left, get_or_past, append-nil, append_assoc, get_or-set_same, get_or-set_other, length-set}
+use Rattle.std.proofs.lemmas.List.{take_at, get_or_past, append-nil, append_assoc, get_or-set_same, get_or-set_other, length-set}
 use Rattle.diff_graph.specs.declared.hop.Hop.{Hop}
 use Rattle.diff_graph.specs.declared.lit.Lit.{Lit}
 use Rattle.diff_graph.specs.Tables.{IsNamed, IsSmall, kept_of}
-use Rattle.diff_graph.specs.Steps.{way_of, joined, lower_of, added, numbers_along, own_only, IsNewRow, AreNewRows, IsLowered, IsSquare, IsModest}
+use Rattle.diff_graph.specs.Steps.{way_of, joined, lower_of, added, numbers_along, AppendsFirst, IsLowered, AreLowered, IsSquare, IsModest}
 
 -- below a place each element is changed, and from there on it is as it was
 pub record DoneBelow (change : ℕ → Option Hop → Option Hop) (old new : List (Option Hop)) (place : ℕ) : Type 0 where
@@ -14,10 +14,9 @@ pub record DoneBelow (change : ℕ → Option Hop → Option Hop) (old new : Lis
   pub done : (x : ℕ) → x < place → get_or new x None ≡ change x (get_or old x None)
   pub left : (x : ℕ) → place ≤ x → get_or new x None ≡ get_or old x None
 
-pub DoneBelow-none : (change : ℕ → Option Hop → Option Hop) (row : List (Option Hop)) → DoneBelow change row row 0
-DoneBelow-none change row = record { len = refl; done = λ x below. absurd (omega arith); left = λ x above. refl }
-
-pub DoneBelow-more : (change : ℕ → Option Hop → Option Hop) (old new : List (Option Hop)) (place : ℕ) (hop : Option Hop) → DoneBelow change old new place → place < length old → hop ≡ change place (get_or new place None) → DoneBelow change old (set new place hop) (place + 1)
+pub DoneBelow-more :
+    (change : ℕ → Option Hop → Option Hop) (old new : List (Option Hop)) (place : ℕ) (hop : Option Hop) → DoneBelow change old new place
+    → place < length old → hop ≡ change place (get_or new place None) → DoneBelow change old (set new place hop) (place + 1)
 DoneBelow-more change old new place hop so_far inside changed =
     let within : place < length new = omega (arith, so_far.len) in
     record {
@@ -34,7 +33,9 @@ DoneBelow-more change old new place hop so_far inside changed =
     }
 
 -- an element that the change leaves as it was
-pub DoneBelow-same : (change : ℕ → Option Hop → Option Hop) (old new : List (Option Hop)) (place : ℕ) → DoneBelow change old new place → change place (get_or new place None) ≡ get_or new place None → DoneBelow change old new (place + 1)
+pub DoneBelow-same :
+    (change : ℕ → Option Hop → Option Hop) (old new : List (Option Hop)) (place : ℕ) → DoneBelow change old new place
+    → change place (get_or new place None) ≡ get_or new place None → DoneBelow change old new (place + 1)
 DoneBelow-same change old new place so_far same = record {
   len = so_far.len;
   done = λ x below.
@@ -56,61 +57,56 @@ numbers_along-end f most i x y below none =
     let e : most - i ≡ suc (most - (i + 1)) = omega arith in
     rw (e, none) (elim (x == y) as (λ b. if◌then◌else◌ {A = List ℕ} b [] [] ≡ []) [ true ↦ refl | false ↦ refl ])
 
-pub numbers_along-more : (f : ℕ → Option Hop) (most i x y : ℕ) (h : Hop) → i < most → (x ≡ y → ⊥) → f x ≡ Some h → numbers_along f (most - i) x y ≡ h.number ∷ numbers_along f (most - (i + 1)) h.second y
+pub numbers_along-more :
+    (f : ℕ → Option Hop) (most i x y : ℕ) (h : Hop) → i < most → (x ≡ y → ⊥) → f x ≡ Some h
+    → numbers_along f (most - i) x y ≡ h.number ∷ numbers_along f (most - (i + 1)) h.second y
 numbers_along-more f most i x y h below other is_h =
     let e : most - i ≡ suc (most - (i + 1)) = omega arith in
     let test : (x == y) ≡ false = ne_eqb x y other in
     rw (e, test, is_h) refl
 
--- what was pushed is all, where the chain has ended
-pub pushed_all : (items rest whole : List ℕ) → items ++ rest ≡ whole → rest ≡ [] → items ≡ whole
-pushed_all items rest whole so_far ended = sym (append-nil items) ∙ rw ended at so_far
+-- some numbers were put at the end of a list, and with the rest they are all
+pub record HasPut (before after rest whole : List ℕ) : Type 0 where
+  pub put : List ℕ
+  pub is_put : after ≡ before ++ put
+  pub all : put ++ rest ≡ whole
 
--- and one more number is pushed, where it goes on
-pub pushed_more : (items rest later whole : List ℕ) (number : ℕ) → items ++ rest ≡ whole → rest ≡ number ∷ later → (items ++ number ∷ []) ++ later ≡ whole
-pushed_more items rest later whole number so_far on =
-    append_assoc items (number ∷ []) later ∙ rw on at so_far
+pub HasPut-none : (items whole : List ℕ) → HasPut items items whole whole
+HasPut-none items whole = record { put = []; is_put = sym (append-nil items); all = refl }
+
+-- they are all, where the chain has ended
+pub HasPut-ended : (before after rest whole : List ℕ) → HasPut before after rest whole → rest ≡ [] → after ≡ before ++ whole
+HasPut-ended before after rest whole has ended =
+    let put_all : has.put ≡ whole = sym (append-nil has.put) ∙ rw ended at has.all in
+    has.is_put ∙ ap (λ (xs : List ℕ). before ++ xs) put_all
+
+-- and one more is put, where it goes on
+pub HasPut-more :
+    (before after rest later whole : List ℕ) (number : ℕ) → HasPut before after rest whole → rest ≡ number ∷ later
+    → HasPut before (after ++ number ∷ []) later whole
+HasPut-more before after rest later whole number has on = record {
+  put = has.put ++ number ∷ [];
+  is_put = ap (λ (xs : List ℕ). xs ++ number ∷ []) has.is_put ∙ append_assoc before has.put (number ∷ []);
+  all = append_assoc has.put (number ∷ []) later ∙ rw on at has.all;
+}
+
+-- those that were put are the first
+pub AppendsFirst-put : (before after rest whole : List ℕ) → HasPut before after rest whole → AppendsFirst before whole after
+AppendsFirst-put before after rest whole has =
+    let first : take (length has.put) whole ≡ has.put =
+    ap (λ (xs : List ℕ). take (length has.put) xs) (sym has.all) ∙ take_at has.put rest (length has.put) refl in
+    (length has.put, has.is_put ∙ ap (λ (xs : List ℕ). before ++ xs) (sym first))
 
 pub numbers_along-none : (f : ℕ → Option Hop) (most i x y : ℕ) → most ≤ i → numbers_along f (most - i) x y ≡ []
 numbers_along-none f most i x y past =
     let e : most - i ≡ 0 = omega arith in
     rw e refl
 
--- ---- new rows
-pub IsNewRow-none : (own : ℕ) → IsNewRow 0 own []
-IsNewRow-none own = (refl, λ x below. absurd (omega arith))
-
-pub IsNewRow-more : (n own : ℕ) (row : List (Option Hop)) (hop : Option Hop) → IsNewRow n own row → hop ≡ own_only own n → IsNewRow (n + 1) own (row ++ hop ∷ [])
-IsNewRow-more n own row hop so_far is_hop = (
-  length_push row hop ∙ ap (λ k. k + 1) so_far.0,
-  λ x below.
-      elim (cases_eq x n) [
-        | inl same ↦ rw same (get_or_push row hop None n so_far.0 ∙ is_hop)
-        | inr other ↦ get_or_append_left row (hop ∷ []) None x (omega (arith, so_far.0)) ∙ so_far.1 x (omega arith)
-      ],
-)
-
-pub AreNewRows-more : (n count : ℕ) (rows : List (List (Option Hop))) (row : List (Option Hop)) → AreNewRows n count rows → IsNewRow n count row → AreNewRows n (count + 1) (rows ++ row ∷ [])
-AreNewRows-more n count rows row so_far new = (
-  length_push rows row ∙ ap (λ k. k + 1) so_far.0,
-  λ y below.
-      elim (cases_eq y count) [
-        | inl same ↦ rw (same, get_or_push rows row [] count so_far.0) new
-        | inr other ↦ rw (get_or_append_left rows (row ∷ []) [] y (omega (arith, so_far.0))) (so_far.1 y (omega arith))
-      ],
-)
-
 -- ---- lowered rows
--- below a place each row is lowered, and from there on it is as it was
-pub record AreLowered (ways : List (Option Hop)) (from : ℕ) (old new : List (List (Option Hop))) (place : ℕ) : Type 0 where
-  pub len : length new ≡ length old
-  pub done : (y : ℕ) → y < place → IsLowered ways from (get_or old y []) (get_or new y [])
-  pub left : (y : ℕ) → place ≤ y → get_or new y [] ≡ get_or old y []
-
-pub AreLowered-none : (ways : List (Option Hop)) (from : ℕ) (rows : List (List (Option Hop))) → AreLowered ways from rows rows 0
-AreLowered-none ways from rows = record { len = refl; done = λ y below. absurd (omega arith); left = λ y above. refl }
-
-pub AreLowered-more : (ways : List (Option Hop)) (from : ℕ) (old new : List (List (Option Hop))) (place : ℕ) (row : List (Option Hop)) → AreLowered ways from old new place → place < length old → IsLowered ways from (get_or new place []) row → AreLowered ways from old (set new place row) (place + 1)
+pub AreLowered-more :
+    (ways : List (Option Hop)) (from : ℕ) (old new : List (List (Option Hop))) (place : ℕ) (row : List (Option Hop))
+    → AreLowered ways from old new place → place < length old → IsLowered ways from (get_or new place []) row
+    → AreLowered ways from old (set new place row) (place + 1)
 AreLowered-more ways from old new place row so_far inside lowered =
     let within : place < length new = omega (arith, so_far.len) in
     record {
@@ -139,7 +135,11 @@ pub kept_past_rows : (rows : List (List (Option Hop))) → (x y : ℕ) → lengt
 kept_past_rows rows x y past = rw (get_or_past rows y [] past) refl
 
 -- lowered rows keep what the step says
-pub kept_of-lowered : (old new : List (List (Option Hop))) (ways : List (Option Hop)) (number : ℕ) (l : Lit) → IsSquare old → IsNamed (length old) l → length new ≡ length old → ((y : ℕ) → y < length old → IsLowered ways l.y (get_or old y []) (get_or new y [])) → ((x : ℕ) → x < length old → get_or ways x None ≡ way_of number l x (kept_of old x l.x)) → (x y : ℕ) → kept_of new x y ≡ added (kept_of old) number l x y
+pub kept_of-lowered :
+    (old new : List (List (Option Hop))) (ways : List (Option Hop)) (number : ℕ) (l : Lit) → IsSquare old → IsNamed (length old) l
+    → length new ≡ length old → ((y : ℕ) → y < length old → IsLowered ways l.y (get_or old y []) (get_or new y []))
+    → ((x : ℕ) → x < length old → get_or ways x None ≡ way_of number l x (kept_of old x l.x)) → (x y : ℕ)
+    → kept_of new x y ≡ added (kept_of old) number l x y
 kept_of-lowered old new ways number l square named len lowered ways_are x y =
     elim (cases_lt y (length old)) [
       | inl y_below ↦
@@ -150,7 +150,8 @@ kept_of-lowered old new ways number l square named len lowered ways_are x y =
             | inr x_past ↦
                 (let none : kept_of old x y ≡ None = kept_past_row old square x y x_past in
                 let no_front : kept_of old x l.x ≡ None = kept_past_row old square x l.x x_past in
-                let past : kept_of new x y ≡ None = get_or_past (get_or new y []) x None (omega (arith, square y y_below, (lowered y y_below).len)) in
+                let past : kept_of new x y ≡ None =
+                get_or_past (get_or new y []) x None (omega (arith, square y y_below, (lowered y y_below).len)) in
                 past ∙ rw (none, no_front) refl)
           ]
       | inr y_past ↦
@@ -165,13 +166,17 @@ kept_of-lowered old new ways number l square named len lowered ways_are x y =
     joined-none (Some w) = refl
 
 -- rows stay square
-pub IsSquare-lowered : (ways : List (Option Hop)) (from : ℕ) (old new : List (List (Option Hop))) → IsSquare old → length new ≡ length old → ((y : ℕ) → y < length old → IsLowered ways from (get_or old y []) (get_or new y [])) → IsSquare new
+pub IsSquare-lowered :
+    (ways : List (Option Hop)) (from : ℕ) (old new : List (List (Option Hop))) → IsSquare old → length new ≡ length old
+    → ((y : ℕ) → y < length old → IsLowered ways from (get_or old y []) (get_or new y [])) → IsSquare new
 IsSquare-lowered ways from old new square len lowered y below =
     let inside : y < length old = omega (arith, len) in
     (lowered y inside).len ∙ square y inside ∙ sym len
 
 -- a literal takes an offset little further from 0
-pub IsModest-way_of : (number : ℕ) (l : Lit) (x : ℕ) (front : Option Hop) → IsSmall l → IsModest 1000000 front → IsModest 2000000 (way_of number l x front)
+pub IsModest-way_of :
+    (number : ℕ) (l : Lit) (x : ℕ) (front : Option Hop) → IsSmall l → IsModest 1000000 front
+    → IsModest 2000000 (way_of number l x front)
 IsModest-way_of number l x None small modest = tt
 IsModest-way_of number l x (Some f) small modest =
     let low : negsuc 1000 ≤ℤ l.k = small.0 in

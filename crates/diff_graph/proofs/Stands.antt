@@ -9,30 +9,38 @@ use Rattle.diff_graph.specs.Literals.{Meets, AreMet}
 use Rattle.diff_graph.specs.Cycles.{is_walk, weight}
 use Rattle.diff_graph.specs.Tables.{IsNamed, AreNamed, AreSmall, Numbered, literals_of, IsAmong, AreAmong, IsAtMost, Leads, StandsFor, IsPossibleWith, IsCycleOf}
 use Rattle.diff_graph.specs.Steps.{way_of, joined, lower_of, added, leaves_room, keeps, numbers_along, value_in, IsModest}
-use Rattle.diff_graph.proofs.Walks.{negative_verdict, int_le-true, int_le-false}
+use Rattle.diff_graph.proofs.Walks.{negative_verdict}
 use Rattle.diff_graph.proofs.Closed.{IsWithin, IsClosed, IsAllowed, IsClosed-added, IsWithin-added, IsWithin-from_added, Meets-from_added, IsWithin-value_in, at_most-from_within, own_hop, IsAtMost-weaker}
 use Rattle.diff_graph.proofs.Chains.{AreKept, IsAmong-append, IsAmong-last, Leads-short, Leads-small, chains-added, Leads-longer}
 
 -- ---- what holds of each literal of a list
-pub All-among : (P : Lit → Type 0) (ps : List Numbered) (number : ℕ) (l : Lit) → AllByRecursion P (literals_of ps) → IsAmong ps number l → P l
+pub All-among :
+    (P : Lit → Type 0) (ps : List Numbered) (number : ℕ) (l : Lit) → AllByRecursion P (literals_of ps) → IsAmong ps number l → P l
 All-among P [] number l all among = absurd among
 All-among P (p ∷ ps) number l all among =
     elim among [ inl here ↦ subst P here.1 all.0 | inr there ↦ All-among P ps number l all.1 there ]
 
-pub All-from_among : (P : Lit → Type 0) (ps : List Numbered) → ((number : ℕ) (l : Lit) → IsAmong ps number l → P l) → AllByRecursion P (literals_of ps)
+pub All-from_among :
+    (P : Lit → Type 0) (ps : List Numbered) → ((number : ℕ) (l : Lit) → IsAmong ps number l → P l) → AllByRecursion P (literals_of ps)
 All-from_among P [] each = tt
 All-from_among P (p ∷ ps) each =
     (each p.number p.lit (inl (refl, refl)), All-from_among P ps (λ number l among. each number l (inr among)))
 
-pub All-push : (P : Lit → Type 0) (ps : List Numbered) (number : ℕ) (l : Lit) → AllByRecursion P (literals_of ps) → P l → AllByRecursion P (literals_of (ps ++ record { number = number; lit = l } ∷ []))
+pub All-push :
+    (P : Lit → Type 0) (ps : List Numbered) (number : ℕ) (l : Lit) → AllByRecursion P (literals_of ps) → P l
+    → AllByRecursion P (literals_of (ps ++ record { number = number; lit = l } ∷ []))
 All-push P [] number l all last = (last, tt)
 All-push P (p ∷ ps) number l all last = (all.0, All-push P ps number l all.1 last)
 
-pub All-front : (P : Lit → Type 0) (ps : List Numbered) (number : ℕ) (l : Lit) → AllByRecursion P (literals_of (ps ++ record { number = number; lit = l } ∷ [])) → AllByRecursion P (literals_of ps)
+pub All-front :
+    (P : Lit → Type 0) (ps : List Numbered) (number : ℕ) (l : Lit)
+    → AllByRecursion P (literals_of (ps ++ record { number = number; lit = l } ∷ [])) → AllByRecursion P (literals_of ps)
 All-front P [] number l all = tt
 All-front P (p ∷ ps) number l all = (all.0, All-front P ps number l all.1)
 
-pub All-last : (P : Lit → Type 0) (ps : List Numbered) (number : ℕ) (l : Lit) → AllByRecursion P (literals_of (ps ++ record { number = number; lit = l } ∷ [])) → P l
+pub All-last :
+    (P : Lit → Type 0) (ps : List Numbered) (number : ℕ) (l : Lit)
+    → AllByRecursion P (literals_of (ps ++ record { number = number; lit = l } ∷ [])) → P l
 All-last P [] number l all = all.0
 All-last P (p ∷ ps) number l all = All-last P ps number l all.1
 
@@ -70,10 +78,15 @@ module _ (n : ℕ) (t : ℕ → ℕ → Option Hop) (ps : List Numbered) (stands
   pub AreMet-from_within : (v : ℕ → ℤ) → IsWithin n t v → AreMet v (literals_of ps)
   AreMet-from_within v within =
       All-from_among (λ m. Meets v m) ps (λ number l among.
-      within.at l.x l.y (AreKept-from_stands.first_below number l among) (AreKept-from_stands.second_below number l among) l.k (AreKept-from_stands.at_most number l among))
+      within.at l.x l.y (AreKept-from_stands.first_below number l among) (AreKept-from_stands.second_below number l among) l.k
+      (AreKept-from_stands.at_most number l among))
 
 -- a closed table stands for a list whose values are those within it, and whose chains it has
-pub StandsFor-from_closed : (n : ℕ) (t : ℕ → ℕ → Option Hop) (ps : List Numbered) → IsClosed n t → AreNamed n (literals_of ps) → ((v : ℕ → ℤ) → IsWithin n t v → AreMet v (literals_of ps)) → ((v : ℕ → ℤ) → AreMet v (literals_of ps) → IsWithin n t v) → ((x y : ℕ) (h : Hop) → t x y ≡ Some h → (x < n) × (y < n)) → ((x y : ℕ) (h : Hop) → t x y ≡ Some h → (count : ℕ) × Leads t ps count x y h.k) → StandsFor n t ps
+pub StandsFor-from_closed :
+    (n : ℕ) (t : ℕ → ℕ → Option Hop) (ps : List Numbered) → IsClosed n t → AreNamed n (literals_of ps)
+    → ((v : ℕ → ℤ) → IsWithin n t v → AreMet v (literals_of ps)) → ((v : ℕ → ℤ) → AreMet v (literals_of ps) → IsWithin n t v)
+    → ((x y : ℕ) (h : Hop) → t x y ≡ Some h → (x < n) × (y < n))
+    → ((x y : ℕ) (h : Hop) → t x y ≡ Some h → (count : ℕ) × Leads t ps count x y h.k) → StandsFor n t ps
 StandsFor-from_closed n t ps closed named met within inside chains = record {
   named = named;
   possible = (value_in n t, met (value_in n t) (IsWithin-value_in n t closed));
@@ -87,16 +100,21 @@ StandsFor-from_closed n t ps closed named met within inside chains = record {
 }
 
 -- what is kept in the new table lies inside too
-inside-added : (n : ℕ) (t : ℕ → ℕ → Option Hop) (number : ℕ) (l : Lit) → ((x y : ℕ) (h : Hop) → t x y ≡ Some h → (x < n) × (y < n)) → (x y : ℕ) (h : Hop) → added t number l x y ≡ Some h → (x < n) × (y < n)
+inside-added :
+    (n : ℕ) (t : ℕ → ℕ → Option Hop) (number : ℕ) (l : Lit) → ((x y : ℕ) (h : Hop) → t x y ≡ Some h → (x < n) × (y < n))
+    → (x y : ℕ) (h : Hop) → added t number l x y ≡ Some h → (x < n) × (y < n)
 inside-added n t number l inside x y h is_h = by (t x y) (t x l.x) (t l.y y) refl refl refl (is_h)
   where
-    by : (old front back : Option Hop) → t x y ≡ old → t x l.x ≡ front → t l.y y ≡ back → lower_of old (joined (way_of number l x front) back) ≡ Some h → (x < n) × (y < n)
+    by :
+        (old front back : Option Hop) → t x y ≡ old → t x l.x ≡ front → t l.y y ≡ back
+        → lower_of old (joined (way_of number l x front) back) ≡ Some h → (x < n) × (y < n)
     by (Some o) front back old_is front_is back_is e = inside x y o old_is
     by None None back old_is front_is back_is e = absurd (let no : None ≡ Some h = e in cc)
     by None (Some f) None old_is front_is back_is e = absurd (let no : None ≡ Some h = e in cc)
     by None (Some f) (Some g) old_is front_is back_is e = ((inside x l.x f front_is).0, (inside l.y y g back_is).1)
 
-module _ (n : ℕ) (t : ℕ → ℕ → Option Hop) (ps : List Numbered) (stands : StandsFor n t ps) (number : ℕ) (l : Lit) (named : IsNamed n l) where
+module _ (n : ℕ) (t : ℕ → ℕ → Option Hop) (ps : List Numbered) (stands : StandsFor n t ps) (number : ℕ) (l : Lit)
+    (named : IsNamed n l) where
   -- after an allowed literal the table stands for the list with it at its end
   pub StandsFor-added : IsAllowed t l → StandsFor n (added t number l) (ps ++ record { number = number; lit = l } ∷ [])
   StandsFor-added allowed =
@@ -112,13 +130,21 @@ module _ (n : ℕ) (t : ℕ → ℕ → Option Hop) (ps : List Numbered) (stands
       (IsWithin-from_met n t ps stands v (All-front (λ m. Meets v m) ps number l met))
       (All-last (λ m. Meets v m) ps number l met))
       inside
-      (λ x y h is_h. chains-added n t ps closed (AreKept-from_stands n t ps stands) number l named.0 named.1 allowed stands.inside stands.chains x y h (inside x y h is_h).0 (inside x y h is_h).1 is_h)
+      (λ x y h is_h. chains-added n t ps closed
+      (AreKept-from_stands n t ps stands) number l named.0 named.1 allowed stands.inside stands.chains x y h (inside x y h is_h).0
+      (inside x y h is_h).1 is_h)
 
   -- a literal is allowed exactly where some integers meet it and the list
   pub possible-from_allowed : IsAllowed t l → IsPossibleWith (literals_of ps) l
   possible-from_allowed allowed =
-      let after = StandsFor-added allowed in
-      (after.possible.0, (All-front (λ m. Meets after.possible.0 m) ps number l after.possible.1, All-last (λ m. Meets after.possible.0 m) ps number l after.possible.1))
+      let after = StandsFor-added allowed in (
+        after.possible.0,
+        (
+          All-front (λ m. Meets after.possible.0 m) ps number l after.possible.1,
+          All-last
+              (λ m. Meets after.possible.0 m) ps number l after.possible.1,
+        ),
+      )
 
   pub allowed-from_possible : IsPossibleWith (literals_of ps) l → IsAllowed t l
   allowed-from_possible possible k most =
@@ -149,7 +175,9 @@ module _ (n : ℕ) (t : ℕ → ℕ → Option Hop) (ps : List Numbered) (stands
   }
 
 -- a table of which no two names are kept stands for the empty list
-pub StandsFor-new : (n : ℕ) (t : ℕ → ℕ → Option Hop) → ((x : ℕ) → x < n → (h : Hop) × (t x x ≡ Some h) × (h.k ≡ pos 0)) → ((x y : ℕ) (h : Hop) → t x y ≡ Some h → (x ≡ y) × (x < n)) → StandsFor n t []
+pub StandsFor-new :
+    (n : ℕ) (t : ℕ → ℕ → Option Hop) → ((x : ℕ) → x < n → (h : Hop) × (t x x ≡ Some h) × (h.k ≡ pos 0))
+    → ((x y : ℕ) (h : Hop) → t x y ≡ Some h → (x ≡ y) × (x < n)) → StandsFor n t []
 StandsFor-new n t own same =
     StandsFor-from_closed n t []
     (record {
@@ -159,7 +187,8 @@ StandsFor-new n t own same =
           let e : x ≡ z = to.0 ∙ on.0 in
           let low : pos 0 ≤ℤ i = to.1 in
           let low' : pos 0 ≤ℤ j = on.1 in
-          IsAtMost-weaker (t x z) (pos 0) (i +ℤ j) (subst (λ (w : ℕ). IsAtMost (t x w) (pos 0)) e (own_at_most x xn)) (omega (arith, ints)));
+          IsAtMost-weaker (t x z) (pos 0) (i +ℤ j) (subst (λ (w : ℕ). IsAtMost (t x w) (pos 0)) e (own_at_most x xn))
+          (omega (arith, ints)));
       own = own_at_most;
       own_least = λ x xn k most. (kept-same x x k xn most).1;
     })
@@ -200,7 +229,8 @@ StandsFor-new n t own same =
             (here, omega (arith, ints))
 
 -- tables that keep the same stand for the same lists
-pub StandsFor-same : (n : ℕ) (t u : ℕ → ℕ → Option Hop) (ps : List Numbered) → ((x y : ℕ) → t x y ≡ u x y) → StandsFor n t ps → StandsFor n u ps
+pub StandsFor-same :
+    (n : ℕ) (t u : ℕ → ℕ → Option Hop) (ps : List Numbered) → ((x y : ℕ) → t x y ≡ u x y) → StandsFor n t ps → StandsFor n u ps
 StandsFor-same n t u ps same stands =
     let e : t ≡ u = λ i x y. (same x y) i in
     subst (λ (w : ℕ → ℕ → Option Hop). StandsFor n w ps) e stands
@@ -212,7 +242,7 @@ allowed-from_room t l room k most = by (t l.y l.x) room most
     by : (o : Option Hop) → leaves_room o l.k ≡ true → IsAtMost o k → pos 0 ≤ℤ (k +ℤ l.k)
     by None room most = absurd most
     by (Some h) room most =
-        let low : pos 0 ≤ℤ (h.k +ℤ l.k) = int_le-true (pos 0) (h.k +ℤ l.k) room in
+        let low : pos 0 ≤ℤ (h.k +ℤ l.k) = grind (arith, ints, room) in
         let high : h.k ≤ℤ k = most in
         omega (arith, ints)
 
@@ -227,7 +257,7 @@ back-from_no_room t l no_room = by (t l.y l.x) refl no_room
   where
     by : (o : Option Hop) → t l.y l.x ≡ o → leaves_room o l.k ≡ false → LeadsBack t l
     by None e no_room = absurd (true≢false no_room)
-    by (Some h) e no_room = record { hop = h; is_hop = e; negative = int_le-false (pos 0) (h.k +ℤ l.k) no_room }
+    by (Some h) e no_room = record { hop = h; is_hop = e; negative = grind (arith, ints, no_room) }
 
 pub not_allowed-from_back : (t : ℕ → ℕ → Option Hop) (l : Lit) → LeadsBack t l → IsAllowed t l → ⊥
 not_allowed-from_back t l back allowed =
@@ -237,17 +267,20 @@ not_allowed-from_back t l back allowed =
 
 pub at_most-from_keeps : (o : Option Hop) (k : ℤ) → keeps o k ≡ true → IsAtMost o k
 at_most-from_keeps None k kept = absurd (false≢true kept)
-at_most-from_keeps (Some h) k kept = int_le-true h.k k kept
+at_most-from_keeps (Some h) k kept = grind (arith, ints)
 
 -- ---- sizes
-pub IsModest-from_stands : (n : ℕ) (t : ℕ → ℕ → Option Hop) (ps : List Numbered) → StandsFor n t ps → AreSmall (literals_of ps) → n ≤ 256 → (x y : ℕ) → IsModest 1000000 (t x y)
+pub IsModest-from_stands :
+    (n : ℕ) (t : ℕ → ℕ → Option Hop) (ps : List Numbered) → StandsFor n t ps → AreSmall (literals_of ps) → n ≤ 256 → (x y : ℕ)
+    → IsModest 1000000 (t x y)
 IsModest-from_stands n t ps stands small few x y = by (t x y) refl
   where
     by : (o : Option Hop) → t x y ≡ o → IsModest 1000000 o
     by None e = tt
     by (Some h) e =
         let chain = stands.chains x y h e in
-        let short : chain.0 < n = Leads-short n t ps (IsClosed-from_stands n t ps stands) stands.inside chain.0 x y h.k (stands.inside x y h e).1 chain.1 in
+        let short : chain.0 < n =
+        Leads-short n t ps (IsClosed-from_stands n t ps stands) stands.inside chain.0 x y h.k (stands.inside x y h e).1 chain.1 in
         let sizes = Leads-small t ps small chain.0 x y h.k chain.1 in
         let low : neg_ℤ (pos (1001 * chain.0)) ≤ℤ h.k = sizes.0 in
         let high : h.k ≤ℤ pos (1001 * chain.0) = sizes.1 in
@@ -262,7 +295,9 @@ pub record Followed (t : ℕ → ℕ → Option Hop) (ps : List Numbered) (most 
   pub weighs : weight literals ≡ k
   pub counts : length (numbers_along (λ z. t z y) most x y) ≡ count
 
-pub Followed-from_leads : (t : ℕ → ℕ → Option Hop) (ps : List Numbered) (most count x y : ℕ) (k : ℤ) → count ≤ most → Leads t ps count x y k → Followed t ps most count x y k
+pub Followed-from_leads :
+    (t : ℕ → ℕ → Option Hop) (ps : List Numbered) (most count x y : ℕ) (k : ℤ) → count ≤ most → Leads t ps count x y k
+    → Followed t ps most count x y k
 Followed-from_leads t ps zero zero x y k room leads = record {
   literals = [];
   named = tt;
@@ -285,7 +320,8 @@ Followed-from_leads t ps (suc most) (suc count) x y k room leads =
     let l : Lit = leads.1.3.0 in
     let is_h : t x y ≡ Some h = leads.1.1 in
     let test : (x == y) ≡ false = ne_eqb x y leads.0 in
-    let rest : Followed t ps most count h.second y (k -ℤ l.k) = Followed-from_leads t ps most count h.second y (k -ℤ l.k) (omega arith) leads.1.3.4 in
+    let rest : Followed t ps most count h.second y (k -ℤ l.k) =
+    Followed-from_leads t ps most count h.second y (k -ℤ l.k) (omega arith) leads.1.3.4 in
     let on : numbers_along (λ z. t z y) (suc most) x y ≡ h.number ∷ numbers_along (λ z. t z y) most h.second y = rw (test, is_h) refl in
     let begins : nat_eq l.x x ≡ true = eq-eqb l.x x leads.1.3.2 in
     let goes_on : is_walk l.y rest.literals y ≡ true = subst (λ (z : ℕ). is_walk z rest.literals y ≡ true) (sym leads.1.3.3) rest.walks in
@@ -306,11 +342,15 @@ AreAmong-append ps qs (number ∷ numbers) (l ∷ ls) among =
     (IsAmong-append ps qs number l among.0, AreAmong-append ps qs numbers ls among.1)
 
 -- where a chain leads back, the literal and the chain are a negative cycle of few literals
-pub IsCycleOf-from_back : (n : ℕ) (t : ℕ → ℕ → Option Hop) (ps : List Numbered) → StandsFor n t ps → (number : ℕ) (l : Lit) → IsNamed n l → LeadsBack t l → IsCycleOf n (ps ++ record { number = number; lit = l } ∷ []) (number ∷ numbers_along (λ z. t z l.x) n l.y l.x)
+pub IsCycleOf-from_back :
+    (n : ℕ) (t : ℕ → ℕ → Option Hop) (ps : List Numbered) → StandsFor n t ps → (number : ℕ) (l : Lit) → IsNamed n l → LeadsBack t l
+    → IsCycleOf n (ps ++ record { number = number; lit = l } ∷ []) (number ∷ numbers_along (λ z. t z l.x) n l.y l.x)
 IsCycleOf-from_back n t ps stands number l named back =
     let chain = stands.chains l.y l.x back.hop back.is_hop in
-    let short : chain.0 < n = Leads-short n t ps (IsClosed-from_stands n t ps stands) stands.inside chain.0 l.y l.x back.hop.k named.0 chain.1 in
-    let followed : Followed t ps n chain.0 l.y l.x back.hop.k = Followed-from_leads t ps n chain.0 l.y l.x back.hop.k (omega arith) chain.1 in
+    let short : chain.0 < n =
+    Leads-short n t ps (IsClosed-from_stands n t ps stands) stands.inside chain.0 l.y l.x back.hop.k named.0 chain.1 in
+    let followed : Followed t ps n chain.0 l.y l.x back.hop.k =
+    Followed-from_leads t ps n chain.0 l.y l.x back.hop.k (omega arith) chain.1 in
     let weighs : weight followed.literals ≡ back.hop.k = followed.weighs in
     let high : (back.hop.k +ℤ l.k) <ℤ pos 0 = back.negative in
     let low : (l.k +ℤ weight followed.literals) <ℤ pos 0 = omega (arith, ints) in

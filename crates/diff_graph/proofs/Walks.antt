@@ -1,5 +1,5 @@
 -- Walks along literals: what picks name, and why a negative cycle leaves no values.
-use Rattle.std.proofs.Common.{◌≡◌, ℕ, zero, suc, ◌+◌, ◌<◌, ◌≤◌, ℤ, pos, ◌+ℤ◌, ◌≤ℤ◌, ◌<ℤ◌, true, false, nat_eq, int_lt, int_le, List, [], ◌∷◌, length, get_or, drop, Option, Some, None, is_some, option_and_then, slice_get, Ok, Err, arith, refl, sym, ap, ◌∙◌, subst, inl, inr}
+use Rattle.std.proofs.Common.{◌≡◌, ℕ, zero, suc, ◌+◌, ◌<◌, ◌≤◌, ℤ, pos, ◌+ℤ◌, ◌≤ℤ◌, ◌<ℤ◌, true, false, nat_eq, int_lt, List, [], ◌∷◌, length, get_or, drop, Option, Some, None, is_some, option_and_then, slice_get, Ok, Err, arith, refl, sym, ap, ◌∙◌, subst, inl, inr}
 use Rattle.std.proofs.lemmas.Int.{ints}
 use Rattle.std.proofs.lemmas.Bool.{false≢true, cases_lt, cases_Bool, and_parts, eqb-true}
 use Rattle.std.proofs.lemmas.Option.{slice_get_past, slice_get-get_or}
@@ -22,7 +22,8 @@ picked_past lits (n ∷ ns) (suc i) below past =
     by (Some l) rest = rw rest
 
 -- picks below the number of literals name the literals at their places
-pub picked_below : (lits : List Lit) (ns : List ℕ) → ((i : ℕ) → i < length ns → get_or ns i 0 < length lits) → picked lits ns ≡ Some (named_by lits ns)
+pub picked_below :
+    (lits : List Lit) (ns : List ℕ) → ((i : ℕ) → i < length ns → get_or ns i 0 < length lits) → picked lits ns ≡ Some (named_by lits ns)
 picked_below lits [] below = refl
 picked_below lits (n ∷ ns) below =
     let rest : picked lits ns ≡ Some (named_by lits ns) = picked_below lits ns (λ i inside. below (suc i) (omega arith)) in
@@ -33,7 +34,8 @@ pub place_below : (lits : List Lit) (ns : List ℕ) → is_some (picked lits ns)
 place_below lits ns some i inside = by (picked_past lits ns i inside)
   where
     by : (length lits ≤ get_or ns i 0 → picked lits ns ≡ None) → get_or ns i 0 < length lits
-    by past = elim (cases_lt (get_or ns i 0) (length lits)) [ inl lt ↦ lt | inr le ↦ absurd (false≢true (ap is_some (sym (past le)) ∙ some)) ]
+    by past =
+        elim (cases_lt (get_or ns i 0) (length lits)) [ inl lt ↦ lt | inr le ↦ absurd (false≢true (ap is_some (sym (past le)) ∙ some)) ]
 
 -- a test on integers, and what it tells
 pub int_lt-true : (a b : ℤ) → int_lt a b ≡ true → a <ℤ b
@@ -44,12 +46,6 @@ int_lt-false a b high = grind (arith, ints)
 
 pub int_lt-none : (a b : ℤ) → int_lt a b ≡ false → b ≤ℤ a
 int_lt-none a b e = grind (arith, ints)
-
-pub int_le-true : (a b : ℤ) → int_le a b ≡ true → a ≤ℤ b
-int_le-true a b e = grind (arith, ints)
-
-pub int_le-false : (a b : ℤ) → int_le a b ≡ false → b <ℤ a
-int_le-false a b e = grind (arith, ints)
 
 pub lt-int_lt : (a b : ℤ) → a <ℤ b → int_lt a b ≡ true
 lt-int_lt a b low = grind (arith, ints)
@@ -99,7 +95,8 @@ pub negative_verdict : (ls : List Lit) → is_closed_walk ls ≡ true → weight
 negative_verdict ls e low = rw (e, lt-int_lt (weight ls) (pos 0) low)
 
 -- the verdict on picks is that on the literals which they name
-pub pick_verdict-named_by : (lits : List Lit) (ns : List ℕ) → is_some (picked lits ns) ≡ true → pick_verdict lits ns ≡ cycle_verdict (named_by lits ns)
+pub pick_verdict-named_by :
+    (lits : List Lit) (ns : List ℕ) → is_some (picked lits ns) ≡ true → pick_verdict lits ns ≡ cycle_verdict (named_by lits ns)
 pick_verdict-named_by lits ns some = rw (picked_below lits ns (place_below lits ns some))
 
 pub no_values_on_cycle : (v : ℕ → ℤ) (ls : List Lit) → cycle_verdict ls ≡ Ok tt → AreMet v ls → ⊥
@@ -115,7 +112,9 @@ AreMet-at v [] n met inside = absurd (omega arith)
 AreMet-at v (l ∷ ls) zero met inside = met.0
 AreMet-at v (l ∷ ls) (suc n) met inside = AreMet-at v ls n met.1 (omega arith)
 
-pub AreMet-named_by : (v : ℕ → ℤ) (lits : List Lit) (ns : List ℕ) → AreMet v lits → ((i : ℕ) → i < length ns → get_or ns i 0 < length lits) → AreMet v (named_by lits ns)
+pub AreMet-named_by :
+    (v : ℕ → ℤ) (lits : List Lit) (ns : List ℕ) → AreMet v lits → ((i : ℕ) → i < length ns → get_or ns i 0 < length lits)
+    → AreMet v (named_by lits ns)
 AreMet-named_by v lits [] met below = tt
 AreMet-named_by v lits (n ∷ ns) met below =
     (AreMet-at v lits n met (below 0 (omega arith)), AreMet-named_by v lits ns met (λ i inside. below (suc i) (omega arith)))
@@ -134,5 +133,7 @@ no_values_on_picks v lits ns ok met = by (picked lits ns) refl ok
         no_values_on_cycle v ls ok (subst (λ (x : List Lit). AreMet v x) those met')
 
 -- the weight of what is left, one pick on
-pub weight-drop : (lits : List Lit) (ns : List ℕ) (i : ℕ) → i < length ns → weight (named_by lits (drop i ns)) ≡ ((literal_at lits (get_or ns i 0)).k +ℤ weight (named_by lits (drop (i + 1) ns)))
+pub weight-drop :
+    (lits : List Lit) (ns : List ℕ) (i : ℕ) → i < length ns
+    → weight (named_by lits (drop i ns)) ≡ ((literal_at lits (get_or ns i 0)).k +ℤ weight (named_by lits (drop (i + 1) ns)))
 weight-drop lits ns i inside = at_drop_more (λ rest. weight (named_by lits rest)) ns i 0 inside

@@ -3,10 +3,6 @@ use Rattle.std.specs.Prelude.{◌≡◌, ℕ, ℤ, pos, negsuc, ◌+ℤ◌, ◌-
 use Rattle.std.specs.List.{AllByRecursion}
 use Rattle.diff_graph.specs.declared.lit.Lit.{Lit}
 
--- an integer for each name
-abbrev pub Valuation : Type 0
-Valuation = ℕ → ℤ
-
 -- the literal `x <= y + k` is true at the valuation
 abbrev pub Meets : (ℕ → ℤ) → Lit → Type 0
 Meets v l = v l.x ≤ℤ (v l.y +ℤ l.k)

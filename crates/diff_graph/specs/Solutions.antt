@@ -1,7 +1,8 @@
 -- What it is to solve a list of literals: values that meet it, or a negative cycle.
 use Rattle.std.specs.List.{AllByRecursion}
-use Rattle.std.specs.Prelude.{◌≡◌, ℕ, ◌≤◌, ℤ, pos, Bool, true, false, List, length, slice_index_or, Ok, [], ◌∷◌, ◌+◌, negsuc, ◌-ℤ◌, Some, None, Option, ◌<◌, ◌≤ℤ◌, ◌⊎◌}
+use Rattle.std.specs.Prelude.{◌≡◌, ℕ, ◌≤◌, ℤ, pos, Bool, true, false, List, length, slice_index_or, Ok, [], ◌∷◌, ◌+◌, neg_ℤ, ◌-ℤ◌, Some, None, Option, ◌<◌, ◌≤ℤ◌, ◌⊎◌}
 use Rattle.diff_graph.specs.declared.lit.Lit.{Lit}
+use Rattle.diff_graph.specs.declared.lit.TheConstants.{MAX_LITERAL_OFFSET}
 use Rattle.diff_graph.specs.declared.hop.Hop.{Hop}
 use Rattle.diff_graph.specs.declared.solved.Solved.{Solved}
 use Rattle.diff_graph.specs.declared.solved.Solved.TheVariants.{Values, Cycle}
@@ -50,9 +51,12 @@ pub record AreLeast (ls : List Lit) (floors : List ℤ) (values : List ℤ) : Ty
   pub above : MeetsFloors floors (valuation_of values)
   pub least : (v : ℕ → ℤ) → v 0 ≡ pos 0 → AreMet v ls → MeetsFloors floors v → (x : ℕ) → x < length floors → valuation_of values x ≤ℤ v x
 
--- each floor lies in -1,000..=1,000
+-- each floor is as far from 0 as the offset of a literal that is asked
+abbrev pub IsFloor : ℤ → Type 0
+IsFloor f = (neg_ℤ MAX_LITERAL_OFFSET ≤ℤ f) × (f ≤ℤ MAX_LITERAL_OFFSET)
+
 abbrev pub AreFloors : List ℤ → Type 0
-AreFloors floors = AllByRecursion (λ f. (negsuc 999 ≤ℤ f) × (f ≤ℤ pos 1000)) floors
+AreFloors floors = AllByRecursion IsFloor floors
 
 -- the floors as literals `0 <= x - floor`, from a name on
 abbrev pub floors_from : ℕ → List ℤ → List Lit

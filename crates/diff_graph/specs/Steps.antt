@@ -1,5 +1,5 @@
 -- One step of a closed table: what it keeps once a literal is added to it.
-use Rattle.std.specs.Prelude.{take, ◌≡◌, ◌<◌, length, slice_index_or, ℕ, zero, suc, ◌==◌, ℤ, pos, neg_ℤ, ◌+ℤ◌, ◌-ℤ◌, ◌≤ℤ◌, Bool, true, false, int_lt, int_le, List, [], ◌∷◌, Option, Some, None, if◌then◌else◌}
+use Rattle.std.specs.Prelude.{take, ◌≡◌, ◌<◌, length, slice_index_or, ℕ, zero, suc, ◌≤◌, ◌==◌, ℤ, pos, neg_ℤ, ◌+ℤ◌, ◌-ℤ◌, ◌≤ℤ◌, Bool, true, false, int_lt, int_le, List, [], ◌∷◌, ◌++◌, Option, Some, None, if◌then◌else◌}
 use Rattle.std.specs.Option.{option_map_or}
 use Rattle.diff_graph.specs.declared.lit.Lit.{Lit}
 use Rattle.diff_graph.specs.declared.hop.Hop.{Hop}
@@ -69,7 +69,16 @@ AreModest rows = (x y : ℕ) → IsModest 1000000 (kept_of rows x y)
 -- a row is lowered by ways to a name, each gone on by what the row keeps from there
 pub record IsLowered (ways : List (Option Hop)) (from : ℕ) (old new : List (Option Hop)) : Type 0 where
   pub len : length new ≡ length old
-  pub at : (x : ℕ) → x < length old → slice_index_or new x None ≡ lower_of (slice_index_or old x None) (joined (slice_index_or ways x None) (slice_index_or old from None))
+  pub at :
+      (x : ℕ) → x < length old
+      → slice_index_or new x None
+      ≡ lower_of (slice_index_or old x None) (joined (slice_index_or ways x None) (slice_index_or old from None))
+
+-- below a place each row is lowered, and from there on it is as it was
+pub record AreLowered (ways : List (Option Hop)) (from : ℕ) (old new : List (List (Option Hop))) (place : ℕ) : Type 0 where
+  pub len : length new ≡ length old
+  pub done : (y : ℕ) → y < place → IsLowered ways from (slice_index_or old y []) (slice_index_or new y [])
+  pub left : (y : ℕ) → place ≤ y → slice_index_or new y [] ≡ slice_index_or old y []
 
 -- the numbers of the literals on the chain from one name to another, where it has no more than is said
 abbrev pub numbers_along : (ℕ → Option Hop) → ℕ → ℕ → ℕ → List ℕ
@@ -77,6 +86,10 @@ numbers_along hop_from zero x y = []
 numbers_along hop_from (suc most) x y =
     if x == y then []
     else option_map_or (λ h. h.number ∷ numbers_along hop_from most h.second y) (hop_from x) []
+
+-- some of the numbers, from the first on, were put at the end of a list
+abbrev pub AppendsFirst : List ℕ → List ℕ → List ℕ → Type 0
+AppendsFirst before numbers after = (n : ℕ) × (after ≡ before ++ take n numbers)
 
 -- the least of 0 and the offsets to the first names
 abbrev pub lower_by : ℤ → Option Hop → ℤ

@@ -3,6 +3,7 @@
 use Rattle.std.specs.Prelude.{◌≡◌, ◌≢◌, ◌↔◌, ◌⊎◌, ℕ, zero, suc, ◌+◌, ◌<◌, ◌≤◌, ℤ, pos, negsuc, ◌+ℤ◌, ◌-ℤ◌, ◌≤ℤ◌, List, [], ◌∷◌, map, slice_index_or, length, Option, Some, None, Ok}
 use Rattle.std.specs.List.{AllByRecursion}
 use Rattle.diff_graph.specs.declared.lit.Lit.{Lit}
+use Rattle.diff_graph.specs.declared.lit.TheConstants.{MAX_LITERAL_OFFSET}
 use Rattle.diff_graph.specs.declared.hop.Hop.{Hop}
 use Rattle.diff_graph.specs.Literals.{Meets, AreMet}
 use Rattle.diff_graph.specs.Cycles.{cycle_verdict}
@@ -14,9 +15,12 @@ IsNamed n l = (l.x < n) × (l.y < n)
 abbrev pub AreNamed : ℕ → List Lit → Type 0
 AreNamed n ls = AllByRecursion (λ l. IsNamed n l) ls
 
--- the offset lies in -1,001..=1,001
+-- an offset of a literal that is asked, or of the negation of one
+abbrev pub IsSmallOffset : ℤ → Type 0
+IsSmallOffset k = ((negsuc 0 -ℤ MAX_LITERAL_OFFSET) ≤ℤ k) × (k ≤ℤ (MAX_LITERAL_OFFSET +ℤ pos 1))
+
 abbrev pub IsSmall : Lit → Type 0
-IsSmall l = (negsuc 1000 ≤ℤ l.k) × (l.k ≤ℤ pos 1001)
+IsSmall l = IsSmallOffset l.k
 
 abbrev pub AreSmall : List Lit → Type 0
 AreSmall ls = AllByRecursion (λ l. IsSmall l) ls
@@ -34,10 +38,6 @@ literals_of ps = map (λ p. p.lit) ps
 abbrev pub IsAmong : List Numbered → ℕ → Lit → Type 0
 IsAmong [] number l = ⊥
 IsAmong (p ∷ ps) number l = ((p.number ≡ number) × (p.lit ≡ l)) ⊎ IsAmong ps number l
-
--- what is kept for each ordered pair of names
-abbrev pub Table : Type 0
-Table = ℕ → ℕ → Option Hop
 
 -- the table that rows keep: the row of y has what is kept for each name x and y
 abbrev pub kept_of : List (List (Option Hop)) → ℕ → ℕ → Option Hop

@@ -4,7 +4,7 @@ ghost use Rattle.diff_graph.specs.Tables.{IsNamed, AreNamed, IsSmall, AreSmall};
 ghost use Rattle.diff_graph.specs.Solutions.{AreFloors};
 
 use crate::NoMemory;
-use crate::lit::Lit;
+use crate::lit::{Lit, MAX_LITERAL_OFFSET};
 use std::alloc::Global;
 
 /// The literal `x <= y + k` for each row `(x, y, k)`.
@@ -16,21 +16,6 @@ pub fn literals(alloc: Global, rows: &[(u8, u8, i32)]) -> Result<Vec<Lit>, NoMem
             y: row.1,
             k: row.2,
         })?;
-    }
-    Ok(lits)
-}
-
-/// A literal of the offset from each name to the next one, over so many names.
-pub fn chain(alloc: Global, names: usize, k: i32) -> Result<Vec<Lit>, NoMemory> {
-    let mut lits = Vec::new(alloc);
-    for name in 1..=u8::MAX {
-        if (name as usize) < names {
-            lits.push(Lit {
-                x: name - 1,
-                y: name,
-                k,
-            })?;
-        }
     }
     Ok(lits)
 }
@@ -53,7 +38,10 @@ fn is_within(lit: Lit, n: usize) -> bool
     ensures named { result ≡ true → IsNamed n lit }
     ensures small { result ≡ true → IsSmall lit }
 {
-    (lit.x as usize) < n && (lit.y as usize) < n && -1001 <= lit.k && lit.k <= 1001
+    (lit.x as usize) < n
+        && (lit.y as usize) < n
+        && -1 - MAX_LITERAL_OFFSET <= lit.k
+        && lit.k <= MAX_LITERAL_OFFSET + 1
 }
 
 /// Whether the floors meet the conditions of `least`.
@@ -63,7 +51,7 @@ pub fn are_floors(floors: &[i32]) -> bool
     ensures floors { result ≡ true → AreFloors floors.now }
 {
     for floor in floors {
-        if *floor < -1000 || 1000 < *floor {
+        if *floor < -MAX_LITERAL_OFFSET || MAX_LITERAL_OFFSET < *floor {
             return false;
         }
     }

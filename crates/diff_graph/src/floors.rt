@@ -3,7 +3,7 @@ ghost use Rattle.std.specs.Prelude.{◌≡◌, ◌↔◌, ℕ, ◌<◌, ◌≤�
 ghost use Rattle.diff_graph.specs.Literals.{IsPossible};
 ghost use Rattle.diff_graph.specs.Tables.{IsNamed, AreNamed, AreSmall, kept_of};
 ghost use Rattle.diff_graph.specs.Steps.{AreNewRows, IsSquare, AreModest, IsModest};
-ghost use Rattle.diff_graph.specs.Solutions.{AreLeast, IsPossibleAbove, AreFloors, floors_from, least_of, AreLeastMeeting, IsBoundedBelow};
+ghost use Rattle.diff_graph.specs.Solutions.{AreLeast, IsPossibleAbove, AreFloors, IsFloor, floors_from, least_of, AreLeastMeeting, IsBoundedBelow};
 
 use crate::NoMemory;
 use crate::adding::add_all;
@@ -95,8 +95,7 @@ fn floor_literals(alloc: Global, floors: &[i32]) -> Result<Vec<Lit>, NoMemory>
 fn floor_literal(floors: &[i32], x: usize) -> Lit
     requires few { length floors.now ≤ 256 }
     requires below { x < length floors.now }
-    requires low { negsuc 999 ≤ℤ slice_index_or floors.now x (pos 0) }
-    requires high { slice_index_or floors.now x (pos 0) ≤ℤ pos 1000 }
+    requires floor { IsFloor (slice_index_or floors.now x (pos 0)) }
     ensures { result ≡ record { x = 0; y = x; k = pos 0 -ℤ slice_index_or floors.now x (pos 0) } }
 {
     Lit {

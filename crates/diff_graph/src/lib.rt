@@ -16,21 +16,23 @@ mod cycle;
 mod fixtures;
 mod floors;
 mod hop;
-mod lists;
+mod laws;
 mod lit;
 mod rows;
 mod solved;
 mod solver;
 pub mod table;
-mod theorem;
 
 pub use answer::{answered, negate};
 pub use cycle::is_negative_cycle;
 pub use floors::least;
 pub use hop::Hop;
-pub use lists::{Places, Values};
-pub use lit::{Lit, PickEnd};
+pub use laws::{
+    lowered_rows_keep_the_step, negative_cycles_are_never_met, new_rows_stand_for_nothing,
+    tables_stand_for_what_is_added, tables_tell_what_is_possible,
+    unsatisfiable_exactly_at_negative_cycles,
+};
+pub use lit::{Lit, MAX_LITERAL_OFFSET, PickEnd};
 pub use solved::Solved;
 pub use solver::solve;
 pub use std::alloc::AllocError as NoMemory;
-pub use theorem::unsatisfiable_exactly_at_negative_cycles;

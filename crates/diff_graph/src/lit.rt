@@ -1,5 +1,9 @@
 //! Literals.
 
+/// The greatest offset of a literal that is asked, either way. That of its negation may be one further
+/// from 0.
+pub const MAX_LITERAL_OFFSET: i32 = 1_000;
+
 /// The difference constraint `x <= y + k` over integers that are named by `x` and `y`.
 #[derive(Clone, Copy, Debug, PartialEq, Eq)]
 pub struct Lit {

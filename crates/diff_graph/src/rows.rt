@@ -61,9 +61,7 @@ impl Row {
         requires modest_rest { IsModest 1000000 (slice_index_or self.old from None) }
         ensures { IsLowered ways.now from self.old self.new }
     {
-        if let Some(rest) = self.cells[from as usize] {
-            lower_row(&mut self.cells, ways, rest);
-        }
+        lower_row(&mut self.cells, ways, from);
     }
 }
 

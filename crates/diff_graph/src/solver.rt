@@ -8,10 +8,10 @@ ghost use Rattle.diff_graph.specs.Solutions.{Solves, is_cycle};
 use crate::NoMemory;
 use crate::adding::add_all;
 use crate::hop::Hop;
-use crate::lists::{Places, Values};
 use crate::lit::Lit;
 use crate::rows::{Row, cycle_at, new_rows, new_ways};
 use crate::solved::Solved;
+use plain_list::List;
 use std::alloc::Global;
 
 /// Values that meet all literals over `n` names, or a negative cycle of at most `n` picks. A cycle
@@ -47,8 +47,8 @@ fn solve_in(
     ensures cycle { IfOk result (λ solved. IsTrue (is_cycle solved) ↔ ¬ IsPossible lits.now) }
 {
     match add_all(rows, ways, lits) {
-        None => Ok(Solved::Values(Values::new(values_of(alloc, rows)?))),
-        Some(place) => Ok(Solved::Cycle(Places::new(cycle_at(
+        None => Ok(Solved::Values(List::from_vec(values_of(alloc, rows)?))),
+        Some(place) => Ok(Solved::Cycle(List::from_vec(cycle_at(
             alloc,
             rows,
             lits[place],

@@ -1,8 +1,8 @@
 //! One step of a closed table of distances, row by row. The row of a name keeps what is known from
 //! each name to it. A table of any kind of rows can be kept by these functions.
-ghost use Rattle.std.specs.Prelude.{◌≡◌, ℕ, ◌<◌, ◌≤◌, ◌^◌, ℤ, pos, negsuc, ◌≤ℤ◌, ◌++◌, length, slice_index_or, Option, Some, None, IfSome, IsNone, IfOk, OnOk};
-ghost use Rattle.diff_graph.specs.Tables.{IsNamed, IsSmall};
-ghost use Rattle.diff_graph.specs.Steps.{way_of, joined, lower_of, leaves_room, keeps, numbers_along, IsModest};
+ghost use Rattle.std.specs.Prelude.{◌≡◌, ℕ, ◌<◌, ◌≤◌, ◌^◌, ℤ, pos, negsuc, ◌≤ℤ◌, ◌++◌, length, slice_index_or, Option, Some, None, IfSome, IsNone, IfOk, OnOk, OnErr};
+ghost use Rattle.diff_graph.specs.Tables.{IsNamed, IsSmall, IsSmallOffset};
+ghost use Rattle.diff_graph.specs.Steps.{way_of, joined, lower_of, leaves_room, keeps, numbers_along, AppendsFirst, IsLowered, IsModest};
 
 use crate::NoMemory;
 use crate::hop::Hop;
@@ -11,8 +11,7 @@ use crate::lit::Lit;
 /// Whether a literal of offset `k` leaves room for what is kept from its second name to its first.
 pub fn leaves_room(back: Option<Hop>, k: i32) -> bool
     requires modest { IsModest 1000000 back }
-    requires low { negsuc 1000 ≤ℤ k }
-    requires high { k ≤ℤ pos 1001 }
+    requires small { IsSmallOffset k }
     ensures { result ≡ leaves_room back k }
 {
     match back {
@@ -70,9 +69,21 @@ fn way(front: Option<Hop>, lit: Lit, number: u32, x: u8) -> Option<Hop>
     }
 }
 
-/// Lowers the row of a name by the ways to the literal's second name, each gone on by `rest`, which
-/// is what is kept from there to the row's name.
-pub fn lower_row(row: &mut [Option<Hop>], ways: &[Option<Hop>], rest: Hop)
+/// Lowers the row of a name by the ways to `from`, each gone on by what the row keeps from there.
+pub fn lower_row(row: &mut [Option<Hop>], ways: &[Option<Hop>], from: u8)
+    requires from_below { from < length row.old }
+    requires same_length { length ways.now ≡ length row.old }
+    requires modest_ways { (x : ℕ) → x < length ways.now → IsModest 2000000 (slice_index_or ways.now x None) }
+    requires modest_rest { IsModest 1000000 (slice_index_or row.old from None) }
+    ensures { IsLowered ways.now from row.old row.new }
+{
+    if let Some(rest) = row[from as usize] {
+        lower_by(row, ways, rest);
+    }
+}
+
+/// Lowers the row by the ways, each gone on by `rest`.
+fn lower_by(row: &mut [Option<Hop>], ways: &[Option<Hop>], rest: Hop)
     requires same_length { length ways.now ≡ length row.old }
     requires modest_ways { (x : ℕ) → x < length ways.now → IsModest 2000000 (slice_index_or ways.now x None) }
     requires modest_rest { IsModest 1000000 (Some rest) }
@@ -117,8 +128,12 @@ pub fn push_chain(
     from: u8,
     to: u8,
 ) -> Result<(), NoMemory>
-    ensures { OnOk result (picks.new.items ≡ picks.old.items
+    ensures ok { OnOk result (picks.new.items ≡ picks.old.items
         ++ numbers_along (λ x. slice_index_or row.now x None) (length row.now) from to) }
+
+    // Where memory was wanting, those that were put stay.
+    ensures err { OnErr result (AppendsFirst picks.old.items
+        (numbers_along (λ x. slice_index_or row.now x None) (length row.now) from to) picks.new.items) }
 {
     let mut name = from;
     for _step in 0..row.len() {

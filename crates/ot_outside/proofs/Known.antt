@@ -9,6 +9,8 @@ append_known-append None a b = refl
 append_known-append (Some w) a b = ap Some (append_assoc w a b)
 
 -- after the bytes before i, the next n bytes
-pub append_known-take : (before between after : Option (List ℕ)) (bytes : List ℕ) (i n : ℕ) → between ≡ append_known before (take i bytes) → after ≡ append_known between (take n (drop i bytes)) → after ≡ append_known before (take (i + n) bytes)
+pub append_known-take :
+    (before between after : Option (List ℕ)) (bytes : List ℕ) (i n : ℕ) → between ≡ append_known before (take i bytes)
+    → after ≡ append_known between (take n (drop i bytes)) → after ≡ append_known before (take (i + n) bytes)
 append_known-take before between after bytes i n e f =
     rw (f, e, append_known-append before (take i bytes) (take n (drop i bytes)), take-add i n bytes)

@@ -4,4 +4,5 @@ pub mod Faults
 pub mod Files
 pub mod MemShelf
 pub mod MemSink
+pub mod Unchanged
 pub mod Whole

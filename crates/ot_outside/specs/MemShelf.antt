@@ -1,7 +1,7 @@
 -- A shelf in memory, as its callers see it.
 use Rattle.std.specs.Prelude.{ℕ, Bool, List, [], Option, Some, None, drop}
 use Rattle.ot_outside.specs.declared.mem_shelf.MemShelf.{MemShelf}
-use Rattle.ot_outside.specs.declared.mem_shelf.Place.{Place}
+use Rattle.ot_outside.specs.declared.mem_shelf.OpenFile.{OpenFile}
 use Rattle.ot_outside.specs.Counts.{next_is_listed}
 use Rattle.ot_outside.specs.Files.{Files, contents_at, held}
 
@@ -10,7 +10,7 @@ abbrev pub shelf_holds : MemShelf → List ℕ → Option (List ℕ)
 shelf_holds shelf name = held shelf.files.items name
 
 -- what is left of the file at a place
-abbrev pub left_at : Files → Option Place → List ℕ
+abbrev pub left_at : Files → Option OpenFile → List ℕ
 left_at files None = []
 left_at files (Some place) = drop place.taken (contents_at files place.file)
 

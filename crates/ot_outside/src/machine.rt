@@ -14,6 +14,7 @@ pub struct FileShelf<'a, R: Files> {
     rt: &'a R,
     file: Option<R::File>,
     faults: u64,
+    calls: u64,
 }
 
 impl<'a, R: Files> FileShelf<'a, R> {
@@ -21,11 +22,13 @@ impl<'a, R: Files> FileShelf<'a, R> {
     pub fn new(rt: &'a R) -> FileShelf<'a, R>
         ensures left { ⟦<FileShelf<'a, R> as Shelf>⟧.left result ≡ Some [] }
         ensures faults { ⟦<FileShelf<'a, R> as Shelf>⟧.faults result ≡ 0 }
+        ensures calls { ⟦<FileShelf<'a, R> as Shelf>⟧.calls result ≡ 0 }
     {
         FileShelf {
             rt,
             file: None,
             faults: 0,
+            calls: 0,
         }
     }
 }
@@ -39,7 +42,10 @@ impl<R: Files> Shelf for FileShelf<'_, R> {
 
     ghost faults = { λ shelf. shelf.faults };
 
+    ghost calls = { λ shelf. shelf.calls };
+
     fn open(&mut self, name: &str) -> Result<(), Failed> {
+        self.calls = self.calls.saturating_add(1);
         self.file = None;
         match File::open(self.rt, name) {
             Ok(file) => {
@@ -54,6 +60,7 @@ impl<R: Files> Shelf for FileShelf<'_, R> {
     }
 
     fn read(&mut self, into: &mut [u8]) -> Result<usize, Failed> {
+        self.calls = self.calls.saturating_add(1);
         let Some(file) = &mut self.file else {
             return Ok(0);
         };

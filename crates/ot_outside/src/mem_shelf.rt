@@ -15,12 +15,12 @@ use crate::{Failed, Shelf};
 pub struct MemShelf {
     files: Vec<(String, Vec<u8>)>,
     counts: Counts,
-    opened: Option<Place>,
+    opened: Option<OpenFile>,
 }
 
 // The open file, by its number in the list, and how many of its bytes were taken.
 #[derive(Clone, Copy)]
-struct Place {
+struct OpenFile {
     file: usize,
     taken: usize,
 }
@@ -56,6 +56,8 @@ impl Shelf for MemShelf {
 
     ghost faults = { fault_count };
 
+    ghost calls = { call_count };
+
     fn open(&mut self, name: &str) -> Result<(), Failed>
         ensures ok { OnOk result (Some (shelf_left self.new) ≡ shelf_holds self.old name.now) }
         ensures err { OnErr result (shelf_left self.new ≡ []) }
@@ -76,7 +78,7 @@ impl Shelf for MemShelf {
         self.counts.call()?;
         match file_named(&self.files, name) {
             Some(file) => {
-                self.opened = Some(Place { file, taken: 0 });
+                self.opened = Some(OpenFile { file, taken: 0 });
                 Ok(())
             }
             None => Err(self.counts.fault()),

@@ -1,6 +1,6 @@
 ghost use Rattle.std.specs.Prelude.{◌≡◌, ◌<◌, ◌≤◌, ◌↔◌, ℕ, List, Option, [], take, length, IfOk, OnOk, OnErr};
 ghost use Rattle.std.specs.Io.KnownBytes.{IsAtEnd, prepend_known};
-ghost use Rattle.ot_outside.specs.Faults.{Rose};
+ghost use Rattle.ot_outside.specs.Faults.{Rose, next_count};
 
 /// The outside failed, and its count of faults rose.
 #[derive(Clone, Copy, Debug, PartialEq, Eq)]
@@ -23,6 +23,9 @@ pub trait Shelf {
     /// How often the shelf has failed. The count never falls.
     ghost faults: { Self → ℕ };
 
+    /// How often the shelf was called, by `open` and `read` together.
+    ghost calls: { Self → ℕ };
+
     /// Opens a file, from its beginning, and leaves the one that was open. After `Failed` no file is
     /// open and nothing is left.
     fn open(&mut self, name: &str) -> Result<(), Failed>
@@ -35,7 +38,8 @@ pub trait Shelf {
         ensures offered { (n : List ℕ) → offered self.old n ↔ offered self.new n }
         ensures faults { faults self.old ≤ faults self.new }
 
-        ensures failed { OnErr result (Rose (faults self.old) (faults self.new)) };
+        ensures failed { OnErr result (Rose (faults self.old) (faults self.new)) }
+        ensures called { calls self.new ≡ next_count (calls self.old) };
 
     /// Puts the next bytes of what is left at the front of `into` and answers how many they are: 0
     /// exactly where nothing is left. What `into` then holds behind them is not said. After `Failed`
@@ -52,5 +56,6 @@ pub trait Shelf {
         ensures offered { (n : List ℕ) → offered self.old n ↔ offered self.new n }
         ensures faults { faults self.old ≤ faults self.new }
 
-        ensures failed { OnErr result (Rose (faults self.old) (faults self.new)) };
+        ensures failed { OnErr result (Rose (faults self.old) (faults self.new)) }
+        ensures called { calls self.new ≡ next_count (calls self.old) };
 }

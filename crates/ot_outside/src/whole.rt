@@ -1,5 +1,5 @@
 // A whole file, and all of some bytes.
-ghost use Rattle.std.specs.Prelude.{◌≡◌, ◌<◌, ◌≤◌, ◌↔◌, ℕ, List, [], length, OnOk, OnErr, IsErrOf};
+ghost use Rattle.std.specs.Prelude.{◌≡◌, ◌<◌, ◌≤◌, ◌+◌, ◌↔◌, ℕ, List, [], length, OnOk, OnErr, IsErrOf};
 ghost use Rattle.std.specs.Option.{ForSome};
 ghost use Rattle.std.specs.Io.KnownBytes.{append_known};
 ghost use Rattle.ot_outside.specs.Faults.{Rose};
@@ -44,7 +44,7 @@ const PIECE: usize = 65_536;
 ///
 /// At `TooLong`, exactly where the file has more bytes, `into` holds its first `limit` bytes. At
 /// `Failed`, only where the shelf's faults rose, and at `NoMemory` it holds a front of the file.
-/// Every turn takes at least one byte, so there are at most `limit + 1` turns.
+/// The shelf is asked to read at most `limit + 1` times: each time gives at least a byte, or is the last.
 pub fn read_all<H: Shelf>(
     shelf: &mut H,
     name: &str,
@@ -63,6 +63,9 @@ pub fn read_all<H: Shelf>(
     ensures holds { (n : List ℕ) → H.holds shelf.new n ≡ H.holds shelf.old n }
     ensures offered { (n : List ℕ) → H.offered shelf.old n ↔ H.offered shelf.new n }
     ensures faults { H.faults shelf.old ≤ H.faults shelf.new }
+
+    // One call to open the file, and those to read it.
+    ensures called { H.calls shelf.new ≤ H.calls shelf.old + limit + 2 }
 
     ensures failed { IsErrOf result ReadEnd.Failed → Rose (H.faults shelf.old) (H.faults shelf.new) }
     ensures too_long { IsErrOf result ReadEnd.TooLong → ForSome (H.holds shelf.old name.now) (λ contents. limit < length contents) }

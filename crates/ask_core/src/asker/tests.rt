@@ -8,7 +8,7 @@ use diff_graph::Lit;
 use std::test::Fail;
 
 #[derive(Clone, Copy, Debug, PartialEq, Eq)]
-enum Place {
+enum Stage {
     First,
     Second,
     Kept,
@@ -23,11 +23,11 @@ struct TwoNames {
 impl Asker for TwoNames {
     ghost use Rattle.std.specs.Prelude.{◌≡◌, ℕ, refl};
     ghost use Rattle.std.proofs.Common.{lit≤};
-    ghost use Rattle.ask_core.specs.declared.asker.tests.Place.TheVariants.{First, Second, Kept, Broken};
+    ghost use Rattle.ask_core.specs.declared.asker.tests.Stage.TheVariants.{First, Second, Kept, Broken};
     ghost use Rattle.ask_core.specs.Plans.{Holds, Fails};
     ghost use Rattle.ask_core.specs.TwoNames.{second_plan, two_name_plan, IsFine-two_name_plan, IsFine-second_plan};
 
-    type Node = Place;
+    type Node = Stage;
 
     type Why = u8;
 
@@ -43,32 +43,37 @@ impl Asker for TwoNames {
         2
     }
 
-    fn start(&mut self) -> Result<Place, NoMemory> {
-        Ok(Place::First)
+    fn start(&mut self) -> Result<Stage, NoMemory> {
+        Ok(Stage::First)
     }
 
-    fn turn(&mut self, node: Place) -> Result<Turn<Place, u8>, NoMemory> {
+    fn turn(&mut self, node: Stage) -> Result<Turn<Stage, u8>, NoMemory> {
         Ok(match node {
-            Place::First => Turn::Ask {
+            Stage::First => Turn::Ask {
                 lit: Lit { x: 0, y: 1, k: 0 },
-                yes: Place::Second,
-                no: Place::Kept,
+                yes: Stage::Second,
+                no: Stage::Kept,
             },
-            Place::Second => Turn::Ask {
+            Stage::Second => Turn::Ask {
                 lit: Lit {
                     x: 1,
                     y: 0,
                     k: if self.strict { -1 } else { 0 },
                 },
-                yes: Place::Broken,
-                no: Place::Kept,
+                yes: Stage::Broken,
+                no: Stage::Kept,
             },
-            Place::Kept => Turn::Holds,
-            Place::Broken => Turn::Fails(7),
+            Stage::Kept => Turn::Holds,
+            Stage::Broken => Turn::Fails(7),
         })
     }
 
-    ghost fine = { λ a. elim [ First ↦ λ _. IsFine-two_name_plan a.strict | Second ↦ λ _. IsFine-second_plan a.strict | Kept ↦ λ _. record { literals = refl; paths = lit≤ tt } | Broken ↦ λ _. record { literals = refl; paths = lit≤ tt } ] };
+    ghost fine = { λ a. elim [
+      | First ↦ λ _. IsFine-two_name_plan a.strict
+      | Second ↦ λ _. IsFine-second_plan a.strict
+      | Kept ↦ λ _. record { literals = refl; paths = lit≤ tt }
+      | Broken ↦ λ _. record { literals = refl; paths = lit≤ tt }
+    ] };
 }
 
 /// The first turn of any asker.
@@ -86,8 +91,8 @@ fn an_asker_begins_with_its_own_plan(rt: HostRuntime) -> Result<(), Fail> {
     assert_eq!(rt; asker.names(), 2);
     let want = Turn::Ask {
         lit: Lit { x: 0, y: 1, k: 0 },
-        yes: Place::Second,
-        no: Place::Kept,
+        yes: Stage::Second,
+        no: Stage::Kept,
     };
     assert_eq!(rt; first_turn(&mut asker)?, want);
     Ok(())
@@ -102,6 +107,6 @@ fn picks_and_trees_keep_what_was_pushed(rt: HostRuntime) -> Result<(), Fail> {
     let mut tree = Tree::new(rt.alloc());
     tree.push(Tok::Ask)?;
     tree.push(Tok::Cycle(picks))?;
-    assert_eq!(rt; tree.toks().len(), 2);
+    assert_eq!(rt; tree.len(), 2);
     Ok(())
 }

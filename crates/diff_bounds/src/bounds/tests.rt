@@ -2,7 +2,7 @@ ghost use Rattle.std.specs.Prelude.{◌≤◌, ◌<◌, ◌^◌, length};
 ghost use Rattle.diff_graph.specs.Tables.{IsNamed, IsSmall};
 
 use super::*;
-use diff_graph::is_negative_cycle;
+use diff_graph::{MAX_LITERAL_OFFSET, is_negative_cycle};
 use std::process::Abort;
 use std::test::Fail;
 
@@ -13,7 +13,10 @@ fn lit_of<const N: usize>(rt: &impl Abort, x: u8, y: u8, k: i32) -> Lit
 {
     assert!(rt; (x as usize) < N, "{x} is a name");
     assert!(rt; (y as usize) < N, "{y} is a name");
-    assert!(rt; -1001 <= k && k <= 1001, "{k} is an offset");
+    assert!(rt;
+        -1 - MAX_LITERAL_OFFSET <= k && k <= MAX_LITERAL_OFFSET + 1,
+        "{k} is an offset"
+    );
     Lit { x, y, k }
 }
 
@@ -139,124 +142,17 @@ fn a_literal_that_follows_changes_nothing(rt: HostRuntime) -> Result<(), Fail> {
         &[Some(0), Some(-4), None],
         &[Some(0), Some(4), None],
     );
-
-    // The literal that was first names why not.
-    let mut twice = Bounds::<3>::new();
-    let below = lit_of::<3>(&rt, 1, 0, 5);
-    for number in [7, 8] {
-        assert!(rt; twice.allows(below));
-        twice.add(below, number);
-    }
-    let back = lit_of::<3>(&rt, 0, 1, -6);
-    assert!(rt; !twice.allows(back));
-    let mut picks = twice.why_not(rt.alloc(), back, 9)?;
-    picks.sort_unstable();
-    assert_eq!(rt; picks.as_slice(), [7, 9].as_slice());
-    Ok(())
-}
-
-#[test]
-fn a_chain_through_all_names_closes_a_cycle(rt: HostRuntime) -> Result<(), Fail> {
-    let mut bounds = Bounds::<12>::new();
-    for x in 0..11 {
-        let lit = lit_of::<12>(&rt, x, x + 1, -91);
-        assert!(rt; bounds.allows(lit));
-        bounds.add(lit, u32::from(x));
-    }
-    assert_eq!(rt; bounds.tightest(0, 11), Some(-1001));
-    let back = lit_of::<12>(&rt, 11, 0, 1000);
-    assert!(rt; !bounds.allows(back));
-    let mut picks = bounds.why_not(rt.alloc(), back, 11)?;
-    picks.sort_unstable();
-    assert_eq!(rt;
-        picks.as_slice(),
-        [0, 1, 2, 3, 4, 5, 6, 7, 8, 9, 10, 11].as_slice()
-    );
-    let round = lit_of::<12>(&rt, 11, 0, 1001);
-    assert!(rt; bounds.allows(round));
-    bounds.add(round, 12);
-    assert_eq!(rt; bounds.tightest(5, 3), Some(182));
-
-    let mut steepest = Bounds::<16>::new();
-    for x in 0..15 {
-        let lit = lit_of::<16>(&rt, x, x + 1, -1001);
-        assert!(rt; steepest.allows(lit));
-        steepest.add(lit, u32::from(x));
-    }
-    assert_eq!(rt; steepest.tightest(0, 15), Some(-15_015));
     Ok(())
 }
 
 #[test]
 fn tables_are_those_of_all_shortest_paths(rt: HostRuntime) -> Result<(), Fail> {
-    let nine = table_of::<9>(&rt, rt.alloc(), &NINE)?;
-    assert_tightest(&rt, &nine, &NINE_FROM_0, &NINE_TO_0);
     let twelve = table_of::<12>(&rt, rt.alloc(), &TWELVE)?;
     assert_tightest(&rt, &twelve, &TWELVE_FROM_0, &TWELVE_TO_0);
-    let sixteen = table_of::<16>(&rt, rt.alloc(), &SIXTEEN)?;
-    assert_tightest(&rt, &sixteen, &SIXTEEN_FROM_0, &SIXTEEN_TO_0);
     Ok(())
 }
 
 // Drawn by chance; the answers and offsets by Floyd and Warshall's algorithm, in another program.
-
-// Literals, and whether some integers meet each with those that were allowed before it.
-const NINE: [(u8, u8, i32, bool); 30] = [
-    (4, 5, 6, true),
-    (8, 0, 7, true),
-    (7, 3, 4, true),
-    (0, 2, -5, true),
-    (5, 7, 7, true),
-    (3, 6, 2, true),
-    (1, 3, -6, true),
-    (3, 6, -2, true),
-    (2, 6, -4, true),
-    (1, 2, 3, true),
-    (7, 2, -4, true),
-    (0, 0, -3, false),
-    (3, 2, 7, true),
-    (2, 4, -1, true),
-    (3, 8, 8, true),
-    (3, 2, 5, true),
-    (3, 6, -2, true),
-    (0, 5, 0, true),
-    (2, 2, -2, false),
-    (1, 5, -2, true),
-    (0, 5, -5, true),
-    (4, 5, 7, true),
-    (4, 7, 5, true),
-    (5, 2, 1, true),
-    (7, 2, -6, false),
-    (4, 0, 5, false),
-    (5, 6, -6, true),
-    (8, 6, -1, true),
-    (6, 0, 1, false),
-    (0, 2, 3, true),
-];
-
-const NINE_FROM_0: [Option<i32>; 9] = [
-    Some(0),
-    None,
-    Some(-5),
-    Some(3),
-    Some(-6),
-    Some(-5),
-    Some(-11),
-    Some(-1),
-    Some(11),
-];
-
-const NINE_TO_0: [Option<i32>; 9] = [
-    Some(0),
-    Some(9),
-    Some(23),
-    Some(15),
-    Some(24),
-    Some(24),
-    None,
-    Some(19),
-    Some(7),
-];
 
 // Literals, and whether some integers meet each with those that were allowed before it.
 const TWELVE: [(u8, u8, i32, bool); 40] = [
@@ -330,106 +226,4 @@ const TWELVE_TO_0: [Option<i32>; 12] = [
     Some(3),
     Some(-5),
     None,
-];
-
-// Literals, and whether some integers meet each with those that were allowed before it.
-const SIXTEEN: [(u8, u8, i32, bool); 60] = [
-    (14, 14, 1, true),
-    (6, 5, 6, true),
-    (15, 5, -5, true),
-    (14, 9, -4, true),
-    (2, 1, 3, true),
-    (12, 14, 4, true),
-    (5, 0, 7, true),
-    (2, 1, -6, true),
-    (6, 7, 3, true),
-    (0, 14, -1, true),
-    (14, 6, 2, true),
-    (7, 9, 1, true),
-    (0, 2, 1, true),
-    (8, 13, 2, true),
-    (2, 8, -1, true),
-    (7, 9, -6, true),
-    (2, 3, 0, true),
-    (3, 9, 0, true),
-    (2, 0, 7, true),
-    (0, 6, -3, true),
-    (1, 15, 0, false),
-    (12, 13, -5, true),
-    (6, 8, -1, true),
-    (2, 9, -1, true),
-    (0, 13, 6, true),
-    (3, 4, -3, true),
-    (3, 0, -6, false),
-    (14, 15, -4, false),
-    (6, 14, 2, true),
-    (6, 4, 0, true),
-    (12, 3, 0, true),
-    (13, 6, -6, false),
-    (8, 9, 8, true),
-    (0, 6, -4, true),
-    (12, 3, -6, true),
-    (4, 6, 1, true),
-    (8, 0, 6, true),
-    (10, 9, 0, true),
-    (2, 2, -5, false),
-    (6, 7, -6, true),
-    (11, 11, 3, true),
-    (14, 4, 3, true),
-    (15, 4, 7, true),
-    (12, 5, 4, true),
-    (4, 9, 8, true),
-    (7, 7, 5, true),
-    (6, 5, 5, true),
-    (6, 12, 8, true),
-    (15, 2, 0, true),
-    (1, 3, -5, false),
-    (1, 8, -3, false),
-    (12, 8, 0, true),
-    (15, 9, 2, true),
-    (5, 2, -4, false),
-    (7, 15, 2, false),
-    (2, 8, -3, true),
-    (6, 0, -5, false),
-    (8, 13, 1, true),
-    (7, 1, -6, true),
-    (5, 9, -1, true),
-];
-
-const SIXTEEN_FROM_0: [Option<i32>; 16] = [
-    Some(0),
-    Some(-16),
-    Some(1),
-    Some(-2),
-    Some(-5),
-    Some(1),
-    Some(-4),
-    Some(-10),
-    Some(-5),
-    Some(-16),
-    None,
-    None,
-    Some(4),
-    Some(-4),
-    Some(-2),
-    None,
-];
-
-const SIXTEEN_TO_0: [Option<i32>; 16] = [
-    Some(0),
-    None,
-    Some(3),
-    Some(3),
-    Some(6),
-    Some(7),
-    Some(5),
-    None,
-    Some(6),
-    None,
-    None,
-    None,
-    Some(-3),
-    None,
-    Some(7),
-    Some(2),
 ];

@@ -10,11 +10,13 @@ returns-then-not-chain_into_a_cycle-clause-verdict c =
 
 pub returns-then-sum_of-ge0-clause-verdict : goal.returns-then-sum_of-ge0-clause-verdict
 returns-then-sum_of-ge0-clause-verdict c =
-    sym (pick_verdict-named_by c.args.lits.now c.args.picks.now (cc) ∙ high_verdict (named_by c.args.lits.now c.args.picks.now) (cc) (grind (arith, ints)))
+    sym (pick_verdict-named_by c.args.lits.now c.args.picks.now (cc)
+    ∙ high_verdict (named_by c.args.lits.now c.args.picks.now) (cc) (grind (arith, ints)))
 
 pub returns-clause-verdict : goal.returns-clause-verdict
 returns-clause-verdict c =
-    sym (pick_verdict-named_by c.args.lits.now c.args.picks.now (cc) ∙ negative_verdict (named_by c.args.lits.now c.args.picks.now) (cc) (grind (arith, ints)))
+    sym (pick_verdict-named_by c.args.lits.now c.args.picks.now (cc)
+    ∙ negative_verdict (named_by c.args.lits.now c.args.picks.now) (cc) (grind (arith, ints)))
 
 pub returns-clause-sound : goal.returns-clause-sound
 returns-clause-sound c ok v met = no_values_on_picks v _ _ (sym (returns-clause-verdict c)) met

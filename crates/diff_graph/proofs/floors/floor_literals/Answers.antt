@@ -2,11 +2,8 @@ use Rattle.std.proofs.Common.{ap, sym, ◌∙◌, ◌++◌, ◌∷◌, [], pos, 
 use Rattle.diff_graph.proofs.FloorSteps.{floors_from-take, floor-at}
 use Rattle.diff_graph.proofs.floors.floor_literals.Goals as goal
 
-pub floor_literal-requires-clause-low : goal.floor_literal-requires-clause-low
-floor_literal-requires-clause-low c = (floor-at c.args.floors.now c.loop-x.x c.requires.floors c.loop-x-test.true).0
-
-pub floor_literal-requires-clause-high : goal.floor_literal-requires-clause-high
-floor_literal-requires-clause-high c = (floor-at c.args.floors.now c.loop-x.x c.requires.floors c.loop-x-test.true).1
+pub floor_literal-requires-clause-floor : goal.floor_literal-requires-clause-floor
+floor_literal-requires-clause-floor c = floor-at c.args.floors.now c.loop-x.x c.requires.floors c.loop-x-test.true
 
 pub loop-x-preserved : goal.loop-x-preserved
 loop-x-preserved c =

@@ -23,16 +23,21 @@ returns-in-Some-clause-none c = (
 pub add_all-requires-2-clause-stands : goal.add_all-requires-2-clause-stands
 add_all-requires-2-clause-stands c = (
   numbered_from 0 c.args.lits.now,
-  StandsFor-first (length c.args.rows.now) (length c.add_all.new.rows) c.args.rows.now c.add_all.new.rows c.args.lits.now c.requires.new c.add_all.auto.rows c.in_default.ensures.stands,
+  StandsFor-first (length c.args.rows.now)
+      (length c.add_all.new.rows) c.args.rows.now c.add_all.new.rows c.args.lits.now c.requires.new c.add_all.auto.rows
+      c.in_default.ensures.stands,
   AreSmall-numbered_from c.args.lits.now c.requires.small,
 )
 
 pub returns-in-Some-add_all-clause-none : goal.returns-in-Some-add_all-clause-none
 returns-in-Some-add_all-clause-none c = (
   λ none possible.
-      no_values_at_stop (length c.add_all.new.rows) (kept_of c.add_all-2.new.rows) (numbered_from 0 c.args.lits.now) c.args.bounds.now c.in-Some-add_all.field-0
+      no_values_at_stop (length c.add_all.new.rows) (kept_of c.add_all-2.new.rows)
+      (numbered_from 0 c.args.lits.now) c.args.bounds.now c.in-Some-add_all.field-0
       (c.in-Some-add_all.ensures.stands (numbered_from 0 c.args.lits.now)
-      (StandsFor-first (length c.args.rows.now) (length c.add_all.new.rows) c.args.rows.now c.add_all.new.rows c.args.lits.now c.requires.new c.add_all.auto.rows c.in_default.ensures.stands))
+      (StandsFor-first (length c.args.rows.now)
+      (length c.add_all.new.rows) c.args.rows.now c.add_all.new.rows c.args.lits.now c.requires.new c.add_all.auto.rows
+      c.in_default.ensures.stands))
       (subst (λ (n : ℕ). AreNamed n c.args.bounds.now) (sym c.add_all.auto.rows) c.requires.bounds_named)
       c.in-Some-add_all.ensures.refused.0 c.in-Some-add_all.ensures.refused.1 possible.0
       (AreMet-numbered_from possible.0 c.args.lits.now (All-first (λ m. Meets possible.0 m) c.args.lits.now c.args.bounds.now possible.2))
@@ -42,11 +47,16 @@ returns-in-Some-add_all-clause-none c = (
 
 pub returns-clause-least : goal.returns-clause-least
 returns-clause-least c =
-    AreLeastMeeting-from_stands (length c.args.rows.now) (length c.add_all-2.new.rows) (kept_of c.add_all-2.new.rows) c.args.lits.now c.args.bounds.now c.in_ok-values.values.items
-    (subst (λ (n : ℕ). StandsFor n (kept_of c.add_all-2.new.rows) (numbered_from 0 c.args.lits.now ++ numbered_from 0 c.args.bounds.now)) c.add_all.auto.rows
+    AreLeastMeeting-from_stands (length c.args.rows.now) (length c.add_all-2.new.rows)
+    (kept_of c.add_all-2.new.rows) c.args.lits.now c.args.bounds.now c.in_ok-values.values.items
+    (subst (λ (n : ℕ). StandsFor n (kept_of c.add_all-2.new.rows)
+    (numbered_from 0 c.args.lits.now ++ numbered_from 0 c.args.bounds.now)) c.add_all.auto.rows
     (c.in_default-add_all.ensures.stands (numbered_from 0 c.args.lits.now)
-    (StandsFor-first (length c.args.rows.now) (length c.add_all.new.rows) c.args.rows.now c.add_all.new.rows c.args.lits.now c.requires.new c.add_all.auto.rows c.in_default.ensures.stands)))
-    (c.add_all-2.auto.rows ∙ c.add_all.auto.rows) c.requires.names c.requires.bounded c.in_ok-values.ensures.len c.in_ok-values.ensures.value
+    (StandsFor-first (length c.args.rows.now)
+    (length c.add_all.new.rows) c.args.rows.now c.add_all.new.rows c.args.lits.now c.requires.new c.add_all.auto.rows
+    c.in_default.ensures.stands)))
+    (c.add_all-2.auto.rows ∙ c.add_all.auto.rows) c.requires.names c.requires.bounded c.in_ok-values.ensures.len
+    c.in_ok-values.ensures.value
 
 pub returns-clause-none : goal.returns-clause-none
 returns-clause-none c =

@@ -49,14 +49,18 @@ returns-clause-none c =
             above.0,
             above.1,
             subst (λ (ls : List Lit). AreMet above.0 (c.args.lits.now ++ ls)) (sym bounds)
-                (All-append (λ m. Meets above.0 m) c.args.lits.now (floors_from 0 c.args.floors.now) above.2 (AreMet-floors_from c.args.floors.now above.0 above.1 above.3)),
+                (All-append (λ m. Meets above.0 m) c.args.lits.now (floors_from 0 c.args.floors.now) above.2
+                (AreMet-floors_from c.args.floors.now above.0 above.1 above.3)),
           ),
       λ not. c.in_ok-found.ensures.none.1 (λ possible.
-          (let met : AreMet possible.0 (c.args.lits.now ++ floors_from 0 c.args.floors.now) = subst (λ (ls : List Lit). AreMet possible.0 (c.args.lits.now ++ ls)) bounds possible.2 in
+          (let met : AreMet possible.0
+          (c.args.lits.now ++ floors_from 0 c.args.floors.now) = subst (λ (ls : List Lit). AreMet possible.0 (c.args.lits.now ++ ls))
+          bounds possible.2 in
           not (
             possible.0,
             possible.1,
             All-first (λ m. Meets possible.0 m) c.args.lits.now (floors_from 0 c.args.floors.now) met,
-            floors-from_met c.args.floors.now possible.0 possible.1 (All-second (λ m. Meets possible.0 m) c.args.lits.now (floors_from 0 c.args.floors.now) met),
+            floors-from_met c.args.floors.now possible.0 possible.1
+                (All-second (λ m. Meets possible.0 m) c.args.lits.now (floors_from 0 c.args.floors.now) met),
           ))),
     )

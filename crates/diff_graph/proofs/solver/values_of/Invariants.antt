@@ -6,4 +6,5 @@ use Rattle.diff_graph.proofs.solver.values_of.Given as goal
 abbrev pub invariant-loop-x : goal.invariant-loop-x
 invariant-loop-x l =
     (length l.values.items ≡ l.x)
-    × ((y : ℕ) → y < l.x → get_or l.values.items y (pos 0) ≡ value_in (length l.rows) (kept_of l.rows) y -ℤ value_in (length l.rows) (kept_of l.rows) 0)
+    × ((y : ℕ) → y < l.x → get_or l.values.items y (pos 0)
+    ≡ value_in (length l.rows) (kept_of l.rows) y -ℤ value_in (length l.rows) (kept_of l.rows) 0)

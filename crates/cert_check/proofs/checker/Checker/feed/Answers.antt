@@ -1,103 +1,67 @@
-use Rattle.std.proofs.Common.{◌≡◌, [], Ok, refl}
-use Rattle.ask_core.specs.Paths.{branches_at}
-use Rattle.cert_check.proofs.Feeding.{after-same, IsUnderWay-taken, IsUnderWay-refused, none_open, Completes-done, Completes-more, Completes-none, why-same}
+use Rattle.std.proofs.Common.{◌≡◌, [], refl}
+use Rattle.cert_check.proofs.Completing.{Completes-step, Completes-none}
+use Rattle.cert_check.proofs.Feeding.{after-same, why-same, IsUnderWay-taken, IsUnderWay-refused, none_open}
 use Rattle.cert_check.proofs.checker.Checker.feed.Goals as goal
 
 pub invariant_of-self : goal.invariant_of-self
 invariant_of-self g c =
-    let A = g.A.Asker in
-    let was = c.self.inside in
-    let now = c.take_token.new in
-    let step = after-same (A.is_own was.asker) (A.is_own now.asker) (A.plan was.asker) (A.plan now.asker) c.args.tok was.path
-    (Ok (branches_at (A.plan now.asker) now.path)) c.take_token.ensures.same c.self.invariant.own c.in-Ok.ensures.ok in
-    IsUnderWay-taken (A.is_own was.asker) (A.is_own now.asker) (A.plan was.asker) (A.plan now.asker) (A.root was.asker) (A.root now.asker)
-    c.args.tok was.path now.path c.self.invariant c.take_token.ensures.own c.take_token.ensures.root step
+    let now = c.take_token in
+    IsUnderWay-taken now.ensures.same c.self.inside.path c.args.tok c.self.invariant now.new.path now.ensures.own now.ensures.root
+    c.trees_are_judged_token_by_token.ensures c.in-Ok.ensures.few c.in-Ok.ensures.ok
 
 pub invariant_of-self-in-Ok-2 : goal.invariant_of-self-in-Ok-2
 invariant_of-self-in-Ok-2 g c =
-    let A = g.A.Asker in
-    let was = c.self.inside in
-    let now = c.take_token.new in
-    let step = after-same (A.is_own was.asker) (A.is_own now.asker) (A.plan was.asker) (A.plan now.asker) c.args.tok was.path
-    (Ok (branches_at (A.plan now.asker) now.path)) c.take_token.ensures.same c.self.invariant.own c.in-Ok-2.ensures.ok in
-    IsUnderWay-taken (A.is_own was.asker) (A.is_own now.asker) (A.plan was.asker) (A.plan now.asker) (A.root was.asker) (A.root now.asker)
-    c.args.tok was.path now.path c.self.invariant c.take_token.ensures.own c.take_token.ensures.root step
+    let now = c.take_token in
+    IsUnderWay-taken now.ensures.same c.self.inside.path c.args.tok c.self.invariant now.new.path now.ensures.own now.ensures.root
+    c.trees_are_judged_token_by_token.ensures c.in-Ok-2.ensures.few c.in-Ok-2.ensures.ok
 
 pub invariant_of-self-in-Err : goal.invariant_of-self-in-Err
 invariant_of-self-in-Err g c =
-    let A = g.A.Asker in
-    let was = c.self.inside in
-    let now = c.take_token.new in
-    IsUnderWay-refused (A.is_own was.asker) (A.is_own now.asker) (A.plan was.asker) (A.plan now.asker) (A.root was.asker) (A.root now.asker)
-    was.path now.path c.self.invariant c.take_token.ensures.same c.take_token.ensures.own c.take_token.ensures.root c.in-Err.ensures.err
+    let now = c.take_token in
+    IsUnderWay-refused now.ensures.same c.self.inside.path c.args.tok c.self.invariant now.new.path now.ensures.own now.ensures.root
+    c.in-Err.ensures.err
 
 pub returns-in-Ok-clause-step : goal.returns-in-Ok-clause-step
 returns-in-Ok-clause-step g c =
-    let A = g.A.Asker in
-    let was = c.self.inside in
-    let now = c.take_token.new in
-    let step = after-same (A.is_own was.asker) (A.is_own now.asker) (A.plan was.asker) (A.plan now.asker) c.args.tok was.path
-    (Ok (branches_at (A.plan now.asker) now.path)) c.take_token.ensures.same c.self.invariant.own c.in-Ok.ensures.ok in
-    rw (← c.self.view_is) step
+    rw (← c.self.view_is)
+    (after-same c.take_token.ensures.same c.self.inside.path c.args.tok c.self.invariant.own _ c.in-Ok.ensures.ok)
 
 pub returns-in-Ok-2-clause-step : goal.returns-in-Ok-2-clause-step
 returns-in-Ok-2-clause-step g c =
-    let A = g.A.Asker in
-    let was = c.self.inside in
-    let now = c.take_token.new in
-    let step = after-same (A.is_own was.asker) (A.is_own now.asker) (A.plan was.asker) (A.plan now.asker) c.args.tok was.path
-    (Ok (branches_at (A.plan now.asker) now.path)) c.take_token.ensures.same c.self.invariant.own c.in-Ok-2.ensures.ok in
-    rw (← c.self.view_is) step
+    rw (← c.self.view_is)
+    (after-same c.take_token.ensures.same c.self.inside.path c.args.tok c.self.invariant.own _ c.in-Ok-2.ensures.ok)
 
 pub returns-in-Ok-clause-completes : goal.returns-in-Ok-clause-completes
 returns-in-Ok-clause-completes g c tokens =
-    let A = g.A.Asker in
-    let was = c.self.inside in
-    let now = c.take_token.new in
-    let step = after-same (A.is_own was.asker) (A.is_own now.asker) (A.plan was.asker) (A.plan now.asker) c.args.tok was.path
-    (Ok (branches_at (A.plan now.asker) now.path)) c.take_token.ensures.same c.self.invariant.own c.in-Ok.ensures.ok in
+    let step = after-same c.take_token.ensures.same c.self.inside.path c.args.tok c.self.invariant.own _ c.in-Ok.ensures.ok in
     rw (← c.self.view_is)
-    (Completes-more c.args.tok (branches_at (A.plan was.asker) was.path) (branches_at (A.plan now.asker) now.path) tokens c.in-Ok.ensures.few step)
+    (Completes-step c.trees_are_judged_token_by_token.ensures c.args.tok _ _ tokens c.in-Ok.ensures.few step)
 
 pub returns-in-Ok-2-clause-completes : goal.returns-in-Ok-2-clause-completes
 returns-in-Ok-2-clause-completes g c tokens =
-    let A = g.A.Asker in
-    let was = c.self.inside in
-    let now = c.take_token.new in
-    let step = after-same (A.is_own was.asker) (A.is_own now.asker) (A.plan was.asker) (A.plan now.asker) c.args.tok was.path
-    (Ok (branches_at (A.plan now.asker) now.path)) c.take_token.ensures.same c.self.invariant.own c.in-Ok-2.ensures.ok in
-    let closed : now.path ≡ [] = none_open c.is_open.result now.path c.if-is_open.false c.is_open.ensures in
+    let step = after-same c.take_token.ensures.same c.self.inside.path c.args.tok c.self.invariant.own _ c.in-Ok-2.ensures.ok in
+    let closed : c.take_token.new.path ≡ [] =
+    none_open c.is_open.result c.take_token.new.path c.if-is_open.false c.is_open.ensures in
     let last = rw closed at step in
     rw (← c.self.view_is)
-    (Completes-done c.args.tok (branches_at (A.plan was.asker) was.path) tokens c.in-Ok-2.ensures.few last)
+    (Completes-step c.trees_are_judged_token_by_token.ensures c.args.tok _ [] tokens c.in-Ok-2.ensures.few last)
 
 pub returns-in-Ok-2-clause-done : goal.returns-in-Ok-2-clause-done
 returns-in-Ok-2-clause-done g c done v =
-    let A = g.A.Asker in
-    let was = c.self.inside in
-    let now = c.take_token.new in
-    let step = after-same (A.is_own was.asker) (A.is_own now.asker) (A.plan was.asker) (A.plan now.asker) c.args.tok was.path
-    (Ok (branches_at (A.plan now.asker) now.path)) c.take_token.ensures.same c.self.invariant.own c.in-Ok-2.ensures.ok in
-    let closed : now.path ≡ [] = none_open c.is_open.result now.path c.if-is_open.false c.is_open.ensures in
-    let way = IsUnderWay-taken (A.is_own was.asker) (A.is_own now.asker) (A.plan was.asker) (A.plan now.asker) (A.root was.asker) (A.root was.asker)
-    c.args.tok was.path now.path c.self.invariant c.take_token.ensures.own refl step in
-    let follows = rw closed at (way.follows v) in
-    rw (← c.self.view_is) (follows tt)
+    let now = c.take_token in
+    let closed : now.new.path ≡ [] = none_open c.is_open.result now.new.path c.if-is_open.false c.is_open.ensures in
+    let way =
+    IsUnderWay-taken now.ensures.same c.self.inside.path c.args.tok c.self.invariant now.new.path now.ensures.own refl
+    c.trees_are_judged_token_by_token.ensures c.in-Ok-2.ensures.few c.in-Ok-2.ensures.ok in
+    let follows = rw closed at (way.follows []) in
+    rw (← c.self.view_is) (follows refl v)
 
 pub returns-in-Err-clause-why : goal.returns-in-Err-clause-why
 returns-in-Err-clause-why g c none =
-    let A = g.A.Asker in
-    let was = c.self.inside in
-    let now = c.take_token.new in
-    let why = why-same (A.is_own was.asker) (A.is_own now.asker) (A.plan was.asker) (A.plan now.asker) c.args.tok was.path c.in-Err.end
-    c.take_token.ensures.same c.self.invariant.own c.in-Err.ensures.why in
-    rw (← c.self.view_is) why
+    rw (← c.self.view_is)
+    (why-same c.take_token.ensures.same c.self.inside.path c.args.tok c.self.invariant.own c.in-Err.end c.in-Err.ensures.why)
 
 pub returns-in-Err-clause-refused : goal.returns-in-Err-clause-refused
 returns-in-Err-clause-refused g c none other tokens =
-    let A = g.A.Asker in
-    let was = c.self.inside in
-    let now = c.take_token.new in
-    let why = why-same (A.is_own was.asker) (A.is_own now.asker) (A.plan was.asker) (A.plan now.asker) c.args.tok was.path c.in-Err.end
-    c.take_token.ensures.same c.self.invariant.own c.in-Err.ensures.why in
-    rw (← c.self.view_is) (Completes-none c.args.tok (branches_at (A.plan was.asker) was.path) c.in-Err.end tokens why other)
+    let why = why-same c.take_token.ensures.same c.self.inside.path c.args.tok c.self.invariant.own c.in-Err.end c.in-Err.ensures.why in
+    rw (← c.self.view_is) (Completes-none c.trees_are_judged_token_by_token.ensures c.args.tok _ c.in-Err.end tokens why other)

@@ -12,7 +12,7 @@ insert-requires g c = (
     (
       c.self.invariant.square,
       (
-        AreModest-from_bounds g.row.N c.self.inside.rows c.self.invariant,
+        AreModest-from_bounds g.row.N c.self.inside.rows c.self.invariant c.tables_tell_what_is_possible.ensures.modest,
         (
           IsNamed-from_bounds g.row.N c.self.inside.rows c.self.invariant c.args.lit c.requires.named,
           (c.requires.small, search rules),
@@ -24,5 +24,8 @@ insert-requires g c = (
 
 pub returns-clause-same : goal.returns-clause-same
 returns-clause-same g c = λ ps stands follows.
-    let most : IsAtMost (kept_of c.args.self.now c.args.lit.x c.args.lit.y) c.args.lit.k = (stands.tight c.args.lit.x c.args.lit.y c.requires.named.0 c.requires.named.1 c.args.lit.k).1 follows in
-    c.insert.ensures.same (subst (λ (rows : List (List (Option Hop))). IsAtMost (kept_of rows c.args.lit.x c.args.lit.y) c.args.lit.k) (sym c.self.view_is) most) ∙ c.self.view_is
+    let lit = c.args.lit in
+    let most : IsAtMost (kept_of c.args.self.now lit.x lit.y) lit.k =
+    (stands.tight lit.x lit.y c.requires.named.0 c.requires.named.1 lit.k).1 follows in
+    let kept = subst (λ (rows : List (List (Option Hop))). IsAtMost (kept_of rows lit.x lit.y) lit.k) (sym c.self.view_is) most in
+    c.insert.ensures.same kept ∙ c.self.view_is

@@ -10,4 +10,5 @@ returns g c = λ ps stands.
     let is_kept = sym (ap (λ (rows : List (List (Option Hop))). kept_of rows c.args.x c.args.y) c.self.view_is) ∙ sym c.kept.ensures in
     let same : c.map.result ≡ option_map (λ (h : Hop). h.k) c.kept.result = search rules in
     subst (λ (o : Option ℤ). IsTightest (literals_of ps) c.args.x c.args.y o) (sym same)
-    (IsTightest-kept g.row.N (kept_of c.args.self.now) ps stands c.args.x c.args.y c.requires.x_below c.requires.y_below c.kept.result is_kept)
+    (IsTightest-kept g.row.N
+    (kept_of c.args.self.now) ps stands c.args.x c.args.y c.requires.x_below c.requires.y_below c.kept.result is_kept)
