@@ -1,12 +1,12 @@
 -- The definitions, computed on the worked functions.
 use Rattle.std.proofs.Common.{◌≡◌, ℕ, true, false, List, [], ◌∷◌, length, Some, None, refl, arith}
-use Rattle.std.specs.Prelude.{pos, negsuc, replicate}
+use Rattle.std.specs.Prelude.{pos, negsuc, replicate, slice_get}
 use Rattle.std.proofs.lemmas.Int.{ints}
 use Rattle.ot_model.specs.declared.cell.Cell.{Cell}
 use Rattle.ot_model.specs.declared.op.Op.{Op}
-use Rattle.ot_model.specs.declared.op.Op.TheVariants.{Ins, Del, Nop}
+use Rattle.ot_model.specs.declared.op.Op.TheVariants.{Ins, Del, Upd, Nop}
 use Rattle.ot_model.specs.declared.op.Kind.TheVariants as kinds
-use Rattle.ot_model.specs.Cells.{live_cell}
+use Rattle.ot_model.specs.Cells.{live_cell, dead_cell}
 use Rattle.fn_rules.specs.declared.guard.Side.TheVariants.{First}
 use Rattle.fn_rules.specs.declared.guard.Sort.TheVariants.{Char}
 use Rattle.fn_rules.specs.declared.guard.Cmp.TheVariants.{Lt, Eq}
@@ -15,12 +15,14 @@ use Rattle.fn_rules.specs.declared.function.Level.TheVariants.{Tp1, Tp2}
 use Rattle.fn_rules.specs.declared.function.ObName.TheVariants.{Pair, Triple}
 use Rattle.fn_rules.specs.declared.function.Res.TheVariants as results
 use Rattle.fn_rules.specs.Formulas.{Formula, Always, Compare, And, Or, Not}
-use Rattle.fn_rules.specs.Validity.{atoms_of, nesting_of, is_valid, is_valid_case, are_valid_cases}
+use Rattle.fn_rules.specs.Validity.{atoms_of, nesting_of, compares_chars, is_valid, is_valid_case, are_valid_cases}
+use Rattle.fn_rules.specs.Building.{function_from}
 use Rattle.fn_rules.specs.Transformation.{transform_of}
+use Rattle.ot_model.specs.declared.op.Mode.TheVariants.{Plain}
 use Rattle.fn_rules.specs.Properties.{AreConcurrent, ConvergesAt, CommutesAt}
 use Rattle.fn_rules.specs.Orders.{Document, StuckAt, through, integrated}
 use Rattle.fn_rules.specs.Obligations.{obligations_of}
-use Rattle.fn_rules.specs.Shipped.{p1_to_p2, when, p1_plus, ttf, sites, offby, twice, ties, far, marks}
+use Rattle.fn_rules.specs.Shipped.{p1_to_p2, when, p1_plus, block, stays, ttf, sites, offby, twice, ties, far, marks, ttfu, lastu}
 
 -- insertions of x, y and z, and deletions, each at a position and from a site
 abbrev x_at : ℕ → ℕ → Op
@@ -31,6 +33,10 @@ y_at at site = Ins (pos at) 121 site
 
 abbrev del_at : ℕ → ℕ → Op
 del_at at site = Del (pos at) site
+
+-- an update to x
+abbrev upd_at : ℕ → ℕ → Op
+upd_at at site = Upd (pos at) 120 site
 
 -- two insertions
 the_smaller_position_stays : transform_of ttf (x_at 1 9) (y_at 2 3) ≡ Some (x_at 1 9)
@@ -168,7 +174,45 @@ obligations_of_deletions = refl
 obligations_of_both : length (obligations_of ttf.head Tp2) ≡ 9
 obligations_of_both = refl
 
+the_pairs_of_three_kinds : obligations_of ttfu.head Tp1 ≡
+    Pair kinds.Ins kinds.Ins ∷ Pair kinds.Ins kinds.Del ∷ Pair kinds.Ins kinds.Upd
+    ∷ Pair kinds.Del kinds.Del ∷ Pair kinds.Del kinds.Upd ∷ Pair kinds.Upd kinds.Upd ∷ []
+the_pairs_of_three_kinds = refl
+
+triples_with_insertions_come_first : slice_get (obligations_of ttfu.head Tp2) 11 ≡ Some (Triple kinds.Upd kinds.Upd kinds.Ins)
+triples_with_insertions_come_first = refl
+
+triples_with_updates_come_last : slice_get (obligations_of ttfu.head Tp2) 18 ≡ Some (Triple kinds.Ins kinds.Ins kinds.Upd)
+triples_with_updates_come_last = refl
+
+obligations_of_three_kinds : length (obligations_of ttfu.head Tp2) ≡ 24
+obligations_of_three_kinds = refl
+
+-- updates
+an_insertion_moves_an_update_up : transform_of ttfu (upd_at 2 1) (x_at 2 2) ≡ Some (upd_at 3 1)
+an_insertion_moves_an_update_up = refl
+
+the_greater_site_yields_at_one_cell : transform_of ttfu (upd_at 2 2) (upd_at 2 1) ≡ Some Nop
+the_greater_site_yields_at_one_cell = refl
+
+both_update_the_deleted_cell : integrated ttfu (live_cell 121 ∷ live_cell 122 ∷ []) (Upd (pos 0) 97 1 ∷ Upd (pos 0) 98 2 ∷ del_at 0 3 ∷ []) (0 ∷ 1 ∷ 2 ∷ [])
+    ≡ Document (dead_cell (live_cell 97) ∷ live_cell 122 ∷ [])
+both_update_the_deleted_cell = refl
+
+the_other_way_round_too : integrated ttfu (live_cell 121 ∷ live_cell 122 ∷ []) (Upd (pos 0) 97 1 ∷ Upd (pos 0) 98 2 ∷ del_at 0 3 ∷ []) (2 ∷ 1 ∷ 0 ∷ [])
+    ≡ Document (dead_cell (live_cell 97) ∷ live_cell 122 ∷ [])
+the_other_way_round_too = refl
+
 -- limits
+ttfu_is_valid : is_valid ttfu ≡ true
+ttfu_is_valid = refl
+
+lastu_is_valid : is_valid lastu ≡ true
+lastu_is_valid = refl
+
+updates_and_insertions_may_compare_characters : (compares_chars kinds.Ins kinds.Upd ≡ true) × (compares_chars kinds.Upd kinds.Del ≡ false)
+updates_and_insertions_may_compare_characters = (refl, refl)
+
 ttf_is_valid : is_valid ttf ≡ true
 ttf_is_valid = refl
 
@@ -184,10 +228,10 @@ far_is_valid = refl
 marks_is_valid : is_valid marks ≡ true
 marks_is_valid = refl
 
-no_kind_is_not_valid : is_valid (record ties { head = record { mode = ties.head.mode; ins = false; del = false; sites_differ = false; chars_differ = false }; ins_ins = [] }) ≡ false
+no_kind_is_not_valid : is_valid (function_from (record { mode = Plain; ins = false; del = false; upd = false; sites_differ = false; chars_differ = false }) []) ≡ false
 no_kind_is_not_valid = refl
 
-cases_of_an_undeclared_pair_are_not_valid : is_valid (record ties { del_del = marks.del_del }) ≡ false
+cases_of_an_undeclared_pair_are_not_valid : is_valid (function_from ties.head (block kinds.Del kinds.Del stays ∷ [])) ≡ false
 cases_of_an_undeclared_pair_are_not_valid = refl
 
 the_64th_case_is_valid : are_valid_cases false (replicate 64 (when Always results.Nop)) ≡ true

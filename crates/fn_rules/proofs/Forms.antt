@@ -2,23 +2,23 @@
 use Rattle.std.proofs.Common.{◌≡◌, ℕ, ◌+◌, Bool, true, ◌&&◌, List, [], ◌∷◌, Option, Some, None, length, refl, sym, subst, inl, inr, arith}
 use Rattle.std.specs.Prelude.{ℤ, pos, ◌+ℤ◌, ◌≤ℤ◌, nat_le}
 use Rattle.std.specs.List.{list_all}
-use Rattle.std.proofs.lemmas.Bool.{cases_Bool}
+use Rattle.std.proofs.lemmas.Bool.{cases_Bool, and_parts}
 use Rattle.std.proofs.lemmas.Int.{ints}
 use Rattle.ot_model.specs.declared.op.Op.{Op}
-use Rattle.ot_model.specs.declared.op.Op.TheVariants.{Ins, Del, Nop}
+use Rattle.ot_model.specs.declared.op.Op.TheVariants.{Ins, Del, Upd, Nop}
 use Rattle.ot_model.specs.declared.op.Kind.{Kind}
-use Rattle.ot_model.specs.Effect.{kind_of}
+use Rattle.ot_model.specs.Operations.{kind_of, at_of, site_of, char_of, placed}
 use Rattle.fn_rules.specs.declared.guard.Side.TheVariants.{First, Second}
 use Rattle.fn_rules.specs.declared.guard.Tightness.TheVariants.{Loose}
 use Rattle.fn_rules.specs.declared.function.Res.{Res}
 use Rattle.fn_rules.specs.declared.function.Res.TheVariants as results
 use Rattle.fn_rules.specs.declared.limits.TheConstants.{MAX_CASES, MAX_ATOMS, MAX_NESTING}
-use Rattle.fn_rules.specs.Formulas.{at_of, site_of, char_of, of_side, holds_of}
+use Rattle.fn_rules.specs.Formulas.{of_side, holds_of}
 use Rattle.fn_rules.specs.Functions.{Function, GuardedCase, cases_of}
 use Rattle.fn_rules.specs.Validity.{is_offset, has_valid_atoms, atoms_of, nesting_of, is_valid_res, is_valid_case, compares_chars, is_valid}
-use Rattle.fn_rules.specs.Transformation.{placed, result_of, first_result, transform_by_kinds, transform_of, Differ, IsAllowed}
+use Rattle.fn_rules.specs.Transformation.{result_of, first_result, transform_by_kinds, transform_of, Differ, IsAllowed}
 use Rattle.fn_rules.specs.Conditions.{IsWithin, IsMovedFrom, IsFormOf}
-use Rattle.fn_rules.proofs.LimitsKept.{left_true, right_true, are_valid_cases-valid}
+use Rattle.fn_rules.proofs.LimitsKept.{are_valid_cases-valid}
 
 Differ-sym : (x y : Option ℕ) → Differ x y → Differ y x
 Differ-sym None None apart = tt
@@ -45,6 +45,7 @@ IsAllowed-form f a c d (inr moved) allowed = record {
 IsMovedFrom-placed : (a : Op) (to : ℤ) → IsMovedFrom a (placed a to)
 IsMovedFrom-placed (Ins at ch site) to = record { kind = refl; site = refl; char = refl }
 IsMovedFrom-placed (Del at site) to = record { kind = refl; site = refl; char = refl }
+IsMovedFrom-placed (Upd at ch site) to = record { kind = refl; site = refl; char = refl }
 IsMovedFrom-placed Nop to = record { kind = refl; site = refl; char = refl }
 
 IsFormOf-result_of : (res : Res) (a b : Op) → IsFormOf a (result_of res a b)
@@ -80,11 +81,13 @@ transform_of-nop f b = refl
 pub transform_of-by_nop : (f : Function) (a : Op) → transform_of f a Nop ≡ Some a
 transform_of-by_nop f (Ins at ch site) = refl
 transform_of-by_nop f (Del at site) = refl
+transform_of-by_nop f (Upd at ch site) = refl
 transform_of-by_nop f Nop = refl
 
 IsWithin-placed : (m : ℕ) (a : Op) (to : ℤ) → pos 0 ≤ℤ (to +ℤ pos m) → to ≤ℤ pos m → IsWithin m (placed a to)
 IsWithin-placed m (Ins at ch site) to low high = (low, high)
 IsWithin-placed m (Del at site) to low high = (low, high)
+IsWithin-placed m (Upd at ch site) to low high = (low, high)
 IsWithin-placed m Nop to low high = (omega (arith, ints), omega (arith, ints))
 
 -- an offset moves a bound by at most 99
@@ -103,7 +106,7 @@ IsWithin-result_of m results.Nop a b small near_a near_b = (omega (arith, ints),
 
 is_valid_res-valid : (chars : Bool) (one : GuardedCase) → is_valid_case chars one ≡ true → is_valid_res one.res ≡ true
 is_valid_res-valid chars one valid =
-    right_true (has_valid_atoms chars one.guard && nat_le (atoms_of one.guard) MAX_ATOMS && nat_le (nesting_of Loose one.guard) MAX_NESTING) (is_valid_res one.res) valid
+    (and_parts (has_valid_atoms chars one.guard && nat_le (atoms_of one.guard) MAX_ATOMS && nat_le (nesting_of Loose one.guard) MAX_NESTING) (is_valid_res one.res) valid).1
 
 IsWithin-first_result : (m : ℕ) (chars : Bool) (cases : List GuardedCase) (a b c : Op) → list_all (is_valid_case chars) cases ≡ true →
     IsWithin m a → IsWithin m b → first_result cases a b ≡ Some c → IsWithin (m + 99) c
@@ -114,9 +117,9 @@ IsWithin-first_result m chars (one ∷ others) a b c valid near_a near_b is =
           let same : result_of one.res a b ≡ c = cc in
           subst (λ (o : Op). IsWithin (m + 99) o) same
           (IsWithin-result_of m one.res a b
-          (is_valid_res-valid chars one (left_true (is_valid_case chars one) (list_all (is_valid_case chars) others) valid)) near_a near_b))
+          (is_valid_res-valid chars one ((and_parts (is_valid_case chars one) (list_all (is_valid_case chars) others) valid).0)) near_a near_b))
       | inr false_here ↦ IsWithin-first_result m chars others a b c
-          (right_true (is_valid_case chars one) (list_all (is_valid_case chars) others) valid) near_a near_b (rw false_here at is)
+          ((and_parts (is_valid_case chars one) (list_all (is_valid_case chars) others) valid).1) near_a near_b (rw false_here at is)
     ]
 
 IsWithin-by_kinds : (m : ℕ) (f : Function) (a b c : Op) (k l : Option Kind) → is_valid f ≡ true →
@@ -129,7 +132,7 @@ IsWithin-by_kinds m f a b c (Some k) None valid near_a near_b is =
     subst (λ (o : Op). IsWithin (m + 99) o) same (omega (arith, ints), omega (arith, ints))
 IsWithin-by_kinds m f a b c (Some k) (Some l) valid near_a near_b is =
     IsWithin-first_result m (compares_chars k l) (cases_of f k l) a b c
-    (right_true (nat_le (length (cases_of f k l)) MAX_CASES) (list_all (is_valid_case (compares_chars k l)) (cases_of f k l)) (are_valid_cases-valid f k l valid))
+    ((and_parts (nat_le (length (cases_of f k l)) MAX_CASES) (list_all (is_valid_case (compares_chars k l)) (cases_of f k l)) (are_valid_cases-valid f k l valid)).1)
     near_a near_b is
 
 -- a position moves by at most 99 from one of the two positions

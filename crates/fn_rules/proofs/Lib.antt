@@ -1,4 +1,6 @@
-pub mod Blocks
 pub mod LimitsKept
 pub mod Forms
+pub mod KindPairs
+pub mod Naming
+pub mod Symmetry
 mod Examples

@@ -1,12 +1,12 @@
 -- Blocks as plain data, the function that a head and blocks stand for, and which of them stand for one
 -- within the limits.
-use Rattle.std.specs.Prelude.{Bool, true, false, ◌&&◌, if◌then◌else◌, nat_eq, List, [], ◌∷◌, map, count_by}
+use Rattle.std.specs.Prelude.{Bool, ◌&&◌, if◌then◌else◌, nat_eq, List, [], ◌∷◌, map, count_by}
 use Rattle.ot_model.specs.declared.op.Kind.{Kind}
-use Rattle.ot_model.specs.declared.op.Kind.TheVariants.{Ins, Del}
+use Rattle.ot_model.specs.Kinds.{is_same_kind, each_pair}
 use Rattle.fn_rules.specs.declared.function.Block.{Block}
 use Rattle.fn_rules.specs.declared.function.Head.{Head}
-use Rattle.fn_rules.specs.Functions.{Function, GuardedCase, case_of}
-use Rattle.fn_rules.specs.Validity.{is_declared_pair, is_valid}
+use Rattle.fn_rules.specs.Functions.{Function, GuardedCase, case_of, is_declared_pair}
+use Rattle.fn_rules.specs.Validity.{is_valid}
 
 -- the cases for an ordered pair of kinds
 pub record PairCases : Type 0 where
@@ -17,13 +17,6 @@ pub record PairCases : Type 0 where
 -- the plain data that a block stands for
 abbrev pub block_of : Block → PairCases
 block_of block = record { first = block.first; second = block.second; cases = map case_of block.cases.items }
-
--- the two kinds are one
-abbrev pub is_same_kind : Kind → Kind → Bool
-is_same_kind Ins Ins = true
-is_same_kind Ins Del = false
-is_same_kind Del Ins = false
-is_same_kind Del Del = true
 
 -- the block is for this pair of kinds
 abbrev pub is_for : Kind → Kind → PairCases → Bool
@@ -36,13 +29,7 @@ cases_in (block ∷ others) k l = if is_for k l block then block.cases else case
 
 -- the function that a head and blocks stand for
 abbrev pub function_from : Head → List PairCases → Function
-function_from head blocks = record {
-  head = head;
-  ins_ins = cases_in blocks Ins Ins;
-  ins_del = cases_in blocks Ins Del;
-  del_ins = cases_in blocks Del Ins;
-  del_del = cases_in blocks Del Del;
-}
+function_from head blocks = record { head = head; cases = cases_in blocks }
 
 -- there is one block for the pair if it is declared, and otherwise none
 abbrev pub has_own_block : Head → List PairCases → Kind → Kind → Bool
@@ -50,11 +37,7 @@ has_own_block head blocks k l = nat_eq (count_by (is_for k l) blocks) (if is_dec
 
 -- there is one block for each ordered pair of declared kinds, and no other
 abbrev pub has_own_blocks : Head → List PairCases → Bool
-has_own_blocks head blocks =
-    has_own_block head blocks Ins Ins
-    && has_own_block head blocks Ins Del
-    && has_own_block head blocks Del Ins
-    && has_own_block head blocks Del Del
+has_own_blocks head blocks = each_pair (has_own_block head blocks)
 
 -- a head and blocks that make a function within the limits
 abbrev pub is_buildable : Head → List PairCases → Bool

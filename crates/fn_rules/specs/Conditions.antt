@@ -1,14 +1,13 @@
 -- What the calls on guards and rules ask of operations, and what they keep of them.
-use Rattle.std.specs.Prelude.{◌≡◌, ℕ, pos, ◌+ℤ◌, ◌≤ℤ◌, Bool, true, false, ◌&&◌, ◌||◌, Option, Some, None, is_some, IsTrue, ◌⊎◌}
+use Rattle.std.specs.Prelude.{◌≡◌, ℕ, pos, ◌+ℤ◌, ◌≤ℤ◌, Bool, true, false, ◌&&◌, ◌||◌, is_some, ◌⊎◌}
 use Rattle.ot_model.specs.declared.op.Op.{Op}
 use Rattle.ot_model.specs.declared.op.Op.TheVariants.{Nop}
-use Rattle.ot_model.specs.declared.op.Kind.{Kind}
-use Rattle.ot_model.specs.Effect.{kind_of}
+use Rattle.ot_model.specs.Operations.{kind_of, at_of, site_of, char_of}
+use Rattle.ot_model.specs.Effect.{IsEnabled, is_enabled}
 use Rattle.fn_rules.specs.declared.guard.Sort.{Sort}
 use Rattle.fn_rules.specs.declared.guard.Sort.TheVariants.{Pos, Site, Char}
-use Rattle.fn_rules.specs.declared.function.Head.{Head}
-use Rattle.fn_rules.specs.Formulas.{Formula, Always, Compare, And, Or, Not, at_of, site_of, char_of}
-use Rattle.fn_rules.specs.Functions.{is_declared}
+use Rattle.fn_rules.specs.Formulas.{Formula, Always, Compare, And, Or, Not}
+use Rattle.fn_rules.specs.Functions.{Function, is_for_kind, IsForKind}
 
 -- the operation's position is at most so far from 0
 abbrev pub IsWithin : ℕ → Op → Type 0
@@ -17,11 +16,6 @@ IsWithin m o = (pos 0 ≤ℤ (at_of o +ℤ pos m)) × (at_of o ≤ℤ pos m)
 -- a position that can be calculated with: from -2^40 to 2^40
 abbrev pub IsInRange : Op → Type 0
 IsInRange o = IsWithin 1099511627776 o
-
--- a kind that the function is for, or none, as nop has it
-abbrev pub IsForKind : Head → Option Kind → Type 0
-IsForKind head None = Unit {0}
-IsForKind head (Some k) = IsTrue (is_declared head k)
 
 abbrev pub is_char : Sort → Bool
 is_char Pos = false
@@ -43,6 +37,16 @@ both_have_chars a b = is_some (char_of a) && is_some (char_of b)
 -- where the guard compares characters, both operations have one
 abbrev pub IsReadyFor : Formula → Op → Op → Type 0
 IsReadyFor g a b = has_char_atoms g ≡ true → both_have_chars a b ≡ true
+
+-- the operation may be integrated into a document of so many cells: it is nop or of a kind that the
+-- function is for, and it is enabled there
+abbrev pub is_integrable : Function → ℕ → Op → Bool
+is_integrable f cells o = is_for_kind f.head (kind_of o) && is_enabled o cells
+
+-- the same as a fact
+pub record IsIntegrable (f : Function) (cells : ℕ) (o : Op) : Type 0 where
+  pub declared : IsForKind f.head (kind_of o)
+  pub enabled : IsEnabled o cells
 
 -- the two operations have the same kind, site and character
 pub record IsMovedFrom (a moved : Op) : Type 0 where

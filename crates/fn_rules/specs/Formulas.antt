@@ -1,8 +1,8 @@
 -- Guards as plain trees, and their truth at two operations.
-use Rattle.std.specs.Prelude.{ℕ, ℤ, pos, ◌+ℤ◌, Bool, true, not, ◌&&◌, ◌||◌, Option, Some, None, unwrap_or, int_le, int_lt}
+use Rattle.std.specs.Prelude.{ℤ, pos, ◌+ℤ◌, Bool, true, not, ◌&&◌, ◌||◌, unwrap_or, int_le, int_lt}
 use Rattle.std.specs.Ordering.{int_eq}
 use Rattle.ot_model.specs.declared.op.Op.{Op}
-use Rattle.ot_model.specs.declared.op.Op.TheVariants.{Ins, Del, Nop}
+use Rattle.ot_model.specs.Operations.{at_of, site_of, char_of}
 use Rattle.fn_rules.specs.declared.guard.Side.{Side}
 use Rattle.fn_rules.specs.declared.guard.Side.TheVariants.{First, Second}
 use Rattle.fn_rules.specs.declared.guard.Sort.{Sort}
@@ -28,24 +28,6 @@ formula_of (rust.Atom a) = Compare a
 formula_of (rust.And' p x q y) = And (formula_of x) (formula_of y)
 formula_of (rust.Or' p x q y) = Or (formula_of x) (formula_of y)
 formula_of (rust.Not' p x) = Not (formula_of x)
-
--- the position of an operation, which nop has not
-abbrev pub at_of : Op → ℤ
-at_of (Ins at ch site) = at
-at_of (Del at site) = at
-at_of Nop = pos 0
-
--- the site that made the operation
-abbrev pub site_of : Op → Option ℕ
-site_of (Ins at ch site) = Some site
-site_of (Del at site) = Some site
-site_of Nop = None
-
--- the character that the operation inserts
-abbrev pub char_of : Op → Option ℕ
-char_of (Ins at ch site) = Some ch
-char_of (Del at site) = None
-char_of Nop = None
 
 -- the operation of a side
 abbrev pub of_side : {X : Type 0} → Side → X → X → X

@@ -1,5 +1,6 @@
 -- Integrating operations that were made on one document, in an order.
-use Rattle.std.specs.Prelude.{◌≡◌, ℕ, ◌+◌, ◌<◌, List, [], ◌∷◌, ◌++◌, length, map, Option, Some, None, unwrap_or, slice_get, Contains, if◌then◌else◌}
+use Rattle.std.specs.Prelude.{◌≡◌, ℕ, zero, suc, Bool, true, ◌&&◌, nat_eq, ◌+◌, ◌<◌, List, [], ◌∷◌, ◌++◌, length, map, Option, Some, None, unwrap_or, slice_get, Contains, if◌then◌else◌}
+use Rattle.std.specs.List.{list_any}
 use Rattle.std.specs.Option.{option_and_then}
 use Rattle.ot_model.specs.declared.cell.Cell.{Cell}
 use Rattle.ot_model.specs.declared.op.Op.{Op}
@@ -43,7 +44,20 @@ operation_at ops i = unwrap_or (slice_get ops i) Nop
 abbrev pub integrated : Function → List Cell → List Op → List ℕ → Outcome
 integrated f d ops order = outcome_from f d [] 0 (map (operation_at ops) order)
 
+-- the order names this number
+abbrev pub names : List ℕ → ℕ → Bool
+names order i = list_any (λ number. nat_eq number i) order
+
+-- the order names each number below this one
+abbrev pub names_below : ℕ → List ℕ → Bool
+names_below zero order = true
+names_below (suc n) order = names_below n order && names order n
+
 -- the order names each of so many operations once
+abbrev pub names_each_once : ℕ → List ℕ → Bool
+names_each_once n order = nat_eq (length order) n && names_below n order
+
+-- the same as a fact
 abbrev pub NamesEachOnce : ℕ → List ℕ → Type 0
 NamesEachOnce n order = (length order ≡ n) × ((i : ℕ) → i < n → Contains order i)
 

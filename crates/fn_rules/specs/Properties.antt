@@ -2,20 +2,14 @@
 -- R. Gunzenhäuser, "An Integrating, Transformation-Oriented Approach to Concurrency Control and Undo
 -- in Group Editors" (1996). What each says of one instance is defined once: a property says that it
 -- always holds, a counterexample that it fails.
-use Rattle.std.specs.Prelude.{◌≡◌, true, List, [], ◌∷◌, length, Option, Some, None}
+use Rattle.std.specs.Prelude.{◌≡◌, List, [], ◌∷◌, length, Some}
 use Rattle.std.specs.List.{AllByRecursion}
 use Rattle.ot_model.specs.declared.cell.Cell.{Cell}
 use Rattle.ot_model.specs.declared.op.Op.{Op}
-use Rattle.ot_model.specs.declared.op.Kind.{Kind}
-use Rattle.ot_model.specs.Effect.{kind_of, IsEnabled, document_after}
-use Rattle.fn_rules.specs.declared.function.Head.{Head}
-use Rattle.fn_rules.specs.Functions.{Function, is_declared}
+use Rattle.ot_model.specs.Operations.{kind_of}
+use Rattle.ot_model.specs.Effect.{IsEnabled, document_after}
+use Rattle.fn_rules.specs.Functions.{Function, HasDeclaredKind}
 use Rattle.fn_rules.specs.Transformation.{transform_of, IsAllowed}
-
--- an operation of a kind that the function is for, so not nop
-abbrev pub HasDeclaredKind : Head → Option Kind → Type 0
-HasDeclaredKind head None = ⊥
-HasDeclaredKind head (Some k) = is_declared head k ≡ true
 
 -- operations of the function's kinds, all enabled on one document, and pairwise allowed
 abbrev pub AreConcurrent : Function → List Cell → List Op → Type 0

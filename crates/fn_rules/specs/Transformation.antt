@@ -1,19 +1,13 @@
 -- What an operation becomes when another one, made on the same document, was executed before it.
-use Rattle.std.specs.Prelude.{◌≡◌, ◌≢◌, ℕ, ℤ, ◌+ℤ◌, true, if◌then◌else◌, List, [], ◌∷◌, Option, Some, None}
+use Rattle.std.specs.Prelude.{◌≡◌, ◌≢◌, ℕ, ◌+ℤ◌, Bool, true, not, ◌&&◌, ◌||◌, nat_eq, if◌then◌else◌, List, [], ◌∷◌, Option, Some, None}
 use Rattle.ot_model.specs.declared.op.Op.{Op}
-use Rattle.ot_model.specs.declared.op.Op.TheVariants.{Ins, Del, Nop}
+use Rattle.ot_model.specs.declared.op.Op.TheVariants.{Nop}
 use Rattle.ot_model.specs.declared.op.Kind.{Kind}
-use Rattle.ot_model.specs.Effect.{kind_of}
+use Rattle.ot_model.specs.Operations.{kind_of, at_of, site_of, char_of, placed}
 use Rattle.fn_rules.specs.declared.function.Res.{Res}
 use Rattle.fn_rules.specs.declared.function.Res.TheVariants as results
-use Rattle.fn_rules.specs.Formulas.{at_of, site_of, char_of, of_side, holds_of}
+use Rattle.fn_rules.specs.Formulas.{of_side, holds_of}
 use Rattle.fn_rules.specs.Functions.{Function, GuardedCase, cases_of}
-
--- the same operation at another position
-abbrev pub placed : Op → ℤ → Op
-placed (Ins at ch site) to = Ins to ch site
-placed (Del at site) to = Del to site
-placed Nop to = Nop
 
 -- what a result makes of the first operation
 abbrev pub result_of : Res → Op → Op → Op
@@ -35,13 +29,25 @@ transform_by_kinds f a b (Some k) (Some l) = first_result (cases_of f k l) a b
 abbrev pub transform_of : Function → Op → Op → Option Op
 transform_of f a b = transform_by_kinds f a b (kind_of a) (kind_of b)
 
--- the two are there and equal in no case
+-- the two are not both there, or differ
+abbrev pub differ : Option ℕ → Option ℕ → Bool
+differ None other = true
+differ (Some x) None = true
+differ (Some x) (Some y) = not (nat_eq x y)
+
+-- the same as a fact
 abbrev pub Differ : Option ℕ → Option ℕ → Type 0
 Differ None other = Unit {0}
 Differ (Some x) None = Unit {0}
 Differ (Some x) (Some y) = x ≢ y
 
 -- the two operations differ in what the function assumes to differ
+abbrev pub is_allowed : Function → Op → Op → Bool
+is_allowed f a b =
+    (not f.head.sites_differ || differ (site_of a) (site_of b))
+    && (not f.head.chars_differ || differ (char_of a) (char_of b))
+
+-- the same as a fact
 pub record IsAllowed (f : Function) (a b : Op) : Type 0 where
   pub sites : f.head.sites_differ ≡ true → Differ (site_of a) (site_of b)
   pub chars : f.head.chars_differ ≡ true → Differ (char_of a) (char_of b)

@@ -1,9 +1,10 @@
 -- Which functions are within the limits: tests that compute.
-use Rattle.std.specs.Prelude.{ℕ, ◌+◌, ℤ, pos, negsuc, Bool, true, false, ◌&&◌, ◌||◌, max, nat_le, nat_eq, int_le, List, length}
-use Rattle.std.specs.List.{list_all}
+use Rattle.std.specs.Prelude.{ℕ, ◌+◌, ℤ, pos, neg_ℤ, Bool, true, ◌&&◌, ◌||◌, max, nat_le, nat_eq, int_le, List, length}
+use Rattle.std.specs.List.{list_all, list_any}
 use Rattle.std.specs.Ordering.{int_eq}
 use Rattle.ot_model.specs.declared.op.Kind.{Kind}
-use Rattle.ot_model.specs.declared.op.Kind.TheVariants.{Ins, Del}
+use Rattle.ot_model.specs.declared.op.TheConstants.{KINDS}
+use Rattle.ot_model.specs.Kinds.{has_char, each_pair}
 use Rattle.fn_rules.specs.declared.guard.Sort.{Sort}
 use Rattle.fn_rules.specs.declared.guard.Sort.TheVariants.{Pos, Site, Char}
 use Rattle.fn_rules.specs.declared.guard.Tightness.{Tightness}
@@ -11,13 +12,13 @@ use Rattle.fn_rules.specs.declared.guard.Tightness.TheVariants.{Loose, Joined, T
 use Rattle.fn_rules.specs.declared.function.Res.{Res}
 use Rattle.fn_rules.specs.declared.function.Res.TheVariants as results
 use Rattle.fn_rules.specs.declared.function.Head.{Head}
-use Rattle.fn_rules.specs.declared.limits.TheConstants.{MAX_CASES, MAX_ATOMS, MAX_NESTING}
+use Rattle.fn_rules.specs.declared.limits.TheConstants.{MAX_CASES, MAX_ATOMS, MAX_NESTING, MAX_OFFSET}
 use Rattle.fn_rules.specs.Formulas.{Formula, Always, Compare, And, Or, Not}
-use Rattle.fn_rules.specs.Functions.{Function, GuardedCase, cases_of, is_declared}
+use Rattle.fn_rules.specs.Functions.{Function, GuardedCase, cases_of, is_declared, is_declared_pair}
 
--- an offset that a function may use: from -99 to 99
+-- an offset that a function may use
 abbrev pub is_offset : ℤ → Bool
-is_offset k = int_le (negsuc 98) k && int_le k (pos 99)
+is_offset k = int_le (neg_ℤ MAX_OFFSET) k && int_le k MAX_OFFSET
 
 -- an offset that an atom over these things may have, in a block that may compare characters or may not
 abbrev pub is_offset_for : Bool → Sort → ℤ → Bool
@@ -78,14 +79,7 @@ are_valid_cases chars cs = nat_le (length cs) MAX_CASES && list_all (is_valid_ca
 
 -- a block may compare characters where both kinds have one
 abbrev pub compares_chars : Kind → Kind → Bool
-compares_chars Ins Ins = true
-compares_chars Ins Del = false
-compares_chars Del Ins = false
-compares_chars Del Del = false
-
--- the function is for operations of both kinds
-abbrev pub is_declared_pair : Head → Kind → Kind → Bool
-is_declared_pair head k l = is_declared head k && is_declared head l
+compares_chars k l = has_char k && has_char l
 
 -- the function's cases for a pair of kinds: valid, and none where the pair is not declared
 abbrev pub is_valid_block : Function → Kind → Kind → Bool
@@ -94,9 +88,4 @@ is_valid_block f k l =
 
 -- a function within the limits, for operations of at least one kind
 abbrev pub is_valid : Function → Bool
-is_valid f =
-    (f.head.ins || f.head.del)
-    && is_valid_block f Ins Ins
-    && is_valid_block f Ins Del
-    && is_valid_block f Del Ins
-    && is_valid_block f Del Del
+is_valid f = list_any (is_declared f.head) KINDS && each_pair (is_valid_block f)

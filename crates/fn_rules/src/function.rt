@@ -1,6 +1,10 @@
 //! The parts of a function, and the names of what has to be shown of it.
+ghost use Rattle.std.specs.Prelude.{◌≡◌};
+ghost use Rattle.ot_model.specs.Operations.{kind_of};
+ghost use Rattle.fn_rules.specs.Functions.{is_declared, is_declared_pair, is_for_kind};
+
 use crate::guard::{Guard, Side};
-use ot_model::{Kind, Mode};
+use ot_model::{Kind, Mode, Op};
 
 /// What the transformed operation becomes.
 #[derive(Clone, Copy, Debug, PartialEq, Eq)]
@@ -38,11 +42,44 @@ pub struct Head {
     /// Whether it transforms deletions.
     pub del: bool,
 
+    /// Whether it transforms updates.
+    pub upd: bool,
+
     /// Whether it assumes that two operations come from different sites.
     pub sites_differ: bool,
 
-    /// Whether it assumes that two inserted characters differ.
+    /// Whether it assumes that the characters of two operations differ, where both have one.
     pub chars_differ: bool,
+}
+
+impl Head {
+    /// Whether the function transforms operations of this kind.
+    pub fn declares(&self, kind: Kind) -> bool
+        ensures { result ≡ is_declared self.now kind }
+    {
+        match kind {
+            Kind::Ins => self.ins,
+            Kind::Del => self.del,
+            Kind::Upd => self.upd,
+        }
+    }
+
+    /// Whether it transforms operations of both kinds.
+    pub fn declares_pair(&self, first: Kind, second: Kind) -> bool
+        ensures { result ≡ is_declared_pair self.now first second }
+    {
+        self.declares(first) && self.declares(second)
+    }
+
+    /// Whether the operation is nop, or of a kind that the function transforms.
+    pub fn admits(&self, op: &Op) -> bool
+        ensures { result ≡ is_for_kind self.now (kind_of op.now) }
+    {
+        match op.kind() {
+            Some(kind) => self.declares(kind),
+            None => true,
+        }
+    }
 }
 
 /// Which properties are meant.

@@ -1,49 +1,104 @@
 //! What has to be shown of a function.
-ghost use Rattle.std.specs.Prelude.{◌≡◌, IfOk, filter};
-ghost use Rattle.fn_rules.specs.Functions.{is_declared};
-ghost use Rattle.fn_rules.specs.Obligations.{is_obligation, obligations_of};
+ghost use Rattle.std.specs.Prelude.{◌≡◌, ◌++◌, map, OnOk, IfOk};
+ghost use Rattle.fn_rules.specs.declared.function.ObName.TheVariants.{Pair};
+ghost use Rattle.fn_rules.specs.Obligations.{declared_kinds, pairs_of, with_third, with_thirds, triples_of, obligations_of};
 
 use crate::NoMemory;
 use crate::function::{Head, Level, ObName};
-use crate::rules::declares;
-use ot_model::Kind::{Del, Ins};
+use ot_model::{KINDS, Kind};
 use std::alloc::Global;
 
-const PAIRS: [ObName; 3] = [
-    ObName::Pair(Ins, Ins),
-    ObName::Pair(Ins, Del),
-    ObName::Pair(Del, Del),
-];
-
-const PAIRS_AND_TRIPLES: [ObName; 9] = [
-    ObName::Pair(Ins, Ins),
-    ObName::Pair(Ins, Del),
-    ObName::Pair(Del, Del),
-    ObName::Triple(Ins, Ins, Ins),
-    ObName::Triple(Ins, Del, Ins),
-    ObName::Triple(Del, Del, Ins),
-    ObName::Triple(Ins, Ins, Del),
-    ObName::Triple(Ins, Del, Del),
-    ObName::Triple(Del, Del, Del),
-];
-
-fn is_meant(head: &Head, name: &ObName) -> bool
-    ensures { result ≡ is_obligation head.now name.now }
+// The kinds that the function is for, in canonical order.
+fn kinds_of(alloc: Global, head: &Head) -> Result<Vec<Kind>, NoMemory>
+    ensures { IfOk result (λ v. v.items ≡ declared_kinds head.now) }
 {
-    match *name {
-        ObName::Pair(k, l) => declares(head, k) && declares(head, l),
-        ObName::Triple(k, l, m) => declares(head, k) && declares(head, l) && declares(head, m),
+    KINDS
+        .iter()
+        .copied()
+        .filter(|kind| head.declares(*kind))
+        .collect(alloc)
+}
+
+// Puts the pairs of a kind with each of these kinds at the end.
+fn push_pairs(first: Kind, kinds: &[Kind], names: &mut Vec<ObName>) -> Result<(), NoMemory>
+    ensures { OnOk result (names.new.items ≡ names.old.items ++ map (Pair first) kinds.now) }
+{
+    for second in kinds {
+        names.push(ObName::Pair(first, *second))?;
+    }
+    Ok(())
+}
+
+// Puts the pairs of kinds at the end: each kind with itself and with those behind it.
+fn push_all_pairs(kinds: &[Kind], names: &mut Vec<ObName>) -> Result<(), NoMemory>
+    ensures { OnOk result (names.new.items ≡ names.old.items ++ pairs_of kinds.now) }
+{
+    match kinds {
+        [] => Ok(()),
+        [first, others @ ..] => {
+            push_pairs(*first, kinds, names)?;
+            push_all_pairs(others, names)
+        }
     }
 }
 
-fn meant_of(alloc: Global, head: &Head, names: &[ObName]) -> Result<Vec<ObName>, NoMemory>
-    ensures { IfOk result (λ v. v.items ≡ filter (is_obligation head.now) names.now) }
+// A pair with a third kind.
+fn triple(pair: ObName, third: Kind) -> ObName
+    ensures { result ≡ with_third third pair }
 {
-    names
-        .iter()
-        .copied()
-        .filter(|name| is_meant(head, name))
-        .collect(alloc)
+    match pair {
+        ObName::Pair(k, l) | ObName::Triple(k, l, _) => ObName::Triple(k, l, third),
+    }
+}
+
+// Puts each of the pairs with a third kind at the end.
+fn push_triples(third: Kind, pairs: &[ObName], names: &mut Vec<ObName>) -> Result<(), NoMemory>
+    ensures { OnOk result (names.new.items ≡ names.old.items ++ map (with_third third) pairs.now) }
+{
+    for pair in pairs {
+        names.push(triple(*pair, third))?;
+    }
+    Ok(())
+}
+
+// Puts the triples at the end: each third kind in order, with each of the pairs before it.
+fn push_all_triples(
+    kinds: &[Kind],
+    pairs: &[ObName],
+    names: &mut Vec<ObName>,
+) -> Result<(), NoMemory>
+    ensures { OnOk result (names.new.items ≡ names.old.items ++ with_thirds pairs.now kinds.now) }
+{
+    match kinds {
+        [] => Ok(()),
+        [third, others @ ..] => {
+            push_triples(*third, pairs, names)?;
+            push_all_triples(others, pairs, names)
+        }
+    }
+}
+
+/// The pairs of the function's kinds, of which TP1 has to be shown: each kind with itself and with those
+/// behind it.
+pub fn pairs(alloc: Global, head: &Head) -> Result<Vec<ObName>, NoMemory>
+    ensures { IfOk result (λ v. v.items ≡ pairs_of (declared_kinds head.now)) }
+{
+    let kinds = kinds_of(alloc, head)?;
+    let mut names = Vec::new(alloc);
+    push_all_pairs(&kinds, &mut names)?;
+    Ok(names)
+}
+
+/// The triples of the function's kinds, of which TP2 has to be shown: each third kind in order, with each
+/// pair before it.
+pub fn triples(alloc: Global, head: &Head) -> Result<Vec<ObName>, NoMemory>
+    ensures { IfOk result (λ v. v.items ≡ triples_of (declared_kinds head.now)) }
+{
+    let kinds = kinds_of(alloc, head)?;
+    let pairs = pairs(alloc, head)?;
+    let mut names = Vec::new(alloc);
+    push_all_triples(&kinds, &pairs, &mut names)?;
+    Ok(names)
 }
 
 /// What has to be shown of a function at a level, in the order in which certificates have it: the
@@ -51,8 +106,13 @@ fn meant_of(alloc: Global, head: &Head, names: &[ObName]) -> Result<Vec<ObName>,
 pub fn obligations(alloc: Global, head: &Head, level: Level) -> Result<Vec<ObName>, NoMemory>
     ensures { IfOk result (λ v. v.items ≡ obligations_of head.now level) }
 {
+    let mut names = pairs(alloc, head)?;
     match level {
-        Level::Tp1 => Ok(meant_of(alloc, head, &PAIRS)?),
-        Level::Tp2 => Ok(meant_of(alloc, head, &PAIRS_AND_TRIPLES)?),
+        Level::Tp1 => Ok(names),
+        Level::Tp2 => {
+            let mut behind = triples(alloc, head)?;
+            names.append(&mut behind)?;
+            Ok(names)
+        }
     }
 }

@@ -1,15 +1,17 @@
 //! Functions that are within the limits.
 ghost use Rattle.std.specs.Prelude.{◌≡◌, IsTrue, IfOk, map, count_by, length};
 ghost use Rattle.fn_rules.specs.Formulas.{formula_of};
-ghost use Rattle.fn_rules.specs.Functions.{case_of, is_declared, cases_of};
-ghost use Rattle.fn_rules.specs.Validity.{is_declared_pair, are_valid_cases, compares_chars, is_valid, is_valid_block};
-ghost use Rattle.fn_rules.specs.Building.{block_of, is_same_kind, is_for, cases_in, function_from, has_own_block, has_own_blocks, is_buildable};
+ghost use Rattle.std.specs.List.{list_all, list_any};
+ghost use Rattle.ot_model.specs.Kinds.{each_pair};
+ghost use Rattle.fn_rules.specs.Functions.{case_of, cases_of, is_declared, is_declared_pair};
+ghost use Rattle.fn_rules.specs.Validity.{are_valid_cases, compares_chars, is_valid, is_valid_block};
+ghost use Rattle.fn_rules.specs.Building.{block_of, is_for, cases_in, function_from, has_own_block, has_own_blocks, is_buildable};
 
 use crate::NoMemory;
 use crate::function::{Block, Case, Head};
 use crate::guard::Guard;
 use crate::limits::cases_fit;
-use ot_model::Kind;
+use ot_model::{KINDS, Kind};
 use std::alloc::Global;
 
 /// A function that keeps all limits: what is transformed by it can rely on them.
@@ -79,26 +81,11 @@ fn copy_blocks(alloc: Global, blocks: &[Block]) -> Result<Vec<Block>, NoMemory>
     Ok(copy)
 }
 
-fn same_kind(k: Kind, l: Kind) -> bool
-    ensures { result ≡ is_same_kind k l }
-{
-    match k {
-        Kind::Ins => match l {
-            Kind::Ins => true,
-            Kind::Del => false,
-        },
-        Kind::Del => match l {
-            Kind::Ins => false,
-            Kind::Del => true,
-        },
-    }
-}
-
 // Whether the block is for this pair of kinds.
 fn covers(first: Kind, second: Kind, block: &Block) -> bool
     ensures { result ≡ is_for first second (block_of block.now) }
 {
-    same_kind(block.first, first) && same_kind(block.second, second)
+    block.first.same(first) && block.second.same(second)
 }
 
 // The cases of the first block for a pair of kinds, none where there is no such block.
@@ -113,27 +100,6 @@ fn find_cases(blocks: &[Block], first: Kind, second: Kind) -> &[Case]
     &[]
 }
 
-pub(crate) fn declares(head: &Head, kind: Kind) -> bool
-    ensures { result ≡ is_declared head.now kind }
-{
-    match kind {
-        Kind::Ins => head.ins,
-        Kind::Del => head.del,
-    }
-}
-
-fn declares_pair(head: &Head, first: Kind, second: Kind) -> bool
-    ensures { result ≡ is_declared_pair head.now first second }
-{
-    declares(head, first) && declares(head, second)
-}
-
-fn may_compare_chars(first: Kind, second: Kind) -> bool
-    ensures { result ≡ compares_chars first second }
-{
-    same_kind(first, Kind::Ins) && same_kind(second, Kind::Ins)
-}
-
 fn count_blocks(blocks: &[Block], first: Kind, second: Kind) -> usize
     ensures { result ≡ count_by (is_for first second) (map block_of blocks.now) }
 {
@@ -143,10 +109,11 @@ fn count_blocks(blocks: &[Block], first: Kind, second: Kind) -> usize
         .count()
 }
 
+// Whether there is one block for the pair if it is declared, and otherwise none.
 fn owns_block(head: &Head, blocks: &[Block], first: Kind, second: Kind) -> bool
     ensures { result ≡ has_own_block head.now (map block_of blocks.now) first second }
 {
-    let wanted = if declares_pair(head, first, second) {
+    let wanted = if head.declares_pair(first, second) {
         1
     } else {
         0
@@ -154,31 +121,56 @@ fn owns_block(head: &Head, blocks: &[Block], first: Kind, second: Kind) -> bool
     count_blocks(blocks, first, second) == wanted
 }
 
+fn own_blocks_with(head: &Head, blocks: &[Block], first: Kind) -> bool
+    ensures { result ≡ list_all (has_own_block head.now (map block_of blocks.now) first) KINDS }
+{
+    KINDS
+        .iter()
+        .all(|second| owns_block(head, blocks, first, *second))
+}
+
 fn owns_blocks(head: &Head, blocks: &[Block]) -> bool
     ensures { result ≡ has_own_blocks head.now (map block_of blocks.now) }
 {
-    owns_block(head, blocks, Kind::Ins, Kind::Ins)
-        && owns_block(head, blocks, Kind::Ins, Kind::Del)
-        && owns_block(head, blocks, Kind::Del, Kind::Ins)
-        && owns_block(head, blocks, Kind::Del, Kind::Del)
+    KINDS
+        .iter()
+        .all(|first| own_blocks_with(head, blocks, *first))
 }
 
 fn block_fits(head: &Head, blocks: &[Block], first: Kind, second: Kind) -> bool
     ensures { result ≡ is_valid_block (function_from head.now (map block_of blocks.now)) first second }
 {
     let cases = find_cases(blocks, first, second);
-    cases_fit(may_compare_chars(first, second), cases)
-        && (declares_pair(head, first, second) || cases.len() == 0)
+    cases_fit(first.has_char() && second.has_char(), cases)
+        && (head.declares_pair(first, second) || cases.len() == 0)
+}
+
+fn blocks_fit_with(head: &Head, blocks: &[Block], first: Kind) -> bool
+    ensures { result ≡ list_all (is_valid_block (function_from head.now (map block_of blocks.now)) first) KINDS }
+{
+    KINDS
+        .iter()
+        .all(|second| block_fits(head, blocks, first, *second))
+}
+
+fn all_blocks_fit(head: &Head, blocks: &[Block]) -> bool
+    ensures { result ≡ each_pair (is_valid_block (function_from head.now (map block_of blocks.now))) }
+{
+    KINDS
+        .iter()
+        .all(|first| blocks_fit_with(head, blocks, *first))
+}
+
+fn has_kinds(head: &Head) -> bool
+    ensures { result ≡ list_any (is_declared head.now) KINDS }
+{
+    KINDS.iter().any(|kind| head.declares(*kind))
 }
 
 fn blocks_fit(head: &Head, blocks: &[Block]) -> bool
     ensures { result ≡ is_valid (function_from head.now (map block_of blocks.now)) }
 {
-    (head.ins || head.del)
-        && block_fits(head, blocks, Kind::Ins, Kind::Ins)
-        && block_fits(head, blocks, Kind::Ins, Kind::Del)
-        && block_fits(head, blocks, Kind::Del, Kind::Ins)
-        && block_fits(head, blocks, Kind::Del, Kind::Del)
+    has_kinds(head) && all_blocks_fit(head, blocks)
 }
 
 /// Whether a head and blocks make a function within the limits: at least one kind, one block for each

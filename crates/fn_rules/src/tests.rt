@@ -1,7 +1,8 @@
-ghost use Rattle.std.specs.Prelude.{IsTrue};
-ghost use Rattle.ot_model.specs.Effect.{kind_of};
+ghost use Rattle.std.specs.Prelude.{◌+ℤ◌, ◌≤ℤ◌, pos, IsTrue};
+ghost use Rattle.ot_model.specs.Operations.{kind_of};
 ghost use Rattle.fn_rules.specs.Rules.{function_of};
-ghost use Rattle.fn_rules.specs.Conditions.{IsForKind, IsInRange};
+ghost use Rattle.fn_rules.specs.Functions.{IsForKind};
+ghost use Rattle.fn_rules.specs.Conditions.{IsInRange};
 
 use crate::*;
 use ot_model::{Kind, Mode, Op};
@@ -34,6 +35,7 @@ const BOTH: Head = Head {
     mode: Mode::Plain,
     ins: true,
     del: true,
+    upd: false,
     sites_differ: true,
     chars_differ: false,
 };
@@ -42,6 +44,7 @@ const INSERTIONS: Head = Head {
     mode: Mode::Plain,
     ins: true,
     del: false,
+    upd: false,
     sites_differ: false,
     chars_differ: true,
 };
@@ -94,15 +97,18 @@ fn del(at: i64, site: u32) -> Op {
 
 const FAR: i64 = 1_099_511_627_776;
 
+fn is_near(at: i64) -> bool
+    ensures least { IsTrue result → pos 0 ≤ℤ (at +ℤ pos 1099511627776) }
+    ensures most { IsTrue result → at ≤ℤ pos 1099511627776 }
+{
+    -FAR <= at && at <= FAR
+}
+
 fn accepts(rules: &Rules, op: &Op) -> bool
     ensures declared { IsTrue result → IsForKind (function_of rules.now).head (kind_of op.now) }
     ensures in_range { IsTrue result → IsInRange op.now }
 {
-    match *op {
-        Op::Ins { at, .. } => rules.head().ins && -FAR <= at && at <= FAR,
-        Op::Del { at, .. } => rules.head().del && -FAR <= at && at <= FAR,
-        Op::Nop => true,
-    }
+    rules.head().admits(op) && is_near(op.position())
 }
 
 fn transformed(rules: &Rules, a: &Op, b: &Op) -> Option<Op> {
@@ -243,13 +249,63 @@ fn operations_are_allowed_by_what_differs(rt: HostRuntime) -> Result<(), AllocEr
 
 #[test]
 fn obligations_are_those_of_the_kinds(rt: HostRuntime) -> Result<(), AllocError> {
+    use Kind::{Del, Ins, Upd};
+    use ObName::{Pair, Triple};
+    let both = [
+        Pair(Ins, Ins),
+        Pair(Ins, Del),
+        Pair(Del, Del),
+        Triple(Ins, Ins, Ins),
+        Triple(Ins, Del, Ins),
+        Triple(Del, Del, Ins),
+        Triple(Ins, Ins, Del),
+        Triple(Ins, Del, Del),
+        Triple(Del, Del, Del),
+    ];
+    let alone = [Pair(Ins, Ins), Triple(Ins, Ins, Ins)];
+    let updates = [
+        Pair(Ins, Ins),
+        Pair(Ins, Upd),
+        Pair(Upd, Upd),
+        Triple(Ins, Ins, Ins),
+        Triple(Ins, Upd, Ins),
+        Triple(Upd, Upd, Ins),
+        Triple(Ins, Ins, Upd),
+        Triple(Ins, Upd, Upd),
+        Triple(Upd, Upd, Upd),
+    ];
+    let without_deletions = Head {
+        del: false,
+        upd: true,
+        ..BOTH
+    };
     for (head, level, want) in [
-        (BOTH, Level::Tp1, 3),
-        (BOTH, Level::Tp2, 9),
-        (INSERTIONS, Level::Tp1, 1),
-        (INSERTIONS, Level::Tp2, 2),
+        (BOTH, Level::Tp1, &both[..3]),
+        (BOTH, Level::Tp2, &both),
+        (INSERTIONS, Level::Tp1, &alone[..1]),
+        (INSERTIONS, Level::Tp2, &alone),
+        (without_deletions, Level::Tp1, &updates[..3]),
+        (without_deletions, Level::Tp2, &updates),
     ] {
-        assert_eq!(rt; obligations(rt.alloc(), &head, level)?.len(), want);
+        assert_eq!(rt; obligations(rt.alloc(), &head, level)?.as_slice(), want);
+    }
+    Ok(())
+}
+
+#[test]
+fn an_operation_is_integrable_where_it_is_declared_and_enabled(
+    rt: HostRuntime,
+) -> Result<(), AllocError> {
+    let blocks = insertions(rt.alloc(), case(Guard::True, keep(0)), 1)?;
+    assert!(rt; is_within_limits(&INSERTIONS, &blocks));
+    let rules = Rules::build(INSERTIONS, blocks);
+    for (op, want) in [
+        (ins(2, 1), true),
+        (ins(3, 1), false),
+        (del(0, 1), false),
+        (Op::Nop, true),
+    ] {
+        assert_eq!(rt; is_integrable(&rules, 2, &op), want, "{op:?}");
     }
     Ok(())
 }

@@ -1,67 +1,18 @@
 //! What an operation becomes behind another one, and which pairs of operations are meant.
 ghost use Rattle.std.specs.Prelude.{◌≡◌, ◌≢◌, ◌↔◌, ◌+ℤ◌, IsTrue, map};
-ghost use Rattle.ot_model.specs.Effect.{kind_of};
-ghost use Rattle.fn_rules.specs.Formulas.{at_of, site_of, char_of, of_side};
-ghost use Rattle.fn_rules.specs.Functions.{case_of};
+ghost use Rattle.ot_model.specs.Operations.{kind_of, at_of};
+ghost use Rattle.fn_rules.specs.Formulas.{of_side};
+ghost use Rattle.fn_rules.specs.Functions.{case_of, IsForKind};
 ghost use Rattle.fn_rules.specs.Validity.{is_valid_res, are_valid_cases};
 ghost use Rattle.fn_rules.specs.Rules.{function_of};
-ghost use Rattle.fn_rules.specs.Transformation.{placed, result_of, first_result, transform_of, Differ, IsAllowed};
-ghost use Rattle.fn_rules.specs.Conditions.{IsInRange, IsForKind, both_have_chars};
+ghost use Rattle.fn_rules.specs.Transformation.{result_of, first_result, transform_of, differ, Differ, is_allowed, IsAllowed};
+ghost use Rattle.fn_rules.specs.Conditions.{IsInRange, both_have_chars, is_integrable, IsIntegrable};
 
 use crate::function::{Case, Res};
 use crate::guard::Side;
 use crate::rules::Rules;
 use crate::truth::holds;
-use ot_model::{Kind, Op};
-
-fn kind(op: &Op) -> Option<Kind>
-    ensures { result ≡ kind_of op.now }
-{
-    match *op {
-        Op::Ins { .. } => Some(Kind::Ins),
-        Op::Del { .. } => Some(Kind::Del),
-        Op::Nop => None,
-    }
-}
-
-// The site that made the operation, which nop has not.
-fn site(op: &Op) -> Option<u32>
-    ensures { result ≡ site_of op.now }
-{
-    match *op {
-        Op::Ins { site, .. } | Op::Del { site, .. } => Some(site),
-        Op::Nop => None,
-    }
-}
-
-// The code of the character that the operation inserts.
-fn inserted(op: &Op) -> Option<u32>
-    ensures { result ≡ char_of op.now }
-{
-    match *op {
-        Op::Ins { ch, .. } => Some(u32::from(ch)),
-        Op::Del { .. } | Op::Nop => None,
-    }
-}
-
-fn position(op: &Op) -> i64
-    ensures { result ≡ at_of op.now }
-{
-    match *op {
-        Op::Ins { at, .. } | Op::Del { at, .. } => at,
-        Op::Nop => 0,
-    }
-}
-
-fn place(op: &Op, to: i64) -> Op
-    ensures { result ≡ placed op.now to }
-{
-    match *op {
-        Op::Ins { ch, site, .. } => Op::Ins { at: to, ch, site },
-        Op::Del { site, .. } => Op::Del { at: to, site },
-        Op::Nop => Op::Nop,
-    }
-}
+use ot_model::{Op, enabled};
 
 fn give(res: &Res, a: &Op, b: &Op) -> Op
     requires a_in_range { IsInRange a.now }
@@ -70,8 +21,8 @@ fn give(res: &Res, a: &Op, b: &Op) -> Op
 {
     match *res {
         Res::Keep { base, k } => match base {
-            Side::First => place(a, position(a) + i64::from(k)),
-            Side::Second => place(a, position(b) + i64::from(k)),
+            Side::First => a.placed(a.position() + i64::from(k)),
+            Side::Second => a.placed(b.position() + i64::from(k)),
         },
         Res::Nop => Op::Nop,
     }
@@ -103,17 +54,19 @@ pub fn transform(rules: &Rules, a: &Op, b: &Op) -> Option<Op>
     requires b_in_range { IsInRange b.now }
     ensures { result ≡ transform_of (function_of rules.now) a.now b.now }
 {
-    match kind(a) {
+    match a.kind() {
         None => Some(Op::Nop),
-        Some(first) => match kind(b) {
+        Some(first) => match b.kind() {
             None => Some(*a),
             Some(second) => first_of(rules.cases(first, second), a, b),
         },
     }
 }
 
+// Whether the two are not both there, or differ.
 fn differ(x: Option<u32>, y: Option<u32>) -> bool
-    ensures { IsTrue result ↔ Differ x y }
+    ensures test { result ≡ differ x y }
+    ensures fact { IsTrue result ↔ Differ x y }
 {
     match x {
         None => true,
@@ -126,9 +79,19 @@ fn differ(x: Option<u32>, y: Option<u32>) -> bool
 
 /// Whether the two operations differ in what the function assumes to differ.
 pub fn allowed(rules: &Rules, a: &Op, b: &Op) -> bool
-    ensures { IsTrue result ↔ IsAllowed (function_of rules.now) a.now b.now }
+    ensures test { result ≡ is_allowed (function_of rules.now) a.now b.now }
+    ensures fact { IsTrue result ↔ IsAllowed (function_of rules.now) a.now b.now }
 {
     let head = rules.head();
-    (!head.sites_differ || differ(site(a), site(b)))
-        && (!head.chars_differ || differ(inserted(a), inserted(b)))
+    (!head.sites_differ || differ(a.site(), b.site()))
+        && (!head.chars_differ || differ(a.ch().map(u32::from), b.ch().map(u32::from)))
+}
+
+/// Whether the operation may be integrated into a document of so many cells: it is nop or of a kind that
+/// the function transforms, and it is enabled there.
+pub fn is_integrable(rules: &Rules, cells: usize, op: &Op) -> bool
+    ensures test { result ≡ is_integrable (function_of rules.now) cells op.now }
+    ensures fact { IsTrue result ↔ IsIntegrable (function_of rules.now) cells op.now }
+{
+    rules.head().admits(op) && enabled(op, cells)
 }

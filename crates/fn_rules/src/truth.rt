@@ -14,18 +14,9 @@ fn thing(sort: Sort, op: &Op) -> i64
     ensures most { result ≤ℤ pos 1099511627776 }
 {
     match sort {
-        Sort::Pos => match *op {
-            Op::Ins { at, .. } | Op::Del { at, .. } => at,
-            Op::Nop => 0,
-        },
-        Sort::Site => match *op {
-            Op::Ins { site, .. } | Op::Del { site, .. } => i64::from(site),
-            Op::Nop => 0,
-        },
-        Sort::Char => match *op {
-            Op::Ins { ch, .. } => i64::from(u32::from(ch)),
-            Op::Del { .. } | Op::Nop => 0,
-        },
+        Sort::Pos => op.position(),
+        Sort::Site => op.site().map_or(0, i64::from),
+        Sort::Char => op.ch().map_or(0, |ch| i64::from(u32::from(ch))),
     }
 }
 

@@ -4,10 +4,11 @@ use Rattle.std.proofs.Common.{arith}
 use Rattle.std.proofs.lemmas.Int.{ints}
 use Rattle.ot_model.specs.declared.cell.Cell.{Cell}
 use Rattle.ot_model.specs.declared.op.Mode.TheVariants.{Plain, Tomb}
-use Rattle.ot_model.specs.declared.op.Op.TheVariants.{Ins, Del, Nop}
+use Rattle.ot_model.specs.declared.op.Op.TheVariants.{Ins, Del, Upd, Nop}
 use Rattle.ot_model.specs.declared.op.Kind.TheVariants as kinds
 use Rattle.ot_model.specs.Cells.{live_cell, dead_cell}
-use Rattle.ot_model.specs.Effect.{kind_of, IsEnabled, document_after}
+use Rattle.ot_model.specs.Operations.{kind_of}
+use Rattle.ot_model.specs.Effect.{IsEnabled, document_after}
 
 -- live cells with x, y and z, and a tombstone with y
 abbrev x : Cell
@@ -52,6 +53,12 @@ tomb_delete_in_the_middle = refl
 tomb_delete_of_a_tombstone : document_after Tomb (Del (pos 1) 7) (x ∷ dead_y ∷ []) ≡ x ∷ dead_y ∷ []
 tomb_delete_of_a_tombstone = refl
 
+plain_update_keeps_the_others : document_after Plain (Upd (pos 1) 122 7) (x ∷ y ∷ x ∷ []) ≡ x ∷ z ∷ x ∷ []
+plain_update_keeps_the_others = refl
+
+update_of_a_tombstone : document_after Tomb (Upd (pos 0) 122 7) (dead_y ∷ x ∷ []) ≡ dead_cell z ∷ x ∷ []
+update_of_a_tombstone = refl
+
 nop_changes_nothing : document_after Plain Nop (x ∷ dead_y ∷ []) ≡ x ∷ dead_y ∷ []
 nop_changes_nothing = refl
 
@@ -66,6 +73,9 @@ delete_is_refused_at_the_end h = omega (arith, ints)
 
 delete_is_refused_in_nothing : ¬ (IsEnabled (Del (pos 0) 7) 0)
 delete_is_refused_in_nothing h = omega (arith, ints)
+
+update_is_refused_at_the_end : ¬ (IsEnabled (Upd (pos 2) 122 7) 2)
+update_is_refused_at_the_end h = omega (arith, ints)
 
 insert_is_refused_before_the_front : ¬ (IsEnabled (Ins (negsuc 0) 122 7) 2)
 insert_is_refused_before_the_front h = omega (arith, ints)

@@ -1,2 +1,3 @@
 pub mod Cells
+pub mod KindRows
 pub mod Examples

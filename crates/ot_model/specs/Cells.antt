@@ -10,6 +10,10 @@ live_cell ch = record { ch = ch; live = true }
 abbrev pub dead_cell : Cell → Cell
 dead_cell cell = record { ch = cell.ch; live = false }
 
+-- the cell with another character: it stays live or dead, as it is
+abbrev pub cell_with : ℕ → Cell → Cell
+cell_with ch cell = record { ch = ch; live = cell.live }
+
 -- the document whose `count` cells at place `at` are replaced by these cells
 abbrev pub with_cells : ℕ → ℕ → List Cell → List Cell → List Cell
 with_cells at count cells doc = take at doc ++ cells ++ drop (at + count) doc

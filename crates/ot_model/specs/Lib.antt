@@ -1,2 +1,4 @@
 pub mod Cells
+pub mod Kinds
+pub mod Operations
 pub mod Effect

@@ -1,16 +1,17 @@
 //! Documents.
 ghost use Rattle.std.specs.Prelude.{◌≡◌, ◌≤◌, ◌<◌, ◌^◌, ◌↔◌, [], ◌∷◌, ◌++◌, length};
 ghost use Rattle.std.specs.Prelude.{map, take, drop, slice_get, IsTrue, OnOk, OnErr, IfOk};
-ghost use Rattle.ot_model.specs.Cells.{dead_cell, with_cells};
+ghost use Rattle.ot_model.specs.Cells.{dead_cell, cell_with, with_cells};
 
 use crate::cell::Cell;
+use plain_list::List;
 use std::alloc::{AllocError, Global};
 use std::marker::Model;
 
 /// A list of cells, which contracts see as that list.
 #[derive(Debug, Drop)]
 pub struct Doc {
-    cells: Vec<Cell>,
+    cells: List<Cell>,
 }
 
 impl Model for Doc {
@@ -19,7 +20,7 @@ impl Model for Doc {
 
     ghost Value = { List Cell };
 
-    ghost view = { λ d. d.cells.items };
+    ghost view = { λ d. d.cells };
 }
 
 impl Doc {
@@ -28,7 +29,7 @@ impl Doc {
         ensures { result ≡ [] }
     {
         Doc {
-            cells: Vec::new(alloc),
+            cells: List::new(alloc),
         }
     }
 
@@ -37,8 +38,7 @@ impl Doc {
         ensures ok { OnOk result (self.new ≡ self.old ++ cell ∷ []) }
         ensures err { OnErr result (self.new ≡ self.old) }
     {
-        self.cells.push(cell)?;
-        Ok(())
+        self.cells.push(cell)
     }
 
     /// How many cells there are, dead ones too.
@@ -67,7 +67,7 @@ impl Doc {
     pub fn cells(&self) -> &[Cell]
         ensures { result.now ≡ self.now }
     {
-        &self.cells
+        self.cells.as_slice()
     }
 
     /// An equal document of its own memory.
@@ -75,7 +75,7 @@ impl Doc {
         ensures { IfOk result (λ copy. copy ≡ self.now) }
     {
         Ok(Doc {
-            cells: Vec::from_slice(*self.cells.allocator(), &self.cells)?,
+            cells: self.cells.try_clone()?,
         })
     }
 
@@ -83,7 +83,7 @@ impl Doc {
     pub fn same(&self, other: &Doc) -> bool
         ensures { IsTrue result ↔ (self.now ≡ other.now) }
     {
-        same_cells(&self.cells, &other.cells)
+        same_cells(self.cells(), other.cells())
     }
 
     /// Puts a cell at place `at`; the cells from there on move up by one.
@@ -92,8 +92,7 @@ impl Doc {
         ensures ok { OnOk result (self.new ≡ with_cells at 0 (cell ∷ []) self.old) }
         ensures err { OnErr result (self.new ≡ self.old) }
     {
-        self.cells.insert(at, cell)?;
-        Ok(())
+        self.cells.insert(at, cell)
     }
 
     /// Takes out the cell at place `at`; the cells behind it move down by one.
@@ -104,12 +103,30 @@ impl Doc {
         self.cells.remove(at);
     }
 
+    // Puts a cell in place of the one at `at`.
+    fn replace(&mut self, at: usize, cell: Cell)
+        requires { at < length self.old }
+        ensures { self.new ≡ with_cells at 1 (cell ∷ []) self.old }
+    {
+        self.cells.set(at, cell);
+    }
+
+    /// Puts another character into the cell at place `at`, which stays live or dead, as it is.
+    pub(crate) fn rewrite(&mut self, at: usize, ch: char)
+        requires { at < length self.old }
+        ensures { self.new ≡ with_cells at 1 (map (cell_with ch) (take 1 (drop at self.old))) self.old }
+    {
+        let live = self.cell(at).live;
+        self.replace(at, Cell { ch, live });
+    }
+
     /// Makes the cell at place `at` a tombstone, if it isn't one yet.
     pub(crate) fn bury(&mut self, at: usize)
         requires { at < length self.old }
         ensures { self.new ≡ with_cells at 1 (map dead_cell (take 1 (drop at self.old))) self.old }
     {
-        self.cells[at].live = false;
+        let ch = self.cell(at).ch;
+        self.replace(at, Cell { ch, live: false });
     }
 }
 

@@ -1,31 +1,30 @@
 //! What an operation does to a document.
-ghost use Rattle.std.specs.Prelude.{◌≡◌, ◌↔◌, length, IsTrue, OnOk, OnErr};
-ghost use Rattle.ot_model.specs.Effect.{kind_of, IsInsert, IsEnabled, is_enabled, document_after};
+ghost use Rattle.std.specs.Prelude.{◌≡◌, ◌↔◌, ◌≤ℤ◌, ◌<ℤ◌, ◌&&◌, pos, int_le, int_lt, length, IsTrue, OnOk, OnErr};
+ghost use Rattle.ot_model.specs.Operations.{IsInsert};
+ghost use Rattle.ot_model.specs.Effect.{IsEnabled, is_enabled, document_after};
 
 use crate::cell::Cell;
 use crate::doc::Doc;
-use crate::op::{Apply, Kind, Mode, Op};
+use crate::op::{Apply, Mode, Op};
 
-/// The kind of an operation, which nop has not.
-pub fn kind(op: &Op) -> Option<Kind>
-    ensures { result ≡ kind_of op.now }
+// Whether a document of `len` cells has one at this position.
+fn has_cell_at(at: i64, len: usize) -> bool
+    ensures fact { IsTrue result ↔ ((pos 0 ≤ℤ at) × (at <ℤ pos len)) }
+    ensures test { result ≡ (int_le (pos 0) at && int_lt at (pos len)) }
 {
-    match *op {
-        Op::Ins { .. } => Some(Kind::Ins),
-        Op::Del { .. } => Some(Kind::Del),
-        Op::Nop => None,
-    }
+    0 <= at && (at as u64) < len as u64
 }
 
 /// Whether the operation may be applied to a document of `len` cells: an insertion also at the end,
-/// a deletion only where a cell is, dead or live, and nop always.
+/// a deletion and an update only where a cell is, dead or live, and nop always.
 pub fn enabled(op: &Op, len: usize) -> bool
     ensures fact { IsTrue result ↔ IsEnabled op.now len }
     ensures test { result ≡ is_enabled op.now len }
 {
     match *op {
         Op::Ins { at, .. } => 0 <= at && at as u64 <= len as u64,
-        Op::Del { at, .. } => 0 <= at && (at as u64) < len as u64,
+        Op::Del { at, .. } => has_cell_at(at, len),
+        Op::Upd { at, .. } => has_cell_at(at, len),
         Op::Nop => true,
     }
 }
@@ -49,6 +48,7 @@ pub fn apply(mode: Mode, op: &Op, doc: &mut Doc) -> Result<(), Apply>
             Mode::Plain => doc.remove(at as usize),
             Mode::Tomb => doc.bury(at as usize),
         },
+        Op::Upd { at, ch, .. } => doc.rewrite(at as usize, ch),
         Op::Nop => (),
     }
     Ok(())

@@ -11,10 +11,17 @@
 mod cell;
 mod doc;
 mod effect;
+mod laws;
+mod limits;
 mod op;
 
 pub use cell::Cell;
 pub use doc::Doc;
-pub use effect::{apply, enabled, kind};
-pub use op::{Apply, Kind, Mode, Op};
+pub use effect::{apply, enabled};
+pub use laws::{
+    every_kind_is_listed, kinds_are_told_apart, operations_have_the_parts_of_their_kind,
+    placing_changes_the_position_alone,
+};
+pub use limits::{MAX_CELLS, MAX_OPERATIONS};
+pub use op::{Apply, KINDS, Kind, Mode, Op};
 pub use std::alloc::AllocError as NoMemory;
