@@ -1,15 +1,19 @@
 -- The cause for which a token that cannot go on is refused: the first row of the table that fits.
 use Rattle.std.specs.Prelude.{ℕ, Bool, true, false, not, ◌&&◌, if◌then◌else◌, nat_le}
 use Rattle.ot_model.specs.declared.op.Kind.{Kind}
-use Rattle.ot_model.specs.declared.op.Kind.TheVariants as kinds
+use Rattle.fn_rules.specs.declared.guard.Sort.{Sort}
 use Rattle.fn_rules.specs.Functions.{is_declared}
-use Rattle.fn_rules.specs.Building.{is_same_kind}
-use Rattle.fn_text.specs.declared.token.Token.{Token}
-use Rattle.fn_text.specs.declared.token.Token.TheVariants as tokens
-use Rattle.fn_text.specs.declared.token.Word.TheVariants as words
-use Rattle.fn_text.specs.declared.token.Placed.{Placed}
+use Rattle.ot_model.specs.Kinds.{is_same_kind}
+use Rattle.fn_rules.specs.declared.limits.TheConstants.{MAX_NESTING}
+use Rattle.fn_tokens.specs.declared.token.Token.{Token}
+use Rattle.fn_tokens.specs.declared.token.Token.TheVariants as tokens
+use Rattle.fn_tokens.specs.declared.token.Word.{Word}
+use Rattle.fn_tokens.specs.declared.token.Word.TheVariants as words
+use Rattle.fn_tokens.specs.declared.token.Placed.{Placed}
 use Rattle.fn_text.specs.declared.control.Region.{Region}
-use Rattle.fn_text.specs.declared.control.Region.TheVariants.{Elsewhere, AtVersion, AtLine, AtBlockFirst, AtBlockSecond, AtBlockEnd, AtOperand, InAtom, AtRight, AtNumber, BehindOperand, InResult, AtResultNumber, BehindResult}
+use Rattle.fn_text.specs.declared.control.Region.TheVariants.{Elsewhere, AtVersion, AtLine, AtBlockFirst, AtBlockSecond, AtBlockEnd}
+use Rattle.fn_text.specs.declared.control.Region.TheVariants.{AtOperand, InAtom, AtRight, AtNumber, BehindOperand, InResult}
+use Rattle.fn_text.specs.declared.control.Region.TheVariants.{AtResultNumber, BehindResult}
 use Rattle.fn_text.specs.declared.control.Want.{Want}
 use Rattle.fn_text.specs.declared.control.Want.TheVariants as wants
 use Rattle.fn_text.specs.declared.control.Control.{Control}
@@ -17,7 +21,9 @@ use Rattle.fn_text.specs.declared.fault.TextFault.{TextFault}
 use Rattle.fn_text.specs.declared.fault.FaultKind.{FaultKind}
 use Rattle.fn_text.specs.declared.fault.FaultKind.TheVariants as faults
 use Rattle.fn_text.specs.declared.fault.FaultKind.TheVariants.{Expected}
-use Rattle.fn_text.specs.Controls.{has_chars, depth_of, max_nesting}
+use Rattle.fn_text.specs.Meaning.{may_compare}
+use Rattle.fn_text.specs.Languages.{has_word}
+use Rattle.fn_text.specs.Controls.{has_chars, depth_of}
 
 -- where a token stands, as far as the table asks
 abbrev pub region_of : Want → Region
@@ -26,8 +32,7 @@ region_of wants.Version = AtVersion
 region_of wants.Text = Elsewhere
 region_of wants.Mode = Elsewhere
 region_of wants.Kinds = Elsewhere
-region_of wants.FirstKind = Elsewhere
-region_of wants.SecondKind = Elsewhere
+region_of wants.NextKind = Elsewhere
 region_of (wants.LineEnd following) = Elsewhere
 region_of wants.Line = AtLine
 region_of wants.Assumed = Elsewhere
@@ -56,15 +61,15 @@ number_fault AtNumber = faults.Offset
 number_fault AtResultNumber = faults.Offset
 number_fault _ = Expected
 
--- `true`, `p1`, `p2`, `s1` or `s2` as an operand is one too many
+-- `true` or a thing as an operand is one too many
 abbrev pub operand_fault : Region → FaultKind
 operand_fault AtOperand = faults.Atoms
 operand_fault _ = Expected
 
 -- a thing as a second side is another one than the first side asks for
-abbrev pub thing_fault : Region → FaultKind
-thing_fault AtRight = faults.Sort
-thing_fault region = operand_fault region
+abbrev pub side_fault : Region → FaultKind
+side_fault AtRight = faults.Sort
+side_fault region = operand_fault region
 
 -- the place is behind the kinds of a block or behind the word `case`
 abbrev pub is_behind_kinds : Region → Bool
@@ -75,10 +80,10 @@ is_behind_kinds AtBlockFirst = false
 is_behind_kinds AtBlockSecond = false
 is_behind_kinds _ = true
 
--- `c1` or `c2`, first where characters may not be compared
-abbrev pub char_fault : Control → Region → FaultKind
-char_fault c region =
-    if is_behind_kinds region && not (has_chars c) then faults.Sort else thing_fault region
+-- a thing, first where it may not be compared
+abbrev pub thing_fault : Control → Sort → Region → FaultKind
+thing_fault c sort region =
+    if is_behind_kinds region && not (may_compare (has_chars c) sort) then faults.Sort else side_fault region
 
 abbrev pub end_fault : Region → FaultKind
 end_fault AtLine = faults.Missing
@@ -106,7 +111,7 @@ kind_fault c k _ = Expected
 
 -- so many `(` and `not` are around the token
 abbrev pub nested_fault : ℕ → FaultKind
-nested_fault depth = if nat_le max_nesting depth then faults.Nesting else Expected
+nested_fault depth = if nat_le MAX_NESTING depth then faults.Nesting else Expected
 
 -- `(` or `not`; the `not` before an operand are around it until it is whole
 abbrev pub nesting_fault : Control → Region → FaultKind
@@ -117,25 +122,29 @@ nesting_fault c AtNumber = nested_fault (depth_of c)
 nesting_fault c BehindOperand = nested_fault c.outside
 nesting_fault c _ = Expected
 
+-- a word; those of the language that the table does not speak of are `expected`
+abbrev pub word_fault : Control → Region → Word → FaultKind
+word_fault c region words.Not = nesting_fault c region
+word_fault c region words.True = operand_fault region
+word_fault c region (words.Thing sort side) = thing_fault c sort region
+word_fault c region (words.Kind k) = if has_word c.language k then kind_fault c k region else faults.Word
+word_fault c region words.End = end_fault region
+word_fault c region words.Case = case_fault c region
+word_fault c region _ = Expected
+
 -- the cause, by the token and where it stands
 abbrev pub cause_in : Control → Region → Token → FaultKind
 cause_in c region tokens.Byte = faults.Byte
 cause_in c region tokens.Unknown = faults.Word
+cause_in c region (tokens.Known word) = word_fault c region word
 cause_in c region (tokens.Number n) = number_fault region
+cause_in c region (tokens.Comparison cmp) = Expected
+cause_in c region (tokens.Sign sign) = Expected
 cause_in c region tokens.Open = nesting_fault c region
-cause_in c region (tokens.Known words.Not) = nesting_fault c region
-cause_in c region (tokens.Known words.True) = operand_fault region
-cause_in c region (tokens.Known words.P1) = thing_fault region
-cause_in c region (tokens.Known words.P2) = thing_fault region
-cause_in c region (tokens.Known words.S1) = thing_fault region
-cause_in c region (tokens.Known words.S2) = thing_fault region
-cause_in c region (tokens.Known words.C1) = char_fault c region
-cause_in c region (tokens.Known words.C2) = char_fault c region
-cause_in c region (tokens.Known words.Ins) = kind_fault c kinds.Ins region
-cause_in c region (tokens.Known words.Del) = kind_fault c kinds.Del region
-cause_in c region (tokens.Known words.End) = end_fault region
-cause_in c region (tokens.Known words.Case) = case_fault c region
-cause_in c region _ = Expected
+cause_in c region tokens.Close = Expected
+cause_in c region tokens.Colon = Expected
+cause_in c region tokens.LineEnd = Expected
+cause_in c region tokens.FileEnd = Expected
 
 -- the fault stands at the token; that of a block which is there already, at its word `block`
 abbrev pub placed_fault : Control → Placed → FaultKind → TextFault

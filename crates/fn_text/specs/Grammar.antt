@@ -1,10 +1,10 @@
 -- Function files as they are written: the phrases of the grammar, the tokens by which they are written,
 -- and what they mean.
-use Rattle.std.specs.Prelude.{◌≡◌, ℕ, ◌+◌, Bool, true, ◌&&◌, ◌||◌, max, nat_le, IsTrue, List, [], ◌∷◌, ◌++◌, length, map}
+use Rattle.std.specs.Prelude.{◌≡◌, ℕ, ◌+◌, Bool, true, ◌&&◌, max, nat_le, IsTrue, List, [], ◌∷◌, ◌++◌, length, map}
 use Rattle.std.specs.List.{flat_map, list_all}
 use Rattle.ot_model.specs.declared.op.Kind.{Kind}
 use Rattle.fn_rules.specs.declared.guard.Sort.{Sort}
-use Rattle.fn_rules.specs.declared.guard.Sort.TheVariants.{Pos, Site, Char}
+use Rattle.fn_rules.specs.declared.guard.Sort.TheVariants.{Pos}
 use Rattle.fn_rules.specs.declared.guard.Side.{Side}
 use Rattle.fn_rules.specs.declared.guard.Cmp.{Cmp}
 use Rattle.fn_rules.specs.declared.guard.Tightness.{Tightness}
@@ -14,17 +14,20 @@ use Rattle.fn_rules.specs.Formulas.{other_side}
 use Rattle.fn_rules.specs.Functions.{Function}
 use Rattle.fn_rules.specs.Validity.{compares_chars}
 use Rattle.fn_rules.specs.Building.{function_from, has_own_blocks}
-use Rattle.fn_text.specs.declared.token.Word.TheVariants as words
-use Rattle.fn_text.specs.declared.token.Token.{Token}
-use Rattle.fn_text.specs.declared.token.Token.TheVariants.{Known, Number, Plus, Minus, Open, Close, Colon, LineEnd, FileEnd}
-use Rattle.fn_text.specs.declared.control.Sign.{Sign}
-use Rattle.fn_text.specs.declared.control.Sign.TheVariants as signs
+use Rattle.fn_rules.specs.declared.limits.TheConstants.{MAX_CASES, MAX_ATOMS, MAX_NESTING}
+use Rattle.fn_tokens.specs.declared.token.Word.TheVariants as words
+use Rattle.fn_tokens.specs.declared.token.Token.{Token}
+use Rattle.fn_tokens.specs.declared.token.Token.TheVariants.{Known, Number, Comparison, Open, Close, Colon, LineEnd, FileEnd}
+use Rattle.fn_tokens.specs.declared.token.Token.TheVariants as tokens
+use Rattle.fn_tokens.specs.declared.token.Sign.{Sign}
 use Rattle.fn_text.specs.declared.control.Written.{Written}
 use Rattle.fn_text.specs.declared.control.Written.TheVariants as written
-use Rattle.fn_text.specs.Print.{thing_word, compare_token, kind_word, head_tokens, bare_tokens}
-use Rattle.fn_text.specs.Reader.{Maker}
-use Rattle.fn_text.specs.Made.{to_formulas}
-use Rattle.fn_text.specs.Controls.{max_cases, max_atoms, max_nesting}
+use Rattle.fn_tokens.specs.Tokens.{tokens_in, bare}
+use Rattle.fn_text.specs.declared.language.Language.{Language}
+use Rattle.fn_text.specs.Languages.{has_words}
+use Rattle.fn_text.specs.Kinds.{declares_some}
+use Rattle.fn_text.specs.Print.{head_tokens}
+use Rattle.fn_text.specs.Meaning.{Maker, is_offset_number, may_compare, to_formulas}
 
 -- a guard as it is written, by how tightly it holds together: tight phrases are operands of `not` and
 -- `and`, joined ones are operands of `or`, and loose ones stand alone or in parentheses; operators group
@@ -40,17 +43,13 @@ pub data Phrase : Tightness → Type 0 where
   Single : Phrase Joined → Phrase Loose
   Either : Phrase Loose → Phrase Joined → Phrase Loose
 
-abbrev pub sign_token : Sign → Token
-sign_token signs.Plus = Plus
-sign_token signs.Minus = Minus
-
 -- the tokens of a phrase
 abbrev pub written_as : {t : Tightness} → Phrase t → List Token
 written_as Always = Known words.True ∷ []
 written_as (Compare sort left cmp) =
-    Known (thing_word sort left) ∷ compare_token cmp ∷ Known (thing_word sort (other_side left)) ∷ []
+    Known (words.Thing sort left) ∷ Comparison cmp ∷ Known (words.Thing sort (other_side left)) ∷ []
 written_as (Shifted left cmp sign n) =
-    Known (thing_word Pos left) ∷ compare_token cmp ∷ Known (thing_word Pos (other_side left)) ∷ sign_token sign ∷ Number n ∷ []
+    Known (words.Thing Pos left) ∷ Comparison cmp ∷ Known (words.Thing Pos (other_side left)) ∷ tokens.Sign sign ∷ Number n ∷ []
 written_as (Negated u) = Known words.Not ∷ written_as u
 written_as (Round d) = Open ∷ (written_as d ++ Close ∷ [])
 written_as (One u) = written_as u
@@ -94,17 +93,11 @@ nesting_in (Both c u) = max (nesting_in c) (nesting_in u)
 nesting_in (Single c) = nesting_in c
 nesting_in (Either d c) = max (nesting_in d) (nesting_in c)
 
--- the sort may be compared, in a block that may compare characters or may not
-abbrev pub may_compare : Bool → Sort → Bool
-may_compare chars Pos = true
-may_compare chars Site = true
-may_compare chars Char = chars
-
 -- offsets are two digits, and characters are compared only where they may be
 abbrev pub is_allowed : {t : Tightness} → Bool → Phrase t → Bool
 is_allowed chars Always = true
 is_allowed chars (Compare sort left cmp) = may_compare chars sort
-is_allowed chars (Shifted left cmp sign n) = nat_le n 99
+is_allowed chars (Shifted left cmp sign n) = is_offset_number n
 is_allowed chars (Negated u) = is_allowed chars u
 is_allowed chars (Round d) = is_allowed chars d
 is_allowed chars (One u) = is_allowed chars u
@@ -125,9 +118,9 @@ pub record WrittenBlock : Type 0 where
 -- the tokens of a result, where the operation that is transformed is of this kind
 abbrev pub result_written_as : Kind → Written → List Token
 result_written_as kind written.Nop = Known words.Nop ∷ []
-result_written_as kind (written.At side) = Known (kind_word kind) ∷ Known (thing_word Pos side) ∷ []
+result_written_as kind (written.At side) = Known (words.Kind kind) ∷ Known (words.Thing Pos side) ∷ []
 result_written_as kind (written.Moved side sign n) =
-    Known (kind_word kind) ∷ Known (thing_word Pos side) ∷ sign_token sign ∷ Number n ∷ []
+    Known (words.Kind kind) ∷ Known (words.Thing Pos side) ∷ tokens.Sign sign ∷ Number n ∷ []
 
 abbrev pub case_written_as : Kind → WrittenCase → List Token
 case_written_as kind c =
@@ -135,12 +128,13 @@ case_written_as kind c =
 
 abbrev pub block_written_as : WrittenBlock → List Token
 block_written_as block =
-    Known words.Block ∷ Known (kind_word block.first) ∷ Known (kind_word block.second) ∷ LineEnd ∷ flat_map (case_written_as block.first) block.cases
+    Known words.Block ∷ Known (words.Kind block.first) ∷ Known (words.Kind block.second) ∷ LineEnd
+    ∷ flat_map (case_written_as block.first) block.cases
 
 -- a file as it is written: its head, which has one spelling, and its blocks in their order
-abbrev pub file_written_as : Head → List WrittenBlock → List Token
-file_written_as head blocks =
-    head_tokens head ++ flat_map block_written_as blocks ++ Known words.End ∷ LineEnd ∷ FileEnd ∷ []
+abbrev pub file_written_as : Language → Head → List WrittenBlock → List Token
+file_written_as language head blocks =
+    head_tokens language head ++ flat_map block_written_as blocks ++ Known words.End ∷ LineEnd ∷ FileEnd ∷ []
 
 -- what a case and a block are made into
 abbrev pub case_made : {V : Tightness → Type 0} {K B : Type 0} → Maker V K B → WrittenCase → K
@@ -152,25 +146,28 @@ block_made m block = m.blocked block.first block.second (map (case_made m) block
 abbrev pub is_allowed_result : Written → Bool
 is_allowed_result written.Nop = true
 is_allowed_result (written.At side) = true
-is_allowed_result (written.Moved side sign n) = nat_le n 99
+is_allowed_result (written.Moved side sign n) = is_offset_number n
 
 abbrev pub is_allowed_case : Bool → WrittenCase → Bool
 is_allowed_case chars c =
-    is_allowed chars c.guard && nat_le (atoms_in c.guard) max_atoms && nat_le (nesting_in c.guard) max_nesting && is_allowed_result c.result
+    is_allowed chars c.guard && nat_le (atoms_in c.guard) MAX_ATOMS && nat_le (nesting_in c.guard) MAX_NESTING && is_allowed_result c.result
 
 abbrev pub is_allowed_block : WrittenBlock → Bool
 is_allowed_block block =
-    nat_le (length block.cases) max_cases && list_all (is_allowed_case (compares_chars block.first block.second)) block.cases
+    nat_le (length block.cases) MAX_CASES && list_all (is_allowed_case (compares_chars block.first block.second)) block.cases
 
--- at least one kind, one block for each ordered pair of kinds and no other, and each within the limits
-abbrev pub is_allowed_file : Head → List WrittenBlock → Bool
-is_allowed_file head blocks =
-    (head.ins || head.del) && has_own_blocks head (map (block_made to_formulas) blocks) && list_all is_allowed_block blocks
+-- at least one kind, one block for each ordered pair of kinds and no other, each within the limits, and a word of the language
+-- for each kind
+abbrev pub is_allowed_file : Language → Head → List WrittenBlock → Bool
+is_allowed_file language head blocks =
+    declares_some head && has_own_blocks head (map (block_made to_formulas) blocks) && list_all is_allowed_block blocks
+    && has_words language head
 
--- the bytes are a file of the grammar, and its phrases mean the function
+-- the bytes are a file of the grammar in one of the languages, and its phrases mean the function
 pub record IsTextOf (bytes : List ℕ) (f : Function) : Type 0 where
+  pub language : Language
   pub head : Head
   pub blocks : List WrittenBlock
-  pub allowed : IsTrue (is_allowed_file head blocks)
-  pub written : bare_tokens bytes ≡ file_written_as head blocks
+  pub allowed : IsTrue (is_allowed_file language head blocks)
+  pub written : bare (tokens_in bytes) ≡ file_written_as language head blocks
   pub means : f ≡ function_from head (map (block_made to_formulas) blocks)

@@ -1,17 +1,8 @@
 -- What the reader has in memory, as the state that it stands for: formulas in place of guards.
-use Rattle.std.specs.Prelude.{◌≡◌, ℕ, ℤ, pos, neg_ℤ, List, [], ◌∷◌, map, option_map, Result, Ok, Err}
-use Rattle.fn_rules.specs.declared.guard.Sort.TheVariants.{Pos}
-use Rattle.fn_rules.specs.declared.guard.Tightness.{Tightness}
-use Rattle.fn_rules.specs.declared.function.Res.{Res}
-use Rattle.fn_rules.specs.declared.function.Res.TheVariants as results
-use Rattle.fn_rules.specs.Formulas.{Formula, formula_of}
-use Rattle.fn_rules.specs.Formulas as formulas
+use Rattle.std.specs.Prelude.{◌≡◌, List, [], ◌∷◌, map, option_map, Result, Ok, Err}
+use Rattle.fn_rules.specs.Formulas.{formula_of}
 use Rattle.fn_rules.specs.Functions.{GuardedCase, case_of}
 use Rattle.fn_rules.specs.Building.{PairCases, block_of}
-use Rattle.fn_text.specs.declared.control.Sign.{Sign}
-use Rattle.fn_text.specs.declared.control.Sign.TheVariants as signs
-use Rattle.fn_text.specs.declared.control.Written.{Written}
-use Rattle.fn_text.specs.declared.control.Written.TheVariants as written
 use Rattle.fn_text.specs.declared.stop.ReadError.{ReadError}
 use Rattle.fn_text.specs.declared.stop.ReadError.TheVariants as errors
 use Rattle.fn_text.specs.declared.reader.Level.{Level}
@@ -19,38 +10,9 @@ use Rattle.fn_text.specs.declared.reader.Outer.{Outer}
 use Rattle.fn_text.specs.declared.reader.Outer.TheVariants as rust
 use Rattle.fn_text.specs.declared.reader.Reader.{Reader}
 use Rattle.fn_text.specs.declared.fault.TextFault.{TextFault}
-use Rattle.fn_text.specs.Reader.{Maker, State}
+use Rattle.fn_text.specs.Meaning.{Formulas}
+use Rattle.fn_text.specs.Reader.{State}
 use Rattle.fn_text.specs.Reader as plain
-
--- the offset that a sign and a number write
-abbrev pub signed : Sign → ℕ → ℤ
-signed signs.Plus n = pos n
-signed signs.Minus n = neg_ℤ (pos n)
-
--- the result that is written so
-abbrev pub res_of : Written → Res
-res_of written.Nop = results.Nop
-res_of (written.At side) = results.Keep side (pos 0)
-res_of (written.Moved side sign n) = results.Keep side (signed sign n)
-
--- phrases of every kind are made into formulas
-abbrev pub Formulas : Tightness → Type 0
-Formulas _ = Formula
-
-abbrev pub to_formulas : Maker Formulas GuardedCase PairCases
-to_formulas = record {
-  always = formulas.Always;
-  compared = λ sort left cmp. formulas.Compare record { sort = sort; left = left; cmp = cmp; k = pos 0 };
-  shifted = λ left cmp sign n. formulas.Compare record { sort = Pos; left = left; cmp = cmp; k = signed sign n };
-  negated = λ g. formulas.Not g;
-  round = λ g. g;
-  one = λ g. g;
-  both = λ g h. formulas.And g h;
-  single = λ g. g;
-  either = λ g h. formulas.Or g h;
-  cased = λ g result. record { guard = g; res = res_of result };
-  blocked = λ k l cases. record { first = k; second = l; cases = cases };
-}
 
 abbrev pub level_of : Level → plain.Level Formulas
 level_of level = record {

@@ -1,7 +1,6 @@
 -- Reading tokens one after another, over anything that phrases may be made into: the phrases themselves,
 -- or the formulas that they mean.
 use Rattle.std.specs.Prelude.{ℕ, zero, suc, ◌+◌, true, false, if◌then◌else◌, List, [], ◌∷◌, ◌++◌, Option, Some, None, Result, Ok, Err}
-use Rattle.ot_model.specs.declared.op.Kind.{Kind}
 use Rattle.ot_model.specs.declared.op.Kind.TheVariants as kinds
 use Rattle.ot_model.specs.declared.op.Mode.TheVariants as modes
 use Rattle.fn_rules.specs.declared.guard.Sort.{Sort}
@@ -11,34 +10,22 @@ use Rattle.fn_rules.specs.declared.guard.Cmp.{Cmp}
 use Rattle.fn_rules.specs.declared.guard.Tightness.{Tightness}
 use Rattle.fn_rules.specs.declared.guard.Tightness.TheVariants.{Loose, Joined, Tight}
 use Rattle.fn_rules.specs.declared.function.Head.{Head}
-use Rattle.fn_text.specs.declared.token.Placed.{Placed}
-use Rattle.fn_text.specs.declared.control.Sign.{Sign}
-use Rattle.fn_text.specs.declared.control.Written.{Written}
+use Rattle.fn_tokens.specs.declared.token.Placed.{Placed}
 use Rattle.fn_text.specs.declared.control.Next.TheVariants as nexts
 use Rattle.fn_text.specs.declared.control.Want.{Want}
 use Rattle.fn_text.specs.declared.control.Want.TheVariants as wants
+use Rattle.fn_text.specs.declared.control.Seconds.{Seconds}
 use Rattle.fn_text.specs.declared.control.Pairs.{Pairs}
 use Rattle.fn_text.specs.declared.control.Control.{Control}
 use Rattle.fn_text.specs.declared.control.Move.{Move}
 use Rattle.fn_text.specs.declared.control.Move.TheVariants as moves
+use Rattle.fn_text.specs.declared.language.Language.TheVariants as languages
 use Rattle.fn_text.specs.declared.fault.TextFault.{TextFault}
 use Rattle.fn_text.specs.declared.fault.FaultKind.TheVariants as faults
+use Rattle.fn_text.specs.Kinds.{with_kind, with_pair}
+use Rattle.fn_text.specs.Meaning.{Maker}
 use Rattle.fn_text.specs.Moves.{move_for}
 use Rattle.fn_text.specs.Faults.{fault_of}
-
--- how phrases, cases and blocks are made from their parts
-pub record Maker (V : Tightness → Type 0) (K B : Type 0) : Type 0 where
-  pub always : V Tight
-  pub compared : Sort → Side → Cmp → V Tight
-  pub shifted : Side → Cmp → Sign → ℕ → V Tight
-  pub negated : V Tight → V Tight
-  pub round : V Loose → V Tight
-  pub one : V Tight → V Joined
-  pub both : V Joined → V Tight → V Joined
-  pub single : V Joined → V Loose
-  pub either : V Loose → V Joined → V Loose
-  pub cased : V Loose → Written → K
-  pub blocked : Kind → Kind → List K → B
 
 -- what was read in parentheses that are still open: what stands before the last `or`, what stands behind
 -- that and before the last `and`, and how many `not` stand behind that; and what stands around them
@@ -90,22 +77,6 @@ blocks_of m s =
 abbrev pub with_want : Control → Want → Control
 with_want c want = record c { want = want }
 
--- a further kind is declared
-abbrev pub with_kind : Control → Kind → Control
-with_kind c kinds.Ins = record c { want = wants.SecondKind; head = record c.head { ins = true } }
-with_kind c kinds.Del = record c { want = wants.LineEnd nexts.Line; head = record c.head { del = true } }
-
-abbrev pub with_pair : Pairs → Kind → Kind → Pairs
-with_pair seen kinds.Ins kinds.Ins = record seen { ins_ins = true }
-with_pair seen kinds.Ins kinds.Del = record seen { ins_del = true }
-with_pair seen kinds.Del kinds.Ins = record seen { del_ins = true }
-with_pair seen kinds.Del kinds.Del = record seen { del_del = true }
-
--- a block for a pair of kinds begins
-abbrev pub with_block : Control → Kind → Kind → Control
-with_block c k l =
-    record c { want = wants.BlockEnd; begun = true; first = k; second = l; seen = with_pair c.seen k l; cases = 0 }
-
 -- what may follow an atom: an offset only over positions
 abbrev pub want_behind : Sort → Side → Cmp → Want
 want_behind Pos left cmp = wants.Offset left cmp
@@ -126,59 +97,69 @@ abbrev pub closed : {V : Tightness → Type 0} {K B : Type 0} → Maker V K B �
 closed m s [] = record s { control = with_want s.control wants.Operator }
 closed m s (level ∷ levels) = left_for (record s { last = m.round (disjunction m s) }) level levels
 
+-- what a token makes of the control; where parentheses are closed, what stands around them is told by their level
+abbrev pub control_behind : Control → Move → Control
+control_behind c (moves.Skip want) = with_want c want
+control_behind c (moves.SetLanguage language) = record c { want = wants.LineEnd nexts.Text; language = language }
+control_behind c (moves.SetMode mode) = record c { want = wants.LineEnd nexts.Kinds; head = record c.head { mode = mode } }
+control_behind c (moves.Declare kind) = record c { want = wants.NextKind; head = with_kind c.head kind }
+control_behind c moves.AssumeSites = record c { want = wants.Differ; head = record c.head { sites_differ = true } }
+control_behind c moves.AssumeChars = record c { want = wants.Differ; head = record c.head { chars_differ = true } }
+control_behind c (moves.BlockWord line column) = record c { want = wants.BlockFirst; line = line; column = column }
+control_behind c (moves.BeginBlock k l) =
+    record c { want = wants.BlockEnd; begun = true; first = k; second = l; seen = with_pair c.seen k l; cases = 0 }
+control_behind c moves.BeginCase = record c { want = wants.Operand; cases = c.cases + 1; atoms = 0 }
+control_behind c moves.Open = record c { want = wants.Operand; outside = c.outside + c.nots + 1; nots = 0 }
+control_behind c moves.Negate = record c { want = wants.Operand; nots = c.nots + 1 }
+control_behind c moves.Always = record c { want = wants.Operator; atoms = c.atoms + 1 }
+control_behind c (moves.BeginAtom sort left) = record c { want = wants.Comparison sort left; atoms = c.atoms + 1 }
+control_behind c (moves.Compare sort left cmp) = with_want c (want_behind sort left cmp)
+control_behind c (moves.Shift left cmp sign n) = with_want c wants.Operator
+control_behind c moves.And = record c { want = wants.Operand; nots = 0 }
+control_behind c moves.Or = record c { want = wants.Operand; nots = 0 }
+control_behind c moves.Close = with_want c wants.Operator
+control_behind c moves.Colon = record c { want = wants.Result; nots = 0 }
+control_behind c (moves.EndCase result) = with_want c wants.Line
+control_behind c moves.End = record c { want = wants.LineEnd nexts.File; begun = false }
+
+-- what a token does of which only the control keeps something
+abbrev pub told : {V : Tightness → Type 0} {K B : Type 0} → State V K B → Move → State V K B
+told s move = record s { control = control_behind s.control move }
+
 -- what a token does
 abbrev pub moved : {V : Tightness → Type 0} {K B : Type 0} → Maker V K B → State V K B → Move → State V K B
-moved m s (moves.Skip want) = record s { control = with_want s.control want }
-moved m s (moves.SetMode mode) = record s { control = record s.control { want = wants.LineEnd nexts.Kinds; head = record s.control.head { mode = mode } } }
-moved m s (moves.Declare kind) = record s { control = with_kind s.control kind }
-moved m s moves.AssumeSites = record s { control = record s.control { want = wants.Differ; head = record s.control.head { sites_differ = true } } }
-moved m s moves.AssumeChars = record s { control = record s.control { want = wants.Differ; head = record s.control.head { chars_differ = true } } }
-moved m s (moves.BlockWord line column) = record s { control = record s.control { want = wants.BlockFirst; line = line; column = column } }
-moved m s (moves.BeginBlock k l) = record s { control = with_block s.control k l; cases = []; done = blocks_of m s }
-moved m s moves.BeginCase = record s { control = record s.control { want = wants.Operand; cases = s.control.cases + 1; atoms = 0 } }
-moved m s moves.Open = record s {
-  control = record s.control { want = wants.Operand; outside = s.control.outside + s.control.nots + 1; nots = 0 };
+moved m s (moves.Skip want) = told s (moves.Skip want)
+moved m s (moves.SetLanguage language) = told s (moves.SetLanguage language)
+moved m s (moves.SetMode mode) = told s (moves.SetMode mode)
+moved m s (moves.Declare kind) = told s (moves.Declare kind)
+moved m s moves.AssumeSites = told s moves.AssumeSites
+moved m s moves.AssumeChars = told s moves.AssumeChars
+moved m s (moves.BlockWord line column) = told s (moves.BlockWord line column)
+moved m s (moves.BeginBlock k l) = record (told s (moves.BeginBlock k l)) { cases = []; done = blocks_of m s }
+moved m s moves.BeginCase = told s moves.BeginCase
+moved m s moves.Open = record (told s moves.Open) {
   any = None;
   all = None;
   outer = record { outside = s.control.outside; nots = s.control.nots; any = s.any; all = s.all } ∷ s.outer;
 }
-moved m s moves.Negate = record s { control = record s.control { want = wants.Operand; nots = s.control.nots + 1 } }
-moved m s moves.Always = record s { control = record s.control { want = wants.Operator; atoms = s.control.atoms + 1 }; last = m.always }
-moved m s (moves.BeginAtom sort left) = record s { control = record s.control { want = wants.Comparison sort left; atoms = s.control.atoms + 1 } }
-moved m s (moves.Compare sort left cmp) = record s { control = with_want s.control (want_behind sort left cmp); last = m.compared sort left cmp }
-moved m s (moves.Shift left cmp sign n) = record s { control = with_want s.control wants.Operator; last = m.shifted left cmp sign n }
-moved m s moves.And = record s {
-  control = record s.control { want = wants.Operand; nots = 0 };
-  all = Some (conjunction m s);
-  last = m.always;
-}
-moved m s moves.Or = record s {
-  control = record s.control { want = wants.Operand; nots = 0 };
-  any = Some (disjunction m s);
-  all = None;
-  last = m.always;
-}
+moved m s moves.Negate = told s moves.Negate
+moved m s moves.Always = record (told s moves.Always) { last = m.always }
+moved m s (moves.BeginAtom sort left) = told s (moves.BeginAtom sort left)
+moved m s (moves.Compare sort left cmp) = record (told s (moves.Compare sort left cmp)) { last = m.compared sort left cmp }
+moved m s (moves.Shift left cmp sign n) = record (told s (moves.Shift left cmp sign n)) { last = m.shifted left cmp sign n }
+moved m s moves.And = record (told s moves.And) { all = Some (conjunction m s); last = m.always }
+moved m s moves.Or = record (told s moves.Or) { any = Some (disjunction m s); all = None; last = m.always }
 moved m s moves.Close = closed m s s.outer
-moved m s moves.Colon = record s {
-  control = record s.control { want = wants.Result; nots = 0 };
-  any = None;
-  all = None;
-  last = m.always;
-  guard = disjunction m s;
-}
-moved m s (moves.EndCase result) = record s {
-  control = with_want s.control wants.Line;
+moved m s moves.Colon = record (told s moves.Colon) { any = None; all = None; last = m.always; guard = disjunction m s }
+moved m s (moves.EndCase result) = record (told s (moves.EndCase result)) {
   guard = m.single (m.one m.always);
   cases = s.cases ++ m.cased s.guard result ∷ [];
 }
-moved m s moves.End = record s {
-  control = record s.control { want = wants.LineEnd nexts.File; begun = false };
-  cases = [];
-  done = blocks_of m s;
-}
+moved m s moves.End = record (told s moves.End) { cases = []; done = blocks_of m s }
 
 -- the state after a token, or its fault
-abbrev pub after_move : {V : Tightness → Type 0} {K B : Type 0} → Maker V K B → State V K B → Placed → Option Move → Result (State V K B) TextFault
+abbrev pub after_move : {V : Tightness → Type 0} {K B : Type 0} → Maker V K B → State V K B → Placed → Option Move →
+    Result (State V K B) TextFault
 after_move m s at None = Err (fault_of s.control at)
 after_move m s at (Some move) = Ok (moved m s move)
 
@@ -195,16 +176,23 @@ abbrev pub read_from : {V : Tightness → Type 0} {K B : Type 0} → Maker V K B
 read_from m s [] = ended s s.control.want
 read_from m s (at ∷ rest) = elim (turn m s at) [ Ok after ↦ read_from m after rest | Err fault ↦ Err fault ]
 
+abbrev pub no_seconds : Seconds
+no_seconds = record { ins = false; del = false; upd = false }
+
+abbrev pub no_pairs : Pairs
+no_pairs = record { ins = no_seconds; del = no_seconds; upd = no_seconds }
+
 abbrev pub first_control : Control
 first_control = record {
   want = wants.Otfn;
-  head = record { mode = modes.Plain; ins = false; del = false; sites_differ = false; chars_differ = false };
+  language = languages.One;
+  head = record { mode = modes.Plain; ins = false; del = false; upd = false; sites_differ = false; chars_differ = false };
   line = 0;
   column = 0;
   begun = false;
   first = kinds.Ins;
   second = kinds.Ins;
-  seen = record { ins_ins = false; ins_del = false; del_ins = false; del_del = false };
+  seen = no_pairs;
   cases = 0;
   atoms = 0;
   outside = 0;

@@ -5,9 +5,9 @@ use Rattle.fn_rules.specs.Functions.{Function}
 use Rattle.fn_rules.specs.Building.{PairCases, function_from}
 use Rattle.fn_text.specs.declared.fault.TextFault.{TextFault}
 use Rattle.fn_text.specs.declared.fault.FaultKind.TheVariants as faults
-use Rattle.fn_text.specs.Tokens.{tokens_of}
+use Rattle.fn_tokens.specs.Tokens.{tokens_in}
+use Rattle.fn_text.specs.Meaning.{to_formulas}
 use Rattle.fn_text.specs.Reader.{read_from, first_state}
-use Rattle.fn_text.specs.Made.{to_formulas}
 
 -- the function that a head and blocks stand for
 abbrev pub built_from : Result (Head × List PairCases) TextFault → Result Function TextFault
@@ -16,7 +16,7 @@ built_from (Err fault) = Err fault
 
 -- the function that bytes are read as, or the first fault
 unfoldable pub function_in : List ℕ → Result Function TextFault
-function_in bytes = built_from (read_from to_formulas (first_state to_formulas) (tokens_of bytes))
+function_in bytes = built_from (read_from to_formulas (first_state to_formulas) (tokens_in bytes))
 
 -- memory ran out, which no place is told of
 abbrev pub memory_fault : TextFault

@@ -1,12 +1,14 @@
 //! The cause for which a token that cannot go on is refused.
 
 ghost use Rattle.std.specs.Prelude.{◌≡◌};
-ghost use Rattle.fn_text.specs.Faults.{region_of, number_fault, operand_fault, thing_fault, is_behind_kinds, char_fault, end_fault, case_fault, declared_fault, kept_fault, kind_fault, nested_fault, nesting_fault, cause_in, placed_fault, fault_of};
+ghost use Rattle.fn_text.specs.Faults.{region_of, number_fault, operand_fault, side_fault, is_behind_kinds, thing_fault, end_fault};
+ghost use Rattle.fn_text.specs.Faults.{case_fault, declared_fault, kept_fault, kind_fault, nested_fault, nesting_fault, word_fault};
+ghost use Rattle.fn_text.specs.Faults.{cause_in, placed_fault, fault_of};
 
 use crate::control::{Control, Region, Want};
 use crate::fault::{FaultKind, TextFault};
-use crate::moves::{MAX_NESTING, declares, same_kind};
-use crate::token::{Placed, Token, Word};
+use fn_rules::{MAX_NESTING, Sort};
+use fn_tokens::{Placed, Token, Word};
 use ot_model::Kind;
 
 fn region(want: Want) -> Region
@@ -51,8 +53,9 @@ fn operand(region: Region) -> FaultKind
     }
 }
 
-fn thing(region: Region) -> FaultKind
-    ensures { result ≡ thing_fault region }
+/// A thing as a second side.
+fn side(region: Region) -> FaultKind
+    ensures { result ≡ side_fault region }
 {
     match region {
         Region::AtRight => FaultKind::Sort,
@@ -83,7 +86,7 @@ fn end(region: Region) -> FaultKind
     }
 }
 
-fn nested(depth: usize) -> FaultKind
+fn nested(depth: u64) -> FaultKind
     ensures { result ≡ nested_fault depth }
 {
     if depth >= MAX_NESTING {
@@ -94,14 +97,14 @@ fn nested(depth: usize) -> FaultKind
 }
 
 impl Control {
-    /// `c1` or `c2`, first where characters may not be compared.
-    fn char_cause(&self, region: Region) -> FaultKind
-        ensures { result ≡ char_fault self.now region }
+    /// A thing, first where it may not be compared.
+    fn thing_cause(&self, sort: Sort, region: Region) -> FaultKind
+        ensures { result ≡ thing_fault self.now sort region }
     {
-        if behind_kinds(region) && !self.compares_chars() {
+        if behind_kinds(region) && !self.may_compare(sort) {
             FaultKind::Sort
         } else {
-            thing(region)
+            side(region)
         }
     }
 
@@ -123,7 +126,7 @@ impl Control {
     fn declared(&self, kind: Kind, otherwise: FaultKind) -> FaultKind
         ensures { result ≡ declared_fault self.now kind otherwise }
     {
-        if declares(self.head, kind) {
+        if self.head.declares(kind) {
             otherwise
         } else {
             FaultKind::Kind
@@ -133,7 +136,7 @@ impl Control {
     fn kept(&self, kind: Kind) -> FaultKind
         ensures { result ≡ kept_fault self.now kind }
     {
-        if same_kind(self.first, kind) {
+        if self.first.same(kind) {
             FaultKind::Expected
         } else {
             FaultKind::Outcome
@@ -167,27 +170,46 @@ impl Control {
         }
     }
 
+    /// A kind, first where the language has no word for it.
+    fn kind_word_cause(&self, kind: Kind, region: Region) -> FaultKind
+        ensures { result ≡ word_fault self.now region (Word.Kind kind) }
+    {
+        if self.language.has_word(kind) {
+            self.kind_cause(kind, region)
+        } else {
+            FaultKind::Word
+        }
+    }
+
+    fn word_cause(&self, region: Region, word: Word) -> FaultKind
+        ensures { result ≡ word_fault self.now region word }
+    {
+        match word {
+            Word::Not => self.nesting_cause(region),
+            Word::True => operand(region),
+            Word::Thing(sort, _) => self.thing_cause(sort, region),
+            Word::Kind(kind) => self.kind_word_cause(kind, region),
+            Word::End => end(region),
+            Word::Case => self.case_cause(region),
+            _ => FaultKind::Expected,
+        }
+    }
+
     fn cause(&self, region: Region, token: Token) -> FaultKind
         ensures { result ≡ cause_in self.now region token }
     {
         match token {
             Token::Byte => FaultKind::Byte,
             Token::Unknown => FaultKind::Word,
+            Token::Known(word) => self.word_cause(region, word),
             Token::Number(_) => number(region),
             Token::Open => self.nesting_cause(region),
-            Token::Known(Word::Not) => self.nesting_cause(region),
-            Token::Known(Word::True) => operand(region),
-            Token::Known(Word::P1) => thing(region),
-            Token::Known(Word::P2) => thing(region),
-            Token::Known(Word::S1) => thing(region),
-            Token::Known(Word::S2) => thing(region),
-            Token::Known(Word::C1) => self.char_cause(region),
-            Token::Known(Word::C2) => self.char_cause(region),
-            Token::Known(Word::Ins) => self.kind_cause(Kind::Ins, region),
-            Token::Known(Word::Del) => self.kind_cause(Kind::Del, region),
-            Token::Known(Word::End) => end(region),
-            Token::Known(Word::Case) => self.case_cause(region),
-            _ => FaultKind::Expected,
+            Token::Comparison(_)
+            | Token::Sign(_)
+            | Token::Close
+            | Token::Colon
+            | Token::LineEnd
+            | Token::FileEnd => FaultKind::Expected,
         }
     }
 

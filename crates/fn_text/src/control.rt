@@ -1,17 +1,15 @@
 //! What the reader keeps of the tokens that it has read, but for the guards and cases themselves.
 
+ghost use Rattle.std.specs.Prelude.{◌≡◌};
+ghost use Rattle.fn_text.specs.Kinds.{has_second, with_second, seconds_of, with_seconds, has_seen, with_pair};
+
+use crate::language::Language;
 use fn_rules::{Cmp, Head, Side, Sort};
+use fn_tokens::Sign;
 use ot_model::{Kind, Mode};
 
-/// The sign of an offset.
-#[derive(Clone, Copy, Debug)]
-pub enum Sign {
-    Plus,
-    Minus,
-}
-
 /// A result as it is written.
-#[derive(Clone, Copy, Debug)]
+#[derive(Clone, Copy)]
 pub enum Written {
     Nop,
 
@@ -23,7 +21,7 @@ pub enum Written {
 }
 
 /// What follows the end of a line.
-#[derive(Clone, Copy, Debug)]
+#[derive(Clone, Copy)]
 pub enum Next {
     Text,
     Kinds,
@@ -32,12 +30,12 @@ pub enum Next {
 }
 
 /// What may come next.
-#[derive(Clone, Copy, Debug)]
+#[derive(Clone, Copy)]
 pub enum Want {
     /// The word `otfn`.
     Otfn,
 
-    /// The number 1.
+    /// The number of the language.
     Version,
 
     /// The word `text`.
@@ -49,11 +47,8 @@ pub enum Want {
     /// The word `kinds`.
     Kinds,
 
-    /// A kind.
-    FirstKind,
-
-    /// The kind `del` behind `ins`, or the line's end.
-    SecondKind,
+    /// A kind behind those that are declared, or the end of the line.
+    NextKind,
 
     /// The end of the line.
     LineEnd(Next),
@@ -117,7 +112,7 @@ pub enum Want {
 }
 
 /// Where a token stands, as far as the cause of a fault asks.
-#[derive(Clone, Copy, Debug)]
+#[derive(Clone, Copy)]
 pub enum Region {
     Elsewhere,
     AtVersion,
@@ -141,19 +136,29 @@ pub enum Region {
     BehindResult,
 }
 
-/// The pairs of kinds that have a block.
-#[derive(Clone, Copy, Debug)]
+/// The second kinds of the blocks with one first kind.
+#[derive(Clone, Copy)]
+pub struct Seconds {
+    pub ins: bool,
+    pub del: bool,
+    pub upd: bool,
+}
+
+/// The pairs of kinds that have a block, by their first kind.
+#[derive(Clone, Copy)]
 pub struct Pairs {
-    pub ins_ins: bool,
-    pub ins_del: bool,
-    pub del_ins: bool,
-    pub del_del: bool,
+    pub ins: Seconds,
+    pub del: Seconds,
+    pub upd: Seconds,
 }
 
 /// What the next token is judged by.
-#[derive(Clone, Copy, Debug)]
+#[derive(Clone, Copy)]
 pub struct Control {
     pub want: Want,
+
+    /// The first one until the number was read.
+    pub language: Language,
     pub head: Head,
 
     /// The place of the last word `block`.
@@ -170,20 +175,21 @@ pub struct Control {
     pub cases: usize,
 
     /// The atoms and `true` of this case that were begun.
-    pub atoms: usize,
+    pub atoms: u64,
 
     /// The innermost parentheses that are open and the `(` and `not` around them, and the `not` before
     /// the next operand there.
-    pub outside: usize,
-    pub nots: usize,
+    pub outside: u64,
+    pub nots: u64,
 }
 
 /// What a token does that can go on.
-#[derive(Clone, Copy, Debug)]
+#[derive(Clone, Copy)]
 pub enum Move {
     /// Nothing is kept of it.
     Skip(Want),
 
+    SetLanguage(Language),
     SetMode(Mode),
     Declare(Kind),
     AssumeSites,
@@ -221,14 +227,96 @@ pub enum Move {
     End,
 }
 
+impl Seconds {
+    const NONE: Seconds = Seconds {
+        ins: false,
+        del: false,
+        upd: false,
+    };
+
+    fn has(self, kind: Kind) -> bool
+        ensures { result ≡ has_second self kind }
+    {
+        match kind {
+            Kind::Ins => self.ins,
+            Kind::Del => self.del,
+            Kind::Upd => self.upd,
+        }
+    }
+
+    fn with(self, kind: Kind) -> Seconds
+        ensures { result ≡ with_second self kind }
+    {
+        match kind {
+            Kind::Ins => Seconds { ins: true, ..self },
+            Kind::Del => Seconds { del: true, ..self },
+            Kind::Upd => Seconds { upd: true, ..self },
+        }
+    }
+}
+
+impl Pairs {
+    const NONE: Pairs = Pairs {
+        ins: Seconds::NONE,
+        del: Seconds::NONE,
+        upd: Seconds::NONE,
+    };
+
+    fn seconds(self, first: Kind) -> Seconds
+        ensures { result ≡ seconds_of self first }
+    {
+        match first {
+            Kind::Ins => self.ins,
+            Kind::Del => self.del,
+            Kind::Upd => self.upd,
+        }
+    }
+
+    fn with_seconds(self, first: Kind, seconds: Seconds) -> Pairs
+        ensures { result ≡ with_seconds self first seconds }
+    {
+        match first {
+            Kind::Ins => Pairs {
+                ins: seconds,
+                ..self
+            },
+            Kind::Del => Pairs {
+                del: seconds,
+                ..self
+            },
+            Kind::Upd => Pairs {
+                upd: seconds,
+                ..self
+            },
+        }
+    }
+
+    /// Whether the pair has a block.
+    #[tactic(auto, unfolding(crate::specs::Kinds::has_seen))]
+    pub(crate) fn has(self, first: Kind, second: Kind) -> bool
+        ensures { result ≡ has_seen self first second }
+    {
+        self.seconds(first).has(second)
+    }
+
+    /// These pairs and one more.
+    pub(crate) fn with(self, first: Kind, second: Kind) -> Pairs
+        ensures { result ≡ with_pair self first second }
+    {
+        self.with_seconds(first, self.seconds(first).with(second))
+    }
+}
+
 impl Control {
     /// Before the first token.
     pub(crate) const FIRST: Control = Control {
         want: Want::Otfn,
+        language: Language::One,
         head: Head {
             mode: Mode::Plain,
             ins: false,
             del: false,
+            upd: false,
             sites_differ: false,
             chars_differ: false,
         },
@@ -237,12 +325,7 @@ impl Control {
         begun: false,
         first: Kind::Ins,
         second: Kind::Ins,
-        seen: Pairs {
-            ins_ins: false,
-            ins_del: false,
-            del_ins: false,
-            del_del: false,
-        },
+        seen: Pairs::NONE,
         cases: 0,
         atoms: 0,
         outside: 0,

@@ -41,7 +41,7 @@ pub enum FaultKind {
     /// A kind in a result that is not the first kind of the block.
     Outcome,
 
-    /// A number behind `otfn` other than 1.
+    /// A number behind `otfn` that no language has.
     Version,
 
     /// Memory ran out, which says nothing of the text.

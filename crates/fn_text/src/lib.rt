@@ -1,32 +1,34 @@
 //! The text of transformation functions.
 //!
-//! A file is read as tokens, each with its place, and then by a grammar.
-//!
-//! The layers above rely on the definitions `tokens_of`, the tokens of given bytes, and `printed`, the
-//! canonical text of a function.
+//! What a file is, `IsTextOf` tells (`specs/Grammar.antt`): phrases, the tokens by which they are written, and the
+//! function that they mean. What is read of any bytes, `function_in` tells (`specs/Reading.antt`): the function, or
+//! the fault of the first token that cannot go on, whose cause `specs/Causes.antt` tells row by row. `printed`
+//! (`specs/Print.antt`) is the canonical text of a function.
 #![tactic(auto)]
 
+mod behind;
 mod cause;
 mod control;
 mod fault;
 mod grammar;
-mod lexer;
+mod language;
 mod moves;
 mod printer;
 mod reader;
 mod reading;
+mod round_trip;
 mod stop;
 mod theorems;
-mod token;
 
 pub use fault::{FaultKind, TextFault};
+pub use fn_tokens::{Placed, Sign, Token, Word, lex};
 pub use grammar::{taken_tokens_can_go_on, what_is_read_is_in_the_grammar};
-pub use lexer::lex;
-pub use printer::{canonical_text_lexes_back, print};
-pub use reading::read;
+pub use printer::print;
+pub use reading::{read, read_rules};
+pub use round_trip::read_back;
 pub use std::alloc::AllocError as NoMemory;
+pub use stop::ReadError;
 pub use theorems::{
-    canonical_guards_have_the_fewest_parentheses, canonical_texts_are_read_back,
-    refusals_are_final, texts_of_functions_are_read,
+    canonical_guards_have_the_fewest_parentheses, canonical_text_lexes_back,
+    canonical_texts_are_read_back, refusals_are_final, texts_of_functions_are_read,
 };
-pub use token::{Placed, Token, Word};

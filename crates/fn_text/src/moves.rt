@@ -1,142 +1,26 @@
 //! Which tokens can go on, and what each of them does: one function for each thing that may be wanted.
 
 ghost use Rattle.std.specs.Prelude.{◌≡◌, ◌<◌, ◌+◌, ◌-◌, ◌^◌, min};
-ghost use Rattle.fn_rules.specs.Functions.{is_declared};
-ghost use Rattle.fn_rules.specs.Building.{is_same_kind};
-ghost use Rattle.fn_text.specs.Controls.{has_chars, has_seen, lacks, lacks_block, depth_of, allowed};
-ghost use Rattle.fn_text.specs.LineMoves.{want_next, at_otfn, at_version, at_text, at_mode, at_kinds, at_first_kind, at_second_kind, at_line_end, at_line, at_assumed, at_differ, first_declared, at_block_first, second_declared, at_block_second, at_file_end};
-ghost use Rattle.fn_text.specs.GuardMoves.{begins_atom, at_operand, at_comparison, is_same_sort, is_same_side, ends_atom, at_right, at_operator, at_offset, at_number, kept_kind, at_result, at_result_position, at_result_offset, at_result_number, at_result_end};
+ghost use Rattle.fn_text.specs.Kinds.{declares_some, comes_next};
+ghost use Rattle.fn_text.specs.Meaning.{is_offset_number, may_compare};
+ghost use Rattle.fn_text.specs.Controls.{has_chars, lacks, lacks_with, lacks_block, depth_of, allowed};
+ghost use Rattle.fn_text.specs.Meaning.{is_same_sort, is_same_side};
+ghost use Rattle.fn_text.specs.FixedMoves.{want_next, at_fixed};
+ghost use Rattle.fn_text.specs.LineMoves.{at_next_kind, at_line, at_assumed, at_block_first, at_block_second};
+ghost use Rattle.fn_text.specs.GuardMoves.{at_operand, at_operator, at_offset, at_result};
 ghost use Rattle.fn_text.specs.Moves.{move_for};
 
-use crate::control::{Control, Move, Next, Pairs, Sign, Want, Written};
-use crate::token::{Placed, Token, Word};
-use fn_rules::{Cmp, Head, Side, Sort};
-use ot_model::{Kind, Mode};
-
-/// The greatest number of cases of a block.
-pub(crate) const MAX_CASES: usize = 64;
-
-/// The greatest number of atoms and `true` of a case, counted together.
-pub(crate) const MAX_ATOMS: usize = 16;
-
-/// The greatest number of `(` and `not` around a token.
-pub(crate) const MAX_NESTING: usize = 32;
-
-/// The greatest number of an offset.
-const MAX_OFFSET: u8 = 99;
-
-pub(crate) fn same_kind(k: Kind, l: Kind) -> bool
-    ensures { result ≡ is_same_kind k l }
-{
-    match k {
-        Kind::Ins => match l {
-            Kind::Ins => true,
-            Kind::Del => false,
-        },
-        Kind::Del => match l {
-            Kind::Ins => false,
-            Kind::Del => true,
-        },
-    }
-}
-
-pub(crate) fn declares(head: Head, kind: Kind) -> bool
-    ensures { result ≡ is_declared head kind }
-{
-    match kind {
-        Kind::Ins => head.ins,
-        Kind::Del => head.del,
-    }
-}
-
-impl Pairs {
-    fn has(self, first: Kind, second: Kind) -> bool
-        ensures { result ≡ has_seen self first second }
-    {
-        match first {
-            Kind::Ins => match second {
-                Kind::Ins => self.ins_ins,
-                Kind::Del => self.ins_del,
-            },
-            Kind::Del => match second {
-                Kind::Ins => self.del_ins,
-                Kind::Del => self.del_del,
-            },
-        }
-    }
-}
+use crate::control::{Control, Move, Next, Want, Written};
+use crate::language::Language;
+use fn_rules::{Cmp, Head, MAX_ATOMS, MAX_CASES, MAX_NESTING, MAX_OFFSET, Side, Sort};
+use fn_tokens::{Placed, Token, Word};
+use ot_model::{KINDS, Kind};
 
 /// The move, where the test is true.
 fn allow(test: bool, move_: Move) -> Option<Move>
     ensures { result ≡ allowed test move_ }
 {
     if test { Some(move_) } else { None }
-}
-
-fn otfn(token: Token) -> Option<Move>
-    ensures { result ≡ at_otfn token }
-{
-    match token {
-        Token::Known(Word::Otfn) => Some(Move::Skip(Want::Version)),
-        _ => None,
-    }
-}
-
-fn version(token: Token) -> Option<Move>
-    ensures { result ≡ at_version token }
-{
-    match token {
-        Token::Number(n) => allow(n == 1, Move::Skip(Want::LineEnd(Next::Text))),
-        _ => None,
-    }
-}
-
-fn text(token: Token) -> Option<Move>
-    ensures { result ≡ at_text token }
-{
-    match token {
-        Token::Known(Word::Text) => Some(Move::Skip(Want::Mode)),
-        _ => None,
-    }
-}
-
-fn mode(token: Token) -> Option<Move>
-    ensures { result ≡ at_mode token }
-{
-    match token {
-        Token::Known(Word::Plain) => Some(Move::SetMode(Mode::Plain)),
-        Token::Known(Word::Tomb) => Some(Move::SetMode(Mode::Tomb)),
-        _ => None,
-    }
-}
-
-fn kinds(token: Token) -> Option<Move>
-    ensures { result ≡ at_kinds token }
-{
-    match token {
-        Token::Known(Word::Kinds) => Some(Move::Skip(Want::FirstKind)),
-        _ => None,
-    }
-}
-
-fn first_kind(token: Token) -> Option<Move>
-    ensures { result ≡ at_first_kind token }
-{
-    match token {
-        Token::Known(Word::Ins) => Some(Move::Declare(Kind::Ins)),
-        Token::Known(Word::Del) => Some(Move::Declare(Kind::Del)),
-        _ => None,
-    }
-}
-
-fn second_kind(token: Token) -> Option<Move>
-    ensures { result ≡ at_second_kind token }
-{
-    match token {
-        Token::Known(Word::Del) => Some(Move::Declare(Kind::Del)),
-        Token::LineEnd => Some(Move::Skip(Want::Line)),
-        _ => None,
-    }
 }
 
 fn next_want(next: Next) -> Want
@@ -150,33 +34,17 @@ fn next_want(next: Next) -> Want
     }
 }
 
-fn line_end(next: Next, token: Token) -> Option<Move>
-    ensures { result ≡ at_line_end next token }
+/// Whether the kind comes behind each kind that is declared.
+fn is_next(head: Head, kind: Kind) -> bool
+    ensures { result ≡ comes_next head kind }
 {
-    match token {
-        Token::LineEnd => Some(Move::Skip(next_want(next))),
-        _ => None,
-    }
+    KINDS.iter().all(|other| !head.declares(*other) || other.rank() < kind.rank())
 }
 
-fn differ(token: Token) -> Option<Move>
-    ensures { result ≡ at_differ token }
+fn is_for_some(head: Head) -> bool
+    ensures { result ≡ declares_some head }
 {
-    match token {
-        Token::Known(Word::Differ) => Some(Move::Skip(Want::LineEnd(Next::Line))),
-        _ => None,
-    }
-}
-
-fn comparison(sort: Sort, left: Side, token: Token) -> Option<Move>
-    ensures { result ≡ at_comparison sort left token }
-{
-    match token {
-        Token::Less => Some(Move::Skip(Want::Right(sort, left, Cmp::Lt))),
-        Token::LessEqual => Some(Move::Skip(Want::Right(sort, left, Cmp::Le))),
-        Token::Equal => Some(Move::Skip(Want::Right(sort, left, Cmp::Eq))),
-        _ => None,
-    }
+    KINDS.iter().any(|kind| head.declares(*kind))
 }
 
 fn same_sort(sort: Sort, other: Sort) -> bool
@@ -197,113 +65,108 @@ fn same_side(side: Side, other: Side) -> bool
     }
 }
 
-/// An atom ends with the thing of the other operation.
-fn end_atom(sort: Sort, left: Side, cmp: Cmp, other: Sort, right: Side) -> Option<Move>
-    ensures { result ≡ ends_atom sort left cmp other right }
+/// Whether the number may stand behind `+` or `-`.
+fn is_offset(number: u8) -> bool
+    ensures { result ≡ is_offset_number number }
 {
-    allow(
-        same_sort(sort, other) && !same_side(left, right),
-        Move::Compare(sort, left, cmp),
-    )
+    i32::from(number) <= MAX_OFFSET
 }
 
-fn right(sort: Sort, left: Side, cmp: Cmp, token: Token) -> Option<Move>
-    ensures { result ≡ at_right sort left cmp token }
+/// What a token does where nothing but what is wanted matters.
+fn fixed(want: Want, token: Token) -> Option<Move>
+    ensures { result ≡ at_fixed want token }
 {
-    match token {
-        Token::Known(Word::P1) => end_atom(sort, left, cmp, Sort::Pos, Side::First),
-        Token::Known(Word::P2) => end_atom(sort, left, cmp, Sort::Pos, Side::Second),
-        Token::Known(Word::S1) => end_atom(sort, left, cmp, Sort::Site, Side::First),
-        Token::Known(Word::S2) => end_atom(sort, left, cmp, Sort::Site, Side::Second),
-        Token::Known(Word::C1) => end_atom(sort, left, cmp, Sort::Char, Side::First),
-        Token::Known(Word::C2) => end_atom(sort, left, cmp, Sort::Char, Side::Second),
-        _ => None,
-    }
-}
-
-fn number(left: Side, cmp: Cmp, sign: Sign, token: Token) -> Option<Move>
-    ensures { result ≡ at_number left cmp sign token }
-{
-    match token {
-        Token::Number(n) => allow(n <= MAX_OFFSET, Move::Shift(left, cmp, sign, n)),
-        _ => None,
-    }
-}
-
-fn result_position(token: Token) -> Option<Move>
-    ensures { result ≡ at_result_position token }
-{
-    match token {
-        Token::Known(Word::P1) => Some(Move::Skip(Want::ResultOffset(Side::First))),
-        Token::Known(Word::P2) => Some(Move::Skip(Want::ResultOffset(Side::Second))),
-        _ => None,
-    }
-}
-
-fn result_offset(side: Side, token: Token) -> Option<Move>
-    ensures { result ≡ at_result_offset side token }
-{
-    match token {
-        Token::Plus => Some(Move::Skip(Want::ResultNumber(side, Sign::Plus))),
-        Token::Minus => Some(Move::Skip(Want::ResultNumber(side, Sign::Minus))),
-        Token::LineEnd => Some(Move::EndCase(Written::At(side))),
-        _ => None,
-    }
-}
-
-fn result_number(side: Side, sign: Sign, token: Token) -> Option<Move>
-    ensures { result ≡ at_result_number side sign token }
-{
-    match token {
-        Token::Number(n) => allow(
-            n <= MAX_OFFSET,
+    match (want, token) {
+        (Want::Otfn, Token::Known(Word::Otfn)) => Some(Move::Skip(Want::Version)),
+        (Want::Version, Token::Number(n)) => match Language::numbered(n) {
+            Some(language) => Some(Move::SetLanguage(language)),
+            None => None,
+        },
+        (Want::Text, Token::Known(Word::Text)) => Some(Move::Skip(Want::Mode)),
+        (Want::Mode, Token::Known(Word::Mode(mode))) => Some(Move::SetMode(mode)),
+        (Want::Kinds, Token::Known(Word::Kinds)) => Some(Move::Skip(Want::NextKind)),
+        (Want::Differ, Token::Known(Word::Differ)) => {
+            Some(Move::Skip(Want::LineEnd(Next::Line)))
+        }
+        (Want::LineEnd(next), Token::LineEnd) => Some(Move::Skip(next_want(next))),
+        (Want::BlockEnd, Token::LineEnd) => Some(Move::Skip(Want::Line)),
+        (Want::Comparison(sort, left), Token::Comparison(cmp)) => {
+            Some(Move::Skip(Want::Right(sort, left, cmp)))
+        }
+        (Want::Right(sort, left, cmp), Token::Known(Word::Thing(other, right))) => allow(
+            same_sort(sort, other) && !same_side(left, right),
+            Move::Compare(sort, left, cmp),
+        ),
+        (Want::Number(left, cmp, sign), Token::Number(n)) => {
+            allow(is_offset(n), Move::Shift(left, cmp, sign, n))
+        }
+        (Want::ResultPosition, Token::Known(Word::Thing(Sort::Pos, side))) => {
+            Some(Move::Skip(Want::ResultOffset(side)))
+        }
+        (Want::ResultOffset(side), Token::Sign(sign)) => {
+            Some(Move::Skip(Want::ResultNumber(side, sign)))
+        }
+        (Want::ResultOffset(side), Token::LineEnd) => Some(Move::EndCase(Written::At(side))),
+        (Want::ResultNumber(side, sign), Token::Number(n)) => allow(
+            is_offset(n),
             Move::Skip(Want::ResultEnd(Written::Moved(side, sign, n))),
         ),
-        _ => None,
-    }
-}
-
-fn result_end(written: Written, token: Token) -> Option<Move>
-    ensures { result ≡ at_result_end written token }
-{
-    match token {
-        Token::LineEnd => Some(Move::EndCase(written)),
-        _ => None,
-    }
-}
-
-fn file_end(token: Token) -> Option<Move>
-    ensures { result ≡ at_file_end token }
-{
-    match token {
-        Token::FileEnd => Some(Move::Skip(Want::Nothing)),
+        (Want::ResultEnd(written), Token::LineEnd) => Some(Move::EndCase(written)),
+        (Want::FileEnd, Token::FileEnd) => Some(Move::Skip(Want::Nothing)),
         _ => None,
     }
 }
 
 impl Control {
     /// Whether the block may compare characters.
-    pub(crate) fn compares_chars(&self) -> bool
+    fn compares_chars(&self) -> bool
         ensures { result ≡ has_chars self.now }
     {
-        same_kind(self.first, Kind::Ins) && same_kind(self.second, Kind::Ins)
+        self.first.has_char() && self.second.has_char()
+    }
+
+    /// Whether things of the sort may be compared in the block.
+    pub(crate) fn may_compare(&self, sort: Sort) -> bool
+        ensures { result ≡ may_compare (has_chars self.now) sort }
+    {
+        match sort {
+            Sort::Pos | Sort::Site => true,
+            Sort::Char => self.compares_chars(),
+        }
     }
 
     /// Whether the pair of kinds is declared and has no block.
     fn lacks(&self, first: Kind, second: Kind) -> bool
         ensures { result ≡ lacks self.now first second }
     {
-        declares(self.head, first) && declares(self.head, second) && !self.seen.has(first, second)
+        self.head.declares_pair(first, second) && !self.seen.has(first, second)
+    }
+
+    /// Whether some block with this first kind is missing.
+    fn lacks_with(&self, first: Kind) -> bool
+        ensures { result ≡ lacks_with self.now first }
+    {
+        KINDS.iter().any(|second| self.lacks(first, *second))
     }
 
     /// Whether some block is missing.
     fn lacks_block(&self) -> bool
         ensures { result ≡ lacks_block self.now }
     {
-        self.lacks(Kind::Ins, Kind::Ins)
-            || self.lacks(Kind::Ins, Kind::Del)
-            || self.lacks(Kind::Del, Kind::Ins)
-            || self.lacks(Kind::Del, Kind::Del)
+        KINDS.iter().any(|first| self.lacks_with(*first))
+    }
+
+    fn next_kind(&self, token: Token) -> Option<Move>
+        ensures { result ≡ at_next_kind self.now token }
+    {
+        match token {
+            Token::Known(Word::Kind(kind)) => allow(
+                self.language.has_word(kind) && is_next(self.head, kind),
+                Move::Declare(kind),
+            ),
+            Token::LineEnd => allow(is_for_some(self.head), Move::Skip(Want::Line)),
+            _ => None,
+        }
     }
 
     fn line(&self, at: &Placed) -> Option<Move>
@@ -333,60 +196,32 @@ impl Control {
         }
     }
 
-    fn first_of_block(&self, kind: Kind) -> Option<Move>
-        ensures { result ≡ first_declared self.now kind }
-    {
-        allow(
-            declares(self.head, kind),
-            Move::Skip(Want::BlockSecond(kind)),
-        )
-    }
-
     fn block_first(&self, token: Token) -> Option<Move>
         ensures { result ≡ at_block_first self.now token }
     {
         match token {
-            Token::Known(Word::Ins) => self.first_of_block(Kind::Ins),
-            Token::Known(Word::Del) => self.first_of_block(Kind::Del),
+            Token::Known(Word::Kind(kind)) => allow(
+                self.head.declares(kind),
+                Move::Skip(Want::BlockSecond(kind)),
+            ),
             _ => None,
         }
-    }
-
-    fn second_of_block(&self, first: Kind, kind: Kind) -> Option<Move>
-        ensures { result ≡ second_declared self.now first kind }
-    {
-        allow(
-            declares(self.head, kind) && !self.seen.has(first, kind),
-            Move::BeginBlock(first, kind),
-        )
     }
 
     fn block_second(&self, first: Kind, token: Token) -> Option<Move>
         ensures { result ≡ at_block_second self.now first token }
     {
         match token {
-            Token::Known(Word::Ins) => self.second_of_block(first, Kind::Ins),
-            Token::Known(Word::Del) => self.second_of_block(first, Kind::Del),
+            Token::Known(Word::Kind(kind)) => allow(
+                self.head.declares(kind) && !self.seen.has(first, kind),
+                Move::BeginBlock(first, kind),
+            ),
             _ => None,
         }
     }
 
-    /// The first side of an atom.
-    fn begin_atom(&self, sort: Sort, side: Side) -> Option<Move>
-        ensures { result ≡ begins_atom self.now sort side }
-    {
-        match sort {
-            Sort::Pos => allow(self.atoms < MAX_ATOMS, Move::BeginAtom(sort, side)),
-            Sort::Site => allow(self.atoms < MAX_ATOMS, Move::BeginAtom(sort, side)),
-            Sort::Char => allow(
-                self.atoms < MAX_ATOMS && self.compares_chars(),
-                Move::BeginAtom(sort, side),
-            ),
-        }
-    }
-
     /// The `(` and `not` around the next operand, as far as they can be counted.
-    pub(crate) fn depth(&self) -> usize
+    pub(crate) fn depth(&self) -> u64
         ensures { result ≡ min (depth_of self.now) (2 ^ 64 - 1) }
     {
         self.outside.saturating_add(self.nots)
@@ -399,12 +234,10 @@ impl Control {
             Token::Open => allow(self.depth() < MAX_NESTING, Move::Open),
             Token::Known(Word::Not) => allow(self.depth() < MAX_NESTING, Move::Negate),
             Token::Known(Word::True) => allow(self.atoms < MAX_ATOMS, Move::Always),
-            Token::Known(Word::P1) => self.begin_atom(Sort::Pos, Side::First),
-            Token::Known(Word::P2) => self.begin_atom(Sort::Pos, Side::Second),
-            Token::Known(Word::S1) => self.begin_atom(Sort::Site, Side::First),
-            Token::Known(Word::S2) => self.begin_atom(Sort::Site, Side::Second),
-            Token::Known(Word::C1) => self.begin_atom(Sort::Char, Side::First),
-            Token::Known(Word::C2) => self.begin_atom(Sort::Char, Side::Second),
+            Token::Known(Word::Thing(sort, side)) => allow(
+                self.atoms < MAX_ATOMS && self.may_compare(sort),
+                Move::BeginAtom(sort, side),
+            ),
             _ => None,
         }
     }
@@ -425,20 +258,9 @@ impl Control {
         ensures { result ≡ at_offset self.now left cmp token }
     {
         match token {
-            Token::Plus => Some(Move::Skip(Want::Number(left, cmp, Sign::Plus))),
-            Token::Minus => Some(Move::Skip(Want::Number(left, cmp, Sign::Minus))),
+            Token::Sign(sign) => Some(Move::Skip(Want::Number(left, cmp, sign))),
             _ => self.operator(token),
         }
-    }
-
-    /// The kind of an operation that is transformed stays.
-    fn keep_kind(&self, kind: Kind) -> Option<Move>
-        ensures { result ≡ kept_kind self.now kind }
-    {
-        allow(
-            same_kind(self.first, kind),
-            Move::Skip(Want::ResultPosition),
-        )
     }
 
     fn outcome(&self, token: Token) -> Option<Move>
@@ -446,8 +268,9 @@ impl Control {
     {
         match token {
             Token::Known(Word::Nop) => Some(Move::Skip(Want::ResultEnd(Written::Nop))),
-            Token::Known(Word::Ins) => self.keep_kind(Kind::Ins),
-            Token::Known(Word::Del) => self.keep_kind(Kind::Del),
+            Token::Known(Word::Kind(kind)) => {
+                allow(self.first.same(kind), Move::Skip(Want::ResultPosition))
+            }
             _ => None,
         }
     }
@@ -458,33 +281,16 @@ impl Control {
     {
         let token = at.token;
         match self.want {
-            Want::Otfn => otfn(token),
-            Want::Version => version(token),
-            Want::Text => text(token),
-            Want::Mode => mode(token),
-            Want::Kinds => kinds(token),
-            Want::FirstKind => first_kind(token),
-            Want::SecondKind => second_kind(token),
-            Want::LineEnd(next) => line_end(next, token),
+            Want::NextKind => self.next_kind(token),
             Want::Line => self.line(at),
             Want::Assumed => self.assumed(token),
-            Want::Differ => differ(token),
             Want::BlockFirst => self.block_first(token),
             Want::BlockSecond(first) => self.block_second(first, token),
-            Want::BlockEnd => line_end(Next::Line, token),
             Want::Operand => self.operand(token),
-            Want::Comparison(sort, left) => comparison(sort, left, token),
-            Want::Right(sort, left, cmp) => right(sort, left, cmp, token),
             Want::Offset(left, cmp) => self.offset(left, cmp, token),
-            Want::Number(left, cmp, sign) => number(left, cmp, sign, token),
             Want::Operator => self.operator(token),
             Want::Result => self.outcome(token),
-            Want::ResultPosition => result_position(token),
-            Want::ResultOffset(side) => result_offset(side, token),
-            Want::ResultNumber(side, sign) => result_number(side, sign, token),
-            Want::ResultEnd(written) => result_end(written, token),
-            Want::FileEnd => file_end(token),
-            Want::Nothing => None,
+            want => fixed(want, token),
         }
     }
 }

@@ -4,26 +4,28 @@ ghost use Rattle.std.specs.Prelude.{◌≡◌, IfOk, OnOk, map, option_map, Ok, 
 ghost use Rattle.fn_rules.specs.Formulas.{formula_of};
 ghost use Rattle.fn_rules.specs.Functions.{case_of};
 ghost use Rattle.fn_rules.specs.Building.{block_of};
-ghost use Rattle.fn_text.specs.Reader.{negate, join, choose, conjunction, disjunction, blocks_of, with_kind, with_pair, with_block, want_behind, left_for, moved, turn, ended, read_from, first_state};
+ghost use Rattle.fn_text.specs.Meaning.{res_of, signed, to_formulas};
+ghost use Rattle.fn_text.specs.Reader.{negate, join, choose, conjunction, disjunction, blocks_of, left_for, told, moved, turn, ended};
+ghost use Rattle.fn_text.specs.Reader.{read_from, first_state};
 ghost use Rattle.fn_text.specs.Controls.{depth_of};
-ghost use Rattle.fn_text.specs.Moves.{Fits};
-ghost use Rattle.fn_text.specs.Made.{signed, res_of, to_formulas, state_of, level_of, outer_of, Gives};
+ghost use Rattle.fn_text.specs.Moves.{HasRoom};
+ghost use Rattle.fn_text.specs.Made.{state_of, level_of, outer_of, Gives};
 
 use crate::NoMemory;
-use crate::control::{Control, Move, Next, Pairs, Sign, Want, Written};
+use crate::control::{Control, Move, Want, Written};
 use crate::fault::{FaultKind, TextFault};
 use crate::stop::ReadError;
-use crate::token::Placed;
 use fn_rules::{Atom, Block, Case, Cmp, Guard, Head, Res, Side, Sort};
-use ot_model::{Kind, Mode};
+use fn_tokens::{Placed, Sign};
+use ot_model::Kind;
 use std::alloc::Global;
 use std::mem;
 
 /// What was read in parentheses that are still open.
 #[derive(Drop)]
 pub(crate) struct Level {
-    outside: usize,
-    nots: usize,
+    outside: u64,
+    nots: u64,
     any: Option<Guard>,
     all: Option<Guard>,
 }
@@ -60,7 +62,7 @@ pub(crate) struct Reader {
 }
 
 /// A guard behind so many `not`.
-fn negated(alloc: Global, nots: usize, guard: Guard) -> Result<Guard, NoMemory>
+fn negated(alloc: Global, nots: u64, guard: Guard) -> Result<Guard, NoMemory>
     ensures { IfOk result (λ g. formula_of g ≡ negate to_formulas nots (formula_of guard)) }
 {
     let mut negated = guard;
@@ -112,80 +114,6 @@ fn res(written: Written) -> Res
     }
 }
 
-fn behind(sort: Sort, left: Side, cmp: Cmp) -> Want
-    ensures { result ≡ want_behind sort left cmp }
-{
-    match sort {
-        Sort::Pos => Want::Offset(left, cmp),
-        Sort::Site => Want::Operator,
-        Sort::Char => Want::Operator,
-    }
-}
-
-fn declare(control: Control, kind: Kind) -> Control
-    ensures { result ≡ with_kind control kind }
-{
-    match kind {
-        Kind::Ins => Control {
-            want: Want::SecondKind,
-            head: Head {
-                ins: true,
-                ..control.head
-            },
-            ..control
-        },
-        Kind::Del => Control {
-            want: Want::LineEnd(Next::Line),
-            head: Head {
-                del: true,
-                ..control.head
-            },
-            ..control
-        },
-    }
-}
-
-fn with(seen: Pairs, first: Kind, second: Kind) -> Pairs
-    ensures { result ≡ with_pair seen first second }
-{
-    match first {
-        Kind::Ins => match second {
-            Kind::Ins => Pairs {
-                ins_ins: true,
-                ..seen
-            },
-            Kind::Del => Pairs {
-                ins_del: true,
-                ..seen
-            },
-        },
-        Kind::Del => match second {
-            Kind::Ins => Pairs {
-                del_ins: true,
-                ..seen
-            },
-            Kind::Del => Pairs {
-                del_del: true,
-                ..seen
-            },
-        },
-    }
-}
-
-fn begin_block(control: Control, first: Kind, second: Kind) -> Control
-    ensures { result ≡ with_block control first second }
-{
-    Control {
-        want: Want::BlockEnd,
-        begun: true,
-        first,
-        second,
-        seen: with(control.seen, first, second),
-        cases: 0,
-        ..control
-    }
-}
-
 impl Reader {
     /// The conjunction that ends with the last operand, which is taken out.
     fn take_conjunction(&mut self, alloc: Global) -> Result<Guard, NoMemory>
@@ -223,69 +151,12 @@ impl Reader {
         }
     }
 
-    fn skip(&mut self, want: Want)
-        ensures { state_of self.new ≡ moved to_formulas (state_of self.old) (Move.Skip want) }
+    /// Only the control keeps something of the token.
+    fn tell(&mut self, move_: Move)
+        requires { HasRoom self.old.control move_ }
+        ensures { state_of self.new ≡ told (state_of self.old) move_ }
     {
-        self.control = Control {
-            want,
-            ..self.control
-        };
-    }
-
-    fn set_mode(&mut self, mode: Mode)
-        ensures { state_of self.new ≡ moved to_formulas (state_of self.old) (Move.SetMode mode) }
-    {
-        self.control = Control {
-            want: Want::LineEnd(Next::Kinds),
-            head: Head {
-                mode,
-                ..self.control.head
-            },
-            ..self.control
-        };
-    }
-
-    fn declare(&mut self, kind: Kind)
-        ensures { state_of self.new ≡ moved to_formulas (state_of self.old) (Move.Declare kind) }
-    {
-        self.control = declare(self.control, kind);
-    }
-
-    fn assume_sites(&mut self)
-        ensures { state_of self.new ≡ moved to_formulas (state_of self.old) Move.AssumeSites }
-    {
-        self.control = Control {
-            want: Want::Differ,
-            head: Head {
-                sites_differ: true,
-                ..self.control.head
-            },
-            ..self.control
-        };
-    }
-
-    fn assume_chars(&mut self)
-        ensures { state_of self.new ≡ moved to_formulas (state_of self.old) Move.AssumeChars }
-    {
-        self.control = Control {
-            want: Want::Differ,
-            head: Head {
-                chars_differ: true,
-                ..self.control.head
-            },
-            ..self.control
-        };
-    }
-
-    fn block_word(&mut self, line: u32, column: u32)
-        ensures { state_of self.new ≡ moved to_formulas (state_of self.old) (Move.BlockWord line column) }
-    {
-        self.control = Control {
-            want: Want::BlockFirst,
-            line,
-            column,
-            ..self.control
-        };
+        self.control = self.control.behind(move_);
     }
 
     /// Puts the block that was begun to those that are done.
@@ -307,20 +178,8 @@ impl Reader {
         ensures { OnOk result (state_of self.new ≡ moved to_formulas (state_of self.old) (Move.BeginBlock first second)) }
     {
         self.close_block(alloc)?;
-        self.control = begin_block(self.control, first, second);
+        self.tell(Move::BeginBlock(first, second));
         Ok(())
-    }
-
-    fn begin_case(&mut self)
-        requires { self.old.control.cases < 64 }
-        ensures { state_of self.new ≡ moved to_formulas (state_of self.old) Move.BeginCase }
-    {
-        self.control = Control {
-            want: Want::Operand,
-            cases: self.control.cases + 1,
-            atoms: 0,
-            ..self.control
-        };
     }
 
     fn open(&mut self, alloc: Global) -> Result<(), NoMemory>
@@ -335,24 +194,8 @@ impl Reader {
         };
         let outer = mem::replace(&mut self.outer, Outer::Top);
         self.outer = Outer::Around(level, Box::new(alloc, outer)?);
-        self.control = Control {
-            want: Want::Operand,
-            outside: self.control.outside + self.control.nots + 1,
-            nots: 0,
-            ..self.control
-        };
+        self.tell(Move::Open);
         Ok(())
-    }
-
-    fn negate(&mut self)
-        requires { depth_of self.old.control < 32 }
-        ensures { state_of self.new ≡ moved to_formulas (state_of self.old) Move.Negate }
-    {
-        self.control = Control {
-            want: Want::Operand,
-            nots: self.control.nots + 1,
-            ..self.control
-        };
     }
 
     fn always(&mut self)
@@ -360,22 +203,7 @@ impl Reader {
         ensures { state_of self.new ≡ moved to_formulas (state_of self.old) Move.Always }
     {
         self.last = Guard::True;
-        self.control = Control {
-            want: Want::Operator,
-            atoms: self.control.atoms + 1,
-            ..self.control
-        };
-    }
-
-    fn begin_atom(&mut self, sort: Sort, left: Side)
-        requires { self.old.control.atoms < 16 }
-        ensures { state_of self.new ≡ moved to_formulas (state_of self.old) (Move.BeginAtom sort left) }
-    {
-        self.control = Control {
-            want: Want::Comparison(sort, left),
-            atoms: self.control.atoms + 1,
-            ..self.control
-        };
+        self.tell(Move::Always);
     }
 
     fn compare(&mut self, sort: Sort, left: Side, cmp: Cmp)
@@ -387,7 +215,7 @@ impl Reader {
             cmp,
             k: 0,
         });
-        self.skip(behind(sort, left, cmp));
+        self.tell(Move::Compare(sort, left, cmp));
     }
 
     fn shift(&mut self, left: Side, cmp: Cmp, sign: Sign, number: u8)
@@ -399,7 +227,7 @@ impl Reader {
             cmp,
             k: offset(sign, number),
         });
-        self.skip(Want::Operator);
+        self.tell(Move::Shift(left, cmp, sign, number));
     }
 
     fn and(&mut self, alloc: Global) -> Result<(), NoMemory>
@@ -407,11 +235,7 @@ impl Reader {
     {
         let conjunction = self.take_conjunction(alloc)?;
         self.all = Some(conjunction);
-        self.control = Control {
-            want: Want::Operand,
-            nots: 0,
-            ..self.control
-        };
+        self.tell(Move::And);
         Ok(())
     }
 
@@ -420,11 +244,7 @@ impl Reader {
     {
         let disjunction = self.take_disjunction(alloc)?;
         self.any = Some(disjunction);
-        self.control = Control {
-            want: Want::Operand,
-            nots: 0,
-            ..self.control
-        };
+        self.tell(Move::Or);
         Ok(())
     }
 
@@ -453,7 +273,7 @@ impl Reader {
         ensures { OnOk result (state_of self.new ≡ moved to_formulas (state_of self.old) Move.Close) }
     {
         match mem::replace(&mut self.outer, Outer::Top) {
-            Outer::Top => self.skip(Want::Operator),
+            Outer::Top => self.tell(Move::Close),
             Outer::Around(level, outer) => {
                 let disjunction = self.take_disjunction(alloc)?;
                 self.last = disjunction;
@@ -468,11 +288,7 @@ impl Reader {
     {
         let guard = self.take_disjunction(alloc)?;
         self.guard = guard;
-        self.control = Control {
-            want: Want::Result,
-            nots: 0,
-            ..self.control
-        };
+        self.tell(Move::Colon);
         Ok(())
     }
 
@@ -484,7 +300,7 @@ impl Reader {
             guard,
             res: res(written),
         })?;
-        self.skip(Want::Line);
+        self.tell(Move::EndCase(written));
         Ok(())
     }
 
@@ -492,32 +308,19 @@ impl Reader {
         ensures { OnOk result (state_of self.new ≡ moved to_formulas (state_of self.old) Move.End) }
     {
         self.close_block(alloc)?;
-        self.control = Control {
-            want: Want::LineEnd(Next::File),
-            begun: false,
-            ..self.control
-        };
+        self.tell(Move::End);
         Ok(())
     }
 
     /// Does what a token does that can go on.
     fn apply(&mut self, alloc: Global, move_: Move) -> Result<(), NoMemory>
-        requires { Fits self.old.control move_ }
+        requires { HasRoom self.old.control move_ }
         ensures { OnOk result (state_of self.new ≡ moved to_formulas (state_of self.old) move_) }
     {
         match move_ {
-            Move::Skip(want) => self.skip(want),
-            Move::SetMode(mode) => self.set_mode(mode),
-            Move::Declare(kind) => self.declare(kind),
-            Move::AssumeSites => self.assume_sites(),
-            Move::AssumeChars => self.assume_chars(),
-            Move::BlockWord(line, column) => self.block_word(line, column),
             Move::BeginBlock(first, second) => return self.begin_block(alloc, first, second),
-            Move::BeginCase => self.begin_case(),
             Move::Open => return self.open(alloc),
-            Move::Negate => self.negate(),
             Move::Always => self.always(),
-            Move::BeginAtom(sort, left) => self.begin_atom(sort, left),
             Move::Compare(sort, left, cmp) => self.compare(sort, left, cmp),
             Move::Shift(left, cmp, sign, number) => self.shift(left, cmp, sign, number),
             Move::And => return self.and(alloc),
@@ -526,6 +329,16 @@ impl Reader {
             Move::Colon => return self.colon(alloc),
             Move::EndCase(written) => return self.end_case(written),
             Move::End => return self.end(alloc),
+            Move::Skip(_)
+            | Move::SetLanguage(_)
+            | Move::SetMode(_)
+            | Move::Declare(_)
+            | Move::AssumeSites
+            | Move::AssumeChars
+            | Move::BlockWord(..)
+            | Move::BeginCase
+            | Move::Negate
+            | Move::BeginAtom(..) => self.tell(move_),
         }
         Ok(())
     }

@@ -3,31 +3,33 @@
 ghost use Rattle.std.specs.Prelude.{◌≡◌, ◌<◌, ◌^◌, length, map, Ok, Err, IfOk, IsTrue};
 ghost use Rattle.fn_rules.specs.Building.{block_of, is_buildable};
 ghost use Rattle.fn_rules.specs.Rules.{function_of};
-ghost use Rattle.fn_text.specs.Tokens.{tokens_of};
+ghost use Rattle.fn_tokens.specs.Tokens.{tokens_in};
+ghost use Rattle.fn_text.specs.Meaning.{to_formulas};
 ghost use Rattle.fn_text.specs.Reader.{read_from, first_state};
-ghost use Rattle.fn_text.specs.Made.{to_formulas, Gives};
+ghost use Rattle.fn_text.specs.Made.{Gives};
 ghost use Rattle.fn_text.specs.Reading.{function_in, Answers};
+ghost use Rattle.fn_text.specs.Refusals.{IsAnswerFor};
 
 use crate::fault::{FaultKind, TextFault};
-use crate::lexer::lex;
 use crate::reader::read_tokens;
 use crate::stop::ReadError;
 use fn_rules::{Block, Head, Rules};
+use fn_tokens::lex;
 use std::alloc::Global;
 
 /// The head and the blocks of a file, which are within the limits.
 fn parts(alloc: Global, bytes: &[u8]) -> Result<(Head, Vec<Block>), ReadError>
     requires { length bytes.now < 2 ^ 31 }
-    ensures read { Gives (λ x. (x.0, map block_of x.1.items)) result (read_from to_formulas (first_state to_formulas) (tokens_of bytes.now)) }
+    ensures read { Gives (λ x. (x.0, map block_of x.1.items)) result (read_from to_formulas (first_state to_formulas) (tokens_in bytes.now)) }
     ensures within_limits { IfOk result (λ x. IsTrue (is_buildable x.0 (map block_of x.1.items))) }
 {
     let tokens = lex(alloc, bytes)?;
     read_tokens(alloc, &tokens)
 }
 
-/// A file as a function.
+/// Reads the text of a function, as `read` does, with want of memory apart from the faults of the text.
 #[tactic(auto, unfolding(crate::specs::Reading::function_in))]
-fn function(alloc: Global, bytes: &[u8]) -> Result<Rules, ReadError>
+pub fn read_rules(alloc: Global, bytes: &[u8]) -> Result<Rules, ReadError>
     requires { length bytes.now < 2 ^ 31 }
     ensures { Gives function_of result (function_in bytes.now) }
 {
@@ -41,10 +43,14 @@ fn function(alloc: Global, bytes: &[u8]) -> Result<Rules, ReadError>
 /// cause. Memory may run out: then the kind is `NoMemory`, and line and column are 0.
 pub fn read(alloc: Global, bytes: &[u8]) -> Result<Rules, TextFault>
     requires { length bytes.now < 2 ^ 31 }
-    // The function or the fault that the definition gives, or want of memory.
-    ensures { Answers function_of result (function_in bytes.now) }
+    // A function whose text the bytes are by the grammar, or the fault of their first wrong token, whose
+    // cause is told on tokens, or want of memory.
+    ensures text_or_first_wrong { IsAnswerFor function_of bytes.now result }
+
+    // The function or the fault that the reader's definition gives, or want of memory.
+    ensures read { Answers function_of result (function_in bytes.now) }
 {
-    match function(alloc, bytes) {
+    match read_rules(alloc, bytes) {
         Ok(rules) => Ok(rules),
         Err(ReadError::Fault(fault)) => Err(fault),
         Err(ReadError::NoMemory) => Err(TextFault {

@@ -8,7 +8,7 @@ use std::alloc::{AllocError, AllocFailed};
 
 /// Why reading stopped.
 #[derive(Clone, Copy, Debug)]
-pub(crate) enum ReadError {
+pub enum ReadError {
     /// A token cannot go on.
     Fault(TextFault),
 

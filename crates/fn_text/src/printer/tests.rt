@@ -1,6 +1,7 @@
 use super::*;
 use crate::reading::read;
-use fn_rules::{Block, is_within_limits};
+use crate::round_trip::read_back;
+use fn_rules::{Block, Cmp, is_within_limits};
 use std::test::Fail;
 
 #[test]
@@ -9,6 +10,7 @@ fn a_function_on_deletions_is_printed(rt: HostRuntime) -> Result<(), Fail> {
         mode: Mode::Tomb,
         ins: false,
         del: true,
+        upd: false,
         sites_differ: true,
         chars_differ: false,
     };
@@ -36,9 +38,13 @@ fn a_function_on_deletions_is_printed(rt: HostRuntime) -> Result<(), Fail> {
         cases,
     })?;
     assert!(rt; is_within_limits(&head, &blocks));
-    let text = print(rt.alloc(), &Rules::build(head, blocks))?;
+    let rules = Rules::build(head, blocks);
+    let text = print(rt.alloc(), &rules)?;
     let wanted =
         "otfn 1\ntext tomb\nkinds del\nassume sites differ\nblock del del\ncase p2 <= p1 - 10 : del p1 - 1\ncase true : nop\nend\n";
+    assert_eq!(rt; text.as_slice(), wanted.as_bytes());
+    let again = read_back(rt.alloc(), &rules).ok().ok_or("read back")?;
+    let text = print(rt.alloc(), &again)?;
     assert_eq!(rt; text.as_slice(), wanted.as_bytes());
     Ok(())
 }
@@ -91,6 +97,61 @@ fn guards_are_printed_with_the_fewest_parentheses(rt: HostRuntime) -> Result<(),
         let rules = read(alloc, text.as_bytes()).ok().ok_or(written)?;
         let found = print(alloc, &rules)?;
         assert_eq!(rt; found.as_slice(), want.as_bytes(), "{written}");
+    }
+    Ok(())
+}
+
+/// A function for all kinds, as it is printed.
+const ALL: &str = "\
+    otfn 2\ntext tomb\nkinds ins del upd\nassume sites differ\n\
+    block ins ins\ncase p1 < p2 : ins p1\ncase p1 = p2 and s1 < s2 : ins p1\ncase true : ins p1 + 1\n\
+    block ins del\ncase true : ins p1\n\
+    block ins upd\ncase true : ins p1\n\
+    block del ins\ncase p1 < p2 : del p1\ncase true : del p1 + 1\n\
+    block del del\ncase true : del p1\n\
+    block del upd\ncase true : del p1\n\
+    block upd ins\ncase p1 < p2 : upd p1\ncase true : upd p1 + 1\n\
+    block upd del\ncase true : upd p1\n\
+    block upd upd\ncase p1 < p2 or p2 < p1 or s1 < s2 : upd p1\ncase true : nop\n\
+    end\n\
+";
+
+/// The same one with its blocks as they were added to a function without updates.
+const ADDED: &str = "\
+    otfn 2\ntext tomb\nkinds ins del upd\nassume sites differ\n\
+    block ins ins\ncase p1 < p2 : ins p1\ncase p1 = p2 and s1 < s2 : ins p1\ncase true : ins p1 + 1\n\
+    block ins del\ncase true : ins p1\n\
+    block del ins\ncase p1 < p2 : del p1\ncase true : del p1 + 1\n\
+    block del del\ncase true : del p1\n\
+    block ins upd\ncase true : ins p1\n\
+    block del upd\ncase true : del p1\n\
+    block upd ins\ncase p1 < p2 : upd p1\ncase true : upd p1 + 1\n\
+    block upd del\ncase true : upd p1\n\
+    block upd upd\ncase p1 < p2 or p2 < p1 or s1 < s2 : upd p1\ncase true : nop\n\
+    end\n\
+";
+
+#[test]
+fn the_language_is_the_first_that_has_the_words(rt: HostRuntime) -> Result<(), Fail> {
+    let alloc = rt.alloc();
+    for (written, printed) in [
+        (ADDED, ALL),
+        (ALL, ALL),
+        (
+            "otfn 2\ntext plain\nkinds del\nblock del del\nend\n",
+            "otfn 1\ntext plain\nkinds del\nblock del del\nend\n",
+        ),
+        (
+            "otfn 02\ntext plain\nkinds upd\nassume chars differ\nblock upd upd\ncase (c1 < c2) : upd p1 + 0\nend",
+            "otfn 2\ntext plain\nkinds upd\nassume chars differ\nblock upd upd\ncase c1 < c2 : upd p1\nend\n",
+        ),
+    ] {
+        if written.len() >= 0x7fff_ffff {
+            return Err("too long".into());
+        }
+        let rules = read(alloc, written.as_bytes()).ok().ok_or(written)?;
+        let found = print(alloc, &rules)?;
+        assert_eq!(rt; found.as_slice(), printed.as_bytes(), "{written}");
     }
     Ok(())
 }

@@ -1,5 +1,5 @@
-use Rattle.fn_text.proofs.Continues.{taken_tokens_go_on}
-use Rattle.fn_text.proofs.ContinuesNever.{exceptions_are_dead_ends}
+use Rattle.fn_text.proofs.Refusals.GoesOn.{taken_tokens_go_on}
+use Rattle.fn_text.proofs.Refusals.DeadEnds.{exceptions_are_dead_ends}
 use Rattle.fn_text.proofs.grammar.taken_tokens_can_go_on.Goals as goal
 
 pub returns : goal.returns

@@ -1,4 +1,4 @@
-use Rattle.fn_text.proofs.Found.{found, text_is_valid}
+use Rattle.fn_text.proofs.ReadIsWritten.Functions.{found, text_is_valid}
 use Rattle.fn_text.proofs.grammar.what_is_read_is_in_the_grammar.Goals as goal
 
 pub returns-clause-text : goal.returns-clause-text

@@ -1,7 +1,7 @@
 use Rattle.std.proofs.Common.{◌≡◌}
 use Rattle.fn_rules.specs.Formulas.{formula_of}
+use Rattle.fn_text.specs.Meaning.{to_formulas}
 use Rattle.fn_text.specs.Reader.{negate}
-use Rattle.fn_text.specs.Made.{to_formulas}
 use Rattle.fn_text.proofs.reader.negated.Given as goal
 
 abbrev pub invariant-loop-i : goal.invariant-loop-i

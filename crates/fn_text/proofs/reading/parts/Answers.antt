@@ -1,6 +1,6 @@
 use Rattle.std.proofs.Common.{map}
 use Rattle.fn_rules.specs.Building.{block_of}
-use Rattle.fn_text.proofs.Found.{answer_is_buildable}
+use Rattle.fn_text.proofs.ReadIsWritten.Functions.{answer_is_buildable}
 use Rattle.fn_text.proofs.reading.parts.Goals as goal
 
 pub returns-clause-within_limits : goal.returns-clause-within_limits

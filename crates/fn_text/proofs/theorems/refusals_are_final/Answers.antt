@@ -1,4 +1,4 @@
-use Rattle.fn_text.proofs.NoMore.{refusals_are_final}
+use Rattle.fn_text.proofs.Refusals.Told.{refusals_are_final}
 use Rattle.fn_text.proofs.theorems.refusals_are_final.Goals as goal
 
 pub returns : goal.returns

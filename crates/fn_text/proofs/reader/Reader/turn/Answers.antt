@@ -1,5 +1,5 @@
 use Rattle.std.proofs.Common.{sym}
-use Rattle.fn_text.proofs.Fitting.{move_fits}
+use Rattle.fn_text.proofs.ReadIsWritten.Room.{move_fits}
 use Rattle.fn_text.proofs.reader.Reader.turn.Goals as goal
 
 pub apply-requires : goal.apply-requires

@@ -1,0 +1,8 @@
+-- What the grammar writes is read.
+pub mod Guards
+pub mod Cases
+pub mod Blocks
+pub mod BlockLists
+pub mod Heads
+pub mod Files
+pub mod Examples

@@ -1,9 +1,0 @@
-use Rattle.std.proofs.Common.{◌≡◌, ◌≤◌, drop}
-use Rattle.fn_text.specs.Tokens.{number_from}
-use Rattle.fn_text.proofs.lexer.number_of.Given as goal
-
-abbrev pub invariant-loop-digit : goal.invariant-loop-digit
-invariant-loop-digit l = record {
-  capped : l.number ≤ 100;
-  told : number_from l.number (drop l.digit-index l.digits) ≡ number_from 0 l.digits;
-}

@@ -1,0 +1,4 @@
+pub mod Lexing
+pub mod LexesBack
+pub mod Ends
+pub mod Size

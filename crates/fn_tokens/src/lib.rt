@@ -1,0 +1,17 @@
+//! The tokens of function files: the longest ones, each with its place, and the bytes by which they are spelled.
+//!
+//! The layers above rely on the definitions `tokens_in`, the tokens of given bytes, and `spelled`, the bytes of
+//! tokens in lines.
+#![tactic(auto)]
+
+mod lexer;
+mod spelling;
+mod token;
+
+pub use lexer::{lex, tokens_end_files};
+pub use spelling::{lines_lex_back, spell};
+pub use std::alloc::AllocError as NoMemory;
+pub use token::{Placed, Sign, Token, Word};
+
+#[cfg(test)]
+mod tests;
