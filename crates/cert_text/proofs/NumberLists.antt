@@ -1,5 +1,5 @@
 -- The further numbers of a cycle, at the front of some bytes.
-use Rattle.std.proofs.Common.{◌≡◌, ◌≢◌, ℕ, ◌+◌, ◌<◌, ◌≤◌, Bool, true, false, List, [], ◌∷◌, ◌++◌, length, drop, refl, sym, ap, ◌∙◌, arith, append_assoc, ◌-◌, take, Option, Some, None, length-append, length-drop, subst}
+use Rattle.std.proofs.Common.{◌≡◌, ◌≢◌, ℕ, ◌<◌, ◌≤◌, List, [], ◌∷◌, ◌++◌, length, drop, refl, sym, ap, ◌∙◌, arith, append_assoc, ◌-◌, take, Option, Some, None, length-append, length-drop, subst}
 use Rattle.std.proofs.Math.Seq.{drop-append_seam, take-length, append_snoc}
 use Rattle.std.specs.Fmt.{decimal}
 use Rattle.cert_text.specs.Numbers.{AreShort, IsBehindNumber, IsSpellableCycle, more_numbers_text, numbers_text, PICK_LIMIT}

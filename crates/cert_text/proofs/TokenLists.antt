@@ -1,8 +1,7 @@
 -- Reading tokens one after another: what was read, and what is left.
-use Rattle.std.proofs.Common.{◌≡◌, ℕ, zero, suc, ◌+◌, ◌-◌, ◌<◌, ◌≤◌, List, [], ◌∷◌, ◌++◌, length, take, drop, refl, sym, ap, subst, ◌∙◌, arith, append_assoc, length-append, length-drop}
+use Rattle.std.proofs.Common.{◌≡◌, ℕ, ◌+◌, ◌-◌, ◌<◌, ◌≤◌, List, [], ◌∷◌, ◌++◌, length, take, drop, refl, sym, ap, ◌∙◌, arith, append_assoc, length-append, length-drop}
 use Rattle.std.proofs.Math.Seq.{drop-append_seam, take-length, append_snoc}
 use Rattle.std.proofs.lemmas.List.{append-nil, drop-drop, drop_all}
-use Rattle.std.specs.List.{AllByRecursion, flat_map}
 use Rattle.ask_core.specs.declared.tree.Tok.{Tok}
 use Rattle.ask_core.specs.declared.tree.Tok.TheVariants as token
 use Rattle.cert_text.specs.Spelling.{IsSpellable, AreSpellable, token_text, tokens_text}
@@ -16,16 +15,6 @@ pub record HasRead (bytes : List ℕ) (at : ℕ) (tree : List Tok) : Type 0 wher
       (tokens : List Tok) → AreSpellable tokens → bytes ≡ tokens_text tokens
       → (rest : List Tok) × (tokens ≡ tree ++ rest) × AreSpellable rest × (drop at bytes ≡ tokens_text rest)
 
--- nothing is read at first
-pub HasRead-none : (bytes : List ℕ) (tree : List Tok) → tree ≡ [] → HasRead bytes 0 tree
-HasRead-none bytes tree none =
-    subst (λ (t : List Tok). HasRead bytes 0 t) (sym none) (record {
-      within = omega arith;
-      spellable = tt;
-      read = refl;
-      only = λ tokens spellable is. (tokens, refl, spellable, is);
-    })
-
 -- a token takes bytes
 pub some_bytes : (t : Tok) → 0 < length (token_text t)
 some_bytes token.Ask = omega arith
@@ -34,7 +23,9 @@ some_bytes (token.Cycle picks) = omega arith
 
 tokens_text-push : (tree : List Tok) (t : Tok) → tokens_text (tree ++ t ∷ []) ≡ tokens_text tree ++ token_text t
 tokens_text-push [] t = append-nil (token_text t)
-tokens_text-push (x ∷ tree) t = ap (λ (l : List ℕ). token_text x ++ l) (tokens_text-push tree t) ∙ sym (append_assoc (token_text x) (tokens_text tree) (token_text t))
+tokens_text-push (x ∷ tree) t =
+    ap (λ (l : List ℕ). token_text x ++ l) (tokens_text-push tree t)
+    ∙ sym (append_assoc (token_text x) (tokens_text tree) (token_text t))
 
 AreSpellable-push : (tree : List Tok) (t : Tok) → AreSpellable tree → IsSpellable t → AreSpellable (tree ++ t ∷ [])
 AreSpellable-push [] t all last = (last, tt)

@@ -1,8 +1,9 @@
 -- The one spelling of a certificate's parts, as bytes.
-use Rattle.std.specs.Prelude.{ℕ, List, [], ◌∷◌, ◌++◌, codes}
-use Rattle.std.specs.List.{AllByRecursion, flat_map}
+use Rattle.std.specs.Prelude.{ℕ, Bool, ◌||◌, if◌then◌else◌, List, [], ◌∷◌, ◌++◌, codes}
+use Rattle.std.specs.List.{AllByRecursion, flat_map, list_any}
 use Rattle.ot_model.specs.declared.op.Kind.{Kind}
-use Rattle.ot_model.specs.declared.op.Kind.TheVariants.{Ins, Del}
+use Rattle.ot_model.specs.declared.op.Kind.TheVariants.{Ins, Del, Upd}
+use Rattle.ot_model.specs.Kinds.{is_same_kind}
 use Rattle.fn_rules.specs.declared.function.Level.{Level}
 use Rattle.fn_rules.specs.declared.function.Level.TheVariants.{Tp1, Tp2}
 use Rattle.fn_rules.specs.declared.function.ObName.{ObName}
@@ -34,14 +35,24 @@ AreSpellable tokens = AllByRecursion IsSpellable tokens
 abbrev pub kind_text : Kind → List ℕ
 kind_text Ins = codes "ins"
 kind_text Del = codes "del"
+kind_text Upd = codes "upd"
 
 abbrev pub level_text : Level → List ℕ
 level_text Tp1 = codes "tp1"
 level_text Tp2 = codes "tp2"
 
--- the first line of a certificate
-abbrev pub header_text : Level → List ℕ
-header_text level = codes "otcert 1 " ++ level_text level ++ 10 ∷ []
+-- the obligation speaks of updates
+abbrev pub has_update : ObName → Bool
+has_update (Pair k l) = is_same_kind k Upd || is_same_kind l Upd
+has_update (Triple k l m) = is_same_kind k Upd || is_same_kind l Upd || is_same_kind m Upd
+
+-- the version of certificates: the second one where an obligation of the level speaks of updates
+abbrev pub version_text : List ObName → List ℕ
+version_text names = if list_any has_update names then codes "2" else codes "1"
+
+-- the first line of a certificate of a level that has these obligations
+abbrev pub header_text : List ObName → Level → List ℕ
+header_text names level = codes "otcert " ++ version_text names ++ 32 ∷ level_text level ++ 10 ∷ []
 
 -- the kinds of an obligation with one space between
 abbrev pub name_text : ObName → List ℕ

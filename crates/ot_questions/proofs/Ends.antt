@@ -12,3 +12,5 @@ next_after_holds (b ∷ w) = next_after_holds w
 pub next_after_fails : (why : Why) (w : List Bool) → next_after (plans.Fails why) w ≡ Fails why
 next_after_fails why [] = refl
 next_after_fails why (b ∷ w) = next_after_fails why w
+
+pub ruleset at_ends = (next_after_holds, next_after_fails)

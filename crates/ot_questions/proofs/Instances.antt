@@ -9,21 +9,21 @@ use Rattle.diff_graph.specs.Literals.{is_met}
 use Rattle.ot_model.specs.declared.op.Kind.{Kind}
 use Rattle.ot_model.specs.declared.op.Kind.TheVariants as kinds
 use Rattle.ot_model.specs.declared.op.Op.{Op}
-use Rattle.ot_model.specs.declared.op.Op.TheVariants as ops
-use Rattle.ot_model.specs.Effect.{kind_of}
+use Rattle.ot_model.specs.Operations.{kind_of, at_of}
 use Rattle.fn_rules.specs.declared.guard.Sort.{Sort}
 use Rattle.fn_rules.specs.declared.guard.Sort.TheVariants.{Pos, Site, Char}
-use Rattle.fn_rules.specs.Formulas.{at_of, thing_of}
+use Rattle.fn_rules.specs.Formulas.{thing_of}
 use Rattle.ask_core.specs.Plans.{Plan, Ask, Holds, Fails, end_of}
 use Rattle.ot_questions.specs.declared.name.Who.{Who}
 use Rattle.ot_questions.specs.declared.name.Who.TheVariants.{A, B, C}
 use Rattle.ot_questions.specs.declared.why.Why.{Why}
-use Rattle.ot_questions.specs.Names.{position_name, site_name, char_name}
+use Rattle.ot_questions.specs.Names.{site_name, char_name}
 use Rattle.ot_questions.specs.Places.{sym_op}
 use Rattle.ot_questions.specs.Meaning.{op_at}
-use Rattle.ot_questions.proofs.Tests.{plus-zero, int_le-like}
+use Rattle.ot_questions.proofs.Tests.{int_le-like}
 use Rattle.ot_questions.proofs.Operations.{IsCount, IsCounted}
-use Rattle.ot_questions.proofs.Walks.{sort_name, IsGood, AllAsked}
+use Rattle.ot_questions.proofs.Placed.{sort_name, site_sort, char_sort}
+use Rattle.ot_questions.proofs.Walks.{IsGood, AllAsked}
 
 -- the valuation that names these operations
 abbrev pub valued : ℕ → ℤ → Op → Op → Op → ℕ → ℤ
@@ -41,33 +41,10 @@ valued n i a b c x =
     else (if nat_eq x 11 then thing_of Char c
     else pos 0))))))))))
 
-pub put_equal : (p q : ℤ) (c d s t : ℕ) → p ≡ q → c ≡ d → s ≡ t → ops.Ins p c s ≡ ops.Ins q d t
-put_equal p q c d s t e f g = ap (λ x. ops.Ins x c s) e ∙ (ap (λ x. ops.Ins q x s) f ∙ ap (λ x. ops.Ins q d x) g)
-
-pub del_equal : (p q : ℤ) (s t : ℕ) → p ≡ q → s ≡ t → ops.Del p s ≡ ops.Del q t
-del_equal p q s t e g = ap (λ x. ops.Del x s) e ∙ ap (λ x. ops.Del q x) g
-
--- an operation that a valuation names
-pub op_named : (v : ℕ → ℤ) (k : Kind) (who : Who) (o : Op) → kind_of o ≡ Some k → v (position_name who) ≡ at_of o → v (site_name who) ≡ thing_of Site o → v (char_name who) ≡ thing_of Char o → op_at v (sym_op k who) ≡ o
-op_named v kinds.Ins who (ops.Ins at c s) e p q r =
-    put_equal _ _ _ _ _ _ (plus-zero (v (position_name who)) ∙ p) (ap unsigned_abs r) (ap unsigned_abs q)
-op_named v kinds.Ins who (ops.Del at s) e p q r = absurd (cc)
-op_named v kinds.Ins who ops.Nop e p q r = absurd (cc)
-op_named v kinds.Del who (ops.Ins at c s) e p q r = absurd (cc)
-op_named v kinds.Del who (ops.Del at s) e p q r =
-    del_equal _ _ _ _ (plus-zero (v (position_name who)) ∙ p) (ap unsigned_abs q)
-op_named v kinds.Del who ops.Nop e p q r = absurd (cc)
-
-count_named : (x : ℤ) (m : ℕ) → x ≡ pos m → IsCount x
-count_named x m e = subst (λ z. IsCount z) (sym e) refl
-
-pub counted_named : (v : ℕ → ℤ) (k : Kind) (who : Who) (o : Op) → v (site_name who) ≡ thing_of Site o → v (char_name who) ≡ thing_of Char o → IsCounted v (sym_op k who)
-counted_named v kinds.Ins who o q r = (count_named _ _ r, count_named _ _ q)
-counted_named v kinds.Del who o q r = count_named _ _ q
-
 pub kind_of-op_at-sym_op : (v : ℕ → ℤ) (k : Kind) (who : Who) → kind_of (op_at v (sym_op k who)) ≡ Some k
 kind_of-op_at-sym_op v kinds.Ins who = refl
 kind_of-op_at-sym_op v kinds.Del who = refl
+kind_of-op_at-sym_op v kinds.Upd who = refl
 
 -- how far a sort is raised
 abbrev pub raise : ℕ → ℕ → Sort → ℤ
@@ -108,23 +85,21 @@ enough_for v name A = omega arith
 enough_for v name B = omega arith
 enough_for v name C = omega arith
 
-site_sort : (who : Who) → sort_name (site_name who) ≡ Site
-site_sort A = refl
-site_sort B = refl
-site_sort C = refl
-
-char_sort : (who : Who) → sort_name (char_name who) ≡ Char
-char_sort A = refl
-char_sort B = refl
-char_sort C = refl
+-- what is raised far enough is a natural number
+counted_name :
+    (v : ℕ → ℤ) (name : Who → ℕ) (who : Who) (sort : Sort) → sort_name (name who) ≡ sort
+    → raise (enough v site_name) (enough v char_name) sort ≡ pos (enough v name)
+    → IsCount (raised v (enough v site_name) (enough v char_name) (name who))
+counted_name v name who sort e far =
+    subst (λ r. IsCount (v (name who) +ℤ r)) (sym (ap (raise (enough v site_name) (enough v char_name)) e ∙ far))
+    (count_raised (v (name who)) (enough v name) (enough_for v name who))
 
 pub counted_raised : (v : ℕ → ℤ) (k : Kind) (who : Who) → IsCounted (raised v (enough v site_name) (enough v char_name)) (sym_op k who)
-counted_raised v kinds.Ins who = (
-  subst (λ t. IsCount (v (char_name who) +ℤ raise (enough v site_name) (enough v char_name) t)) (sym (char_sort who)) (count_raised (v (char_name who)) (enough v char_name) (enough_for v char_name who)),
-  subst (λ t. IsCount (v (site_name who) +ℤ raise (enough v site_name) (enough v char_name) t)) (sym (site_sort who)) (count_raised (v (site_name who)) (enough v site_name) (enough_for v site_name who)),
-)
-counted_raised v kinds.Del who =
-    subst (λ t. IsCount (v (site_name who) +ℤ raise (enough v site_name) (enough v char_name) t)) (sym (site_sort who)) (count_raised (v (site_name who)) (enough v site_name) (enough_for v site_name who))
+counted_raised v kinds.Ins who =
+    record { site = counted_name v site_name who Site (site_sort who) refl; ch = counted_name v char_name who Char (char_sort who) refl }
+counted_raised v kinds.Del who = record { site = counted_name v site_name who Site (site_sort who) refl; ch = tt }
+counted_raised v kinds.Upd who =
+    record { site = counted_name v site_name who Site (site_sort who) refl; ch = counted_name v char_name who Char (char_sort who) refl }
 
 -- a plan's value is true where it ends in no cause
 pub none_from_value : (o : Option Why) → IsTrue (is_none o) → o ≡ None

@@ -1,23 +1,21 @@
 -- Offsets stay small.
-use Rattle.std.proofs.Common.{◌≡◌, ℕ, ◌+◌, ℤ, pos, negsuc, ◌+ℤ◌, ◌≤ℤ◌, Bool, true, false, ◌&&◌, ◌||◌, IsTrue, nat_le, nat_eq, int_le, List, [], ◌∷◌, length, arith, rules, refl, sym, subst, lit≤, ◌≤◌}
+use Rattle.std.proofs.Common.{◌≡◌, ℕ, ◌+◌, ℤ, pos, negsuc, ◌+ℤ◌, ◌≤ℤ◌, Bool, true, false, ◌&&◌, IsTrue, nat_le, int_le, List, [], ◌∷◌, length, arith, rules, refl, sym, subst, lit≤, ◌≤◌}
 use Rattle.std.specs.Ordering.{int_eq}
 use Rattle.std.specs.List.{AllByRecursion, list_all}
 use Rattle.std.proofs.lemmas.Int.{ints}
-use Rattle.ot_model.specs.declared.op.Kind.{Kind}
-use Rattle.ot_model.specs.declared.op.Kind.TheVariants as kinds
 use Rattle.fn_rules.specs.declared.guard.Side.TheVariants.{First, Second}
 use Rattle.fn_rules.specs.declared.guard.Sort.{Sort}
 use Rattle.fn_rules.specs.declared.guard.Sort.TheVariants.{Pos, Site, Char}
 use Rattle.fn_rules.specs.declared.function.Res.{Res}
 use Rattle.fn_rules.specs.declared.function.Res.TheVariants as results
 use Rattle.fn_rules.specs.Formulas.{Formula, Always, Compare, And, Or, Not}
-use Rattle.fn_rules.specs.Functions.{Function, GuardedCase, cases_of}
-use Rattle.fn_rules.specs.Validity.{is_offset, is_offset_for, has_valid_atoms, is_valid_res, is_valid_case, are_valid_cases, is_valid_block, is_valid, atoms_of, nesting_of, compares_chars, is_declared_pair}
+use Rattle.fn_rules.specs.Functions.{GuardedCase}
+use Rattle.fn_rules.specs.Validity.{is_offset, is_offset_for, has_valid_atoms, is_valid_res, is_valid_case, are_valid_cases, atoms_of, nesting_of}
 use Rattle.fn_rules.specs.declared.limits.TheConstants.{MAX_CASES, MAX_ATOMS, MAX_NESTING}
 use Rattle.fn_rules.specs.declared.guard.Tightness.TheVariants.{Loose}
 use Rattle.ot_questions.specs.declared.place.Place.{Place}
 use Rattle.ot_questions.specs.declared.place.SymOp.{SymOp}
-use Rattle.ot_questions.specs.declared.place.SymOp.TheVariants.{Ins, Del, Nop}
+use Rattle.ot_questions.specs.declared.place.SymOp.TheVariants.{Ins, Del, Upd, Nop}
 use Rattle.ot_questions.specs.Places.{plus, sym_at, sym_thing, sym_result, offset_of}
 use Rattle.ot_questions.specs.Nears.{IsNear, IsNearOp, HasNearAtoms, IsNearCase, IsResultOf}
 
@@ -40,9 +38,11 @@ pub sym_thing_near : (n : ℕ) (sort : Sort) (o : SymOp) → IsNearOp n o → Is
 sym_thing_near n Pos o near = near
 sym_thing_near n Site (Ins p c s) near = IsNear-zero n
 sym_thing_near n Site (Del p s) near = IsNear-zero n
+sym_thing_near n Site (Upd p c s) near = IsNear-zero n
 sym_thing_near n Site Nop near = IsNear-zero n
 sym_thing_near n Char (Ins p c s) near = IsNear-zero n
 sym_thing_near n Char (Del p s) near = IsNear-zero n
+sym_thing_near n Char (Upd p c s) near = IsNear-zero n
 sym_thing_near n Char Nop near = IsNear-zero n
 
 IsNear-offset : (k : ℤ) → is_offset k ≡ true → IsNear 99 k
@@ -76,43 +76,25 @@ IsNear-res results.Nop h = IsNear-zero 99
 -- a case that may stand in a block has small offsets
 IsNearCase-valid : (chars : Bool) (c : GuardedCase) → is_valid_case chars c ≡ true → IsNearCase c
 IsNearCase-valid chars c e =
-    let res = both_true (has_valid_atoms chars c.guard && nat_le (atoms_of c.guard) MAX_ATOMS && nat_le (nesting_of Loose c.guard) MAX_NESTING) (is_valid_res c.res) e in
-    let most = both_true (has_valid_atoms chars c.guard && nat_le (atoms_of c.guard) MAX_ATOMS) (nat_le (nesting_of Loose c.guard) MAX_NESTING) res.0 in
+    let res = both_true (has_valid_atoms chars c.guard && nat_le (atoms_of c.guard) MAX_ATOMS && nat_le (nesting_of Loose c.guard)
+    MAX_NESTING) (is_valid_res c.res) e in
+    let most = both_true (has_valid_atoms chars c.guard && nat_le (atoms_of c.guard) MAX_ATOMS)
+    (nat_le (nesting_of Loose c.guard) MAX_NESTING) res.0 in
     let atoms = both_true (has_valid_atoms chars c.guard) (nat_le (atoms_of c.guard) MAX_ATOMS) most.0 in
     (HasNearAtoms-valid chars c.guard atoms.0, IsNear-res c.res res.1)
 
 -- what a test says of each element
-AllByRecursion-list_all : {X : Type 0} (p : X → Bool) (P : X → Type 0) → ((x : X) → p x ≡ true → P x) → (xs : List X) → list_all p xs ≡ true → AllByRecursion P xs
+AllByRecursion-list_all :
+    {X : Type 0} (p : X → Bool) (P : X → Type 0) → ((x : X) → p x ≡ true → P x) → (xs : List X) → list_all p xs ≡ true
+    → AllByRecursion P xs
 AllByRecursion-list_all p P tells [] e = tt
 AllByRecursion-list_all p P tells (x ∷ xs) e =
     let both = both_true (p x) (list_all p xs) e in (tells x both.0, AllByRecursion-list_all p P tells xs both.1)
 
-AreNear-block : (chars : Bool) (cs : List GuardedCase) → are_valid_cases chars cs ≡ true → AllByRecursion IsNearCase cs
+pub AreNear-block : (chars : Bool) (cs : List GuardedCase) → are_valid_cases chars cs ≡ true → AllByRecursion IsNearCase cs
 AreNear-block chars cs e =
     let both = both_true (nat_le (length cs) MAX_CASES) (list_all (is_valid_case chars) cs) e in
     AllByRecursion-list_all (is_valid_case chars) IsNearCase (IsNearCase-valid chars) cs both.1
-
--- each block of a valid function is valid
-pub is_valid-block : (f : Function) (k l : Kind) → is_valid f ≡ true → is_valid_block f k l ≡ true
-is_valid-block f k l e =
-    let dd = both_true ((f.head.ins || f.head.del) && is_valid_block f kinds.Ins kinds.Ins && is_valid_block f kinds.Ins kinds.Del && is_valid_block f kinds.Del kinds.Ins) (is_valid_block f kinds.Del kinds.Del) e in
-    let di = both_true ((f.head.ins || f.head.del) && is_valid_block f kinds.Ins kinds.Ins && is_valid_block f kinds.Ins kinds.Del) (is_valid_block f kinds.Del kinds.Ins) dd.0 in
-    let id = both_true ((f.head.ins || f.head.del) && is_valid_block f kinds.Ins kinds.Ins) (is_valid_block f kinds.Ins kinds.Del) di.0 in
-    let ii = both_true (f.head.ins || f.head.del) (is_valid_block f kinds.Ins kinds.Ins) id.0 in
-    pick k l ii.1 id.1 di.1 dd.1
-  where
-    pick : (k l : Kind) → is_valid_block f kinds.Ins kinds.Ins ≡ true → is_valid_block f kinds.Ins kinds.Del ≡ true → is_valid_block f kinds.Del kinds.Ins ≡ true → is_valid_block f kinds.Del kinds.Del ≡ true → is_valid_block f k l ≡ true
-    pick kinds.Ins kinds.Ins ii id di dd = ii
-    pick kinds.Ins kinds.Del ii id di dd = id
-    pick kinds.Del kinds.Ins ii id di dd = di
-    pick kinds.Del kinds.Del ii id di dd = dd
-
--- the cases of a valid function have small offsets
-pub cases_are_near : (f : Function) (k l : Kind) → IsTrue (is_valid f) → AllByRecursion IsNearCase (cases_of f k l)
-cases_are_near f k l valid =
-    let block = is_valid-block f k l (≡-IsTrue (is_valid f) valid) in
-    let both = both_true (are_valid_cases (compares_chars k l) (cases_of f k l)) (is_declared_pair f.head k l || nat_eq (length (cases_of f k l)) 0) block in
-    AreNear-block (compares_chars k l) (cases_of f k l) both.0
 
 pub IsNear-more : (m n : ℕ) (k : ℤ) → m ≤ n → IsNear m k → IsNear n k
 IsNear-more m n k h near = record { low = omega (arith, ints); high = omega (arith, ints) }
@@ -125,7 +107,9 @@ pub near_thing : (sort : Sort) (o : SymOp) (p : Place) → p ≡ sym_thing sort 
 near_thing sort o p e near =
     subst (λ q. IsNear 999 q.off) (sym e) (IsNear-more 200 999 _ (lit≤ tt) (sym_thing_near 200 sort o near))
 
-pub near_thing_plus : (sort : Sort) (o : SymOp) (p q : Place) (k : ℤ) → p ≡ sym_thing sort o → q ≡ plus p k → IsNearOp 200 o → IsNear 99 k → IsNear 999 q.off
+pub near_thing_plus :
+    (sort : Sort) (o : SymOp) (p q : Place) (k : ℤ) → p ≡ sym_thing sort o → q ≡ plus p k → IsNearOp 200 o → IsNear 99 k
+    → IsNear 999 q.off
 near_thing_plus sort o p q k e d near other =
     let thing : IsNear 200 p.off = subst (λ r. IsNear 200 r.off) (sym e) (sym_thing_near 200 sort o near) in
     subst (λ r. IsNear 999 r.off) (sym d) (IsNear-more 299 999 _ (lit≤ tt) (IsNear-plus 200 99 p.off k thing other))
@@ -136,20 +120,24 @@ is_result (results.Keep First k) (Ins p c s) b near =
     record { near = λ n x y. IsNear-plus n 99 p.off k x near; kind = λ head h. h }
 is_result (results.Keep First k) (Del p s) b near =
     record { near = λ n x y. IsNear-plus n 99 p.off k x near; kind = λ head h. h }
+is_result (results.Keep First k) (Upd p c s) b near =
+    record { near = λ n x y. IsNear-plus n 99 p.off k x near; kind = λ head h. h }
 is_result (results.Keep First k) Nop b near = record { near = λ n x y. IsNear-zero (n + 99); kind = λ head h. h }
 is_result (results.Keep Second k) (Ins p c s) b near =
     record { near = λ n x y. IsNear-plus n 99 (sym_at b).off k y near; kind = λ head h. h }
 is_result (results.Keep Second k) (Del p s) b near =
     record { near = λ n x y. IsNear-plus n 99 (sym_at b).off k y near; kind = λ head h. h }
+is_result (results.Keep Second k) (Upd p c s) b near =
+    record { near = λ n x y. IsNear-plus n 99 (sym_at b).off k y near; kind = λ head h. h }
 is_result (results.Keep Second k) Nop b near = record { near = λ n x y. IsNear-zero (n + 99); kind = λ head h. h }
-is_result results.Nop a b near = record { near = λ n x y. IsNear-zero (n + 99); kind = λ head h. tt }
+is_result results.Nop a b near = record { near = λ n x y. IsNear-zero (n + 99); kind = λ head h. refl }
 
 pub IsResultOf-value : (res : Res) (a b r : SymOp) → r ≡ sym_result res a b → IsNear 99 (offset_of res) → IsResultOf a b r
 IsResultOf-value res a b r e near = subst (λ o. IsResultOf a b o) (sym e) (is_result res a b near)
 
 -- nop, and the first operation itself, may come out of a transformation
 pub IsResultOf-nop : (a b : SymOp) → IsResultOf a b Nop
-IsResultOf-nop a b = record { near = λ n x y. IsNear-zero (n + 99); kind = λ head h. tt }
+IsResultOf-nop a b = record { near = λ n x y. IsNear-zero (n + 99); kind = λ head h. refl }
 
 pub IsResultOf-same : (a b : SymOp) → IsResultOf a b a
 IsResultOf-same a b = record { near = λ n x y. IsNear-more n (n + 99) _ (omega arith) x; kind = λ head h. h }

@@ -1,7 +1,6 @@
 -- Tests of integers, and choices by tests.
-use Rattle.std.proofs.Common.{◌≡◌, ℤ, pos, negsuc, ◌+ℤ◌, ◌-ℤ◌, ◌≤ℤ◌, ◌<ℤ◌, Bool, true, false, not, ◌&&◌, ◌||◌, if◌then◌else◌, Option, Some, None, int_le, int_lt, refl, ap, ◌∙◌, Decides, arith}
+use Rattle.std.proofs.Common.{◌≡◌, ℤ, pos, negsuc, ◌+ℤ◌, ◌-ℤ◌, ◌≤ℤ◌, ◌<ℤ◌, Bool, true, false, not, ◌&&◌, ◌||◌, if◌then◌else◌, Option, int_le, int_lt, refl, ap, ◌∙◌, Decides, arith}
 use Rattle.std.specs.Ordering.{int_eq}
-use Rattle.std.proofs.lemmas.Bool.{false≢true}
 use Rattle.std.proofs.lemmas.Bool.Decides.{same_from_decides, Decides-int_eq}
 use Rattle.std.proofs.lemmas.Int.{ints}
 use Rattle.ot_questions.specs.declared.why.Why.{Why}
@@ -23,16 +22,6 @@ pub int_le-int_lt : (a b c d : ℤ) → (a ≤ℤ b → c <ℤ d) → (c <ℤ d 
 int_le-int_lt a b c d to from =
     same_from_decides {P = a ≤ℤ b} (int_le a b) (int_lt c d) (Decides-int_le a b)
     (λ e. from ((Decides-int_lt c d).0 e), λ h. (Decides-int_lt c d).1 (to h))
-
-pub int_lt-like : (a b c d : ℤ) → (a <ℤ b → c <ℤ d) → (c <ℤ d → a <ℤ b) → int_lt a b ≡ int_lt c d
-int_lt-like a b c d to from =
-    same_from_decides {P = a <ℤ b} (int_lt a b) (int_lt c d) (Decides-int_lt a b)
-    (λ e. from ((Decides-int_lt c d).0 e), λ h. (Decides-int_lt c d).1 (to h))
-
-pub int_eq-like : (a b c d : ℤ) → (a ≡ b → c ≡ d) → (c ≡ d → a ≡ b) → int_eq a b ≡ int_eq c d
-int_eq-like a b c d to from =
-    same_from_decides {P = a ≡ b} (int_eq a b) (int_eq c d) (Decides-int_eq a b)
-    (λ e. from ((Decides-int_eq c d).0 e), λ h. (Decides-int_eq c d).1 (to h))
 
 pub plus-zero : (x : ℤ) → x +ℤ pos 0 ≡ x
 plus-zero x = omega (arith, ints)
@@ -74,21 +63,10 @@ pub if_eq : {X : Type 0} (x y : ℤ) (p q : X) → (if int_le x y then (if int_l
 if_eq x y p q =
     if_and (int_le x y) (int_le y x) p q
     ∙ ap (λ b. if b then p else q)
-    (same_from_decides {P = x ≡ y} (int_le x y && int_le y x) (int_eq x y) (λ e. grind (arith, ints), λ h. grind (arith, ints)) (Decides-int_eq x y))
+    (same_from_decides {P = x ≡ y} (int_le x y && int_le y x) (int_eq x y) (λ e. grind (arith, ints), λ h. grind (arith, ints))
+    (Decides-int_eq x y))
 
--- a plan that holds at a valuation has passed its tests
-pub passed : (b : Bool) (x : Option Why) (why : Why) → (if b then x else Some why) ≡ None → (b ≡ true) × (x ≡ None)
-passed true x why e = (refl, e)
-passed false x why e = absurd (cc)
-
-pub not_skipped : (b : Bool) (x : Option Why) → (if b then x else None) ≡ None → b ≡ true → x ≡ None
-not_skipped true x e h = e
-not_skipped false x e h = absurd (false≢true h)
-
-pub pass : (b : Bool) (x : Option Why) (why : Why) → b ≡ true → x ≡ None → (if b then x else Some why) ≡ None
-pass true x why h e = e
-pass false x why h e = absurd (false≢true h)
-
-pub skip_or : (b : Bool) (x : Option Why) → (b ≡ true → x ≡ None) → (if b then x else None) ≡ None
-skip_or true x h = h refl
-skip_or false x h = refl
+-- what holds of both ends holds of the chosen one
+pub choose : (P : Option Why → Type 0) (b : Bool) (s t : Option Why) → (b ≡ true → P s) → (b ≡ false → P t) → P (if b then s else t)
+choose P true s t h g = h refl
+choose P false s t h g = g refl

@@ -1,19 +1,20 @@
 -- The plan of a triple means TP2 for its kinds.
-use Rattle.std.proofs.Common.{◌≡◌, ℕ, ℤ, pos, ◌+ℤ◌, true, ◌&&◌, if◌then◌else◌, int_le, Option, Some, None, [], ◌∷◌, ◌++◌, length, refl, ap, sym, ◌∙◌, subst, inl, inr, ◌⊎◌, lit<}
-use Rattle.std.specs.List.{AllByRecursion}
-use Rattle.std.proofs.lemmas.Bool.{and_parts, and_from}
+use Rattle.std.proofs.Common.{◌≡◌, ℕ, ℤ, pos, ◌+ℤ◌, true, if◌then◌else◌, int_le, Option, Some, None, [], ◌∷◌, length, refl, ap, sym, ◌∙◌, subst, inl, inr}
+use Rattle.std.proofs.lemmas.Bool.Decides.{Decides-and}
 use Rattle.ot_model.specs.declared.op.Kind.{Kind}
-use Rattle.ot_model.specs.declared.op.Kind.TheVariants as kinds
 use Rattle.ot_model.specs.declared.op.Op.{Op}
-use Rattle.ot_model.specs.Effect.{kind_of, IsEnabled}
+use Rattle.ot_model.specs.Operations.{kind_of}
+use Rattle.ot_model.specs.Effect.{IsEnabled}
 use Rattle.fn_rules.specs.declared.function.Level.TheVariants.{Tp2}
-use Rattle.fn_rules.specs.declared.function.ObName.{ObName}
 use Rattle.fn_rules.specs.declared.function.ObName.TheVariants.{Triple}
 use Rattle.fn_rules.specs.Functions.{Function, is_declared}
 use Rattle.fn_rules.specs.Transformation.{IsAllowed}
 use Rattle.fn_rules.specs.Properties.{CommutesAt, HasTp1, HasTp2}
-use Rattle.fn_rules.specs.Obligations.{all_pairs, all_triples, is_obligation, obligations_of}
+use Rattle.fn_rules.specs.Obligations.{declared_kinds, pairs_of, triples_of, obligations_of}
 use Rattle.fn_rules.specs.Validity.{is_valid}
+use Rattle.fn_rules.proofs.Forms.{IsAllowed-sym}
+use Rattle.fn_rules.proofs.Symmetry.{CommutesAt-sym}
+use Rattle.fn_rules.proofs.KindPairs.{Contains-declared_triple}
 use Rattle.ask_core.specs.Plans.{end_of}
 use Rattle.ot_questions.specs.declared.name.Who.TheVariants.{A, B, C}
 use Rattle.ot_questions.specs.declared.place.SymOp.{SymOp}
@@ -22,201 +23,191 @@ use Rattle.ot_questions.specs.Names.{site_name, char_name}
 use Rattle.ot_questions.specs.Places.{sym_op}
 use Rattle.ot_questions.specs.Obligation.{ask_commute, ask_triple, plan_of}
 use Rattle.ot_questions.specs.Meaning.{op_at, HasTriple, HoldsAtLength, HoldsEverywhere, AllHold}
-use Rattle.ot_questions.proofs.Tests.{plus-zero, not_skipped, skip_or}
-use Rattle.ot_questions.proofs.Values.{enabled_to, sym_allowed}
-use Rattle.ot_questions.proofs.Operations.{IsCounted, IsAllowed-test}
-use Rattle.ot_questions.proofs.Walks.{walk_triple, sym_op_stands}
-use Rattle.ot_questions.proofs.Instances.{valued, op_named, counted_named, kind_of-op_at-sym_op, raised, enough, counted_raised, end-raised, none_from_value, value_from_none}
+use Rattle.ot_questions.specs.Instances.{StandsFor}
+use Rattle.ot_questions.proofs.Tests.{plus-zero}
+use Rattle.ot_questions.proofs.Operations.{IsCounted}
+use Rattle.ot_questions.proofs.Standing.{counted_by_standing, op_at-standing, standing-op_at, standing-named}
+use Rattle.ot_questions.proofs.Laws.{plan_kept}
+use Rattle.ot_questions.proofs.Instances.{valued, kind_of-op_at-sym_op, raised, enough, counted_raised, end-raised, none_from_value, value_from_none}
 use Rattle.ot_questions.proofs.Pairs.{all_enabled}
-use Rattle.ot_questions.proofs.Sameness.{made, length-made}
-use Rattle.ot_questions.proofs.Triples.{commute_means, meaning_commutes, end-triple}
-use Rattle.ot_questions.proofs.PairMeaning.{enabled_test, test_enabled, length_test, allowed_named, IsAllowed-exchanged, AllByRecursion-filter, filter-AllByRecursion, declared_kind, declared_from, int_cases, negative_length, all_pairs_mean, pair_holds}
+use Rattle.ot_questions.proofs.Triples.{TripleSays, commute_says, all_allowed, end-triple, triple_fails_breaks}
+use Rattle.ot_questions.proofs.TellingDocument.{made, length-made}
+use Rattle.ot_questions.proofs.Answered.{Answered, begins_answered, Decides-all_enabled, Decides-allowed, length_test, negative_length}
+use Rattle.ot_questions.proofs.Listed.{of_contained, each_appended, each_of_both, each_triple}
+use Rattle.ot_questions.proofs.PairMeaning.{declared_kind, declared_from, at_length, int_cases, all_declared, all_pairs_mean, tp1_holds_all_pairs}
 
--- the plan of three operations that are enabled, before it is asked whether they are allowed
-abbrev allowed_end : (ℕ → ℤ) → Function → SymOp → SymOp → SymOp → Option Why
-allowed_end v f o p q =
-    if sym_allowed v f.head o p then (if sym_allowed v f.head o q then (if sym_allowed v f.head p q then end_of (ask_commute f o p q) v else None) else None) else None
+-- three operations that are enabled and pairwise allowed
+pub record TriplePosed (f : Function) (n : ℕ) (a b c : Op) : Type 0 where
+  pub a_enabled : IsEnabled a n
+  pub b_enabled : IsEnabled b n
+  pub c_enabled : IsEnabled c n
+  pub a_and_b : IsAllowed f a b
+  pub a_and_c : IsAllowed f a c
+  pub b_and_c : IsAllowed f b c
 
-triple_at :
-    (v : ℕ → ℤ) (f : Function) (o p q : SymOp) (n : ℕ) (a b c : Op)
-    → v 0 ≡ pos 0 → v 1 ≡ pos n → op_at v o ≡ a → op_at v p ≡ b → op_at v q ≡ c → IsCounted v o → IsCounted v p → IsCounted v q
-    → IsEnabled a n → IsEnabled b n → IsEnabled c n → IsAllowed f a b → IsAllowed f a c → IsAllowed f b c
-    → end_of (ask_triple f o p q) v ≡ None → CommutesAt f a b c
-triple_at v f o p q n a b c z e na nb nc ca cb cd ea eb ec ab ac bc h =
-    let enabled =
-    not_skipped (all_enabled v (o ∷ p ∷ q ∷ [])) (allowed_end v f o p q)
-    (not_skipped (int_le (v 0 +ℤ pos 0) (v 1 +ℤ pos 0)) (if all_enabled v (o ∷ p ∷ q ∷ []) then allowed_end v f o p q else None)
-    (sym (end-triple v f o p q z) ∙ h) (length_test v n z e))
-    (and_from _ _ (enabled_test v o a n na e ea) (and_from _ _ (enabled_test v p b n nb e eb) (and_from _ _ (enabled_test v q c n nc e ec) refl))) in
-    let first = not_skipped (sym_allowed v f.head o p) (if sym_allowed v f.head o q then (if sym_allowed v f.head p q then end_of (ask_commute f o p q) v else None) else None) enabled (allowed_named v f o p a b na nb ab) in
-    let second = not_skipped (sym_allowed v f.head o q) (if sym_allowed v f.head p q then end_of (ask_commute f o p q) v else None) first (allowed_named v f o q a c na nc ac) in
-    let third = not_skipped (sym_allowed v f.head p q) (end_of (ask_commute f o p q) v) second (allowed_named v f p q b c nb nc bc) in
-    subst (λ x. CommutesAt f x b c) na
-    (subst (λ y. CommutesAt f (op_at v o) y c) nb
-    (subst (λ w. CommutesAt f (op_at v o) (op_at v p) w) nc (commute_means v f o p q z ca cb cd third)))
+-- what the plan of a triple says of the operations at the valuation
+answered_at :
+    (v : ℕ → ℤ) (f : Function) (x y w : SymOp) (n : ℕ) → v 0 ≡ pos 0 → v 1 ≡ pos n → IsCounted v x → IsCounted v y → IsCounted v w
+    → Answered (TriplePosed f n (op_at v x) (op_at v y) (op_at v w)) (TripleSays f (op_at v x) (op_at v y) (op_at v w))
+    (end_of (ask_triple f x y w) v)
+answered_at v f x y w n z e cx cy cw =
+    let enabled = Decides-all_enabled v n e (x ∷ y ∷ w ∷ []) in
+    let last = Decides-and _ _ (Decides-allowed v f x w cx cw) (Decides-allowed v f y w cy cw) in
+    let allowed = Decides-and _ _ (Decides-allowed v f x y cx cy) last in
+    subst (λ end. Answered (TriplePosed f n (op_at v x) (op_at v y) (op_at v w)) (TripleSays f (op_at v x) (op_at v y) (op_at v w)) end)
+    (sym (end-triple v f x y w z))
+    (begins_answered (TriplePosed f n (op_at v x) (op_at v y) (op_at v w)) (TripleSays f (op_at v x) (op_at v y) (op_at v w))
+    (int_le (v 0 +ℤ pos 0) (v 1 +ℤ pos 0)) (all_enabled v (x ∷ y ∷ w ∷ [])) (all_allowed v f x y w) (end_of (ask_commute f x y w) v)
+    (length_test v n z e)
+    (λ en al.
+    let are_enabled = enabled.0 en in
+    let are_allowed = allowed.0 al in (
+      record {
+        a_enabled = are_enabled.0;
+        b_enabled = are_enabled.1.0;
+        c_enabled = are_enabled.1.1.0;
+        a_and_b = are_allowed.0;
+        a_and_c = are_allowed.1.0;
+        b_and_c = are_allowed.1.1;
+      },
+      commute_says v f x y w z cx cy cw,
+    ))
+    (λ posed. (
+      enabled.1 (posed.a_enabled, (posed.b_enabled, (posed.c_enabled, tt))),
+      allowed.1 (posed.a_and_b, (posed.a_and_c, posed.b_and_c)),
+    )))
+
+-- and so of any operations that the names stand for
+pub triple_answered :
+    (f : Function) (x y w : SymOp) (v : ℕ → ℤ) (n : ℕ) (a b c : Op) → v 0 ≡ pos 0 → v 1 ≡ pos n → StandsFor v x a → StandsFor v y
+    b → StandsFor v w c
+    → Answered (TriplePosed f n a b c) (TripleSays f a b c) (end_of (ask_triple f x y w) v)
+triple_answered f x y w v n a b c z e sx sy sw =
+    subst (λ o. Answered (TriplePosed f n o b c) (TripleSays f o b c) (end_of (ask_triple f x y w) v)) (op_at-standing v x a z sx)
+    (subst (λ o. Answered (TriplePosed f n (op_at v x) o c) (TripleSays f (op_at v x) o c) (end_of (ask_triple f x y w) v))
+    (op_at-standing v y b z sy)
+    (subst (λ o. Answered (TriplePosed f n (op_at v x) (op_at v y) o) (TripleSays f (op_at v x) (op_at v y) o)
+    (end_of (ask_triple f x y w) v)) (op_at-standing v w c z sw)
+    (answered_at v f x y w n z e (counted_by_standing v x a sx) (counted_by_standing v y b sy) (counted_by_standing v w c sw))))
+
+-- where the plan holds, the operations commute
+pub triple_commutes :
+    (f : Function) (n : ℕ) (a b c : Op) (end : Option Why) → Answered (TriplePosed f n a b c) (TripleSays f a b c) end → end ≡ None
+    → TriplePosed f n a b c → CommutesAt f a b c
+triple_commutes f n a b c end answered h posed =
+    elim answered [
+      | inl said ↦ subst (λ end. TripleSays f a b c end) h said.1
+      | inr none ↦ absurd (none.0 posed)
+    ]
+
+-- where they commute if they are enabled and allowed, the plan holds
+pub triple_none :
+    (f : Function) (n : ℕ) (a b c : Op) (end : Option Why) → Answered (TriplePosed f n a b c) (TripleSays f a b c) end
+    → (TriplePosed f n a b c → CommutesAt f a b c) → end ≡ None
+triple_none f n a b c None answered h = refl
+triple_none f n a b c (Some why) answered h =
+    elim answered [
+      | inl said ↦ absurd (triple_fails_breaks f a b c why said.1 (h said.0))
+      | inr none ↦ none.1
+    ]
 
 pub triple_holds_means : (f : Function) (k l m : Kind) (n : ℕ) → HoldsAtLength f (Triple k l m) n → HasTriple f k l m n
 unfolding plan_of
 triple_holds_means f k l m n holds a b c ka kb kc ea eb ec ab ac bc =
     let v = valued n (pos 0) a b c in
-    triple_at v f (sym_op k A) (sym_op l B) (sym_op m C) n a b c refl refl
-    (op_named v k A a ka refl refl refl) (op_named v l B b kb refl refl refl) (op_named v m C c kc refl refl refl)
-    (counted_named v k A a refl refl) (counted_named v l B b refl refl) (counted_named v m C c refl refl)
-    ea eb ec ab ac bc
+    triple_commutes f n a b c (end_of (ask_triple f (sym_op k A) (sym_op l B) (sym_op m C)) v)
+    (triple_answered f (sym_op k A) (sym_op l B) (sym_op m C) v n a b c refl refl
+    (standing-named v k A a ka refl refl refl) (standing-named v l B b kb refl refl refl) (standing-named v m C c kc refl refl refl))
     (none_from_value (end_of (ask_triple f (sym_op k A) (sym_op l B) (sym_op m C)) v) (holds v refl refl))
+    (record { a_enabled = ea; b_enabled = eb; c_enabled = ec; a_and_b = ab; a_and_c = ac; b_and_c = bc })
 
-counted_triple_holds :
-    (v : ℕ → ℤ) (f : Function) (o p q : SymOp) (n : ℕ) → v 0 ≡ pos 0 → v 1 ≡ pos n → IsCounted v o → IsCounted v p → IsCounted v q
-    → (IsEnabled (op_at v o) n → IsEnabled (op_at v p) n → IsEnabled (op_at v q) n → IsAllowed f (op_at v o) (op_at v p) → IsAllowed f (op_at v o) (op_at v q) → IsAllowed f (op_at v p) (op_at v q) → CommutesAt f (op_at v o) (op_at v p) (op_at v q))
-    → end_of (ask_triple f o p q) v ≡ None
-counted_triple_holds v f o p q n z e ca cb cd h =
-    end-triple v f o p q z
-    ∙ skip_or (int_le (v 0 +ℤ pos 0) (v 1 +ℤ pos 0)) (if all_enabled v (o ∷ p ∷ q ∷ []) then allowed_end v f o p q else None)
-    (λ long. skip_or (all_enabled v (o ∷ p ∷ q ∷ [])) (allowed_end v f o p q)
-    (λ enabled. skip_or (sym_allowed v f.head o p) (if sym_allowed v f.head o q then (if sym_allowed v f.head p q then end_of (ask_commute f o p q) v else None) else None)
-    (λ ab. skip_or (sym_allowed v f.head o q) (if sym_allowed v f.head p q then end_of (ask_commute f o p q) v else None)
-    (λ ac. skip_or (sym_allowed v f.head p q) (end_of (ask_commute f o p q) v)
-    (λ bc.
-    let first = and_parts (enabled_to (op_at v o) (v 1 +ℤ pos 0)) (enabled_to (op_at v p) (v 1 +ℤ pos 0) && (enabled_to (op_at v q) (v 1 +ℤ pos 0) && true)) enabled in
-    let second = and_parts (enabled_to (op_at v p) (v 1 +ℤ pos 0)) (enabled_to (op_at v q) (v 1 +ℤ pos 0) && true) first.1 in
-    let third = and_parts (enabled_to (op_at v q) (v 1 +ℤ pos 0)) true second.1 in
-    meaning_commutes v f o p q z ca cb cd
-    (h (test_enabled v o n e first.0) (test_enabled v p n e second.0) (test_enabled v q n e third.0)
-    (IsAllowed-test v f o p ca cb ab) (IsAllowed-test v f o q ca cd ac) (IsAllowed-test v f p q cb cd bc)))))))
-
-pub triple_meaning_holds : (f : Function) (k l m : Kind) (n : ℕ) → is_valid f ≡ true → HasTriple f k l m n → HoldsAtLength f (Triple k l m) n
+pub triple_meaning_holds :
+    (f : Function) (k l m : Kind) (n : ℕ) → is_valid f ≡ true → HasTriple f k l m n → HoldsAtLength f (Triple k l m) n
 unfolding plan_of
 triple_meaning_holds f k l m n valid has v z e =
     let s = enough v site_name in
     let c = enough v char_name in
     let w = raised v s c in
+    let zero : w 0 ≡ pos 0 = plus-zero (v 0) ∙ z in
+    let first = op_at w (sym_op k A) in
+    let second = op_at w (sym_op l B) in
+    let third = op_at w (sym_op m C) in
     value_from_none (end_of (ask_triple f (sym_op k A) (sym_op l B) (sym_op m C)) v)
-    (sym (end-raised 12 v s c (ask_triple f (sym_op k A) (sym_op l B) (sym_op m C))
-    (walk_triple 12 f (sym_op k A) (sym_op l B) (sym_op m C) valid (lit< tt)
-    (sym_op_stands 12 k A (lit< tt) (lit< tt) (lit< tt)) (sym_op_stands 12 l B (lit< tt) (lit< tt) (lit< tt)) (sym_op_stands 12 m C (lit< tt) (lit< tt) (lit< tt))))
-    ∙ counted_triple_holds w f (sym_op k A) (sym_op l B) (sym_op m C) n (plus-zero (v 0) ∙ z) (plus-zero (v 1) ∙ e) (counted_raised v k A) (counted_raised v l B) (counted_raised v m C)
-    (λ ea eb ec ab ac bc. has (op_at w (sym_op k A)) (op_at w (sym_op l B)) (op_at w (sym_op m C)) (kind_of-op_at-sym_op w k A) (kind_of-op_at-sym_op w l B) (kind_of-op_at-sym_op w m C) ea eb ec ab ac bc))
+    (sym (end-raised 12 v s c (ask_triple f (sym_op k A) (sym_op l B) (sym_op m C)) (plan_kept f (Triple k l m) valid).asked)
+    ∙ triple_none f n first second third (end_of (ask_triple f (sym_op k A) (sym_op l B) (sym_op m C)) w)
+    (triple_answered f (sym_op k A) (sym_op l B) (sym_op m C) w n first second third zero (plus-zero (v 1) ∙ e)
+    (standing-op_at w (sym_op k A) zero (counted_raised v k A)) (standing-op_at w (sym_op l B) zero (counted_raised v l B))
+    (standing-op_at w (sym_op m C) zero (counted_raised v m C)))
+    (λ posed.
+    has first second third (kind_of-op_at-sym_op w k A) (kind_of-op_at-sym_op w l B) (kind_of-op_at-sym_op w m C)
+    posed.a_enabled posed.b_enabled posed.c_enabled posed.a_and_b posed.a_and_c posed.b_and_c))
 
-CommutesAt-exchanged : (f : Function) (a b c : Op) → CommutesAt f a b c → CommutesAt f b a c
-CommutesAt-exchanged f a b c h = record {
-  b_after_a = h.a_after_b;
-  a_after_b = h.b_after_a;
-  c_after_a = h.c_after_b;
-  c_after_b = h.c_after_a;
-  c_after_both = h.c_after_both;
-  b_transformed = h.a_transformed;
-  a_transformed = h.b_transformed;
-  c_by_a = h.c_by_b;
-  c_by_b = h.c_by_a;
-  c_by_a_then_b = h.c_by_b_then_a;
-  c_by_b_then_a = h.c_by_a_then_b;
-}
-
--- what the obligations of the second level give
-abbrev Each : Function → Type 0
-Each f = AllByRecursion (λ ob. is_obligation f.head ob ≡ true → HoldsEverywhere f ob) (all_pairs ++ all_triples)
-
-triple_at_length : (f : Function) (ob : ObName) (n : ℕ) → HoldsEverywhere f ob → HoldsAtLength f ob n
-triple_at_length f ob n h v z e = h v z
-
--- the plan of a triple of declared kinds; the first two kinds are insertion and deletion in this order
-listed_triple : (f : Function) (k l m : Kind) → Each f → is_obligation f.head (Triple k l m) ≡ true → (HoldsEverywhere f (Triple k l m)) ⊎ ((k ≡ kinds.Del) × (l ≡ kinds.Ins))
-listed_triple f kinds.Ins kinds.Ins kinds.Ins h d = inl (h.1.1.1.0 d)
-listed_triple f kinds.Ins kinds.Del kinds.Ins h d = inl (h.1.1.1.1.0 d)
-listed_triple f kinds.Del kinds.Del kinds.Ins h d = inl (h.1.1.1.1.1.0 d)
-listed_triple f kinds.Ins kinds.Ins kinds.Del h d = inl (h.1.1.1.1.1.1.0 d)
-listed_triple f kinds.Ins kinds.Del kinds.Del h d = inl (h.1.1.1.1.1.1.1.0 d)
-listed_triple f kinds.Del kinds.Del kinds.Del h d = inl (h.1.1.1.1.1.1.1.1.0 d)
-listed_triple f kinds.Del kinds.Ins kinds.Ins h d = inr (refl, refl)
-listed_triple f kinds.Del kinds.Ins kinds.Del h d = inr (refl, refl)
-
-mixed_triple : (f : Function) (m : Kind) → Each f → is_obligation f.head (Triple kinds.Ins kinds.Del m) ≡ true → HoldsEverywhere f (Triple kinds.Ins kinds.Del m)
-mixed_triple f kinds.Ins h d = h.1.1.1.1.0 d
-mixed_triple f kinds.Del h d = h.1.1.1.1.1.1.1.0 d
-
-three_declared : (f : Function) (k l m : Kind) → is_declared f.head k ≡ true → is_declared f.head l ≡ true → is_declared f.head m ≡ true → is_obligation f.head (Triple k l m) ≡ true
-three_declared f k l m dk dl dm = and_from _ _ (and_from _ _ dk dl) dm
-
-triple_instance :
-    (f : Function) (k l m : Kind) → Each f → is_declared f.head k ≡ true → is_declared f.head l ≡ true → is_declared f.head m ≡ true
-    → (n : ℕ) (a b c : Op) → kind_of a ≡ Some k → kind_of b ≡ Some l → kind_of c ≡ Some m → IsEnabled a n → IsEnabled b n → IsEnabled c n
-    → IsAllowed f a b → IsAllowed f a c → IsAllowed f b c → CommutesAt f a b c
-triple_instance f k l m each dk dl dm n a b c ka kb kc ea eb ec ab ac bc =
-    elim (listed_triple f k l m each (three_declared f k l m dk dl dm)) [
-      | inl holds ↦ triple_holds_means f k l m n (triple_at_length f (Triple k l m) n holds) a b c ka kb kc ea eb ec ab ac bc
-      | inr exchanged ↦
-          (let ka_del : kind_of a ≡ Some kinds.Del = ka ∙ ap Some exchanged.0 in
-          let kb_ins : kind_of b ≡ Some kinds.Ins = kb ∙ ap Some exchanged.1 in
-          let di : is_declared f.head kinds.Ins ≡ true = ap (is_declared f.head) (sym exchanged.1) ∙ dl in
-          let dd : is_declared f.head kinds.Del ≡ true = ap (is_declared f.head) (sym exchanged.0) ∙ dk in
-          CommutesAt-exchanged f b a c
-          (triple_holds_means f kinds.Ins kinds.Del m n
-          (triple_at_length f (Triple kinds.Ins kinds.Del m) n (mixed_triple f m each (three_declared f kinds.Ins kinds.Del m di dd dm)))
-          b a c kb_ins ka_del kc eb ea ec (IsAllowed-exchanged f a b ab) bc ac))
-    ]
-
-all_triples_mean : (f : Function) → Each f → HasTp2 f
-all_triples_mean f each d a b c (da, ea, ok, rest) =
+-- of each three declared kinds the triple is listed in one of the two orders of its first two kinds
+pub triples_mean : (f : Function) → AllHold f (triples_of (declared_kinds f.head)) → HasTp2 f
+triples_mean f h d a b c (da, ea, ok, rest) =
     let k = declared_kind f.head (kind_of a) da in
     let l = declared_kind f.head (kind_of b) rest.0 in
     let m = declared_kind f.head (kind_of c) rest.3.0 in
-    triple_instance f k.0 l.0 m.0 each k.2 l.2 m.2 (length d) a b c k.1 l.1 m.1 ea rest.1 rest.3.1 ok.0 ok.1.0 rest.2.0
+    elim (Contains-declared_triple f.head k.0 l.0 m.0 k.2 l.2 m.2) [
+      | inl listed ↦
+          triple_holds_means f k.0 l.0 m.0 (length d)
+          (at_length f (Triple k.0 l.0 m.0) (length d) (of_contained (HoldsEverywhere f) _ (Triple k.0 l.0 m.0) h listed))
+          a b c k.1 l.1 m.1 ea rest.1 rest.3.1 ok.0 ok.1.0 rest.2.0
+      | inr listed ↦
+          CommutesAt-sym f b a c
+          (triple_holds_means f l.0 k.0 m.0 (length d)
+          (at_length f (Triple l.0 k.0 m.0) (length d) (of_contained (HoldsEverywhere f) _ (Triple l.0 k.0 m.0) h listed))
+          b a c l.1 k.1 m.1 rest.1 ea rest.3.1 (IsAllowed-sym f a b ok.0) rest.2.0 ok.1.0)
+    ]
 
 pub all_plans_mean : (f : Function) → AllHold f (obligations_of f.head Tp2) → HasTp1 f × HasTp2 f
 all_plans_mean f h =
-    let each = AllByRecursion-filter (HoldsEverywhere f) (is_obligation f.head) (all_pairs ++ all_triples) h in
-    (all_pairs_mean f (filter-AllByRecursion (HoldsEverywhere f) (is_obligation f.head) all_pairs (each.0, (each.1.0, (each.1.1.0, tt)))), all_triples_mean f each)
+    let both = each_of_both (HoldsEverywhere f) (pairs_of (declared_kinds f.head)) (triples_of (declared_kinds f.head)) h in
+    (all_pairs_mean f both.0, triples_mean f both.1)
 
 triple_everywhere : (f : Function) (k l m : Kind) → ((n : ℕ) → HoldsAtLength f (Triple k l m) n) → HoldsEverywhere f (Triple k l m)
 unfolding plan_of
 triple_everywhere f k l m h v z =
+    let x = sym_op k A in
+    let y = sym_op l B in
+    let w = sym_op m C in
     elim (int_cases (v 1)) [
       | inl found ↦ h found.0 v z found.1
       | inr found ↦
-          value_from_none (end_of (ask_triple f (sym_op k A) (sym_op l B) (sym_op m C)) v)
-          (end-triple v f (sym_op k A) (sym_op l B) (sym_op m C) z
-          ∙ ap (λ t. if t then (if all_enabled v (sym_op k A ∷ sym_op l B ∷ sym_op m C ∷ []) then allowed_end v f (sym_op k A) (sym_op l B) (sym_op m C) else None) else None) (negative_length v found.0 z found.1))
+          value_from_none (end_of (ask_triple f x y w) v)
+          (end-triple v f x y w z
+          ∙ ap (λ t. if t then (if all_enabled v (x ∷ y ∷ w ∷ [])
+          then (if all_allowed v f x y w then end_of (ask_commute f x y w) v else None) else None) else None)
+          (negative_length v found.0 z found.1))
     ]
 
-triple_holds : (f : Function) (k l m : Kind) → is_valid f ≡ true → HasTp2 f → is_declared f.head k && is_declared f.head l && is_declared f.head m ≡ true → HoldsEverywhere f (Triple k l m)
-triple_holds f k l m valid has declared =
-    let two = and_parts (is_declared f.head k && is_declared f.head l) (is_declared f.head m) declared in
-    let both = and_parts (is_declared f.head k) (is_declared f.head l) two.0 in
+triple_holds :
+    (f : Function) → is_valid f ≡ true → HasTp2 f → (k l m : Kind)
+    → is_declared f.head k ≡ true → is_declared f.head l ≡ true → is_declared f.head m ≡ true → HoldsEverywhere f (Triple k l m)
+triple_holds f valid has k l m dk dl dm =
     triple_everywhere f k l m
     (λ n. triple_meaning_holds f k l m n valid
     (λ a b c ka kb kc ea eb ec ab ac bc.
     let d = made n (λ t. record { ch = 0; live = true }) in
     let len : length d ≡ n = length-made n (λ t. record { ch = 0; live = true }) in
     has d a b c (
-      declared_from f.head (kind_of a) k ka both.0,
+      declared_from f.head (kind_of a) k ka dk,
       subst (λ i. IsEnabled a i) (sym len) ea,
       (ab, (ac, tt)),
       (
-        declared_from f.head (kind_of b) l kb both.1,
+        declared_from f.head (kind_of b) l kb dl,
         subst (λ i. IsEnabled b i) (sym len) eb,
         (bc, tt),
-        (declared_from f.head (kind_of c) m kc two.1, subst (λ i. IsEnabled c i) (sym len) ec, tt, tt),
+        (declared_from f.head (kind_of c) m kc dm, subst (λ i. IsEnabled c i) (sym len) ec, tt, tt),
       ),
     )))
 
+pub tp2_holds_triples : (f : Function) → is_valid f ≡ true → HasTp2 f → AllHold f (triples_of (declared_kinds f.head))
+tp2_holds_triples f valid has =
+    each_triple (λ k. is_declared f.head k ≡ true) (HoldsEverywhere f) (triple_holds f valid has) (declared_kinds f.head)
+    (all_declared f.head)
+
 pub tp2_holds_all : (f : Function) → is_valid f ≡ true → HasTp1 f × HasTp2 f → AllHold f (obligations_of f.head Tp2)
 tp2_holds_all f valid has =
-    filter-AllByRecursion (HoldsEverywhere f) (is_obligation f.head) (all_pairs ++ all_triples) (
-      pair_holds f kinds.Ins kinds.Ins valid has.0,
-      (
-        pair_holds f kinds.Ins kinds.Del valid has.0,
-        (
-          pair_holds f kinds.Del kinds.Del valid has.0,
-          (
-            triple_holds f kinds.Ins kinds.Ins kinds.Ins valid has.1,
-            (
-              triple_holds f kinds.Ins kinds.Del kinds.Ins valid has.1,
-              (
-                triple_holds f kinds.Del kinds.Del kinds.Ins valid has.1,
-                (triple_holds f kinds.Ins kinds.Ins kinds.Del valid has.1, (triple_holds f kinds.Ins kinds.Del kinds.Del valid has.1, (triple_holds f kinds.Del kinds.Del kinds.Del valid has.1, tt))),
-              ),
-            ),
-          ),
-        ),
-      ),
-    )
+    each_appended (HoldsEverywhere f) (pairs_of (declared_kinds f.head)) (triples_of (declared_kinds f.head))
+    (tp1_holds_all_pairs f valid has.0) (tp2_holds_triples f valid has.1)

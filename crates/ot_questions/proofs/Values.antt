@@ -19,12 +19,12 @@ use Rattle.ask_core.specs.Plans.{Plan, Holds, end_of}
 use Rattle.ot_questions.specs.declared.cell.Finished.{Finished}
 use Rattle.ot_questions.specs.declared.place.Place.{Place}
 use Rattle.ot_questions.specs.declared.place.SymOp.{SymOp}
-use Rattle.ot_questions.specs.declared.place.SymOp.TheVariants.{Ins, Del, Nop}
+use Rattle.ot_questions.specs.declared.place.SymOp.TheVariants.{Ins, Del, Upd, Nop}
 use Rattle.ot_questions.specs.declared.why.Why.{Why}
 use Rattle.ot_questions.specs.declared.why.Why.TheVariants.{Undefined}
 use Rattle.ot_questions.specs.Places.{place, plus, zero_place, length_and, index_and, integer_at, sym_kind, sym_site, sym_char, sym_result, sym_thing}
 use Rattle.ot_questions.specs.Questions.{ask_le, ask_lt, ask_eq, ask_compared, ask_atom, ask_guard, ask_cases, ask_by_kinds, ask_transform, ask_enabled, ask_differ, ask_allowed}
-use Rattle.ot_questions.specs.Reading.{base_cell, put_cell, buried_cell, ask_cell}
+use Rattle.ot_questions.specs.Reading.{base_cell, put_cell, buried_cell, replaced_cell, ask_cell}
 use Rattle.ot_questions.specs.Meaning.{op_at}
 use Rattle.ot_questions.proofs.Tests.{int_le-same_name, int_le-shifted, int_le-before, if_and, if_or, if_not, if_through, if_eq}
 
@@ -36,7 +36,8 @@ if_end false p q v = refl
 abbrev pub by_test : Bool → Plan Why → Plan Why → (ℕ → ℤ) → Option Why
 by_test b p q v = if b then end_of p v else end_of q v
 
-pub end-le : (a b : Place) (p q : Plan Why) (v : ℕ → ℤ) → end_of (ask_le a b p q) v ≡ by_test (int_le (integer_at v a) (integer_at v b)) p q v
+pub end-le :
+    (a b : Place) (p q : Plan Why) (v : ℕ → ℤ) → end_of (ask_le a b p q) v ≡ by_test (int_le (integer_at v a) (integer_at v b)) p q v
 unfolding ask_le
 end-le a b p q v =
     elim (cases_Bool (nat_eq a.var b.var)) [
@@ -47,19 +48,23 @@ end-le a b p q v =
       | inr other ↦ rw other (ap (λ t. by_test t p q v) (int_le-shifted (v a.var) (v b.var) a.off b.off))
     ]
 
-pub end-lt : (a b : Place) (p q : Plan Why) (v : ℕ → ℤ) → end_of (ask_lt a b p q) v ≡ by_test (int_lt (integer_at v a) (integer_at v b)) p q v
+pub end-lt :
+    (a b : Place) (p q : Plan Why) (v : ℕ → ℤ) → end_of (ask_lt a b p q) v ≡ by_test (int_lt (integer_at v a) (integer_at v b)) p q v
 unfolding ask_lt
 end-lt a b p q v =
     end-le a (plus b (negsuc 0)) p q v ∙ ap (λ t. by_test t p q v) (int_le-before (integer_at v a) (v b.var) b.off)
 
-pub end-eq : (a b : Place) (p q : Plan Why) (v : ℕ → ℤ) → end_of (ask_eq a b p q) v ≡ by_test (int_eq (integer_at v a) (integer_at v b)) p q v
+pub end-eq :
+    (a b : Place) (p q : Plan Why) (v : ℕ → ℤ) → end_of (ask_eq a b p q) v ≡ by_test (int_eq (integer_at v a) (integer_at v b)) p q v
 unfolding ask_eq
 end-eq a b p q v =
     end-le a b (ask_le b a p q) q v
     ∙ (ap (λ e. if int_le (integer_at v a) (integer_at v b) then e else end_of q v) (end-le b a p q v)
     ∙ if_eq (integer_at v a) (integer_at v b) (end_of p v) (end_of q v))
 
-end-compared : (cmp : Cmp) (a b : Place) (p q : Plan Why) (v : ℕ → ℤ) → end_of (ask_compared cmp a b p q) v ≡ by_test (is_compared cmp (integer_at v a) (integer_at v b)) p q v
+end-compared :
+    (cmp : Cmp) (a b : Place) (p q : Plan Why) (v : ℕ → ℤ)
+    → end_of (ask_compared cmp a b p q) v ≡ by_test (is_compared cmp (integer_at v a) (integer_at v b)) p q v
 unfolding ask_compared
 end-compared Lt a b p q v = end-lt a b p q v
 end-compared Le a b p q v = end-le a b p q v
@@ -78,13 +83,16 @@ sym_holds v (And g h) a b = sym_holds v g a b && sym_holds v h a b
 sym_holds v (Or g h) a b = sym_holds v g a b || sym_holds v h a b
 sym_holds v (Not g) a b = not (sym_holds v g a b)
 
-end-atom : (atom : Atom) (a b : SymOp) (p q : Plan Why) (v : ℕ → ℤ) → end_of (ask_atom atom a b p q) v ≡ by_test (sym_atom_holds v atom a b) p q v
+end-atom :
+    (atom : Atom) (a b : SymOp) (p q : Plan Why) (v : ℕ → ℤ)
+    → end_of (ask_atom atom a b p q) v ≡ by_test (sym_atom_holds v atom a b) p q v
 unfolding ask_atom
 end-atom atom a b p q v =
     end-compared atom.cmp (sym_thing atom.sort (of_side atom.left a b))
     (plus (sym_thing atom.sort (of_side (other_side atom.left) a b)) atom.k) p q v
 
-pub end-guard : (g : Formula) (a b : SymOp) (p q : Plan Why) (v : ℕ → ℤ) → end_of (ask_guard g a b p q) v ≡ by_test (sym_holds v g a b) p q v
+pub end-guard :
+    (g : Formula) (a b : SymOp) (p q : Plan Why) (v : ℕ → ℤ) → end_of (ask_guard g a b p q) v ≡ by_test (sym_holds v g a b) p q v
 unfolding ask_guard
 end-guard Always a b p q v = refl
 end-guard (Compare atom) a b p q v = end-atom atom a b p q v
@@ -117,11 +125,15 @@ abbrev pub goes_on : Option SymOp → (SymOp → Option Why) → Option Why
 goes_on None go = Some Undefined
 goes_on (Some r) go = go r
 
-if_goes : (b : Bool) (r : SymOp) (o : Option SymOp) (go : SymOp → Option Why) → (if b then go r else goes_on o go) ≡ goes_on (if b then Some r else o) go
+if_goes :
+    (b : Bool) (r : SymOp) (o : Option SymOp) (go : SymOp → Option Why)
+    → (if b then go r else goes_on o go) ≡ goes_on (if b then Some r else o) go
 if_goes true r o go = refl
 if_goes false r o go = refl
 
-end-cases : (cs : List GuardedCase) (a b : SymOp) (go : SymOp → Plan Why) (v : ℕ → ℤ) → end_of (ask_cases cs a b go) v ≡ goes_on (sym_first v cs a b) (λ r. end_of (go r) v)
+end-cases :
+    (cs : List GuardedCase) (a b : SymOp) (go : SymOp → Plan Why) (v : ℕ → ℤ)
+    → end_of (ask_cases cs a b go) v ≡ goes_on (sym_first v cs a b) (λ r. end_of (go r) v)
 unfolding ask_cases
 end-cases [] a b go v = refl
 end-cases (c ∷ cs) a b go v =
@@ -129,13 +141,17 @@ end-cases (c ∷ cs) a b go v =
     ∙ (ap (λ e. if sym_holds v c.guard a b then end_of (go (sym_result c.res a b)) v else e) (end-cases cs a b go v)
     ∙ if_goes (sym_holds v c.guard a b) (sym_result c.res a b) (sym_first v cs a b) (λ r. end_of (go r) v))
 
-end-by_kinds : (f : Function) (a b : SymOp) (j k : Option Kind) (go : SymOp → Plan Why) (v : ℕ → ℤ) → end_of (ask_by_kinds f a b j k go) v ≡ goes_on (sym_by_kinds v f a b j k) (λ r. end_of (go r) v)
+end-by_kinds :
+    (f : Function) (a b : SymOp) (j k : Option Kind) (go : SymOp → Plan Why) (v : ℕ → ℤ)
+    → end_of (ask_by_kinds f a b j k go) v ≡ goes_on (sym_by_kinds v f a b j k) (λ r. end_of (go r) v)
 unfolding ask_by_kinds
 end-by_kinds f a b None other go v = refl
 end-by_kinds f a b (Some k) None go v = refl
 end-by_kinds f a b (Some k) (Some l) go v = end-cases (cases_of f k l) a b go v
 
-pub end-transform : (f : Function) (a b : SymOp) (go : SymOp → Plan Why) (v : ℕ → ℤ) → end_of (ask_transform f a b go) v ≡ goes_on (sym_transformed v f a b) (λ r. end_of (go r) v)
+pub end-transform :
+    (f : Function) (a b : SymOp) (go : SymOp → Plan Why) (v : ℕ → ℤ)
+    → end_of (ask_transform f a b go) v ≡ goes_on (sym_transformed v f a b) (λ r. end_of (go r) v)
 unfolding ask_transform
 end-transform f a b go v = end-by_kinds f a b (sym_kind a) (sym_kind b) go v
 
@@ -143,21 +159,32 @@ end-transform f a b go v = end-by_kinds f a b (sym_kind a) (sym_kind b) go v
 abbrev pub enabled_to : Op → ℤ → Bool
 enabled_to (ops.Ins at ch site) n = int_le (pos 0) at && int_le at n
 enabled_to (ops.Del at site) n = int_le (pos 0) at && int_lt at n
+enabled_to (ops.Upd at ch site) n = int_le (pos 0) at && int_lt at n
 enabled_to ops.Nop n = true
 
-pub end-enabled : (o : SymOp) (k : ℤ) (p q : Plan Why) (v : ℕ → ℤ) → v 0 ≡ pos 0 → end_of (ask_enabled o k p q) v ≡ by_test (enabled_to (op_at v o) (v 1 +ℤ k)) p q v
+-- whether a document of so many cells has one at a place
+end-has_cell :
+    (at : Place) (off : ℤ) (p q : Plan Why) (v : ℕ → ℤ) → v 0 ≡ pos 0
+    → end_of (ask_le zero_place at (ask_lt at (length_and off) p q) q) v
+    ≡ by_test (int_le (pos 0) (integer_at v at) && int_lt (integer_at v at) (v 1 +ℤ off)) p q v
+end-has_cell at off p q v z =
+    end-le zero_place at (ask_lt at (length_and off) p q) q v
+    ∙ (ap (λ e. if int_le (integer_at v zero_place) (integer_at v at) then e else end_of q v) (end-lt at (length_and off) p q v)
+    ∙ (if_and (int_le (integer_at v zero_place) (integer_at v at)) (int_lt (integer_at v at) (v 1 +ℤ off)) (end_of p v) (end_of q v)
+    ∙ ap (λ x. by_test (int_le (x +ℤ pos 0) (integer_at v at) && int_lt (integer_at v at) (v 1 +ℤ off)) p q v) z))
+
+pub end-enabled :
+    (o : SymOp) (off : ℤ) (p q : Plan Why) (v : ℕ → ℤ) → v 0 ≡ pos 0
+    → end_of (ask_enabled o off p q) v ≡ by_test (enabled_to (op_at v o) (v 1 +ℤ off)) p q v
 unfolding ask_enabled
-end-enabled (Ins at c s) k p q v z =
-    end-le zero_place at (ask_le at (length_and k) p q) q v
-    ∙ (ap (λ e. if int_le (integer_at v zero_place) (integer_at v at) then e else end_of q v) (end-le at (length_and k) p q v)
-    ∙ (if_and (int_le (integer_at v zero_place) (integer_at v at)) (int_le (integer_at v at) (v 1 +ℤ k)) (end_of p v) (end_of q v)
-    ∙ ap (λ x. by_test (int_le (x +ℤ pos 0) (integer_at v at) && int_le (integer_at v at) (v 1 +ℤ k)) p q v) z))
-end-enabled (Del at s) k p q v z =
-    end-le zero_place at (ask_lt at (length_and k) p q) q v
-    ∙ (ap (λ e. if int_le (integer_at v zero_place) (integer_at v at) then e else end_of q v) (end-lt at (length_and k) p q v)
-    ∙ (if_and (int_le (integer_at v zero_place) (integer_at v at)) (int_lt (integer_at v at) (v 1 +ℤ k)) (end_of p v) (end_of q v)
-    ∙ ap (λ x. by_test (int_le (x +ℤ pos 0) (integer_at v at) && int_lt (integer_at v at) (v 1 +ℤ k)) p q v) z))
-end-enabled Nop k p q v z = refl
+end-enabled (Ins at c s) off p q v z =
+    end-le zero_place at (ask_le at (length_and off) p q) q v
+    ∙ (ap (λ e. if int_le (integer_at v zero_place) (integer_at v at) then e else end_of q v) (end-le at (length_and off) p q v)
+    ∙ (if_and (int_le (integer_at v zero_place) (integer_at v at)) (int_le (integer_at v at) (v 1 +ℤ off)) (end_of p v) (end_of q v)
+    ∙ ap (λ x. by_test (int_le (x +ℤ pos 0) (integer_at v at) && int_le (integer_at v at) (v 1 +ℤ off)) p q v) z))
+end-enabled (Del at s) off p q v z = end-has_cell at off p q v z
+end-enabled (Upd at c s) off p q v z = end-has_cell at off p q v z
+end-enabled Nop off p q v z = refl
 
 -- whether two names stand for different integers, as far as both are there
 abbrev pub sym_differ : (ℕ → ℤ) → Option ℕ → Option ℕ → Bool
@@ -178,11 +205,15 @@ sym_allowed v head a b =
     (if head.sites_differ then sym_differ v (sym_site a) (sym_site b) else true)
     && (if head.chars_differ then sym_differ v (sym_char a) (sym_char b) else true)
 
-differ_if : (b : Bool) (x y : Option ℕ) (p : Plan Why) (v : ℕ → ℤ) → end_of (if b then ask_differ x y p else p) v ≡ by_test (if b then sym_differ v x y else true) p Holds v
+differ_if :
+    (b : Bool) (x y : Option ℕ) (p : Plan Why) (v : ℕ → ℤ)
+    → end_of (if b then ask_differ x y p else p) v ≡ by_test (if b then sym_differ v x y else true) p Holds v
 differ_if true x y p v = end-differ x y p v
 differ_if false x y p v = refl
 
-pub end-allowed : (head : Head) (a b : SymOp) (p : Plan Why) (v : ℕ → ℤ) → end_of (ask_allowed head a b p) v ≡ by_test (sym_allowed v head a b) p Holds v
+pub end-allowed :
+    (head : Head) (a b : SymOp) (p : Plan Why) (v : ℕ → ℤ)
+    → end_of (ask_allowed head a b p) v ≡ by_test (sym_allowed v head a b) p Holds v
 unfolding ask_allowed
 end-allowed head a b p v =
     let sites = (if head.sites_differ then sym_differ v (sym_site a) (sym_site b) else true) in
@@ -191,53 +222,93 @@ end-allowed head a b p v =
     ∙ (ap (λ e. if sites then e else None) (differ_if head.chars_differ (sym_char a) (sym_char b) p v)
     ∙ if_and sites chars (end_of p v) None)
 
+-- a cell that was read at the index plus an offset, changed if it stands at the place
+abbrev pub changed_cell : (ℕ → ℤ) → (Finished → Finished) → Place → ℤ → Finished → Finished
+changed_cell v change p off x =
+    if int_lt (v 2 +ℤ off) (integer_at v p) then x else (if int_le (v 2 +ℤ off) (integer_at v p) then change x else x)
+
 -- the finished cell that a reading comes to at the valuation
 abbrev pub seen : (ℕ → ℤ) → Mode → List SymOp → ℤ → Finished
-seen v mode [] k = base_cell k
-seen v mode (Ins p c s ∷ ops) k =
-    if int_lt (v 2 +ℤ k) (integer_at v p) then seen v mode ops k
-    else (if int_le (v 2 +ℤ k) (integer_at v p) then put_cell c else seen v mode ops (k +ℤ negsuc 0))
-seen v Plain (Del p s ∷ ops) k =
-    if int_lt (v 2 +ℤ k) (integer_at v p) then seen v Plain ops k else seen v Plain ops (k +ℤ pos 1)
-seen v Tomb (Del p s ∷ ops) k =
-    if int_lt (v 2 +ℤ k) (integer_at v p) then seen v Tomb ops k
-    else (if int_le (v 2 +ℤ k) (integer_at v p) then buried_cell (seen v Tomb ops k) else seen v Tomb ops k)
-seen v mode (Nop ∷ ops) k = seen v mode ops k
+seen v mode [] off = base_cell off
+seen v mode (Ins p c s ∷ ops) off =
+    if int_lt (v 2 +ℤ off) (integer_at v p) then seen v mode ops off
+    else (if int_le (v 2 +ℤ off) (integer_at v p) then put_cell c else seen v mode ops (off +ℤ negsuc 0))
+seen v Plain (Del p s ∷ ops) off =
+    if int_lt (v 2 +ℤ off) (integer_at v p) then seen v Plain ops off else seen v Plain ops (off +ℤ pos 1)
+seen v Tomb (Del p s ∷ ops) off = changed_cell v buried_cell p off (seen v Tomb ops off)
+seen v mode (Upd p c s ∷ ops) off = changed_cell v (replaced_cell c) p off (seen v mode ops off)
+seen v mode (Nop ∷ ops) off = seen v mode ops off
 
 -- a choice of cells goes through what follows
-pub through_two : (b c : Bool) (x y z : Finished) (g : Finished → Option Why) → (if b then g x else (if c then g y else g z)) ≡ g (if b then x else (if c then y else z))
+pub through_two :
+    (b c : Bool) (x y z : Finished) (g : Finished → Option Why)
+    → (if b then g x else (if c then g y else g z)) ≡ g (if b then x else (if c then y else z))
 through_two true c x y z g = refl
 through_two false true x y z g = refl
 through_two false false x y z g = refl
 
 end-put :
-    (mode : Mode) (p : Place) (c s : ℕ) (ops : List SymOp) (k : ℤ) (go : Finished → Plan Why) (v : ℕ → ℤ)
-    → end_of (ask_cell mode ops k go) v ≡ end_of (go (seen v mode ops k)) v
-    → end_of (ask_cell mode ops (k +ℤ negsuc 0) go) v ≡ end_of (go (seen v mode ops (k +ℤ negsuc 0))) v
-    → end_of (ask_cell mode (Ins p c s ∷ ops) k go) v ≡ end_of (go (seen v mode (Ins p c s ∷ ops) k)) v
+    (mode : Mode) (p : Place) (c s : ℕ) (ops : List SymOp) (off : ℤ) (go : Finished → Plan Why) (v : ℕ → ℤ)
+    → end_of (ask_cell mode ops off go) v ≡ end_of (go (seen v mode ops off)) v
+    → end_of (ask_cell mode ops (off +ℤ negsuc 0) go) v ≡ end_of (go (seen v mode ops (off +ℤ negsuc 0))) v
+    → end_of (ask_cell mode (Ins p c s ∷ ops) off go) v ≡ end_of (go (seen v mode (Ins p c s ∷ ops) off)) v
 unfolding ask_cell
-end-put mode p c s ops k go v here behind =
-    end-lt (index_and k) p (ask_cell mode ops k go) (ask_le (index_and k) p (go (put_cell c)) (ask_cell mode ops (k +ℤ negsuc 0) go)) v
-    ∙ (ap (λ e. if int_lt (v 2 +ℤ k) (integer_at v p) then end_of (ask_cell mode ops k go) v else e) (end-le (index_and k) p (go (put_cell c)) (ask_cell mode ops (k +ℤ negsuc 0) go) v)
-    ∙ (ap (λ e. if int_lt (v 2 +ℤ k) (integer_at v p) then e else (if int_le (v 2 +ℤ k) (integer_at v p) then end_of (go (put_cell c)) v else end_of (ask_cell mode ops (k +ℤ negsuc 0) go) v)) here
-    ∙ (ap (λ e. if int_lt (v 2 +ℤ k) (integer_at v p) then end_of (go (seen v mode ops k)) v else (if int_le (v 2 +ℤ k) (integer_at v p) then end_of (go (put_cell c)) v else e)) behind
-    ∙ through_two (int_lt (v 2 +ℤ k) (integer_at v p)) (int_le (v 2 +ℤ k) (integer_at v p)) (seen v mode ops k) (put_cell c) (seen v mode ops (k +ℤ negsuc 0)) (λ x. end_of (go x) v))))
+end-put mode p c s ops off go v here behind =
+    end-lt (index_and off) p (ask_cell mode ops off go)
+    (ask_le (index_and off) p (go (put_cell c)) (ask_cell mode ops (off +ℤ negsuc 0) go)) v
+    ∙ (ap (λ e. if int_lt (v 2 +ℤ off) (integer_at v p) then end_of (ask_cell mode ops off go) v else e)
+    (end-le (index_and off) p (go (put_cell c)) (ask_cell mode ops (off +ℤ negsuc 0) go) v)
+    ∙ (ap (λ e. if int_lt (v 2 +ℤ off) (integer_at v p) then e
+    else (if int_le (v 2 +ℤ off) (integer_at v p) then end_of (go (put_cell c)) v else end_of (ask_cell mode ops (off +ℤ negsuc 0) go)
+    v)) here
+    ∙ (ap (λ e. if int_lt (v 2 +ℤ off) (integer_at v p) then end_of (go (seen v mode ops off)) v
+    else (if int_le (v 2 +ℤ off) (integer_at v p) then end_of (go (put_cell c)) v else e)) behind
+    ∙ through_two (int_lt (v 2 +ℤ off) (integer_at v p)) (int_le (v 2 +ℤ off) (integer_at v p)) (seen v mode ops off) (put_cell c)
+    (seen v mode ops (off +ℤ negsuc 0)) (λ x. end_of (go x) v))))
 
-pub end-cell : (mode : Mode) (ops : List SymOp) (k : ℤ) (go : Finished → Plan Why) (v : ℕ → ℤ) → end_of (ask_cell mode ops k go) v ≡ end_of (go (seen v mode ops k)) v
+-- a tombstone, or a character that was replaced
+end-changed :
+    (mode : Mode) (change : Finished → Finished) (p : Place) (ops : List SymOp) (off : ℤ) (go : Finished → Plan Why) (v : ℕ → ℤ)
+    → end_of (ask_cell mode ops off go) v ≡ end_of (go (seen v mode ops off)) v
+    → end_of (ask_cell mode ops off (λ cell. go (change cell))) v ≡ end_of (go (change (seen v mode ops off))) v
+    → end_of (ask_lt (index_and off) p (ask_cell mode ops off go)
+    (ask_le (index_and off) p (ask_cell mode ops off (λ cell. go (change cell))) (ask_cell mode ops off go))) v
+    ≡ end_of (go (changed_cell v change p off (seen v mode ops off))) v
+end-changed mode change p ops off go v kept made =
+    end-lt (index_and off) p (ask_cell mode ops off go)
+    (ask_le (index_and off) p (ask_cell mode ops off (λ cell. go (change cell))) (ask_cell mode ops off go)) v
+    ∙ (ap (λ e. if int_lt (v 2 +ℤ off) (integer_at v p) then end_of (ask_cell mode ops off go) v else e)
+    (end-le (index_and off) p (ask_cell mode ops off (λ cell. go (change cell))) (ask_cell mode ops off go) v)
+    ∙ (ap (λ e. if int_lt (v 2 +ℤ off) (integer_at v p) then e
+    else (if int_le (v 2 +ℤ off) (integer_at v p) then end_of (ask_cell mode ops off (λ cell. go (change cell))) v else e)) kept
+    ∙ (ap (λ e. if int_lt (v 2 +ℤ off) (integer_at v p) then end_of (go (seen v mode ops off)) v
+    else (if int_le (v 2 +ℤ off) (integer_at v p) then e else end_of (go (seen v mode ops off)) v)) made
+    ∙ through_two (int_lt (v 2 +ℤ off) (integer_at v p)) (int_le (v 2 +ℤ off) (integer_at v p)) (seen v mode ops off)
+    (change (seen v mode ops off)) (seen v mode ops off) (λ x. end_of (go x) v))))
+
+pub end-cell :
+    (mode : Mode) (ops : List SymOp) (off : ℤ) (go : Finished → Plan Why) (v : ℕ → ℤ)
+    → end_of (ask_cell mode ops off go) v ≡ end_of (go (seen v mode ops off)) v
 unfolding ask_cell
-end-cell mode [] k go v = refl
-end-cell Plain (Ins p c s ∷ ops) k go v = end-put Plain p c s ops k go v (end-cell Plain ops k go v) (end-cell Plain ops (k +ℤ negsuc 0) go v)
-end-cell Tomb (Ins p c s ∷ ops) k go v = end-put Tomb p c s ops k go v (end-cell Tomb ops k go v) (end-cell Tomb ops (k +ℤ negsuc 0) go v)
-end-cell Plain (Del p s ∷ ops) k go v =
-    end-lt (index_and k) p (ask_cell Plain ops k go) (ask_cell Plain ops (k +ℤ pos 1) go) v
-    ∙ (ap (λ e. if int_lt (v 2 +ℤ k) (integer_at v p) then e else end_of (ask_cell Plain ops (k +ℤ pos 1) go) v) (end-cell Plain ops k go v)
-    ∙ (ap (λ e. if int_lt (v 2 +ℤ k) (integer_at v p) then end_of (go (seen v Plain ops k)) v else e) (end-cell Plain ops (k +ℤ pos 1) go v)
-    ∙ if_through (λ x. end_of (go x) v) (int_lt (v 2 +ℤ k) (integer_at v p)) (seen v Plain ops k) (seen v Plain ops (k +ℤ pos 1))))
-end-cell Tomb (Del p s ∷ ops) k go v =
-    end-lt (index_and k) p (ask_cell Tomb ops k go) (ask_le (index_and k) p (ask_cell Tomb ops k (λ cell. go (buried_cell cell))) (ask_cell Tomb ops k go)) v
-    ∙ (ap (λ e. if int_lt (v 2 +ℤ k) (integer_at v p) then end_of (ask_cell Tomb ops k go) v else e) (end-le (index_and k) p (ask_cell Tomb ops k (λ cell. go (buried_cell cell))) (ask_cell Tomb ops k go) v)
-    ∙ (ap (λ e. if int_lt (v 2 +ℤ k) (integer_at v p) then e else (if int_le (v 2 +ℤ k) (integer_at v p) then end_of (ask_cell Tomb ops k (λ cell. go (buried_cell cell))) v else e)) (end-cell Tomb ops k go v)
-    ∙ (ap (λ e. if int_lt (v 2 +ℤ k) (integer_at v p) then end_of (go (seen v Tomb ops k)) v else (if int_le (v 2 +ℤ k) (integer_at v p) then e else end_of (go (seen v Tomb ops k)) v)) (end-cell Tomb ops k (λ cell. go (buried_cell cell)) v)
-    ∙ through_two (int_lt (v 2 +ℤ k) (integer_at v p)) (int_le (v 2 +ℤ k) (integer_at v p)) (seen v Tomb ops k) (buried_cell (seen v Tomb ops k)) (seen v Tomb ops k) (λ x. end_of (go x) v))))
-end-cell Plain (Nop ∷ ops) k go v = end-cell Plain ops k go v
-end-cell Tomb (Nop ∷ ops) k go v = end-cell Tomb ops k go v
+end-cell mode [] off go v = refl
+end-cell Plain (Ins p c s ∷ ops) off go v =
+    end-put Plain p c s ops off go v (end-cell Plain ops off go v) (end-cell Plain ops (off +ℤ negsuc 0) go v)
+end-cell Tomb (Ins p c s ∷ ops) off go v = end-put Tomb p c s ops off go v (end-cell Tomb ops off go v)
+    (end-cell Tomb ops (off +ℤ negsuc 0) go v)
+end-cell Plain (Del p s ∷ ops) off go v =
+    end-lt (index_and off) p (ask_cell Plain ops off go) (ask_cell Plain ops (off +ℤ pos 1) go) v
+    ∙ (ap (λ e. if int_lt (v 2 +ℤ off) (integer_at v p) then e else end_of (ask_cell Plain ops (off +ℤ pos 1) go) v)
+    (end-cell Plain ops off go v)
+    ∙ (ap (λ e. if int_lt (v 2 +ℤ off) (integer_at v p) then end_of (go (seen v Plain ops off)) v else e)
+    (end-cell Plain ops (off +ℤ pos 1) go v)
+    ∙ if_through (λ x. end_of (go x) v) (int_lt (v 2 +ℤ off) (integer_at v p)) (seen v Plain ops off) (seen v Plain ops (off +ℤ pos 1))))
+end-cell Tomb (Del p s ∷ ops) off go v =
+    end-changed Tomb buried_cell p ops off go v (end-cell Tomb ops off go v) (end-cell Tomb ops off (λ cell. go (buried_cell cell)) v)
+end-cell Plain (Upd p c s ∷ ops) off go v =
+    end-changed Plain (replaced_cell c) p ops off go v (end-cell Plain ops off go v)
+    (end-cell Plain ops off (λ cell. go (replaced_cell c cell)) v)
+end-cell Tomb (Upd p c s ∷ ops) off go v =
+    end-changed Tomb (replaced_cell c) p ops off go v (end-cell Tomb ops off go v)
+    (end-cell Tomb ops off (λ cell. go (replaced_cell c cell)) v)
+end-cell Plain (Nop ∷ ops) off go v = end-cell Plain ops off go v
+end-cell Tomb (Nop ∷ ops) off go v = end-cell Tomb ops off go v

@@ -6,6 +6,7 @@ pub mod Obligation
 pub mod Nexts
 pub mod Nears
 pub mod Meaning
+pub mod Instances
 pub use Rattle.ot_model.specs.Cells
 pub use Rattle.ot_model.specs.Effect
 pub use Rattle.fn_rules.specs.Formulas

@@ -5,21 +5,23 @@ use Rattle.ot_model.specs.declared.cell.Cell.{Cell}
 use Rattle.ot_model.specs.declared.op.Op.{Op}
 use Rattle.ot_model.specs.declared.op.Op.TheVariants as ops
 use Rattle.ot_model.specs.declared.op.Kind.{Kind}
-use Rattle.ot_model.specs.Effect.{kind_of, IsEnabled}
+use Rattle.ot_model.specs.Effect.{IsEnabled}
+use Rattle.ot_model.specs.Operations.{kind_of}
 use Rattle.fn_rules.specs.declared.function.ObName.{ObName}
 use Rattle.fn_rules.specs.Functions.{Function}
 use Rattle.fn_rules.specs.Transformation.{IsAllowed}
 use Rattle.fn_rules.specs.Properties.{ConvergesAt, CommutesAt}
 use Rattle.ask_core.specs.Plans.{value}
 use Rattle.ot_questions.specs.declared.place.SymOp.{SymOp}
-use Rattle.ot_questions.specs.declared.place.SymOp.TheVariants.{Ins, Del, Nop}
+use Rattle.ot_questions.specs.declared.place.SymOp.TheVariants.{Ins, Del, Upd, Nop}
 use Rattle.ot_questions.specs.Places.{integer_at}
 use Rattle.ot_questions.specs.Obligation.{plan_of}
 
 -- the operation that the names stand for at a valuation
 abbrev pub op_at : (ℕ → ℤ) → SymOp → Op
-op_at v (Ins p c s) = ops.Ins (integer_at v p) (unsigned_abs (v c)) (unsigned_abs (v s))
-op_at v (Del p s) = ops.Del (integer_at v p) (unsigned_abs (v s))
+op_at v (Ins at ch site) = ops.Ins (integer_at v at) (unsigned_abs (v ch)) (unsigned_abs (v site))
+op_at v (Del at site) = ops.Del (integer_at v at) (unsigned_abs (v site))
+op_at v (Upd at ch site) = ops.Upd (integer_at v at) (unsigned_abs (v ch)) (unsigned_abs (v site))
 op_at v Nop = ops.Nop
 
 -- TP1 for all operations of the two kinds on all documents of so many cells

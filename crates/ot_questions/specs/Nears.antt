@@ -1,28 +1,23 @@
 -- Offsets that are small.
-use Rattle.std.specs.Prelude.{ℕ, ◌+◌, ℤ, pos, ◌≤ℤ◌, neg_ℤ, IsTrue, Option, Some, None}
+use Rattle.std.specs.Prelude.{ℕ, ◌+◌, ℤ, pos, ◌≤ℤ◌, neg_ℤ}
 use Rattle.ot_questions.specs.declared.place.SymOp.{SymOp}
 use Rattle.ot_questions.specs.Places.{sym_at, sym_kind, offset_of}
 use Rattle.fn_rules.specs.Formulas.{Formula, Always, Compare, And, Or, Not}
-use Rattle.fn_rules.specs.Functions.{GuardedCase, is_declared}
+use Rattle.fn_rules.specs.Functions.{GuardedCase, IsForKind}
 use Rattle.fn_rules.specs.declared.function.Head.{Head}
-use Rattle.ot_model.specs.declared.op.Kind.{Kind}
 
 -- at most `n` in absolute value
-pub record IsNear (n : ℕ) (k : ℤ) : Type 0 where
-  pub low : neg_ℤ (pos n) ≤ℤ k
-  pub high : k ≤ℤ pos n
+pub record IsNear (n : ℕ) (off : ℤ) : Type 0 where
+  pub low : neg_ℤ (pos n) ≤ℤ off
+  pub high : off ≤ℤ pos n
 
 -- the operation's place has an offset of at most `n` in absolute value
 abbrev pub IsNearOp : ℕ → SymOp → Type 0
 IsNearOp n o = IsNear n (sym_at o).off
 
 -- the operation is nop or of a kind that the function is for
-abbrev pub IsDeclaredKind : Head → Option Kind → Type 0
-IsDeclaredKind head None = Unit {0}
-IsDeclaredKind head (Some k) = IsTrue (is_declared head k)
-
 abbrev pub IsDeclaredOp : Head → SymOp → Type 0
-IsDeclaredOp head o = IsDeclaredKind head (sym_kind o)
+IsDeclaredOp head o = IsForKind head (sym_kind o)
 
 -- each atom of the guard has an offset of at most 99 in absolute value
 abbrev pub HasNearAtoms : Formula → Type 0

@@ -1,27 +1,28 @@
 -- The plan of an obligation: what has to be asked of two or three operations of its kinds to decide
 -- whether the property holds for them.
-use Rattle.std.specs.Prelude.{ℤ, pos, ◌+ℤ◌, if◌then◌else◌, List, [], ◌∷◌}
+use Rattle.std.specs.Prelude.{ℤ, pos, ◌+ℤ◌, if◌then◌else◌, List, [], ◌∷◌, Option, Some, None}
 use Rattle.std.specs.Ordering.{int_eq}
+use Rattle.ot_model.specs.declared.op.Kind.{Kind}
 use Rattle.ot_model.specs.declared.op.Mode.{Mode}
 use Rattle.fn_rules.specs.declared.function.ObName.{ObName}
 use Rattle.fn_rules.specs.declared.function.ObName.TheVariants.{Pair, Triple}
 use Rattle.fn_rules.specs.Functions.{Function}
 use Rattle.ask_core.specs.Plans.{Plan, Holds, Fails}
 use Rattle.ot_questions.specs.declared.name.Who.TheVariants.{A, B, C}
+use Rattle.ot_questions.specs.declared.place.Place.{Place}
 use Rattle.ot_questions.specs.declared.place.SymOp.{SymOp}
-use Rattle.ot_questions.specs.declared.place.SymOp.TheVariants.{Ins, Del, Nop}
 use Rattle.ot_questions.specs.declared.why.Why.{Why}
 use Rattle.ot_questions.specs.declared.why.Why.TheVariants.{OutOfRange, Lengths, Operations}
-use Rattle.ot_questions.specs.Places.{zero_place, length_and, index_and, sym_op, growth}
+use Rattle.ot_questions.specs.Places.{zero_place, length_and, index_and, sym_op, sym_kind, sym_at, growth}
 use Rattle.ot_questions.specs.Questions.{ask_le, ask_lt, ask_eq, ask_transform, ask_enabled, ask_allowed}
 use Rattle.ot_questions.specs.Reading.{ask_cell, ask_same}
 
 -- where the index is within documents of the length plus an offset: whether the cells there, of the
 -- documents that the operations made, the last one first, are the same
 unfoldable pub ask_documents : Mode → List SymOp → List SymOp → ℤ → Plan Why
-ask_documents mode left right k =
+ask_documents mode left right off =
     ask_le zero_place (index_and (pos 0))
-    (ask_lt (index_and (pos 0)) (length_and k)
+    (ask_lt (index_and (pos 0)) (length_and off)
     (ask_cell mode left (pos 0) (λ x. ask_cell mode right (pos 0) (λ y. ask_same x y)))
     Holds)
     Holds
@@ -59,17 +60,16 @@ ask_pair f a b =
     (ask_all_enabled (a ∷ b ∷ []) (ask_allowed f.head a b (ask_converge f a b)))
     Holds
 
+-- by the kinds of two forms, which nop has not: both are nop, or both stand at one place
+unfoldable pub ask_one_place : Option Kind → Option Kind → Place → Place → Plan Why
+ask_one_place None None at there = Holds
+ask_one_place None (Some l) at there = Fails Operations
+ask_one_place (Some k) None at there = Fails Operations
+ask_one_place (Some k) (Some l) at there = ask_eq at there Holds (Fails Operations)
+
 -- whether two forms of one operation are equal; only their positions can differ
 unfoldable pub ask_same_form : SymOp → SymOp → Plan Why
-ask_same_form Nop Nop = Holds
-ask_same_form Nop (Ins q d t) = Fails Operations
-ask_same_form Nop (Del q t) = Fails Operations
-ask_same_form (Ins p c s) Nop = Fails Operations
-ask_same_form (Ins p c s) (Ins q d t) = ask_eq p q Holds (Fails Operations)
-ask_same_form (Ins p c s) (Del q t) = ask_eq p q Holds (Fails Operations)
-ask_same_form (Del p s) Nop = Fails Operations
-ask_same_form (Del p s) (Ins q d t) = ask_eq p q Holds (Fails Operations)
-ask_same_form (Del p s) (Del q t) = ask_eq p q Holds (Fails Operations)
+ask_same_form a b = ask_one_place (sym_kind a) (sym_kind b) (sym_at a) (sym_at b)
 
 -- the form of `c` behind `a` and then `b`
 unfoldable pub ask_behind : Function → SymOp → SymOp → SymOp → (SymOp → Plan Why) → Plan Why

@@ -11,7 +11,7 @@ use Rattle.fn_rules.specs.Functions.{Function, GuardedCase, cases_of}
 use Rattle.ask_core.specs.Plans.{Plan, Ask, Holds, Fails}
 use Rattle.ot_questions.specs.declared.place.Place.{Place}
 use Rattle.ot_questions.specs.declared.place.SymOp.{SymOp}
-use Rattle.ot_questions.specs.declared.place.SymOp.TheVariants.{Ins, Del, Nop}
+use Rattle.ot_questions.specs.declared.place.SymOp.TheVariants.{Ins, Del, Upd, Nop}
 use Rattle.ot_questions.specs.declared.why.Why.{Why}
 use Rattle.ot_questions.specs.declared.why.Why.TheVariants.{Undefined}
 use Rattle.ot_questions.specs.Places.{place, zero_place, length_and, plus, sym_kind, sym_site, sym_char, sym_result, sym_thing}
@@ -70,11 +70,13 @@ ask_transform f a b go = ask_by_kinds f a b (sym_kind a) (sym_kind b) go
 
 -- whether an operation is enabled on a document of the length plus an offset
 unfoldable pub ask_enabled : SymOp → ℤ → Plan Why → Plan Why → Plan Why
-ask_enabled (Ins p c s) k on_yes on_no =
-    ask_le zero_place p (ask_le p (length_and k) on_yes on_no) on_no
-ask_enabled (Del p s) k on_yes on_no =
-    ask_le zero_place p (ask_lt p (length_and k) on_yes on_no) on_no
-ask_enabled Nop k on_yes on_no = on_yes
+ask_enabled (Ins at ch site) off on_yes on_no =
+    ask_le zero_place at (ask_le at (length_and off) on_yes on_no) on_no
+ask_enabled (Del at site) off on_yes on_no =
+    ask_le zero_place at (ask_lt at (length_and off) on_yes on_no) on_no
+ask_enabled (Upd at ch site) off on_yes on_no =
+    ask_le zero_place at (ask_lt at (length_and off) on_yes on_no) on_no
+ask_enabled Nop off on_yes on_no = on_yes
 
 -- where both names are there, whether they stand for different integers; where not, nothing holds
 unfoldable pub ask_differ : Option ℕ → Option ℕ → Plan Why → Plan Why

@@ -77,7 +77,8 @@ pub(crate) fn ask_compared(
 ) -> Result<bool, Stop>
     requires a_near { IsNear 999 a.off }
     requires b_near { IsNear 999 b.off }
-    ensures { (p q : Plan Why) → next_after (plans.ask_compared cmp a b p q) (iter_rest answers.old) ≡ told result (iter_rest answers.new) p q }
+    ensures { (p q : Plan Why) → next_after (plans.ask_compared cmp a b p q) (iter_rest answers.old)
+        ≡ told result (iter_rest answers.new) p q }
 {
     match cmp {
         Cmp::Lt => ask_lt(a, b, answers),

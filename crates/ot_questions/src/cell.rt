@@ -6,7 +6,7 @@ pub enum Source {
     /// The document that both sides come from, at the index plus this offset.
     Base(i32),
 
-    /// An insertion whose character has this name.
+    /// An insertion or an update whose character has this name.
     Named(u8),
 }
 

@@ -20,7 +20,8 @@ use fn_rules::Head;
 pub(crate) fn ask_enabled(op: SymOp, off: i32, answers: &mut Answers<'_>) -> Result<bool, Stop>
     requires op_near { IsNearOp 999 op }
     requires off_near { IsNear 999 off }
-    ensures { (p q : Plan Why) → next_after (plans.ask_enabled op off p q) (iter_rest answers.old) ≡ told result (iter_rest answers.new) p q }
+    ensures { (p q : Plan Why) → next_after (plans.ask_enabled op off p q) (iter_rest answers.old)
+        ≡ told result (iter_rest answers.new) p q }
 {
     match op {
         SymOp::Ins { at, .. } => {
@@ -29,7 +30,7 @@ pub(crate) fn ask_enabled(op: SymOp, off: i32, answers: &mut Answers<'_>) -> Res
             }
             Ok(false)
         }
-        SymOp::Del { at, .. } => {
+        SymOp::Del { at, .. } | SymOp::Upd { at, .. } => {
             if ask_le(zero_place(), at, answers)? {
                 return ask_lt(at, length_and(off), answers);
             }
@@ -43,7 +44,8 @@ pub(crate) fn ask_enabled(op: SymOp, off: i32, answers: &mut Answers<'_>) -> Res
 #[tactic(auto, unfolding(crate::specs::Obligation::ask_all_enabled))]
 pub(crate) fn ask_all_enabled(ops: &[SymOp], answers: &mut Answers<'_>) -> Result<bool, Stop>
     requires { AllByRecursion (IsNearOp 999) ops.now }
-    ensures { (next : Plan Why) → next_after (obligations.ask_all_enabled ops.now next) (iter_rest answers.old) ≡ told result (iter_rest answers.new) next ends.Holds }
+    ensures { (next : Plan Why) → next_after (obligations.ask_all_enabled ops.now next) (iter_rest answers.old)
+        ≡ told result (iter_rest answers.new) next ends.Holds }
 {
     match ops {
         [] => Ok(true),
@@ -59,7 +61,8 @@ pub(crate) fn ask_all_enabled(ops: &[SymOp], answers: &mut Answers<'_>) -> Resul
 // Whether two names stand for different integers, as far as both are there.
 #[tactic(auto, unfolding(crate::specs::Questions::ask_differ))]
 fn ask_differ(x: Option<u8>, y: Option<u8>, answers: &mut Answers<'_>) -> Result<bool, Stop>
-    ensures { (next : Plan Why) → next_after (plans.ask_differ x y next) (iter_rest answers.old) ≡ told result (iter_rest answers.new) next ends.Holds }
+    ensures { (next : Plan Why) → next_after (plans.ask_differ x y next) (iter_rest answers.old)
+        ≡ told result (iter_rest answers.new) next ends.Holds }
 {
     let Some(x) = x else {
         return Ok(true);
@@ -81,7 +84,8 @@ pub(crate) fn ask_allowed(
     b: SymOp,
     answers: &mut Answers<'_>,
 ) -> Result<bool, Stop>
-    ensures { (next : Plan Why) → next_after (plans.ask_allowed head.now a b next) (iter_rest answers.old) ≡ told result (iter_rest answers.new) next ends.Holds }
+    ensures { (next : Plan Why) → next_after (plans.ask_allowed head.now a b next) (iter_rest answers.old)
+        ≡ told result (iter_rest answers.new) next ends.Holds }
 {
     if head.sites_differ && !ask_differ(a.site(), b.site(), answers)? {
         return Ok(false);

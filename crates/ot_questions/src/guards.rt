@@ -1,12 +1,11 @@
 //! The questions of guards, of cases and of a transformation.
-ghost use Rattle.std.specs.Prelude.{◌≡◌, map, IfOk, IsTrue};
+ghost use Rattle.std.specs.Prelude.{◌≡◌, map, IfOk};
 ghost use Rattle.std.specs.List.{AllByRecursion};
 ghost use Rattle.std.specs.Slice.Iter.{iter_rest};
 ghost use Rattle.ask_core.specs.Plans.{Plan};
 ghost use Rattle.fn_rules.specs.Formulas.{formula_of};
 ghost use Rattle.fn_rules.specs.Functions.{case_of};
 ghost use Rattle.fn_rules.specs.Rules.{function_of};
-ghost use Rattle.fn_rules.specs.Validity.{is_valid};
 ghost use Rattle.ot_questions.specs.declared.why.Why.{Why};
 ghost use Rattle.ot_questions.specs.declared.place.SymOp.{SymOp};
 ghost use Rattle.ot_questions.specs.Nexts.{next_after, told, found};
@@ -15,7 +14,7 @@ ghost use Rattle.ot_questions.specs.Questions as plans;
 
 use crate::ask::{Answers, ask_compared};
 use crate::next::Stop;
-use crate::place::{SymOp, result_of};
+use crate::place::SymOp;
 use crate::why::Why;
 use fn_rules::{Atom, Case, Guard, Rules, Side};
 
@@ -25,7 +24,8 @@ fn ask_atom(atom: &Atom, a: SymOp, b: SymOp, answers: &mut Answers<'_>) -> Resul
     requires a_near { IsNearOp 200 a }
     requires b_near { IsNearOp 200 b }
     requires atom_near { IsNear 99 atom.now.k }
-    ensures { (p q : Plan Why) → next_after (plans.ask_atom atom.now a b p q) (iter_rest answers.old) ≡ told result (iter_rest answers.new) p q }
+    ensures { (p q : Plan Why) → next_after (plans.ask_atom atom.now a b p q) (iter_rest answers.old)
+        ≡ told result (iter_rest answers.new) p q }
 {
     match atom.left {
         Side::First => ask_compared(
@@ -49,7 +49,8 @@ fn ask_guard(guard: &Guard, a: SymOp, b: SymOp, answers: &mut Answers<'_>) -> Re
     requires a_near { IsNearOp 200 a }
     requires b_near { IsNearOp 200 b }
     requires atoms_near { HasNearAtoms (formula_of guard.now) }
-    ensures { (p q : Plan Why) → next_after (plans.ask_guard (formula_of guard.now) a b p q) (iter_rest answers.old) ≡ told result (iter_rest answers.new) p q }
+    ensures { (p q : Plan Why) → next_after (plans.ask_guard (formula_of guard.now) a b p q) (iter_rest answers.old)
+        ≡ told result (iter_rest answers.new) p q }
 {
     match guard {
         Guard::True => Ok(true),
@@ -81,14 +82,15 @@ fn ask_cases(cases: &[Case], a: SymOp, b: SymOp, answers: &mut Answers<'_>) -> R
     requires a_near { IsNearOp 200 a }
     requires b_near { IsNearOp 200 b }
     requires cases_near { AllByRecursion IsNearCase (map case_of cases.now) }
-    ensures next { (go : SymOp → Plan Why) → next_after (plans.ask_cases (map case_of cases.now) a b go) (iter_rest answers.old) ≡ found result (iter_rest answers.new) go }
+    ensures next { (go : SymOp → Plan Why) → next_after (plans.ask_cases (map case_of cases.now) a b go) (iter_rest answers.old)
+        ≡ found result (iter_rest answers.new) go }
     ensures near { IfOk result (IsResultOf a b) }
 {
     match cases {
         [] => Err(Stop::Fails(Why::Undefined)),
         [case, others @ ..] => {
             if ask_guard(&case.guard, a, b, answers)? {
-                return Ok(result_of(case.res, a, b));
+                return Ok(a.result(case.res, b));
             }
             ask_cases(others, a, b, answers)
         }
@@ -105,10 +107,10 @@ pub(crate) fn ask_transform(
 ) -> Result<SymOp, Stop>
     requires a_near { IsNearOp 100 a }
     requires b_near { IsNearOp 100 b }
-    requires valid { IsTrue (is_valid (function_of rules.now)) }
     requires a_declared { IsDeclaredOp (function_of rules.now).head a }
     requires b_declared { IsDeclaredOp (function_of rules.now).head b }
-    ensures next { (go : SymOp → Plan Why) → next_after (plans.ask_transform (function_of rules.now) a b go) (iter_rest answers.old) ≡ found result (iter_rest answers.new) go }
+    ensures next { (go : SymOp → Plan Why) → next_after (plans.ask_transform (function_of rules.now) a b go) (iter_rest answers.old)
+        ≡ found result (iter_rest answers.new) go }
     ensures near { IfOk result (IsResultOf a b) }
 {
     let Some(k) = a.kind() else {

@@ -20,6 +20,7 @@ mod next;
 mod obligation;
 mod place;
 mod reading;
+mod valuation;
 mod why;
 
 pub use cell::{Finished, Flag, Source};
@@ -28,4 +29,7 @@ pub use name::{INDEX, LENGTH, Who, ZERO, char_name, position_name, site_name};
 pub use next::Next;
 pub use obligation::next_question;
 pub use place::{Place, SymOp};
+pub use valuation::{
+    pair_ends_at_valuations, questions_mean_the_interpreter, triple_ends_at_valuations,
+};
 pub use why::Why;

@@ -5,7 +5,7 @@ ghost use Rattle.fn_rules.specs.declared.function.Level.TheVariants.{Tp1, Tp2};
 ghost use Rattle.fn_rules.specs.declared.function.ObName.{ObName};
 ghost use Rattle.fn_rules.specs.declared.function.ObName.TheVariants.{Pair, Triple};
 ghost use Rattle.fn_rules.specs.Functions.{Function};
-ghost use Rattle.fn_rules.specs.Obligations.{obligations_of};
+ghost use Rattle.fn_rules.specs.Obligations.{declared_kinds, triples_of, obligations_of};
 ghost use Rattle.fn_rules.specs.Properties.{HasTp1, HasTp2};
 ghost use Rattle.fn_rules.specs.Validity.{is_valid};
 ghost use Rattle.ask_core.specs.Askers.{IsFine, longest_path};
@@ -16,17 +16,25 @@ ghost use Rattle.ot_questions.specs.Meaning.{HasPair, HasTriple, HoldsAtLength, 
 /// The plan of a pair holds at every valuation at which the document has `n` cells exactly where the
 /// first property holds for all operations of the two kinds on all documents of `n` cells. And the
 /// plans of all pairs of a function hold at every valuation exactly where it has the first property.
+/// That the plans show the property is so of any function; the other way needs the limits.
 pub fn pair_plans_mean_tp1()
+    ensures pair_shown { (f : Function) (k l : Kind) (n : ℕ) → HoldsAtLength f (Pair k l) n → HasPair f k l n }
+    ensures whole_shown { (f : Function) → AllHold f (obligations_of f.head Tp1) → HasTp1 f }
     ensures pair { (f : Function) (k l : Kind) (n : ℕ) → IsTrue (is_valid f) → HoldsAtLength f (Pair k l) n ↔ HasPair f k l n }
     ensures whole { (f : Function) → IsTrue (is_valid f) → AllHold f (obligations_of f.head Tp1) ↔ HasTp1 f }
 {}
 
 /// The plan of a triple holds at every valuation at which the document has `n` cells exactly where the
-/// second property holds for all operations of the three kinds on documents of `n` cells. And the
-/// plans of all pairs and triples of a function hold at every valuation exactly where it has both
-/// properties.
+/// second property holds for all operations of the three kinds on documents of `n` cells. The plans of
+/// all triples of a function hold at every valuation exactly where it has the second property, and
+/// those of all pairs and triples exactly where it has both. That the plans show the properties is so of
+/// any function; the other way needs the limits.
 pub fn triple_plans_mean_tp2()
+    ensures triple_shown { (f : Function) (k l m : Kind) (n : ℕ) → HoldsAtLength f (Triple k l m) n → HasTriple f k l m n }
+    ensures alone_shown { (f : Function) → AllHold f (triples_of (declared_kinds f.head)) → HasTp2 f }
+    ensures whole_shown { (f : Function) → AllHold f (obligations_of f.head Tp2) → HasTp1 f × HasTp2 f }
     ensures triple { (f : Function) (k l m : Kind) (n : ℕ) → IsTrue (is_valid f) → HoldsAtLength f (Triple k l m) n ↔ HasTriple f k l m n }
+    ensures alone { (f : Function) → IsTrue (is_valid f) → AllHold f (triples_of (declared_kinds f.head)) ↔ HasTp2 f }
     ensures whole { (f : Function) → IsTrue (is_valid f) → AllHold f (obligations_of f.head Tp2) ↔ (HasTp1 f × HasTp2 f) }
 {}
 

@@ -41,7 +41,7 @@ pub fn site_name(who: Who) -> u8
     }
 }
 
-/// The name of the character that an insertion puts.
+/// The name of the character that an insertion or an update puts.
 pub fn char_name(who: Who) -> u8
     ensures { result ≡ names.char_name who }
 {

@@ -4,7 +4,6 @@ ghost use Rattle.std.specs.List.{AllByRecursion};
 ghost use Rattle.std.specs.Slice.Iter.{iter_rest};
 ghost use Rattle.ask_core.specs.Plans.{Plan};
 ghost use Rattle.fn_rules.specs.Rules.{function_of};
-ghost use Rattle.fn_rules.specs.Validity.{is_valid};
 ghost use Rattle.fn_rules.specs.Obligations.{is_obligation};
 ghost use Rattle.ot_questions.specs.Nexts.{next_after, told, found, ended};
 ghost use Rattle.ot_questions.specs.Nears.{IsNear, IsNearOp, IsDeclaredOp};
@@ -93,7 +92,8 @@ fn ask_enabled_behind(
     answers: &mut Answers<'_>,
 ) -> Result<bool, Stop>
     requires { IsNearOp 999 op }
-    ensures { (p q : Plan Why) → next_after (ask_enabled op (growth mode other) p q) (iter_rest answers.old) ≡ told result (iter_rest answers.new) p q }
+    ensures { (p q : Plan Why) → next_after (ask_enabled op (growth mode other) p q) (iter_rest answers.old)
+        ≡ told result (iter_rest answers.new) p q }
 {
     ask_enabled(op, other.growth(mode), answers)
 }
@@ -160,26 +160,21 @@ fn ask_pair(rules: &Rules, a: SymOp, b: SymOp, answers: &mut Answers<'_>) -> Res
 }
 
 // Whether two forms of one operation are equal.
-#[tactic(auto, using(crate::proofs::Ends::next_after_holds, crate::proofs::Ends::next_after_fails), unfolding(crate::specs::Obligation::ask_same_form))]
+#[tactic(auto, using(crate::proofs::Ends::at_ends), unfolding(crate::specs::Obligation::ask_same_form, crate::specs::Obligation::ask_one_place))]
 fn ask_same_form(left: SymOp, right: SymOp, answers: &mut Answers<'_>) -> Result<(), Stop>
     requires left_near { IsNearOp 999 left }
     requires right_near { IsNearOp 999 right }
     ensures { next_after (obligations.ask_same_form left right) (iter_rest answers.old) ≡ ended result }
 {
-    match left {
-        SymOp::Nop => match right {
-            SymOp::Nop => Ok(()),
-            SymOp::Ins { .. } | SymOp::Del { .. } => Err(Stop::Fails(Why::Operations)),
-        },
-        SymOp::Ins { at, .. } | SymOp::Del { at, .. } => match right {
-            SymOp::Nop => Err(Stop::Fails(Why::Operations)),
-            SymOp::Ins { at: other, .. } | SymOp::Del { at: other, .. } => {
-                if ask_eq(at, other, answers)? {
-                    return Ok(());
-                }
-                Err(Stop::Fails(Why::Operations))
+    match (left.kind(), right.kind()) {
+        (None, None) => Ok(()),
+        (Some(_), Some(_)) => {
+            if ask_eq(left.at(), right.at(), answers)? {
+                return Ok(());
             }
-        },
+            Err(Stop::Fails(Why::Operations))
+        }
+        _ => Err(Stop::Fails(Why::Operations)),
     }
 }
 
@@ -198,8 +193,9 @@ fn ask_behind(
     requires a_declared { IsDeclaredOp (function_of rules.now).head a }
     requires b_declared { IsDeclaredOp (function_of rules.now).head b }
     requires c_declared { IsDeclaredOp (function_of rules.now).head c }
-    requires valid { IsTrue (is_valid (function_of rules.now)) }
-    ensures next { (go : SymOp → Plan Why) → next_after (obligations.ask_behind (function_of rules.now) a b c go) (iter_rest answers.old) ≡ found result (iter_rest answers.new) go }
+    ensures next { (go : SymOp → Plan Why)
+        → next_after (obligations.ask_behind (function_of rules.now) a b c go) (iter_rest answers.old)
+        ≡ found result (iter_rest answers.new) go }
     ensures near { IfOk result (IsNearOp 198) }
 {
     let b_after_a = ask_transform(rules, b, a, answers)?;
@@ -222,7 +218,6 @@ fn ask_commute(
     requires a_declared { IsDeclaredOp (function_of rules.now).head a }
     requires b_declared { IsDeclaredOp (function_of rules.now).head b }
     requires c_declared { IsDeclaredOp (function_of rules.now).head c }
-    requires valid { IsTrue (is_valid (function_of rules.now)) }
     ensures { next_after (obligations.ask_commute (function_of rules.now) a b c) (iter_rest answers.old) ≡ ended result }
 {
     let left = ask_behind(rules, a, b, c, answers)?;

@@ -25,6 +25,9 @@ pub enum SymOp {
     /// Deletes the cell at the place.
     Del { at: Place, site: u8 },
 
+    /// Puts the character named `ch` in place of that of the cell at the place.
+    Upd { at: Place, ch: u8, site: u8 },
+
     /// Changes nothing.
     Nop,
 }
@@ -87,16 +90,12 @@ impl SymOp {
         ensures declared { (head : Head) → IsTrue (is_declared head kind) → IsDeclaredOp head result }
     {
         let at = place_named(position_name(who));
+        let ch = char_name(who);
+        let site = site_name(who);
         match kind {
-            Kind::Ins => SymOp::Ins {
-                at,
-                ch: char_name(who),
-                site: site_name(who),
-            },
-            Kind::Del => SymOp::Del {
-                at,
-                site: site_name(who),
-            },
+            Kind::Ins => SymOp::Ins { at, ch, site },
+            Kind::Del => SymOp::Del { at, site },
+            Kind::Upd => SymOp::Upd { at, ch, site },
         }
     }
 
@@ -106,6 +105,7 @@ impl SymOp {
         match self {
             SymOp::Ins { .. } => Some(Kind::Ins),
             SymOp::Del { .. } => Some(Kind::Del),
+            SymOp::Upd { .. } => Some(Kind::Upd),
             SymOp::Nop => None,
         }
     }
@@ -114,8 +114,7 @@ impl SymOp {
         ensures { result ≡ places.sym_at self }
     {
         match self {
-            SymOp::Ins { at, .. } => at,
-            SymOp::Del { at, .. } => at,
+            SymOp::Ins { at, .. } | SymOp::Del { at, .. } | SymOp::Upd { at, .. } => at,
             SymOp::Nop => zero_place(),
         }
     }
@@ -124,8 +123,9 @@ impl SymOp {
         ensures { result ≡ places.sym_site self }
     {
         match self {
-            SymOp::Ins { site, .. } => Some(site),
-            SymOp::Del { site, .. } => Some(site),
+            SymOp::Ins { site, .. } | SymOp::Del { site, .. } | SymOp::Upd { site, .. } => Some(
+                site,
+            ),
             SymOp::Nop => None,
         }
     }
@@ -134,9 +134,8 @@ impl SymOp {
         ensures { result ≡ places.sym_char self }
     {
         match self {
-            SymOp::Ins { ch, .. } => Some(ch),
-            SymOp::Del { .. } => None,
-            SymOp::Nop => None,
+            SymOp::Ins { ch, .. } | SymOp::Upd { ch, .. } => Some(ch),
+            SymOp::Del { .. } | SymOp::Nop => None,
         }
     }
 
@@ -147,6 +146,7 @@ impl SymOp {
         match self {
             SymOp::Ins { ch, site, .. } => SymOp::Ins { at: to, ch, site },
             SymOp::Del { site, .. } => SymOp::Del { at: to, site },
+            SymOp::Upd { ch, site, .. } => SymOp::Upd { at: to, ch, site },
             SymOp::Nop => SymOp::Nop,
         }
     }
@@ -173,37 +173,37 @@ impl SymOp {
                 Mode::Plain => -1,
                 Mode::Tomb => 0,
             },
-            SymOp::Nop => 0,
+            SymOp::Upd { .. } | SymOp::Nop => 0,
         }
     }
-}
 
-// What a result makes of the first operation.
-fn made_by(res: Res, a: SymOp, b: SymOp) -> SymOp
-    requires a_near { IsNearOp 500 a }
-    requires b_near { IsNearOp 500 b }
-    requires near { IsNear 99 (places.offset_of res) }
-    ensures { result ≡ places.sym_result res a b }
-{
-    match res {
-        Res::Keep { base, k } => {
-            let from = match base {
-                Side::First => a.at(),
-                Side::Second => b.at(),
-            };
-            a.placed(from.plus(k))
+    // What a result makes of the operation, beside the second one.
+    fn made_by(self, res: Res, other: SymOp) -> SymOp
+        requires self_near { IsNearOp 500 self }
+        requires other_near { IsNearOp 500 other }
+        requires near { IsNear 99 (places.offset_of res) }
+        ensures { result ≡ places.sym_result res self other }
+    {
+        match res {
+            Res::Keep { base, k } => {
+                let from = match base {
+                    Side::First => self.at(),
+                    Side::Second => other.at(),
+                };
+                self.placed(from.plus(k))
+            }
+            Res::Nop => SymOp::Nop,
         }
-        Res::Nop => SymOp::Nop,
     }
-}
 
-// The same, and how far it is from the two operations.
-pub(crate) fn result_of(res: Res, a: SymOp, b: SymOp) -> SymOp
-    requires a_near { IsNearOp 500 a }
-    requires b_near { IsNearOp 500 b }
-    requires near { IsNear 99 (places.offset_of res) }
-    ensures value { result ≡ places.sym_result res a b }
-    ensures near { IsResultOf a b result }
-{
-    made_by(res, a, b)
+    // The same, and how far it is from the two operations.
+    pub(crate) fn result(self, res: Res, other: SymOp) -> SymOp
+        requires self_near { IsNearOp 500 self }
+        requires other_near { IsNearOp 500 other }
+        requires near { IsNear 99 (places.offset_of res) }
+        ensures value { result ≡ places.sym_result res self other }
+        ensures near { IsResultOf self other result }
+    {
+        self.made_by(res, other)
+    }
 }

@@ -47,6 +47,16 @@ impl Finished {
             flag: Flag::Dead,
         }
     }
+
+    // The cell with the character of an update.
+    fn replaced(self, ch: u8) -> Finished
+        ensures { result ≡ readings.replaced_cell ch self }
+    {
+        Finished {
+            source: Source::Named(ch),
+            flag: self.flag,
+        }
+    }
 }
 
 // Reads the cell at the index plus an offset of the document that the operations made, the last one
@@ -61,7 +71,8 @@ pub(crate) fn ask_cell(
     requires ops_near { AllByRecursion (IsNearOp 999) ops.now }
     requires low { IsNear 500 (off -ℤ pos (length ops.now)) }
     requires high { IsNear 500 (off +ℤ pos (length ops.now)) }
-    ensures { (go : Finished → Plan Why) → next_after (readings.ask_cell mode ops.now off go) (iter_rest answers.old) ≡ found result (iter_rest answers.new) go }
+    ensures { (go : Finished → Plan Why) → next_after (readings.ask_cell mode ops.now off go) (iter_rest answers.old)
+        ≡ found result (iter_rest answers.new) go }
 {
     match ops {
         [] => Ok(Finished::base(off)),
@@ -89,18 +100,58 @@ pub(crate) fn ask_cell(
                     }
                 }
             }
+            SymOp::Upd { at, ch, .. } => {
+                if ask_lt(index_and(off), at, answers)? {
+                    return ask_cell(mode, others, off, answers);
+                }
+                if ask_le(index_and(off), at, answers)? {
+                    return Ok(ask_cell(mode, others, off, answers)?.replaced(ch));
+                }
+                ask_cell(mode, others, off, answers)
+            }
             SymOp::Nop => ask_cell(mode, others, off, answers),
         },
     }
 }
 
-// The place in the base document that a character was read from.
-fn base_read(source: Source) -> Option<i32>
-    ensures { result ≡ readings.base_read source }
+// The offset of the base cell that the character or the flag comes from.
+fn base_read(cell: Finished) -> Option<i32>
+    ensures { result ≡ readings.base_read cell.source cell.flag }
 {
-    match source {
-        Source::Base(off) => Some(off),
-        Source::Named(_) => None,
+    match (cell.source, cell.flag) {
+        (Source::Base(off), _) | (Source::Named(_), Flag::From(off)) => Some(off),
+        _ => None,
+    }
+}
+
+// The offset of the base cell that is to be dead for two cells with characters that were put to differ:
+// that of a half one, whose flag comes from the base.
+fn dead_of_half(left: Flag, right: Flag) -> Option<i32>
+    ensures { result ≡ readings.dead_of_half left right }
+{
+    match (left, right) {
+        (Flag::From(off), Flag::Live) | (Flag::Live, Flag::From(off)) => Some(off),
+        (Flag::From(j), Flag::From(k)) => {
+            if j == k {
+                return None;
+            }
+            Some(j)
+        }
+        _ => None,
+    }
+}
+
+// The cause where two cells differ.
+fn cells_cause(left: Finished, right: Finished) -> Why
+    ensures { result ≡ readings.cells_cause left right }
+{
+    let dead = match (left.source, right.source) {
+        (Source::Named(_), Source::Named(_)) => dead_of_half(left.flag, right.flag),
+        _ => None,
+    };
+    Why::Cells {
+        left: base_read(left),
+        dead,
     }
 }
 
@@ -118,7 +169,8 @@ fn is_same_flag(left: Flag, right: Flag) -> bool
 // Whether two characters are the same for every base document.
 #[tactic(auto, unfolding(crate::specs::Reading::ask_same_source))]
 fn ask_same_source(left: Source, right: Source, answers: &mut Answers<'_>) -> Result<bool, Stop>
-    ensures { (other : Plan Why) → next_after (readings.ask_same_source left right other) (iter_rest answers.old) ≡ told result (iter_rest answers.new) ends.Holds other }
+    ensures { (other : Plan Why) → next_after (readings.ask_same_source left right other) (iter_rest answers.old)
+        ≡ told result (iter_rest answers.new) ends.Holds other }
 {
     match left {
         Source::Base(j) => match right {
@@ -133,7 +185,7 @@ fn ask_same_source(left: Source, right: Source, answers: &mut Answers<'_>) -> Re
 }
 
 // Whether two finished cells are the same for every base document.
-#[tactic(auto, using(crate::proofs::Ends::next_after_holds, crate::proofs::Ends::next_after_fails), unfolding(crate::specs::Reading::ask_same))]
+#[tactic(auto, using(crate::proofs::Ends::at_ends), unfolding(crate::specs::Reading::ask_same))]
 pub(crate) fn ask_same(
     left: Finished,
     right: Finished,
@@ -142,10 +194,10 @@ pub(crate) fn ask_same(
     ensures { next_after (readings.ask_same left right) (iter_rest answers.old) ≡ ended result }
 {
     if !is_same_flag(left.flag, right.flag) {
-        return Err(Stop::Fails(Why::Cells(base_read(left.source))));
+        return Err(Stop::Fails(cells_cause(left, right)));
     }
     if ask_same_source(left.source, right.source, answers)? {
         return Ok(());
     }
-    Err(Stop::Fails(Why::Cells(base_read(left.source))))
+    Err(Stop::Fails(cells_cause(left, right)))
 }

@@ -12,9 +12,17 @@ pub enum Why {
     /// The two final documents have different lengths.
     Lengths,
 
-    /// The two final documents differ at the index. `Some(k)`: the left one has there the cell at
-    /// the index plus `k` of the document that both come from; `None`: a character that was put.
-    Cells(Option<i32>),
+    /// The two final documents differ at the index. The offsets, from the index, say which cells of the
+    /// document that both come from are to be told from the others so that this is seen.
+    Cells {
+        /// The cell that gives the left final document's cell its character or its flag, if one does.
+        left: Option<i32>,
+
+        /// The cell that is to be dead, if one is. One of the two final documents has its flag there,
+        /// under a character that was put; the other has a live character that was put, or the flag of
+        /// another cell.
+        dead: Option<i32>,
+    },
 
     /// The third operation has two different forms.
     Operations,

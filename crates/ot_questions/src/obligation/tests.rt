@@ -21,31 +21,51 @@ fn built(rt: &impl Abort, head: Head, blocks: Vec<Block>) -> Rules {
     Rules::build(head, blocks)
 }
 
-// Deletions leave tombstones and stay where they are.
-fn marks(rt: &impl Abort, alloc: Global) -> Result<Rules, Fail> {
+// Operations of these kinds stay as and where they are, behind all others.
+fn staying(
+    rt: &impl Abort,
+    alloc: Global,
+    mode: Mode,
+    del: bool,
+    upd: bool,
+) -> Result<Rules, Fail> {
     let head = Head {
-        mode: Mode::Tomb,
+        mode,
         ins: false,
-        del: true,
+        del,
+        upd,
         sites_differ: false,
         chars_differ: false,
     };
-    let stays = Case {
-        guard: Guard::True,
-        res: Res::Keep {
-            base: Side::First,
-            k: 0,
-        },
-    };
-    let mut cases = Vec::new(alloc);
-    cases.push(stays)?;
     let mut blocks = Vec::new(alloc);
-    blocks.push(Block {
-        first: Kind::Del,
-        second: Kind::Del,
-        cases,
-    })?;
+    for (first, second) in [
+        (Kind::Del, Kind::Del),
+        (Kind::Del, Kind::Upd),
+        (Kind::Upd, Kind::Del),
+        (Kind::Upd, Kind::Upd),
+    ] {
+        if head.declares_pair(first, second) {
+            let mut cases = Vec::new(alloc);
+            cases.push(Case {
+                guard: Guard::True,
+                res: Res::Keep {
+                    base: Side::First,
+                    k: 0,
+                },
+            })?;
+            blocks.push(Block {
+                first,
+                second,
+                cases,
+            })?;
+        }
+    }
     Ok(built(rt, head, blocks))
+}
+
+// Deletions leave tombstones and stay where they are.
+fn marks(rt: &impl Abort, alloc: Global) -> Result<Rules, Fail> {
+    staying(rt, alloc, Mode::Tomb, true, false)
 }
 
 // An insertion is defined only behind one that is not far to its left.
@@ -54,6 +74,7 @@ fn far(rt: &impl Abort, alloc: Global) -> Result<Rules, Fail> {
         mode: Mode::Plain,
         ins: true,
         del: false,
+        upd: false,
         sites_differ: false,
         chars_differ: false,
     };
@@ -80,16 +101,10 @@ fn far(rt: &impl Abort, alloc: Global) -> Result<Rules, Fail> {
     Ok(built(rt, head, blocks))
 }
 
-fn of_deletions(rt: &impl Abort, rules: &Rules, answers: &[bool]) -> Next {
+fn of_pair(rt: &impl Abort, rules: &Rules, first: Kind, second: Kind, answers: &[bool]) -> Next {
     let head = rules.head();
-    assert!(rt; head.del);
-    next_question(rules, ObName::Pair(Kind::Del, Kind::Del), answers)
-}
-
-fn of_insertions(rt: &impl Abort, rules: &Rules, answers: &[bool]) -> Next {
-    let head = rules.head();
-    assert!(rt; head.ins);
-    next_question(rules, ObName::Pair(Kind::Ins, Kind::Ins), answers)
+    assert!(rt; head.declares_pair(first, second));
+    next_question(rules, ObName::Pair(first, second), answers)
 }
 
 fn of_three_deletions(rt: &impl Abort, rules: &Rules, answers: &[bool]) -> Next {
@@ -126,7 +141,7 @@ fn two_deletions_are_asked_whether_they_are_enabled_and_then_read(
     ] {
         assert!(rt; count <= yes.len());
         assert_eq!(rt;
-            of_deletions(&rt, &rules, &yes[..count]),
+            of_pair(&rt, &rules, Kind::Del, Kind::Del, &yes[..count]),
             want,
             "after {count}"
         );
@@ -141,10 +156,16 @@ fn a_cell_on_one_deletion_alone_differs(rt: HostRuntime) -> Result<(), Fail> {
     let f = false;
     let answers = [t, t, t, t, t, t, t, t, t, t, t, t, t, f, t, t];
     assert_eq!(rt;
-        of_deletions(&rt, &rules, &answers),
-        Next::Fails(Why::Cells(Some(0)))
+        of_pair(&rt, &rules, Kind::Del, Kind::Del, &answers),
+        Next::Fails(Why::Cells {
+            left: Some(0),
+            dead: None
+        })
     );
-    assert_eq!(rt; of_deletions(&rt, &rules, &[t, t, f]), Next::Holds);
+    assert_eq!(rt;
+        of_pair(&rt, &rules, Kind::Del, Kind::Del, &[t, t, f]),
+        Next::Holds
+    );
     Ok(())
 }
 
@@ -158,7 +179,7 @@ fn an_insertion_far_to_the_left_is_undefined(rt: HostRuntime) -> Result<(), Fail
         (&[t, t, t, t, t, t][..], Next::Asked(lit(3, 6, 99))),
         (&[t, t, t, t, t, t, t, t][..], Next::Asked(lit(6, 1, 1))),
     ] {
-        assert_eq!(rt; of_insertions(&rt, &rules, answers), want);
+        assert_eq!(rt; of_pair(&rt, &rules, Kind::Ins, Kind::Ins, answers), want);
     }
     Ok(())
 }
@@ -172,5 +193,51 @@ fn three_deletions_that_stay_where_they_are_hold(rt: HostRuntime) -> Result<(), 
         Next::Asked(lit(9, 1, -1))
     );
     assert_eq!(rt; of_three_deletions(&rt, &rules, &yes), Next::Holds);
+    Ok(())
+}
+
+// Two updates of one cell: each final document has the other's character over the flag of the cell.
+#[test]
+fn two_updates_of_one_cell_end_in_their_characters(rt: HostRuntime) -> Result<(), Fail> {
+    let rules = staying(&rt, rt.alloc(), Mode::Plain, false, true)?;
+    let t = true;
+    let f = false;
+    let cells = Why::Cells {
+        left: Some(0),
+        dead: None,
+    };
+    for (left_and_right, want) in [
+        (&[f, t, f, t, f, t, f, t][..], Next::Asked(lit(8, 5, 0))),
+        (&[f, t, f, t, f, t, f, t, t][..], Next::Asked(lit(5, 8, 0))),
+        (&[f, t, f, t, f, t, f, t, t, t][..], Next::Holds),
+        (&[f, t, f, t, f, t, f, t, f][..], Next::Fails(cells)),
+    ] {
+        let mut answers = Vec::new(rt.alloc());
+        answers.extend_from_slice(&[t; 11])?;
+        answers.extend_from_slice(left_and_right)?;
+        assert_eq!(rt; of_pair(&rt, &rules, Kind::Upd, Kind::Upd, &answers), want);
+    }
+    Ok(())
+}
+
+// A deletion and an update of one cell: both final documents have the update's character in a tombstone.
+#[test]
+fn an_update_is_read_through_a_tombstone(rt: HostRuntime) -> Result<(), Fail> {
+    let rules = staying(&rt, rt.alloc(), Mode::Tomb, true, true)?;
+    let t = true;
+    let f = false;
+    let enabled_and_within = [t, t, t, t, t, t, t, t, t, t, t];
+    let at_one_cell = [f, t, f, t, f, t, f, t];
+    let mut answers = Vec::new(rt.alloc());
+    answers.extend_from_slice(&enabled_and_within)?;
+    assert_eq!(rt;
+        of_pair(&rt, &rules, Kind::Del, Kind::Upd, &answers),
+        Next::Asked(lit(2, 6, -1))
+    );
+    answers.extend_from_slice(&at_one_cell)?;
+    assert_eq!(rt;
+        of_pair(&rt, &rules, Kind::Del, Kind::Upd, &answers),
+        Next::Holds
+    );
     Ok(())
 }

@@ -1,5 +1,5 @@
 -- The digits at the front are the one text of their value, and no other number's text stands there.
-use Rattle.std.proofs.Common.{◌≡◌, ℕ, ◌<◌, List, length, take, refl, ap, sym, ◌∙◌, arith, rules}
+use Rattle.std.proofs.Common.{◌≡◌, length, refl, ◌∙◌, arith}
 use Rattle.std.proofs.lemmas.List.Sums.{prefix_len-le-length}
 use Rattle.std.proofs.lemmas.Bool.{false≢true}
 use Rattle.std.specs.Char.{is_ascii_digit}
@@ -15,7 +15,9 @@ returns-then-not-is_number-clause-only c =
     λ n rest small behind is.
     let found : Found c.args.bytes.now rest n = found_at _ rest n small behind is in
     let count : c.digit_count-count.result ≡ length (decimal n) = c.digit_count-count.ensures ∙ found.count in
-    let number = c.if-not-is_number.ensures.1 (omega (arith, count, found.some), omega (arith, count, found.few), λ z. omega (arith, count, found.some, found.first z)) in
+    let number =
+    c.if-not-is_number.ensures.1
+    (omega (arith, count, found.some), omega (arith, count, found.few), λ z. omega (arith, count, found.some, found.first z)) in
     absurd (false≢true number)
 
 pub number_of-requires-clause-digits : goal.number_of-requires-clause-digits
@@ -25,7 +27,8 @@ pub returns-clause-found : goal.returns-clause-found
 returns-clause-found c =
     let number = c.if-not-is_number.ensures.0 refl in
     let text = decimal-front c.args.bytes.now c.digit_count-count.result c.digit_count-count.ensures number.0 number.1 number.2 in
-    rw c.number_of.ensures (text.0, omega (arith, c.digit_count-count.ensures, prefix_len-le-length is_ascii_digit c.args.bytes.now), text.1)
+    rw c.number_of.ensures
+    (text.0, omega (arith, c.digit_count-count.ensures, prefix_len-le-length is_ascii_digit c.args.bytes.now), text.1)
 
 pub returns-clause-only : goal.returns-clause-only
 returns-clause-only c =

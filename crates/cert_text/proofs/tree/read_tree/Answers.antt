@@ -1,7 +1,6 @@
 -- Each turn reads the next of any tokens that the bytes spell.
-use Rattle.std.proofs.Common.{◌≡◌, ℕ, ◌-◌, List, ◌∷◌, ◌++◌, length, drop, sym, ◌∙◌}
-use Rattle.ask_core.specs.declared.tree.Tok.{Tok}
-use Rattle.cert_text.specs.Spelling.{IsSpellable, token_text, tokens_text}
+use Rattle.std.proofs.Common.{sym, ◌∙◌}
+use Rattle.cert_text.specs.Spelling.{tokens_text}
 use Rattle.cert_text.proofs.TokenLists.{HasRead-push, next_token, take-all_left, all_read, whole_text}
 use Rattle.cert_text.proofs.tree.read_tree.Goals as goal
 

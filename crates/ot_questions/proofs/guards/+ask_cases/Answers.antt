@@ -12,7 +12,9 @@ use Rattle.ot_questions.specs.Questions.{ask_cases}
 use Rattle.ot_questions.proofs.Ends.{next_after_fails}
 use Rattle.ot_questions.proofs.guards.+ask_cases.Goals as goal
 
-no_cases : (cs : List Case) (a b : SymOp) (go : SymOp → Plan Why) (w : List Bool) → length cs < 1 → next_after (ask_cases (map case_of cs) a b go) w ≡ Fails Undefined
+no_cases :
+    (cs : List Case) (a b : SymOp) (go : SymOp → Plan Why) (w : List Bool) → length cs < 1
+    → next_after (ask_cases (map case_of cs) a b go) w ≡ Fails Undefined
 unfolding ask_cases
 no_cases [] a b go w h = next_after_fails Undefined w
 no_cases (c ∷ cs) a b go w h = absurd (omega arith)

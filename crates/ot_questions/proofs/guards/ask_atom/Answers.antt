@@ -10,8 +10,10 @@ ask_compared-requires-clause-a_near c = near_thing c.args.atom.now.sort c.args.a
 
 pub ask_compared-requires-clause-b_near : goal.ask_compared-requires-clause-b_near
 ask_compared-requires-clause-b_near c =
-    near_thing_plus c.args.atom.now.sort c.args.b c.thing-in-First.result c.plus.result (to_z w32 (of_z w32 c.args.atom.now.k)) c.thing-in-First.ensures c.plus.ensures c.requires.b_near
+    near_thing_plus c.args.atom.now.sort c.args.b c.thing-in-First.result c.plus.result (to_z w32 (of_z w32 c.args.atom.now.k))
+    c.thing-in-First.ensures c.plus.ensures c.requires.b_near
     (record { low = omega (arith, ints); high = omega (arith, ints) })
 
 pub ask_compared-requires-in-Second-clause-a_near : goal.ask_compared-requires-in-Second-clause-a_near
-ask_compared-requires-in-Second-clause-a_near c = near_thing c.args.atom.now.sort c.args.b c.thing-in-Second.result c.thing-in-Second.ensures c.requires.b_near
+ask_compared-requires-in-Second-clause-a_near c =
+    near_thing c.args.atom.now.sort c.args.b c.thing-in-Second.result c.thing-in-Second.ensures c.requires.b_near

@@ -1,0 +1,174 @@
+-- Places of one sort: positions (with zero, the length and the index), sites, or characters. Each name is
+-- below a count, each offset small, and a transformation keeps that.
+use Rattle.std.proofs.Common.{◌≡◌, ℕ, ◌+◌, ◌<◌, ◌≤◌, ℤ, pos, ◌||◌, true, if◌then◌else◌, nat_eq, Option, Some, refl, ap, sym, ◌∙◌, subst}
+use Rattle.std.specs.Ordering.{int_eq}
+use Rattle.std.proofs.lemmas.Bool.{and_parts, false≢true}
+use Rattle.ot_model.specs.declared.op.Kind.{Kind}
+use Rattle.ot_model.specs.declared.op.Kind.TheVariants as kinds
+use Rattle.ot_model.specs.Kinds.{has_char}
+use Rattle.fn_rules.specs.declared.guard.Side.TheVariants.{First, Second}
+use Rattle.fn_rules.specs.declared.guard.Sort.{Sort}
+use Rattle.fn_rules.specs.declared.guard.Sort.TheVariants.{Pos, Site, Char}
+use Rattle.fn_rules.specs.declared.function.Res.{Res}
+use Rattle.fn_rules.specs.declared.function.Res.TheVariants as results
+use Rattle.fn_rules.specs.Validity.{is_offset_for, compares_chars, is_valid_res}
+use Rattle.ot_questions.specs.declared.name.Who.{Who}
+use Rattle.ot_questions.specs.declared.name.Who.TheVariants.{A, B, C}
+use Rattle.ot_questions.specs.declared.place.Place.{Place}
+use Rattle.ot_questions.specs.declared.place.SymOp.{SymOp}
+use Rattle.ot_questions.specs.declared.place.SymOp.TheVariants.{Ins, Del, Upd, Nop}
+use Rattle.ot_questions.specs.Names.{position_name, site_name, char_name}
+use Rattle.ot_questions.specs.Nears.{IsNear}
+use Rattle.ot_questions.specs.Places.{place, plus, sym_op, sym_at, sym_kind, sym_site, sym_char, sym_placed, sym_result, sym_thing, place_of_name}
+use Rattle.ot_questions.proofs.Nears.{IsNear-more, IsNear-plus, IsNear-zero, IsNear-res}
+
+-- the sort of what a name stands for
+abbrev pub sort_name : ℕ → Sort
+sort_name x =
+    if nat_eq x 4 || nat_eq x 7 || nat_eq x 10 then Site
+    else (if nat_eq x 5 || nat_eq x 8 || nat_eq x 11 then Char else Pos)
+
+pub position_sort : (who : Who) → sort_name (position_name who) ≡ Pos
+position_sort A = refl
+position_sort B = refl
+position_sort C = refl
+
+pub site_sort : (who : Who) → sort_name (site_name who) ≡ Site
+site_sort A = refl
+site_sort B = refl
+site_sort C = refl
+
+pub char_sort : (who : Who) → sort_name (char_name who) ≡ Char
+char_sort A = refl
+char_sort B = refl
+char_sort C = refl
+
+-- a place of a sort, below the count of names, with an offset of at most n either way
+pub record Stands (count n : ℕ) (sort : Sort) (p : Place) : Type 0 where
+  pub is : sort_name p.var ≡ sort
+  pub below : p.var < count
+  pub near : IsNear n p.off
+
+-- an operation whose parts are so
+pub record OpStands (count n : ℕ) (o : SymOp) : Type 0 where
+  pub at : Stands count n Pos (sym_at o)
+  pub site : (s : ℕ) → sym_site o ≡ Some s → Stands count n Site (place s (pos 0))
+  pub ch : (c : ℕ) → sym_char o ≡ Some c → Stands count n Char (place c (pos 0))
+
+-- an operation of this kind has a thing of this sort
+abbrev pub HasThing : Sort → SymOp → Type 0
+HasThing Pos o = Unit {0}
+HasThing Site o = (s : ℕ) × (sym_site o ≡ Some s)
+HasThing Char o = (c : ℕ) × (sym_char o ≡ Some c)
+
+site_there : (o : SymOp) (k : Kind) → sym_kind o ≡ Some k → HasThing Site o
+site_there (Ins p c s) k e = (s, refl)
+site_there (Del p s) k e = (s, refl)
+site_there (Upd p c s) k e = (s, refl)
+site_there Nop k e = absurd (cc)
+
+char_there : (o : SymOp) (k : Kind) → sym_kind o ≡ Some k → has_char k ≡ true → HasThing Char o
+char_there (Ins p c s) k e h = (c, refl)
+char_there (Del p s) k e h = absurd (false≢true (ap has_char (some_kind kinds.Del k e) ∙ h))
+  where
+    some_kind : (j k : Kind) → Some j ≡ Some k → j ≡ k
+    some_kind j k e = cc
+char_there (Upd p c s) k e h = (c, refl)
+char_there Nop k e h = absurd (cc)
+
+-- two operations have the things that a guard of their block may compare
+pub things_there :
+    (sort : Sort) (k l : Kind) (a b : SymOp) (off : ℤ) → sym_kind a ≡ Some k → sym_kind b ≡ Some l
+    → is_offset_for (compares_chars k l) sort off ≡ true → HasThing sort a × HasThing sort b
+things_there Pos k l a b off ea eb h = (tt, tt)
+things_there Site k l a b off ea eb h = (site_there a k ea, site_there b l eb)
+things_there Char k l a b off ea eb h =
+    let both = and_parts (has_char k) (has_char l) (and_parts (compares_chars k l) (int_eq off (pos 0)) h).0 in
+    (char_there a k ea both.0, char_there b l eb both.1)
+
+some_equal : (x y : ℕ) → Some x ≡ Some y → x ≡ y
+some_equal x y e = cc
+
+module _ (count : ℕ) where
+  pub Stands-more : (m n : ℕ) (sort : Sort) (p : Place) → m ≤ n → Stands count m sort p → Stands count n sort p
+  Stands-more m n sort p h g = record { is = g.is; below = g.below; near = IsNear-more m n p.off h g.near }
+
+  pub Stands-plus :
+      (m n : ℕ) (sort : Sort) (p : Place) (off : ℤ) → Stands count m sort p → IsNear n off → Stands count (m + n) sort (plus p off)
+  Stands-plus m n sort p off g h = record { is = g.is; below = g.below; near = IsNear-plus m n p.off off g.near h }
+
+  -- a name itself has no offset
+  pub Stands-name : (m n : ℕ) (sort : Sort) (x : ℕ) → Stands count m sort (place x (pos 0)) → Stands count n sort (place x (pos 0))
+  Stands-name m n sort x h = record { is = h.is; below = h.below; near = IsNear-zero n }
+
+  pub OpStands-more : (m n : ℕ) (o : SymOp) → m ≤ n → OpStands count m o → OpStands count n o
+  OpStands-more m n o h g = record {
+    at = Stands-more m n Pos (sym_at o) h g.at;
+    site = λ s e. Stands-name m n Site s (g.site s e);
+    ch = λ c e. Stands-name m n Char c (g.ch c e);
+  }
+
+  Stands-some :
+      (n : ℕ) (sort : Sort) (o : Option ℕ) (x : ℕ) → o ≡ Some x → Stands count n sort (place x (pos 0))
+      → Stands count n sort (place_of_name o)
+  Stands-some n sort o x e h = subst (λ r. Stands count n sort (place_of_name r)) (sym e) h
+
+  pub Stands-thing : (n : ℕ) (sort : Sort) (o : SymOp) → OpStands count n o → HasThing sort o → Stands count n sort (sym_thing sort o)
+  Stands-thing n Pos o h there = h.at
+  Stands-thing n Site o h there = Stands-some n Site (sym_site o) there.0 there.1 (h.site there.0 there.1)
+  Stands-thing n Char o h there = Stands-some n Char (sym_char o) there.0 there.1 (h.ch there.0 there.1)
+
+  pub OpStands-nop : (n : ℕ) → 0 < count → OpStands count n Nop
+  OpStands-nop n low = record {
+    at = record { is = refl; below = low; near = IsNear-zero n };
+    site = λ s e. absurd (cc);
+    ch = λ c e. absurd (cc);
+  }
+
+  -- an operation that stands, at another place that does
+  OpStands-placed :
+      (n m : ℕ) (o : SymOp) (p : Place) → 0 < count → OpStands count n o → Stands count m Pos p → OpStands count m (sym_placed o p)
+  OpStands-placed n m (Ins q c s) p low h g =
+      record { at = g; site = λ t e. Stands-name n m Site t (h.site t e); ch = λ t e. Stands-name n m Char t (h.ch t e) }
+  OpStands-placed n m (Del q s) p low h g =
+      record { at = g; site = λ t e. Stands-name n m Site t (h.site t e); ch = λ t e. absurd (cc) }
+  OpStands-placed n m (Upd q c s) p low h g =
+      record { at = g; site = λ t e. Stands-name n m Site t (h.site t e); ch = λ t e. Stands-name n m Char t (h.ch t e) }
+  OpStands-placed n m Nop p low h g = OpStands-nop m low
+
+  pub OpStands-result :
+      (n : ℕ) (res : Res) (a b : SymOp) → 0 < count → is_valid_res res ≡ true → OpStands count n a → OpStands count n b
+      → OpStands count (n + 99) (sym_result res a b)
+  OpStands-result n (results.Keep First off) a b low h ha hb =
+      OpStands-placed n (n + 99) a (plus (sym_at a) off) low ha
+      (Stands-plus n 99 Pos (sym_at a) off ha.at (IsNear-res (results.Keep First off) h))
+  OpStands-result n (results.Keep Second off) a b low h ha hb =
+      OpStands-placed n (n + 99) a (plus (sym_at b) off) low ha
+      (Stands-plus n 99 Pos (sym_at b) off hb.at (IsNear-res (results.Keep Second off) h))
+  OpStands-result n results.Nop a b low h ha hb = OpStands-nop (n + 99) low
+
+  name_stands : (sort : Sort) (x : ℕ) → sort_name x ≡ sort → x < count → Stands count 0 sort (place x (pos 0))
+  name_stands sort x e h = record { is = e; below = h; near = IsNear-zero 0 }
+
+  name_of : (sort : Sort) (x y : ℕ) → Some x ≡ Some y → Stands count 0 sort (place x (pos 0)) → Stands count 0 sort (place y (pos 0))
+  name_of sort x y e h = subst (λ z. Stands count 0 sort (place z (pos 0))) (some_equal x y e) h
+
+  -- the operations of an obligation
+  pub OpStands-sym_op :
+      (k : Kind) (who : Who) → position_name who < count → site_name who < count → char_name who < count
+      → OpStands count 0 (sym_op k who)
+  OpStands-sym_op kinds.Ins who hp hs hc = record {
+    at = name_stands Pos (position_name who) (position_sort who) hp;
+    site = λ s e. name_of Site _ s e (name_stands Site (site_name who) (site_sort who) hs);
+    ch = λ c e. name_of Char _ c e (name_stands Char (char_name who) (char_sort who) hc);
+  }
+  OpStands-sym_op kinds.Del who hp hs hc = record {
+    at = name_stands Pos (position_name who) (position_sort who) hp;
+    site = λ s e. name_of Site _ s e (name_stands Site (site_name who) (site_sort who) hs);
+    ch = λ c e. absurd (cc);
+  }
+  OpStands-sym_op kinds.Upd who hp hs hc = record {
+    at = name_stands Pos (position_name who) (position_sort who) hp;
+    site = λ s e. name_of Site _ s e (name_stands Site (site_name who) (site_sort who) hs);
+    ch = λ c e. name_of Char _ c e (name_stands Char (char_name who) (char_sort who) hc);
+  }

@@ -1,5 +1,0 @@
-use Rattle.ot_questions.proofs.Nears.{IsResultOf-value}
-use Rattle.ot_questions.proofs.place.result_of.Goals as goal
-
-pub returns-clause-near : goal.returns-clause-near
-returns-clause-near c = IsResultOf-value c.args.res c.args.a c.args.b c.made_by.result c.made_by.ensures c.requires.near
