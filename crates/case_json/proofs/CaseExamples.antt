@@ -1,6 +1,6 @@
 -- The reading of cases, computed on small ones.
 use Rattle.std.specs.Prelude.{◌≡◌, ℕ, pos, false, List, [], ◌∷◌, Some, None, Ok, Err, codes, refl}
-use Rattle.serde_json.specs.Data.{Data, unsigned, null, number, string, array, no_items, item}
+use Rattle.serde_json.specs.Data.{Data, Items, unsigned, null, number, string, array, no_items, item}
 use Rattle.serde_json.proofs.OnLiterals.{serde_json_on_literals}
 use Rattle.std.specs.Str.{chars, is_utf8}
 use Rattle.ot_model.specs.Cells.{live_cell}
@@ -15,20 +15,36 @@ use Rattle.case_json.specs.Operations.{number_in, operation_in}
 use Rattle.case_json.specs.Tests.{fault_of}
 use Rattle.case_json.specs.Cases.{elements_from, trial_in}
 
--- ["ins", 1, "a", 2]
-abbrev insertion : Data
-insertion = array (item (string (codes "ins")) (item (number (unsigned 1)) (item (string (codes "a")) (item (number (unsigned 2)) no_items))))
+-- an array of a word and of other values
+abbrev with_word : List ℕ → Items → Data
+with_word word values = array (item (string word) values)
 
-reads_an_insertion : operation_in insertion ≡ Some (Ins (pos 1) 97 2)
+abbrev numbers : List ℕ → Items
+numbers [] = no_items
+numbers (n ∷ others) = item (number (unsigned n)) (numbers others)
+
+-- 1, "a", 2
+abbrev with_letter : Items
+with_letter = item (number (unsigned 1)) (item (string (codes "a")) (numbers (2 ∷ [])))
+
+reads_an_insertion : operation_in (with_word (codes "ins") with_letter) ≡ Some (Ins (pos 1) 97 2)
 unfolding chars
 reads_an_insertion = refl
 
--- ["del", 0, 2]
-reads_a_deletion : operation_in (array (item (string (codes "del")) (item (number (unsigned 0)) (item (number (unsigned 2)) no_items)))) ≡ Some (Del (pos 0) 2)
+reads_a_deletion : operation_in (with_word (codes "del") (numbers (0 ∷ 2 ∷ []))) ≡ Some (Del (pos 0) 2)
 reads_a_deletion = refl
 
--- ["del", 2147483648, 2]
-no_such_position : operation_in (array (item (string (codes "del")) (item (number (unsigned 2147483648)) (item (number (unsigned 2)) no_items)))) ≡ None
+insertions_have_a_character : operation_in (with_word (codes "ins") (numbers (0 ∷ 2 ∷ []))) ≡ None
+insertions_have_a_character = refl
+
+deletions_have_none : operation_in (with_word (codes "del") with_letter) ≡ None
+unfolding chars
+deletions_have_none = refl
+
+no_such_word : operation_in (with_word (codes "nop") (numbers (0 ∷ 2 ∷ []))) ≡ None
+no_such_word = refl
+
+no_such_position : operation_in (with_word (codes "del") (numbers (2147483648 ∷ 2 ∷ []))) ≡ None
 no_such_position = refl
 
 -- elements that cannot be read, and too many
@@ -51,14 +67,16 @@ kind_before_position = refl
 position_before_the_next_operation : fault_of sites (trial (Del (pos 1) 1 ∷ Del (pos 2) 1 ∷ []) ((7 ∷ []) ∷ [])) ≡ Some (Enabled 0)
 position_before_the_next_operation = refl
 
-pairs_by_their_first : fault_of sites (trial (Del (pos 0) 1 ∷ Del (pos 0) 2 ∷ Del (pos 0) 2 ∷ Del (pos 0) 1 ∷ []) ((7 ∷ []) ∷ [])) ≡ Some (Pair 0 3)
+pairs_by_their_first : fault_of sites (trial (Del (pos 0) 1 ∷ Del (pos 0) 2 ∷ Del (pos 0) 2 ∷ Del (pos 0) 1 ∷ []) ((7 ∷ []) ∷ []))
+    ≡ Some (Pair 0 3)
 pairs_by_their_first = refl
 
 names_twice : fault_of sites (trial (Del (pos 0) 1 ∷ Del (pos 0) 2 ∷ []) ((0 ∷ 1 ∷ []) ∷ (1 ∷ 1 ∷ []) ∷ [])) ≡ Some (Order 1)
 names_twice = refl
 
 -- whole cases, from their bytes
-three : trial_in sites (codes "{\"doc\":\"y\",\"ops\":[[\"ins\",1,\"a\",1],[\"del\",0,2],[\"ins\",0,\"c\",3]],\"orders\":[[0,1,2],[1,0,2]]}")
+three : trial_in sites
+    (codes "{\"doc\":\"y\",\"ops\":[[\"ins\",1,\"a\",1],[\"del\",0,2],[\"ins\",0,\"c\",3]],\"orders\":[[0,1,2],[1,0,2]]}")
     ≡ Ok (trial (Ins (pos 1) 97 1 ∷ Del (pos 0) 2 ∷ Ins (pos 0) 99 3 ∷ []) ((0 ∷ 1 ∷ 2 ∷ []) ∷ (1 ∷ 0 ∷ 2 ∷ []) ∷ []))
 unfolding serde_json_on_literals trial_in chars is_utf8 cells_within
 three = refl

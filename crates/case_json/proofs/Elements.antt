@@ -1,12 +1,13 @@
 -- The elements of arrays, and what a reader makes of them one by one.
-use Rattle.std.proofs.Common.{◌≡◌, ◌≤◌, ℕ, suc, Bool, true, false, List, [], ◌∷◌, ◌++◌, length, Option, Some, None, Ok, Err, refl, sym, ap, ◌∙◌, arith, nat_le, if◌then◌else◌}
+use Rattle.std.proofs.Common.{◌≡◌, ◌≤◌, ℕ, suc, Bool, true, false, List, [], ◌∷◌, ◌++◌, length, Option, Some, None, Ok, Err, refl, sym}
+use Rattle.std.proofs.Common.{ap, ◌∙◌, arith, nat_le, if◌then◌else◌}
 use Rattle.std.specs.Option.{option_map, option_and_then, ok_or}
 use Rattle.std.proofs.lemmas.Bool.{leb-true}
 use Rattle.serde_json.specs.Data.{Data, Items}
 use Rattle.serde_json.specs.View.{items_of}
 use Rattle.case_json.specs.declared.fault.CaseFault.TheVariants.{Field, Limit}
 use Rattle.case_json.specs.declared.fault.Name.{Name}
-use Rattle.case_json.specs.Json.{list_of, each, only}
+use Rattle.case_json.specs.Json.{list_of, each}
 use Rattle.case_json.specs.Cases.{elements_from}
 
 pub list_of-items_of : (ds : List Data) → list_of (items_of ds) ≡ ds
@@ -48,10 +49,3 @@ elements_from-few {A} part most reader (Some elements) list is =
         let same : read ≡ list = cc in
         let bound : length elements ≤ most = leb-true (length elements) most few in
         omega (arith, ap length same, count read refl, bound)
-
--- the character of a text that begins with one
-pub only-one : (text : List ℕ) (ch : ℕ) (behind : List ℕ) → text ≡ ch ∷ behind → behind ≡ [] → Some ch ≡ only text
-only-one text ch behind begins nothing = rw (begins, nothing) refl
-
-pub only-more : (text : List ℕ) (ch next : ℕ) (behind : List ℕ) → text ≡ ch ∷ next ∷ behind → None ≡ only text
-only-more text ch next behind begins = rw begins refl

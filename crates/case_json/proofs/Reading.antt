@@ -1,15 +1,19 @@
 -- The reading of a document's text, cell by cell.
-use Rattle.std.proofs.Common.{◌≡◌, ℕ, zero, suc, ◌+◌, ◌-◌, ◌<◌, ◌≤◌, Bool, true, false, List, [], ◌∷◌, ◌++◌, length, Some, None, Result, Ok, Err, refl, sym, ap, length-append, ◌∙◌, subst, arith, nat_eq, eqb-true, if◌then◌else◌}
+use Rattle.std.proofs.Common.{◌≡◌, ℕ, zero, suc, ◌+◌, ◌-◌, ◌<◌, ◌≤◌, Bool, true, false, List, [], ◌∷◌, ◌++◌, length, Some, None, Option}
+use Rattle.std.proofs.Common.{Result}
+use Rattle.std.proofs.Common.{Ok, Err, refl, sym, ap, length-append, ◌∙◌, subst, arith, nat_eq, eqb-true, if◌then◌else◌}
 use Rattle.std.specs.Option.{option_map}
 use Rattle.std.specs.Prelude.{encode_utf8_all, IsUtf8}
 use Rattle.std.specs.Str.{chars}
 use Rattle.std.proofs.lemmas.Str.{encodes-chars}
+use Rattle.ot_model.specs.declared.limits.TheConstants.{MAX_CELLS}
 use Rattle.ot_model.specs.declared.cell.Cell.{Cell}
 use Rattle.case_json.specs.declared.fault.CaseFault.{CaseFault}
 use Rattle.case_json.specs.declared.fault.CaseFault.TheVariants.{Field, Limit}
 use Rattle.case_json.specs.declared.fault.Name.TheVariants.{Doc, Cells}
 use Rattle.case_json.specs.Faults.{Reads}
-use Rattle.case_json.specs.DocText.{with_flag, backslash, tilde, newline, carriage_return, letter_n, letter_r, cells_within, with_first, cell_at, char_at, cell_text, char_text, doc_text}
+use Rattle.case_json.specs.DocText.{with_flag, backslash, tilde, newline, carriage_return, letter_n, letter_r, cells_within, with_first}
+use Rattle.case_json.specs.DocText.{cell_at, char_at, cell_text, char_text, doc_text}
 
 -- cells in front of the cells of a reading
 abbrev pub with_all : List Cell → Result (List Cell) CaseFault → Result (List Cell) CaseFault
@@ -62,12 +66,19 @@ written_by false false true r ch = backslash ∷ letter_n ∷ []
 written_by false false false true ch = backslash ∷ letter_r ∷ []
 written_by false false false false ch = ch ∷ []
 
+-- a character, and the text behind it
+abbrev in_front : List ℕ → ℕ → Option (ℕ × List ℕ)
+in_front behind ch = Some (ch, behind)
+
+in_front-same : (ch escaped : ℕ) (behind : List ℕ) → nat_eq ch escaped ≡ true → in_front behind escaped ≡ in_front behind ch
+in_front-same ch escaped behind is = ap (in_front behind) (sym (eqb-true ch escaped is))
+
 char_at-written_by : (b t n r : Bool) (ch : ℕ) (behind : List ℕ) → nat_eq ch backslash ≡ b → nat_eq ch tilde ≡ t → nat_eq ch newline ≡ n
     → nat_eq ch carriage_return ≡ r → char_at (written_by b t n r ch ++ behind) ≡ Some (ch, behind)
-char_at-written_by true t n r ch behind is_b is_t is_n is_r = ap (λ (c : ℕ). Some (c, behind)) (sym (eqb-true ch backslash is_b))
-char_at-written_by false true n r ch behind is_b is_t is_n is_r = ap (λ (c : ℕ). Some (c, behind)) (sym (eqb-true ch tilde is_t))
-char_at-written_by false false true r ch behind is_b is_t is_n is_r = ap (λ (c : ℕ). Some (c, behind)) (sym (eqb-true ch newline is_n))
-char_at-written_by false false false true ch behind is_b is_t is_n is_r = ap (λ (c : ℕ). Some (c, behind)) (sym (eqb-true ch carriage_return is_r))
+char_at-written_by true t n r ch behind is_b is_t is_n is_r = in_front-same ch backslash behind is_b
+char_at-written_by false true n r ch behind is_b is_t is_n is_r = in_front-same ch tilde behind is_t
+char_at-written_by false false true r ch behind is_b is_t is_n is_r = in_front-same ch newline behind is_n
+char_at-written_by false false false true ch behind is_b is_t is_n is_r = in_front-same ch carriage_return behind is_r
 char_at-written_by false false false false ch behind is_b is_t is_n is_r = rw (is_b, is_t) refl
 
 written_by-char_text : (b t n r : Bool) (ch : ℕ) → nat_eq ch backslash ≡ b → nat_eq ch tilde ≡ t → nat_eq ch newline ≡ n
@@ -81,8 +92,11 @@ written_by-char_text false false false false ch is_b is_t is_n is_r = rw (is_b, 
 -- a written character is read, and what is behind it is left
 pub char_at-char_text : (ch : ℕ) (behind : List ℕ) → char_at (char_text ch ++ behind) ≡ Some (ch, behind)
 char_at-char_text ch behind =
-    rw (written_by-char_text (nat_eq ch backslash) (nat_eq ch tilde) (nat_eq ch newline) (nat_eq ch carriage_return) ch refl refl refl refl)
-    (char_at-written_by (nat_eq ch backslash) (nat_eq ch tilde) (nat_eq ch newline) (nat_eq ch carriage_return) ch behind refl refl refl refl)
+    let b : Bool = nat_eq ch backslash in
+    let t : Bool = nat_eq ch tilde in
+    let n : Bool = nat_eq ch newline in
+    let r : Bool = nat_eq ch carriage_return in
+    rw (written_by-char_text b t n r ch refl refl refl refl) (char_at-written_by b t n r ch behind refl refl refl refl)
 
 -- a text that begins with a character begins with no tilde
 begins_live : (text behind : List ℕ) (ch : ℕ) → char_at text ≡ Some (ch, behind)
@@ -117,10 +131,10 @@ cells_within-doc_text (cell ∷ doc) (suc room) fits =
     ∙ ap (with_first cell) (cells_within-doc_text doc room (omega arith))
 
 -- so a text that was written has the document as its reading
-pub written_reads : (answer : Result (List Cell) CaseFault) (text : List ℕ) → Reads answer (cells_within 1000000 text)
-    → (doc : List Cell) → length doc ≤ 1000000 → text ≡ doc_text doc → Reads answer (Ok doc)
+pub written_reads : (answer : Result (List Cell) CaseFault) (text : List ℕ) → Reads answer (cells_within MAX_CELLS text)
+    → (doc : List Cell) → length doc ≤ MAX_CELLS → text ≡ doc_text doc → Reads answer (Ok doc)
 written_reads answer text reads doc fits written =
-    subst (λ (reading : Result (List Cell) CaseFault). Reads answer reading) (ap (cells_within 1000000) written ∙ cells_within-doc_text doc 1000000 fits) reads
+    subst (Reads answer) (ap (cells_within MAX_CELLS) written ∙ cells_within-doc_text doc MAX_CELLS fits) reads
 
 -- a text that is not empty has a character
 pub chars_some : (bytes : List ℕ) → IsUtf8 bytes → 0 < length bytes → 0 < length (chars bytes)

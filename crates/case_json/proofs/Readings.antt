@@ -1,5 +1,6 @@
 -- Readings one behind another, and what a trial that was read keeps.
-use Rattle.std.proofs.Common.{◌≡◌, ◌⊎◌, ◌≤◌, ℕ, zero, suc, Bool, true, false, List, [], ◌∷◌, length, Option, Some, None, Result, Ok, Err, refl, sym, ap, ◌∙◌, subst, inl, inr, arith, is_some, codes, if◌then◌else◌}
+use Rattle.std.proofs.Common.{◌≡◌, ◌⊎◌, ◌≤◌, ℕ, zero, suc, Bool, true, false, List, [], ◌∷◌, length, Option, Some, None, Result, Ok}
+use Rattle.std.proofs.Common.{Err, refl, sym, ap, ◌∙◌, subst, inl, inr, arith, is_some, codes, if◌then◌else◌}
 use Rattle.std.specs.Prelude.{IsUtf8, IsErrAnd}
 use Rattle.std.specs.Option.{ok_or, option_and_then}
 use Rattle.std.specs.Str.{is_utf8, chars}
@@ -13,9 +14,11 @@ use Rattle.serde_json.specs.declared.value.Value.{Value}
 use Rattle.serde_json.specs.declared.error.Error.{Error}
 use Rattle.serde_json.specs.declared.error.Code.{Code}
 use Rattle.serde_json.specs.declared.error.Code.TheVariants.{Invalid, NumberOutOfRange, OutOfMemory}
+use Rattle.ot_model.specs.declared.limits.TheConstants.{MAX_CELLS, MAX_OPERATIONS}
 use Rattle.ot_model.specs.declared.cell.Cell.{Cell}
 use Rattle.ot_model.specs.declared.op.Op.{Op}
 use Rattle.fn_rules.specs.Functions.{Function}
+use Rattle.case_json.specs.declared.limits.TheConstants.{MAX_ORDERS}
 use Rattle.case_json.specs.declared.fault.CaseFault.{CaseFault}
 use Rattle.case_json.specs.declared.fault.CaseFault.TheVariants.{Json, Field, Limit, NoMemory}
 use Rattle.case_json.specs.declared.fault.Name.TheVariants.{Doc, Ops, Orders, Cells}
@@ -27,7 +30,7 @@ use Rattle.case_json.specs.Operations.{operation_in}
 use Rattle.case_json.specs.Tests.{fault_of, IsReady}
 use Rattle.case_json.specs.Cases.{document_from, document_in, operations_in, order_in, orders_in, parts_in, case_in, tested, trial_in}
 use Rattle.case_json.proofs.Elements.{elements_from-few}
-use Rattle.case_json.proofs.FirstFault.{faultless-ready}
+use Rattle.case_json.proofs.FirstFault.{TestsDecide, faultless-ready}
 
 -- a fault of the first reading is the fault of both
 pub fault_first : {A B : Type 0} (fault : CaseFault) (reading : Result A CaseFault) (further : A → Result B CaseFault)
@@ -36,8 +39,9 @@ fault_first fault reading further (inl wanting) = let is : fault ≡ NoMemory = 
 fault_first fault reading further (inr is) = inr (rw (← is) refl)
 
 -- the same of an answer that passes the fault on
-pub fault_passed_on : {A B : Type 0} (answer : Result B CaseFault) (fault : CaseFault) (reading : Result A CaseFault) (further : A → Result B CaseFault)
-    → IsErrAnd answer (λ passed. passed ≡ fault) → Reads (Err fault) reading → Reads answer (and_then reading further)
+pub fault_passed_on : {A B : Type 0} (answer : Result B CaseFault) (fault : CaseFault) (reading : Result A CaseFault)
+    (further : A → Result B CaseFault) → IsErrAnd answer (λ passed. passed ≡ fault) → Reads (Err fault) reading
+    → Reads answer (and_then reading further)
 fault_passed_on {A} {B} (Ok value) fault reading further passes reads = absurd passes
 fault_passed_on {A} {B} (Err passed) fault reading further passes reads =
     rw passes (fault_first fault reading further reads)
@@ -67,7 +71,8 @@ json_fault bytes error (Err fault) gives refuses = elim (memory_or_not error.cod
   | inr other ↦ inr (ap Err (gives.1 other) ∙ sym (unread (is_utf8 bytes) refl (refuses other)))
 ]
   where
-    unread : (utf8 : Bool) → is_utf8 bytes ≡ utf8 → (IsUtf8 bytes → read bytes ≡ None) → ok_or (if utf8 then read bytes else None) Json ≡ Err Json
+    unread : (utf8 : Bool) → is_utf8 bytes ≡ utf8 → (IsUtf8 bytes → read bytes ≡ None)
+        → ok_or (if utf8 then read bytes else None) Json ≡ Err Json
     unread true is none = rw (none (IsUtf8-from_is_utf8 bytes is)) refl
     unread false is none = refl
 
@@ -100,54 +105,59 @@ cells_within-few (suc room) (c ∷ behind) doc is = by (cell_at (c ∷ behind)) 
         let bound : length parts.0 ≤ room = few first.1 parts.0 parts.1 in
         omega (arith, parts.2, bound)
 
-document_from-few : (text : Option (List ℕ)) (doc : List Cell) → document_from text ≡ Ok doc → length doc ≤ 1000000
+document_from-few : (text : Option (List ℕ)) (doc : List Cell) → document_from text ≡ Ok doc → length doc ≤ MAX_CELLS
 document_from-few None doc is = cc
-document_from-few (Some text) doc is = cells_within-few 1000000 (chars text) doc is
+document_from-few (Some text) doc is = cells_within-few MAX_CELLS (chars text) doc is
 
 -- no more cells, operations and orders than are allowed
 abbrev pub IsLimited : Trial → Type 0
-IsLimited trial = (length trial.doc ≤ 1000000) × (length trial.ops ≤ 1000) × (length trial.orders ≤ 16)
+IsLimited trial = (length trial.doc ≤ MAX_CELLS) × (length trial.ops ≤ MAX_OPERATIONS) × (length trial.orders ≤ MAX_ORDERS)
 
-parts-few : (doc : Result (List Cell) CaseFault) (ops : Result (List Op) CaseFault) (orders : Result (List (List ℕ)) CaseFault) (trial : Trial)
-    → ((cells : List Cell) → doc ≡ Ok cells → length cells ≤ 1000000)
-    → ((list : List Op) → ops ≡ Ok list → length list ≤ 1000)
-    → ((list : List (List ℕ)) → orders ≡ Ok list → length list ≤ 16)
-    → and_then doc (λ d. and_then ops (λ o. and_then orders (λ r. Ok (let whole : Trial = record { doc = d; ops = o; orders = r } in whole)))) ≡ Ok trial
+-- a trial of its parts
+abbrev of_parts : List Cell → List Op → List (List ℕ) → Trial
+of_parts doc ops orders = record { doc = doc; ops = ops; orders = orders }
+
+parts-few : (doc : Result (List Cell) CaseFault) (ops : Result (List Op) CaseFault) (orders : Result (List (List ℕ)) CaseFault)
+    (trial : Trial)
+    → ((cells : List Cell) → doc ≡ Ok cells → length cells ≤ MAX_CELLS)
+    → ((list : List Op) → ops ≡ Ok list → length list ≤ MAX_OPERATIONS)
+    → ((list : List (List ℕ)) → orders ≡ Ok list → length list ≤ MAX_ORDERS)
+    → and_then doc (λ d. and_then ops (λ os. and_then orders (λ lists. Ok (of_parts d os lists)))) ≡ Ok trial
     → IsLimited trial
 parts-few (Err fault) ops orders trial few_cells few_ops few_orders is = cc
 parts-few (Ok d) (Err fault) orders trial few_cells few_ops few_orders is = cc
-parts-few (Ok d) (Ok o) (Err fault) trial few_cells few_ops few_orders is = cc
-parts-few (Ok d) (Ok o) (Ok r) trial few_cells few_ops few_orders is =
-    let whole : Trial = record { doc = d; ops = o; orders = r } in
-    let same : whole ≡ trial = cc in
-    subst IsLimited same (few_cells d refl, few_ops o refl, few_orders r refl)
+parts-few (Ok d) (Ok os) (Err fault) trial few_cells few_ops few_orders is = cc
+parts-few (Ok d) (Ok os) (Ok lists) trial few_cells few_ops few_orders is =
+    let same : of_parts d os lists ≡ trial = cc in
+    subst IsLimited same (few_cells d refl, few_ops os refl, few_orders lists refl)
 
 case_in-limited : (json : Result Data CaseFault) (trial : Trial) → and_then json parts_in ≡ Ok trial → IsLimited trial
 case_in-limited (Err fault) trial is = cc
 case_in-limited (Ok json) trial is =
     parts-few (document_in json) (operations_in json) (orders_in json) trial
     (document_from-few (option_and_then as_str (get (codes "doc") json)))
-    (elements_from-few Ops 1000 operation_in (option_and_then elements_of (get (codes "ops") json)))
-    (elements_from-few Orders 16 order_in (option_and_then elements_of (get (codes "orders") json)))
+    (elements_from-few Ops MAX_OPERATIONS operation_in (option_and_then elements_of (get (codes "ops") json)))
+    (elements_from-few Orders MAX_ORDERS order_in (option_and_then elements_of (get (codes "orders") json)))
     is
 
 -- what was read is within the limits
 pub case_in-few : (bytes : List ℕ) (trial : Trial) → case_in bytes ≡ Ok trial → IsLimited trial
 case_in-few bytes trial is = case_in-limited (ok_or (json_in bytes) Json) trial is
 
-tested-ready : (f : Function) (reading : Result Trial CaseFault) (trial : Trial) → ((parts : Trial) → reading ≡ Ok parts → IsLimited parts)
-    → and_then reading (λ parts. tested (fault_of f parts) parts) ≡ Ok trial → IsReady f trial
-tested-ready f (Err fault) trial few is = cc
-tested-ready f (Ok parts) trial few is = by (fault_of f parts) refl is
-  where
-    by : (fault : Option CaseFault) → fault_of f parts ≡ fault → tested fault parts ≡ Ok trial → IsReady f trial
-    by (Some fault) none is = cc
-    by None none is =
-        let same : parts ≡ trial = cc in
-        let limits : IsLimited parts = few parts refl in
-        subst (λ (t : Trial). IsReady f t) same (faultless-ready f parts none limits.0 limits.1 limits.2)
+module _ (decide : TestsDecide) (f : Function) where
+  tested-ready : (reading : Result Trial CaseFault) (trial : Trial) → ((parts : Trial) → reading ≡ Ok parts → IsLimited parts)
+      → and_then reading (λ parts. tested (fault_of f parts) parts) ≡ Ok trial → IsReady f trial
+  tested-ready (Err fault) trial few is = cc
+  tested-ready (Ok parts) trial few is = by (fault_of f parts) refl is
+    where
+      by : (fault : Option CaseFault) → fault_of f parts ≡ fault → tested fault parts ≡ Ok trial → IsReady f trial
+      by (Some fault) none is = cc
+      by None none is =
+          let same : parts ≡ trial = cc in
+          let limits : IsLimited parts = few parts refl in
+          subst (IsReady f) same (faultless-ready decide f parts none limits.0 limits.1 limits.2)
 
--- so a trial that a case is read as for a function is ready
-pub read_trial_is_ready : (f : Function) (bytes : List ℕ) (trial : Trial) → trial_in f bytes ≡ Ok trial → IsReady f trial
-unfolding trial_in
-read_trial_is_ready f bytes trial is = tested-ready f (case_in bytes) trial (case_in-few bytes) is
+  -- a trial that a case is read as for a function is ready
+  pub read_trial_is_ready : (bytes : List ℕ) (trial : Trial) → trial_in f bytes ≡ Ok trial → IsReady f trial
+  unfolding trial_in
+  read_trial_is_ready bytes trial is = tested-ready (case_in bytes) trial (case_in-few bytes) is

@@ -1,5 +1,6 @@
 -- The writing of a document's text, cell by cell.
-use Rattle.std.proofs.Common.{◌≡◌, ℕ, ◌+◌, ◌<◌, List, [], ◌∷◌, ◌++◌, length, take, drop, sym, ap, ◌∙◌, append_assoc, append-nil, arith, get_or, inl, inr, Result, Ok, Err, OnErr}
+use Rattle.std.proofs.Common.{◌≡◌, ℕ, ◌+◌, ◌<◌, List, [], ◌∷◌, ◌++◌, length, take, drop, sym, ap, ◌∙◌, append_assoc, append-nil, arith}
+use Rattle.std.proofs.Common.{get_or, inl, inr, Result, Ok, Err, OnErr}
 use Rattle.std.specs.Prelude.{encode_utf8_all}
 use Rattle.std.proofs.lemmas.List.{take_more, drop_more, take-append-drop, take-append-le, take_all}
 use Rattle.std.proofs.lemmas.Bool.{cases_lt}
@@ -42,14 +43,18 @@ doc_bytes-around doc i other inside =
 -- a front behind what was written before
 pub front_behind : (old front new text : List ℕ) → AppendsFront (old ++ front) new text → AppendsFront old new (front ++ text)
 front_behind old front new text behind =
-    (length front + behind.0, behind.1 ∙ append_assoc old front (take behind.0 text) ∙ ap (λ (written : List ℕ). old ++ written) (sym (take-append-add front text behind.0)))
+    let taken = sym (take-append-add front text behind.0) in
+    (length front + behind.0, behind.1 ∙ append_assoc old front (take behind.0 text) ∙ ap (λ (written : List ℕ). old ++ written) taken)
 
 -- a front of a front
 pub front_longer : (old new text more : List ℕ) → AppendsFront old new text → AppendsFront old new (text ++ more)
 front_longer old new text more front = elim (cases_lt front.0 (length text)) [
-  | inl shorter ↦ (front.0, front.1 ∙ ap (λ (written : List ℕ). old ++ written) (sym (take-append-le front.0 text more (omega arith))))
-  | inr longer ↦ (length text, front.1 ∙ ap (λ (written : List ℕ). old ++ written) (take_all front.0 text longer ∙ sym (take-append_seam text more)))
+  | inl shorter ↦ (front.0, front.1 ∙ behind_old (sym (take-append-le front.0 text more (omega arith))))
+  | inr longer ↦ (length text, front.1 ∙ behind_old (take_all front.0 text longer ∙ sym (take-append_seam text more)))
 ]
+  where
+    behind_old : {one other : List ℕ} → one ≡ other → old ++ one ≡ old ++ other
+    behind_old same = ap (λ (written : List ℕ). old ++ written) same
 
 -- what holds is a clause on failure
 pub on_err : {T E P : Type 0} → (r : Result T E) → P → OnErr r P
@@ -57,7 +62,7 @@ on_err (Ok value) fact = tt
 on_err (Err error) fact = fact
 
 -- a front of a text whose first part was written before
-pub front_of_rest : (old new whole written text more : List ℕ) → whole ≡ written ++ (text ++ more) → AppendsFront (old ++ written) new text
-    → AppendsFront old new whole
+pub front_of_rest : (old new whole written text more : List ℕ) → whole ≡ written ++ (text ++ more)
+    → AppendsFront (old ++ written) new text → AppendsFront old new whole
 front_of_rest old new whole written text more is front =
     rw is (front_behind old written new (text ++ more) (front_longer (old ++ written) new text more front))

@@ -1,10 +1,13 @@
 -- The reading of a case: what its bytes are read as, a trial or the first fault in the order of the tests.
-use Rattle.std.specs.Prelude.{ℕ, nat_le, if◌then◌else◌, List, length, Option, Some, None, Result, Ok, Err, ok_or, option_and_then, codes, chars}
+use Rattle.std.specs.Prelude.{ℕ, nat_le, if◌then◌else◌, List, length, Option, Some, None, Result, Ok, Err, ok_or, option_and_then}
+use Rattle.std.specs.Prelude.{codes, chars}
 use Rattle.serde_json.specs.Data.{Data}
 use Rattle.serde_json.specs.Find.{get, as_str}
+use Rattle.ot_model.specs.declared.limits.TheConstants.{MAX_CELLS, MAX_OPERATIONS}
 use Rattle.ot_model.specs.declared.cell.Cell.{Cell}
 use Rattle.ot_model.specs.declared.op.Op.{Op}
 use Rattle.fn_rules.specs.Functions.{Function}
+use Rattle.case_json.specs.declared.limits.TheConstants.{MAX_ORDERS}
 use Rattle.case_json.specs.declared.fault.CaseFault.{CaseFault}
 use Rattle.case_json.specs.declared.fault.CaseFault.TheVariants.{Json, Field, Limit}
 use Rattle.case_json.specs.declared.fault.Name.{Name}
@@ -19,7 +22,7 @@ use Rattle.case_json.specs.Tests.{fault_of}
 -- the document of a text, if there is one
 abbrev pub document_from : Option (List ℕ) → Result (List Cell) CaseFault
 document_from None = Err (Field Doc)
-document_from (Some text) = cells_within 1000000 (chars text)
+document_from (Some text) = cells_within MAX_CELLS (chars text)
 
 -- the document under the key `doc`
 abbrev pub document_in : Data → Result (List Cell) CaseFault
@@ -37,7 +40,7 @@ elements_at key part most reader json = elements_from part most reader (option_a
 
 -- the operations under the key `ops`
 abbrev pub operations_in : Data → Result (List Op) CaseFault
-operations_in json = elements_at (codes "ops") Ops 1000 operation_in json
+operations_in json = elements_at (codes "ops") Ops MAX_OPERATIONS operation_in json
 
 -- an order: the numbers of operations
 abbrev pub order_in : Data → Option (List ℕ)
@@ -45,7 +48,7 @@ order_in json = option_and_then (each number_in) (elements_of json)
 
 -- the orders under the key `orders`
 abbrev pub orders_in : Data → Result (List (List ℕ)) CaseFault
-orders_in json = elements_at (codes "orders") Orders 16 order_in json
+orders_in json = elements_at (codes "orders") Orders MAX_ORDERS order_in json
 
 -- the parts of a case: its document, then its operations, then its orders
 abbrev pub parts_in : Data → Result Trial CaseFault

@@ -1,6 +1,7 @@
 -- The text of a document: its cells in order, each as its character behind a `~` if it is dead.
 -- Texts are lists of characters here.
-use Rattle.std.specs.Prelude.{◌≡◌, ℕ, Bool, zero, suc, nat_eq, true, false, if◌then◌else◌, List, [], ◌∷◌, ◌++◌, take, Option, Some, None, Result, Ok, Err}
+use Rattle.std.specs.Prelude.{◌≡◌, ℕ, Bool, zero, suc, nat_eq, true, false, if◌then◌else◌, List, [], ◌∷◌, ◌++◌, take, Option, Some}
+use Rattle.std.specs.Prelude.{None, Result, Ok, Err}
 use Rattle.std.specs.Prelude.{is_some}
 use Rattle.std.specs.List.{flat_map}
 use Rattle.std.specs.Option.{option_map}
@@ -47,24 +48,24 @@ doc_text doc = flat_map cell_text doc
 
 -- the character that a character behind a backslash stands for; most stand for none
 abbrev pub meant_by : ℕ → Option ℕ
-meant_by c =
-    if nat_eq c backslash then Some backslash
-    else (if nat_eq c tilde then Some tilde
-    else (if nat_eq c letter_n then Some newline
-    else (if nat_eq c letter_r then Some carriage_return
+meant_by ch =
+    if nat_eq ch backslash then Some backslash
+    else (if nat_eq ch tilde then Some tilde
+    else (if nat_eq ch letter_n then Some newline
+    else (if nat_eq ch letter_r then Some carriage_return
     else None)))
 
 -- the character that a text behind a backslash begins with, and the text behind it
 abbrev pub escaped_at : List ℕ → Option (ℕ × List ℕ)
 escaped_at [] = None
-escaped_at (c ∷ behind) = option_map (λ ch. (ch, behind)) (meant_by c)
+escaped_at (ch ∷ behind) = option_map (λ meant. (meant, behind)) (meant_by ch)
 
 -- the character that a text begins with, which a `~` is not, and the text behind it
 abbrev pub char_at : List ℕ → Option (ℕ × List ℕ)
 char_at [] = None
-char_at (c ∷ behind) =
-    if nat_eq c backslash then escaped_at behind
-    else (if nat_eq c tilde then None else Some (c, behind))
+char_at (ch ∷ behind) =
+    if nat_eq ch backslash then escaped_at behind
+    else (if nat_eq ch tilde then None else Some (ch, behind))
 
 -- a cell of the character that a text begins with, and the text behind it
 abbrev pub with_flag : Bool → ℕ × List ℕ → Cell × List ℕ
@@ -73,14 +74,14 @@ with_flag live first = (record { ch = first.0; live = live }, first.1)
 -- the cell that a text begins with, and the text behind it
 abbrev pub cell_at : List ℕ → Option (Cell × List ℕ)
 cell_at [] = None
-cell_at (c ∷ behind) =
-    if nat_eq c tilde then option_map (with_flag false) (char_at behind)
-    else option_map (with_flag true) (char_at (c ∷ behind))
+cell_at (ch ∷ behind) =
+    if nat_eq ch tilde then option_map (with_flag false) (char_at behind)
+    else option_map (with_flag true) (char_at (ch ∷ behind))
 
 -- the reading of a text where no further cell is allowed
 abbrev pub no_cells : List ℕ → Result (List Cell) CaseFault
 no_cells [] = Ok []
-no_cells (c ∷ behind) = if is_some (cell_at (c ∷ behind)) then Err (Limit Cells) else Err (Field Doc)
+no_cells (ch ∷ behind) = if is_some (cell_at (ch ∷ behind)) then Err (Limit Cells) else Err (Field Doc)
 
 -- a cell in front of the cells of a reading
 abbrev pub with_first : Cell → Result (List Cell) CaseFault → Result (List Cell) CaseFault
@@ -96,7 +97,7 @@ with_cells_behind (Some first) reading = with_first first.0 (reading first.1)
 unfoldable pub cells_within : ℕ → List ℕ → Result (List Cell) CaseFault
 cells_within zero text = no_cells text
 cells_within (suc room) [] = Ok []
-cells_within (suc room) (c ∷ behind) = with_cells_behind (cell_at (c ∷ behind)) (cells_within room)
+cells_within (suc room) (ch ∷ behind) = with_cells_behind (cell_at (ch ∷ behind)) (cells_within room)
 
 -- a front of this text was put behind what was there
 abbrev pub AppendsFront : List ℕ → List ℕ → List ℕ → Type 0

@@ -13,9 +13,11 @@ use crate::doc_text::doc_read;
 use crate::fault::{CaseFault, Name};
 use crate::first_fault::fault_of;
 use crate::json::list_at;
-use crate::trial::{MAX_OPS, MAX_ORDERS, Trial};
+use crate::laws::read_trials_are_ready;
+use crate::limits::MAX_ORDERS;
+use crate::trial::Trial;
 use fn_rules::Rules;
-use ot_model::Doc;
+use ot_model::{Doc, MAX_OPERATIONS};
 use serde_json::Value;
 use std::alloc::Global;
 
@@ -24,6 +26,7 @@ pub fn trial_read(alloc: Global, rules: &Rules, bytes: &[u8]) -> Result<Trial, C
     ensures reading { Reads result (trial_in (function_of rules.now) bytes.now) }
     ensures ready { IfOk result (λ trial. IsReady (function_of rules.now) trial) }
 {
+    read_trials_are_ready();
     let trial = case_read(alloc, bytes)?;
     match fault_of(rules, &trial) {
         Some(fault) => Err(fault),
@@ -49,7 +52,7 @@ fn parts_read(alloc: Global, json: &Value) -> Result<Trial, CaseFault>
     ensures { Reads result (parts_in (view json.now)) }
 {
     let doc = document(alloc, json)?;
-    let ops = list_at(alloc, json, "ops", Name::Ops, MAX_OPS)?;
+    let ops = list_at(alloc, json, "ops", Name::Ops, MAX_OPERATIONS)?;
     let orders = list_at(alloc, json, "orders", Name::Orders, MAX_ORDERS)?;
     Ok(Trial { doc, ops, orders })
 }

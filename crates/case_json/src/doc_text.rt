@@ -9,11 +9,8 @@ ghost use Rattle.case_json.specs.DocText.{doc_text, cell_text, char_text, cells_
 ghost use Rattle.case_json.specs.DocText.{cell_at, char_at, escaped_at, meant_by};
 
 use crate::fault::{CaseFault, Name};
-use ot_model::{Cell, Doc, NoMemory};
+use ot_model::{Cell, Doc, MAX_CELLS, NoMemory};
 use std::alloc::Global;
-
-/// The greatest number of cells of a document that is read.
-pub const MAX_CELLS: usize = 1_000_000;
 
 /// Reads the text of a document. Of a malformed place (`Field(Doc)`) and a cell too many
 /// (`Limit(Cells)`) it answers the one that comes first in the text.

@@ -1,19 +1,22 @@
 //! The tests that the parts of a case have to pass.
 ghost use Rattle.std.specs.Prelude.{◌≡◌, ◌≤◌, ◌+◌, ◌<◌, length};
-ghost use Rattle.ot_model.specs.Effect.{kind_of};
+ghost use Rattle.ot_model.specs.Operations.{kind_of};
+ghost use Rattle.fn_rules.specs.Functions.{has_declared_kind};
+ghost use Rattle.fn_rules.specs.Orders.{names_below, names_each_once};
 ghost use Rattle.fn_rules.specs.Rules.{function_of};
-ghost use Rattle.case_json.specs.Tests.{has_declared_kind, is_allowed, names_below, names_each_once, first_fault, operation_fault};
-ghost use Rattle.case_json.specs.Tests.{pair_fault, pairs_fault, order_fault, fault_of as first_fault_of};
+ghost use Rattle.case_json.specs.Tests.{first_fault, operation_fault, pair_fault, pairs_fault, order_fault};
+ghost use Rattle.case_json.specs.Tests.{fault_of as first_fault_of};
 
 use crate::fault::CaseFault;
-use crate::list::List;
-use crate::trial::{MAX_OPS, MAX_ORDERS, Trial};
+use crate::limits::MAX_ORDERS;
+use crate::trial::Trial;
 use fn_rules::{Rules, allowed};
-use ot_model::{Kind, Op, enabled, kind};
+use ot_model::{MAX_OPERATIONS, Op, enabled};
+use plain_list::List;
 
 /// The first fault of a trial: of its operations one by one, of its pairs, of its orders.
 pub(crate) fn fault_of(rules: &Rules, trial: &Trial) -> Option<CaseFault>
-    requires ops { length trial.now.ops ≤ MAX_OPS }
+    requires ops { length trial.now.ops ≤ MAX_OPERATIONS }
     requires orders { length trial.now.orders ≤ MAX_ORDERS }
     ensures { result ≡ first_fault_of (function_of rules.now) trial.now }
 {
@@ -30,7 +33,7 @@ pub(crate) fn fault_of(rules: &Rules, trial: &Trial) -> Option<CaseFault>
 }
 
 fn fault_of_ops(rules: &Rules, cells: usize, ops: &[Op]) -> Option<CaseFault>
-    requires { length ops.now ≤ MAX_OPS }
+    requires { length ops.now ≤ MAX_OPERATIONS }
     ensures { result ≡ first_fault (operation_fault (function_of rules.now) cells) 0 ops.now }
 {
     for (i, op) in ops.iter().enumerate() {
@@ -57,16 +60,14 @@ fn fault_of_op(rules: &Rules, cells: usize, i: u32, op: &Op) -> Option<CaseFault
 fn is_declared(rules: &Rules, op: &Op) -> bool
     ensures { result ≡ has_declared_kind (function_of rules.now).head (kind_of op.now) }
 {
-    let head = rules.head();
-    match kind(op) {
-        Some(Kind::Ins) => head.ins,
-        Some(Kind::Del) => head.del,
+    match op.kind() {
+        Some(kind) => rules.head().declares(kind),
         None => false,
     }
 }
 
 fn fault_of_pairs(rules: &Rules, ops: &[Op]) -> Option<CaseFault>
-    requires { length ops.now ≤ MAX_OPS }
+    requires { length ops.now ≤ MAX_OPERATIONS }
     ensures { result ≡ pairs_fault (function_of rules.now) 0 ops.now }
 {
     for (i, op) in ops.iter().enumerate() {
@@ -80,12 +81,12 @@ fn fault_of_pairs(rules: &Rules, ops: &[Op]) -> Option<CaseFault>
 
 /// The first fault of an operation with each of those behind it.
 fn fault_behind(rules: &Rules, i: u32, op: &Op, others: &[Op]) -> Option<CaseFault>
-    requires number { i < MAX_OPS }
-    requires others { length others.now ≤ MAX_OPS }
+    requires number { i < MAX_OPERATIONS }
+    requires others { length others.now ≤ MAX_OPERATIONS }
     ensures { result ≡ first_fault (pair_fault (function_of rules.now) i op.now) (i + 1) others.now }
 {
-    for (k, other) in others.iter().enumerate() {
-        let fault = fault_of_pair(rules, i, op, i + 1 + k as u32, other);
+    for (n, other) in others.iter().enumerate() {
+        let fault = fault_of_pair(rules, i, op, i + 1 + n as u32, other);
         if fault.is_some() {
             return fault;
         }
@@ -96,21 +97,15 @@ fn fault_behind(rules: &Rules, i: u32, op: &Op, others: &[Op]) -> Option<CaseFau
 fn fault_of_pair(rules: &Rules, i: u32, a: &Op, j: u32, b: &Op) -> Option<CaseFault>
     ensures { result ≡ pair_fault (function_of rules.now) i a.now j b.now }
 {
-    if are_allowed(rules, a, b) {
+    if allowed(rules, a, b) {
         None
     } else {
         Some(CaseFault::Pair(i, j))
     }
 }
 
-fn are_allowed(rules: &Rules, a: &Op, b: &Op) -> bool
-    ensures { result ≡ is_allowed (function_of rules.now) a.now b.now }
-{
-    allowed(rules, a, b)
-}
-
 fn fault_of_orders(count: usize, orders: &[List<u32>]) -> Option<CaseFault>
-    requires count { count ≤ MAX_OPS }
+    requires count { count ≤ MAX_OPERATIONS }
     requires orders { length orders.now ≤ MAX_ORDERS }
     ensures { result ≡ first_fault (order_fault count) 0 orders.now }
 {
@@ -124,7 +119,7 @@ fn fault_of_orders(count: usize, orders: &[List<u32>]) -> Option<CaseFault>
 }
 
 fn fault_of_order(count: usize, i: u32, order: &[u32]) -> Option<CaseFault>
-    requires { count ≤ MAX_OPS }
+    requires { count ≤ MAX_OPERATIONS }
     ensures { result ≡ order_fault count i order.now }
 {
     if names_each(count, order) {
@@ -136,14 +131,14 @@ fn fault_of_order(count: usize, i: u32, order: &[u32]) -> Option<CaseFault>
 
 /// Whether the order names each of so many operations once.
 fn names_each(count: usize, order: &[u32]) -> bool
-    requires { count ≤ MAX_OPS }
+    requires { count ≤ MAX_OPERATIONS }
     ensures { result ≡ names_each_once count order.now }
 {
     order.len() == count && names_all_below(count, order)
 }
 
 fn names_all_below(count: usize, order: &[u32]) -> bool
-    requires { count ≤ MAX_OPS }
+    requires { count ≤ MAX_OPERATIONS }
     ensures { result ≡ names_below count order.now }
 {
     for i in 0..count {

@@ -10,7 +10,8 @@ ghost use Rattle.case_json.specs.Cases.{elements_from, elements_at};
 
 use crate::doc_text::split_char;
 use crate::fault::{CaseFault, Name};
-use crate::list::List;
+use crate::limits::MAX_NUMBER;
+use plain_list::List;
 use serde_json::Value;
 use std::alloc::{AllocError, Global};
 
@@ -33,7 +34,7 @@ impl Element for u32 {
     ghost meant = { number_in };
 
     fn read(_alloc: Global, json: &Value) -> Result<Option<u32>, AllocError> {
-        Ok(number(u32::MAX, json))
+        Ok(number(MAX_NUMBER, json))
     }
 }
 

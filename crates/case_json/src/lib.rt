@@ -12,14 +12,13 @@ mod fault;
 mod first_fault;
 mod json;
 mod laws;
-mod list;
+mod limits;
 mod operation;
 mod trial;
 
 pub use case::trial_read;
-pub use doc_text::{MAX_CELLS, doc_read, doc_write};
+pub use doc_text::{doc_read, doc_write};
 pub use fault::{CaseFault, Name};
 pub use laws::read_trials_are_ready;
-pub use list::List;
-pub use operation::MAX_POSITION;
-pub use trial::{MAX_OPS, MAX_ORDERS, Trial};
+pub use limits::{MAX_NUMBER, MAX_ORDERS, MAX_POSITION};
+pub use trial::Trial;

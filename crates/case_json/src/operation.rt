@@ -1,15 +1,15 @@
 //! Operations as JSON.
 ghost use Rattle.std.specs.Prelude.{◌≡◌, map};
 ghost use Rattle.serde_json.specs.View.{view};
-ghost use Rattle.case_json.specs.Operations.{operation_in, operation_from, insertion_in, deletion_in, position_in};
+ghost use Rattle.case_json.specs.Json.{is_word};
+ghost use Rattle.case_json.specs.Operations.{operation_in, operation_from, operation_of, with_char, without_char};
+ghost use Rattle.case_json.specs.Operations.{operation_word, with_parts, kind_in, position_in};
 
 use crate::json::{Element, elements, number, one_char};
-use ot_model::Op;
+use crate::limits::{MAX_NUMBER, MAX_POSITION};
+use ot_model::{KINDS, Kind, Op};
 use serde_json::Value;
 use std::alloc::{AllocError, Global};
-
-/// The greatest position of an operation that is read.
-pub const MAX_POSITION: u32 = 2_147_483_647;
 
 impl Element for Op {
     ghost meant = { operation_in };
@@ -23,37 +23,86 @@ impl Element for Op {
 fn operation(json: &Value) -> Option<Op>
     ensures { result ≡ operation_in (view json.now) }
 {
-    operation_of(elements(json)?)
+    of_elements(elements(json)?)
 }
 
 /// An operation, of the elements of its array.
-fn operation_of(elements: &[Value]) -> Option<Op>
+fn of_elements(elements: &[Value]) -> Option<Op>
     ensures { result ≡ operation_from (map view elements.now) }
 {
     match elements {
-        [word, at, site] if word.as_str() == Some("del") => deletion(at, site),
-        [word, at, ch, site] if word.as_str() == Some("ins") => insertion(at, ch, site),
+        [word, values @ ..] => of_kind(kind(word)?, values),
+        [] => None,
+    }
+}
+
+/// An operation of a kind, of the values behind its word.
+fn of_kind(kind: Kind, values: &[Value]) -> Option<Op>
+    ensures { result ≡ operation_of kind (map view values.now) }
+{
+    if kind.has_char() {
+        with_char(kind, values)
+    } else {
+        without_char(kind, values)
+    }
+}
+
+fn with_char(kind: Kind, values: &[Value]) -> Option<Op>
+    ensures { result ≡ with_char kind (map view values.now) }
+{
+    match values {
+        [at, ch, site] => with_parts(
+            kind,
+            position(at)?,
+            Some(one_char(ch)?),
+            number(MAX_NUMBER, site)?,
+        ),
         _ => None,
     }
 }
 
-fn insertion(at: &Value, ch: &Value, site: &Value) -> Option<Op>
-    ensures { result ≡ insertion_in (view at.now) (view ch.now) (view site.now) }
+fn without_char(kind: Kind, values: &[Value]) -> Option<Op>
+    ensures { result ≡ without_char kind (map view values.now) }
 {
-    Some(Op::Ins {
-        at: position(at)?,
-        ch: one_char(ch)?,
-        site: number(u32::MAX, site)?,
-    })
+    match values {
+        [at, site] => with_parts(kind, position(at)?, None, number(MAX_NUMBER, site)?),
+        _ => None,
+    }
 }
 
-fn deletion(at: &Value, site: &Value) -> Option<Op>
-    ensures { result ≡ deletion_in (view at.now) (view site.now) }
+/// The operation of a kind at a position, with a character where the kind has one, by a site.
+fn with_parts(kind: Kind, at: i64, ch: Option<char>, site: u32) -> Option<Op>
+    ensures { result ≡ with_parts kind at ch site }
 {
-    Some(Op::Del {
-        at: position(at)?,
-        site: number(u32::MAX, site)?,
-    })
+    match kind {
+        Kind::Ins => Some(Op::Ins { at, ch: ch?, site }),
+        Kind::Del => Some(Op::Del { at, site }),
+        Kind::Upd => Some(Op::Upd { at, ch: ch?, site }),
+    }
+}
+
+/// The kind that a word stands for.
+fn kind(word: &Value) -> Option<Kind>
+    ensures { result ≡ kind_in (view word.now) }
+{
+    KINDS.iter().copied().find(|kind| is_word_of(*kind, word))
+}
+
+fn is_word_of(kind: Kind, word: &Value) -> bool
+    ensures { result ≡ is_word (operation_word kind) (view word.now) }
+{
+    word.as_str() == Some(operation_word(kind))
+}
+
+/// The word for the operations of a kind.
+fn operation_word(kind: Kind) -> &'static str
+    ensures { result.now ≡ operation_word kind }
+{
+    match kind {
+        Kind::Ins => "ins",
+        Kind::Del => "del",
+        Kind::Upd => "upd",
+    }
 }
 
 fn position(json: &Value) -> Option<i64>

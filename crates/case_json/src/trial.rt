@@ -1,12 +1,6 @@
 //! Cases: a document, operations that were made on it, and orders in which to integrate them.
-use crate::list::List;
 use ot_model::{Doc, Op};
-
-/// The greatest number of operations of a case.
-pub const MAX_OPS: usize = 1_000;
-
-/// The greatest number of orders of a case.
-pub const MAX_ORDERS: usize = 16;
+use plain_list::List;
 
 /// A document, operations that were made on it, and orders in which to integrate them.
 #[derive(Debug, Drop)]

@@ -50,13 +50,13 @@ pub outcome_from-same : (f : Function) (d : List Cell) (one two : List Op) (plac
     → AllByRecursion (λ o. through f o one ≡ through f o two) os → outcome_from f d one place os ≡ outcome_from f d two place os
 outcome_from-same f d one two place [] same = refl
 outcome_from-same f d one two place (o ∷ os) same =
-    ap (λ form. with_form form d (λ p. outcome_from f (document_after f.head.mode p d) (one ++ p ∷ []) (place + 1) os) (StuckAt place)) same.0
-    ∙ with_form-same (through f o two) d
-    (λ p. outcome_from f (document_after f.head.mode p d) (one ++ p ∷ []) (place + 1) os)
-    (λ p. outcome_from f (document_after f.head.mode p d) (two ++ p ∷ []) (place + 1) os)
-    (StuckAt place)
+    ap (λ form. with_form form d (goes_on one) (StuckAt place)) same.0
+    ∙ with_form-same (through f o two) d (goes_on one) (goes_on two) (StuckAt place)
     (λ p. outcome_from-same f (document_after f.head.mode p d) (one ++ p ∷ []) (two ++ p ∷ []) (place + 1) os (pushed os p same.1))
   where
+    goes_on : List Op → Op → Outcome
+    goes_on executed p = outcome_from f (document_after f.head.mode p d) (executed ++ p ∷ []) (place + 1) os
+
     pushed : (rest : List Op) (p : Op) → AllByRecursion (λ o. through f o one ≡ through f o two) rest
         → AllByRecursion (λ o. through f o (one ++ p ∷ []) ≡ through f o (two ++ p ∷ [])) rest
     pushed [] p all = tt

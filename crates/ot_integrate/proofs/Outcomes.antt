@@ -1,28 +1,32 @@
 -- The outcome of integrating, one place of the order after the other.
-use Rattle.std.proofs.Common.{◌≡◌, ℕ, ◌+◌, ◌<◌, ◌≤◌, true, false, List, [], ◌∷◌, ◌++◌, length, map, drop, get_or, Some, None, refl, ap, subst, arith, length-append, length-drop, length-take, All, inl, inr}
-use Rattle.std.proofs.lemmas.Int.{ints}
+use Rattle.std.proofs.Common.{◌≡◌, ℕ, ◌+◌, ◌<◌, ◌≤◌, ◌↔◌, true, false, List, [], ◌∷◌, ◌++◌, length, map, drop, get_or, Some, None, refl}
+use Rattle.std.proofs.Common.{ap, subst, arith, length-append, length-drop, length-take, All, inl, inr}
 use Rattle.std.proofs.lemmas.Option.{slice_get_cases}
 use Rattle.std.proofs.lemmas.List.{drop_more, drop_all, length-map}
-use Rattle.std.proofs.lemmas.Bool.Decides.{nat_tests}
+use Rattle.std.specs.Cmp.Derive.{both_true}
+use Rattle.std.proofs.lemmas.Bool.{and_parts, cases_Bool}
 use Rattle.ot_model.specs.declared.cell.Cell.{Cell}
 use Rattle.ot_model.specs.declared.op.Mode.{Mode}
 use Rattle.ot_model.specs.declared.op.Mode.TheVariants.{Plain, Tomb}
 use Rattle.ot_model.specs.declared.op.Op.{Op}
-use Rattle.ot_model.specs.declared.op.Op.TheVariants.{Ins, Del, Nop}
+use Rattle.ot_model.specs.declared.op.Op.TheVariants.{Ins, Del, Upd, Nop}
+use Rattle.ot_model.specs.Operations.{kind_of}
 use Rattle.ot_model.specs.Effect.{IsEnabled, is_enabled, document_after}
-use Rattle.fn_rules.specs.Functions.{Function}
+use Rattle.fn_rules.specs.Functions.{Function, is_for_kind, IsForKind}
+use Rattle.fn_rules.specs.Conditions.{is_integrable, IsIntegrable}
 use Rattle.fn_rules.specs.Orders.{Document, StuckAt, through, outcome_from, operation_at}
 
--- what the test of an enabled operation says
-pub is_enabled-true : (o : Op) (n : ℕ) → IsEnabled o n → is_enabled o n ≡ true
-is_enabled-true (Ins at ch site) n enabled = grind (arith, nat_tests, ints)
-is_enabled-true (Del at site) n enabled = grind (arith, nat_tests, ints)
-is_enabled-true Nop n enabled = refl
+-- what the test of an operation says that may be integrated
+module _ (f : Function) (tested : (cells : ℕ) (o : Op) → (is_integrable f cells o ≡ true) ↔ IsIntegrable f cells o) (n : ℕ) (o : Op) where
+  pub is_enabled-true : IsIntegrable f n o → is_enabled o n ≡ true
+  is_enabled-true integrable = (and_parts (is_for_kind f.head (kind_of o)) (is_enabled o n) ((tested n o).1 integrable)).1
 
-pub is_enabled-false : (o : Op) (n : ℕ) → ¬ (IsEnabled o n) → is_enabled o n ≡ false
-is_enabled-false (Ins at ch site) n refused = grind (arith, nat_tests, ints)
-is_enabled-false (Del at site) n refused = grind (arith, nat_tests, ints)
-is_enabled-false Nop n refused = absurd (refused tt)
+  -- and of one that is not enabled
+  pub is_enabled-false : IsForKind f.head (kind_of o) → ¬ (IsEnabled o n) → is_enabled o n ≡ false
+  is_enabled-false declared refused = elim (cases_Bool (is_enabled o n)) [
+    | inl is ↦ absurd (refused (((tested n o).0 (both_true declared is)).enabled))
+    | inr is ↦ is
+  ]
 
 -- an operation makes a document longer by at most one cell
 pub length-document_after : (mode : Mode) (o : Op) (d : List Cell) → length (document_after mode o d) ≤ length d + 1
@@ -30,6 +34,7 @@ length-document_after mode (Ins at ch site) d =
     simp (length-append, length-take, length-drop) (omega arith)
 length-document_after Plain (Del at site) d = simp (length-append, length-take, length-drop) (omega arith)
 length-document_after Tomb (Del at site) d = simp (length-append, length-map, length-take, length-drop) (omega arith)
+length-document_after mode (Upd at ch site) d = simp (length-append, length-map, length-take, length-drop) (omega arith)
 length-document_after mode Nop d = omega arith
 
 -- a fact of all operations and of nop is one of what a number names
@@ -53,14 +58,14 @@ module _ (f : Function) (d : List Cell) (executed ops : List Op) (order : List �
   pub outcome-without_form : through f named executed ≡ None → outcome_from f d executed place (rest place) ≡ StuckAt place
   outcome-without_form none = rw (rest-next, none) refl
 
-  pub outcome-refused : (p : Op) → through f named executed ≡ Some p → ¬ (IsEnabled p (length d))
+  pub outcome-refused : (p : Op) → through f named executed ≡ Some p → is_enabled p (length d) ≡ false
       → outcome_from f d executed place (rest place) ≡ StuckAt place
-  outcome-refused p form refused = rw (rest-next, form, is_enabled-false p (length d) refused) refl
+  outcome-refused p form refused = rw (rest-next, form, refused) refl
 
-  pub outcome-executed : (p : Op) → through f named executed ≡ Some p → IsEnabled p (length d)
+  pub outcome-executed : (p : Op) → through f named executed ≡ Some p → is_enabled p (length d) ≡ true
       → outcome_from f d executed place (rest place)
       ≡ outcome_from f (document_after f.head.mode p d) (executed ++ p ∷ []) (place + 1) (rest (place + 1))
-  outcome-executed p form enabled = rw (rest-next, form, is_enabled-true p (length d) enabled) refl
+  outcome-executed p form enabled = rw (rest-next, form, enabled) refl
 
 -- the end of an order
 pub outcome-end : (f : Function) (d : List Cell) (executed ops : List Op) (order : List ℕ) (place : ℕ) → length order ≤ place

@@ -1,5 +1,6 @@
 -- Lists in another order: the orders that name each number once are those of the numbers in turn.
-use Rattle.std.proofs.Common.{◌≡◌, ◌≢◌, ℕ, zero, suc, ◌+◌, ◌⊎◌, List, [], ◌∷◌, ◌++◌, length, map, take, drop, Contains, sym, ap, subst, ◌∙◌, arith, length-append, inl, inr}
+use Rattle.std.proofs.Common.{◌≡◌, ◌≢◌, ℕ, zero, suc, ◌+◌, ◌⊎◌, List, [], ◌∷◌, ◌++◌, length, map, take, drop, Contains, sym, ap, subst}
+use Rattle.std.proofs.Common.{◌∙◌, arith, length-append, inl, inr}
 use Rattle.std.specs.List.{AllByRecursion, range_with_len}
 use Rattle.std.proofs.lemmas.List.{drop_more, take-append-drop}
 use Rattle.std.proofs.lemmas.List.Elements.{Contains-append_cases, Contains-append_left, Contains-append_right}
@@ -22,7 +23,8 @@ module _ {X : Type 0} where
   pub IsReordered-middle : (xs : List X) (y : X) (ys : List X) → IsReordered (y ∷ xs ++ ys) (xs ++ y ∷ ys)
   IsReordered-middle [] y ys = IsReordered-refl (y ∷ ys)
   IsReordered-middle (x ∷ xs) y ys =
-      chain (y ∷ x ∷ xs ++ ys) (x ∷ y ∷ xs ++ ys) (x ∷ xs ++ y ∷ ys) (flip y x (xs ++ ys)) (more x (y ∷ xs ++ ys) (xs ++ y ∷ ys) (IsReordered-middle xs y ys))
+      chain (y ∷ x ∷ xs ++ ys) (x ∷ y ∷ xs ++ ys) (x ∷ xs ++ y ∷ ys) (flip y x (xs ++ ys))
+      (more x (y ∷ xs ++ ys) (xs ++ y ∷ ys) (IsReordered-middle xs y ys))
 
   -- the last element, taken to the front
   pub IsReordered-last : (xs : List X) (y : X) → IsReordered (xs ++ y ∷ []) (y ∷ xs)
@@ -60,7 +62,8 @@ module _ {X : Type 0} where
   Contains-cons_cases y xs x (suc i, inside, is) = inr (i, omega arith, is)
 
   -- another element than the one in the middle is in front of it or behind it
-  pub Contains-around : (front : List X) (y : X) (back : List X) (x : X) → y ≢ x → Contains (front ++ y ∷ back) x → Contains (front ++ back) x
+  pub Contains-around : (front : List X) (y : X) (back : List X) (x : X) → y ≢ x → Contains (front ++ y ∷ back) x
+      → Contains (front ++ back) x
   Contains-around front y back x apart has = elim (Contains-append_cases front (y ∷ back) x has) [
     | inl in_front ↦ Contains-append_left front back x in_front
     | inr behind ↦ elim (Contains-cons_cases y back x behind) [

@@ -3,16 +3,19 @@ use Rattle.std.proofs.Common.{◌≡◌, ℕ, ◌+◌, List, [], ◌∷◌, ◌+
 use Rattle.std.specs.List.{AllByRecursion}
 use Rattle.ot_model.specs.declared.cell.Cell.{Cell}
 use Rattle.ot_model.specs.declared.op.Op.{Op}
+use Rattle.ot_model.specs.Operations.{kind_of}
 use Rattle.ot_model.specs.Effect.{document_after}
 use Rattle.fn_rules.specs.Functions.{Function}
 use Rattle.fn_rules.specs.Transformation.{IsAllowed}
 use Rattle.fn_rules.specs.Properties.{AreConcurrent, ConvergesAt, CommutesAt}
 use Rattle.fn_rules.specs.Orders.{Document, through, outcome_from}
-use Rattle.ot_integrate.specs.Conditions.{IsIntegrable}
+use Rattle.fn_rules.specs.Conditions.{IsIntegrable}
 use Rattle.ot_integrate.proofs.Forms.{IsForKind-form}
 use Rattle.ot_integrate.proofs.Outcomes.{is_enabled-true}
 use Rattle.ot_integrate.proofs.Carried.{through-push, through-push_two, one_form, outcome_from-same}
-use Rattle.ot_integrate.proofs.Instances.{HasBothProperties, ConvergesAt-sym, CommutesAt-sym, IsForKind-declared, ConvergesAt-integrable, CommutesAt-integrable}
+use Rattle.fn_rules.proofs.Symmetry.{ConvergesAt-sym, CommutesAt-sym}
+use Rattle.ot_integrate.proofs.Instances.{HasBothProperties, IsForKind-declared}
+use Rattle.ot_integrate.proofs.Instances.{ConvergesAt-integrable, CommutesAt-integrable}
 use Rattle.ot_integrate.proofs.Permutations.{IsReordered, none, more, flip, chain, AllByRecursion-reordered}
 
 -- an operation has a form behind the executed ones, which may be integrated on the document as it is,
@@ -30,7 +33,7 @@ HasForm-concurrent f d (o ∷ os) all = (
   record {
     form = o;
     is = refl;
-    integrable = record { declared = IsForKind-declared f.head o all.0; enabled = all.1 };
+    integrable = record { declared = IsForKind-declared f.head (kind_of o) all.0; enabled = all.1 };
     allowed = λ other allowed. allowed;
   },
   HasForm-concurrent f d os all.3,
@@ -45,10 +48,11 @@ module _ (f : Function) (has : HasBothProperties f) (d : List Cell) (executed : 
   -- an operation with a form is executed
   outcome_from-executed : {o : Op} (as_o : HasForm f d executed o) (place : ℕ) (os : List Op)
       → outcome_from f d executed place (o ∷ os) ≡ outcome_from f (after f as_o.form d) (executed ++ as_o.form ∷ []) (place + 1) os
-  outcome_from-executed as_o place os = rw (as_o.is, is_enabled-true as_o.form (length d) as_o.integrable.enabled) refl
+  outcome_from-executed as_o place os = rw (as_o.is, is_enabled-true f has.integrable_is_tested (length d) as_o.form as_o.integrable) refl
 
   -- where operations are allowed, so are their forms
-  IsAllowed-forms : {a b : Op} (as_a : HasForm f d executed a) (as_b : HasForm f d executed b) → IsAllowed f a b → IsAllowed f as_a.form as_b.form
+  IsAllowed-forms : {a b : Op} (as_a : HasForm f d executed a) (as_b : HasForm f d executed b) → IsAllowed f a b
+      → IsAllowed f as_a.form as_b.form
   IsAllowed-forms {a} {b} as_a as_b allowed =
       has.allowed_is_symmetric as_b.form as_a.form (as_b.allowed as_a.form (has.allowed_is_symmetric as_a.form b (as_a.allowed b allowed)))
 
@@ -103,8 +107,10 @@ module _ (f : Function) (has : HasBothProperties f) (d : List Cell) (executed : 
   through-both : {o : Op} (as_o : HasForm f d executed o) (commutes : CommutesAt f as_a.form as_b.form as_o.form)
       → through f o both_executed ≡ Some commutes.c_after_both
   through-both {o} as_o commutes =
-      through-push_two f executed o as_o.form as_a.form commutes.c_after_a converges.b_after_a commutes.c_after_both as_o.is commutes.c_by_a
-      (rw (one_form f as_b.form as_a.form converges.b_after_a commutes.b_after_a converges.b_transformed commutes.b_transformed) commutes.c_by_a_then_b)
+      let same : converges.b_after_a ≡ commutes.b_after_a =
+      one_form f as_b.form as_a.form converges.b_after_a commutes.b_after_a converges.b_transformed commutes.b_transformed in
+      through-push_two f executed o as_o.form as_a.form commutes.c_after_a converges.b_after_a commutes.c_after_both
+      as_o.is commutes.c_by_a (rw same commutes.c_by_a_then_b)
 
 -- exchanging two neighbours
 module _ (f : Function) (has : HasBothProperties f) (d : List Cell) (executed : List Op) {a b : Op}
@@ -118,7 +124,8 @@ module _ (f : Function) (has : HasBothProperties f) (d : List Cell) (executed : 
   -- carried through both in either order, every further operation is the same
   through-either_way : (os : List Op) → AllByRecursion (IsAllowed f a) os → AllByRecursion (IsAllowed f b) os
       → AllByRecursion (HasForm f d executed) os
-      → AllByRecursion (λ o. through f o (both_executed f has d executed as_a as_b a_first) ≡ through f o (both_executed f has d executed as_b as_a b_first)) os
+      → AllByRecursion (λ o. through f o (both_executed f has d executed as_a as_b a_first)
+      ≡ through f o (both_executed f has d executed as_b as_a b_first)) os
   through-either_way [] with_a with_b have = tt
   through-either_way (o ∷ os) with_a with_b have = (
     through-both f has d executed as_a as_b a_first have.0 commutes
@@ -135,7 +142,8 @@ module _ (f : Function) (has : HasBothProperties f) (d : List Cell) (executed : 
   -- the outcome is the same: the first property gives one document behind both, the second one the same
   -- forms of all that come
   outcome_from-flip : (place : ℕ) (os : List Op) → AllByRecursion (IsAllowed f a) os → AllByRecursion (IsAllowed f b) os
-      → AllByRecursion (HasForm f d executed) os → outcome_from f d executed place (a ∷ b ∷ os) ≡ outcome_from f d executed place (b ∷ a ∷ os)
+      → AllByRecursion (HasForm f d executed) os
+      → outcome_from f d executed place (a ∷ b ∷ os) ≡ outcome_from f d executed place (b ∷ a ∷ os)
   outcome_from-flip place os with_a with_b have =
       outcome_from-both f has d executed as_a as_b a_first place os
       ∙ ap (λ end. outcome_from f end (both_executed f has d executed as_a as_b a_first) (place + 1 + 1) os) a_first.one_document
@@ -157,7 +165,8 @@ module _ (f : Function) (has : HasBothProperties f) (made_on : List Cell) where
 
   -- integrating them in another order has the same outcome
   pub outcome_from-reordered : {xs ys : List Op} → IsReordered xs ys → (d : List Cell) (executed : List Op) (place : ℕ)
-      → AreConcurrent f made_on xs → AllByRecursion (HasForm f d executed) xs → outcome_from f d executed place xs ≡ outcome_from f d executed place ys
+      → AreConcurrent f made_on xs → AllByRecursion (HasForm f d executed) xs
+      → outcome_from f d executed place xs ≡ outcome_from f d executed place ys
   outcome_from-reordered none d executed place all have = refl
   outcome_from-reordered (more x xs ys tail) d executed place all have =
       outcome_from-executed f has d executed have.0 place xs
@@ -173,7 +182,8 @@ module _ (f : Function) (has : HasBothProperties f) (made_on : List Cell) where
 
   -- integrating them is never stuck
   pub outcome_from-document : (os : List Op) (d : List Cell) (executed : List Op) (place : ℕ)
-      → AreConcurrent f made_on os → AllByRecursion (HasForm f d executed) os → (end : List Cell) × (outcome_from f d executed place os ≡ Document end)
+      → AreConcurrent f made_on os → AllByRecursion (HasForm f d executed) os
+      → (end : List Cell) × (outcome_from f d executed place os ≡ Document end)
   outcome_from-document [] d executed place all have = (d, refl)
   outcome_from-document (o ∷ os) d executed place all have =
       let rest : (end : List Cell) × (outcome_from f (after f have.0.form d) (executed ++ have.0.form ∷ []) (place + 1) os ≡ Document end) =

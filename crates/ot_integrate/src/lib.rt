@@ -14,4 +14,4 @@ mod order;
 
 pub use end::End;
 pub use one_outcome::both_properties_give_one_outcome;
-pub use order::{MAX_CELLS, MAX_OPS, are_integrable, integrate};
+pub use order::{are_integrable, integrate};

@@ -1,24 +1,22 @@
 //! Integrating in an order.
 ghost use Rattle.std.specs.Prelude.{◌≡◌, ◌≤◌, ◌↔◌, length, All, IsTrue, IfOk, IfSome};
-ghost use Rattle.ot_model.specs.Effect.{kind_of};
+ghost use Rattle.ot_model.specs.Operations.{kind_of};
+ghost use Rattle.fn_rules.specs.Functions.{IsForKind};
 ghost use Rattle.fn_rules.specs.Rules.{function_of};
-ghost use Rattle.fn_rules.specs.Conditions.{IsForKind, IsWithin};
+ghost use Rattle.fn_rules.specs.Conditions.{IsIntegrable, IsWithin};
 ghost use Rattle.fn_rules.specs.Properties.{AreConcurrent, HasTp1, HasTp2};
 ghost use Rattle.fn_rules.specs.Orders.{through, operation_at, integrated, NamesEachOnce};
-ghost use Rattle.ot_integrate.specs.Conditions.{IsIntegrable, IsExecuted};
+ghost use Rattle.ot_integrate.specs.Conditions.{most_cells, IsExecuted};
 ghost use Rattle.ot_integrate.specs.Ends.{outcome_of, EndsAsListed};
 
 use crate::end::End;
 use crate::one_outcome::both_properties_give_one_outcome;
-use fn_rules::{Rules, transform, transform_keeps_all_but_the_position, transform_stays_near};
-use ot_model::{Apply, Doc, Kind, NoMemory, Op, apply, enabled, kind};
+use fn_rules::{
+    Rules, is_integrable, tests_decide_their_facts, transform,
+    transform_keeps_all_but_the_position, transform_stays_near,
+};
+use ot_model::{Apply, Doc, MAX_CELLS, MAX_OPERATIONS, NoMemory, Op, apply};
 use std::alloc::Global;
-
-/// The greatest number of operations that are integrated.
-pub const MAX_OPS: usize = 1_000;
-
-/// The greatest number of cells of the document that they were made on.
-pub const MAX_CELLS: usize = 1_000_000;
 
 /// Whether the operations may be integrated on a document of so many cells: each is of a kind that the
 /// function is for, or nop, and is enabled there.
@@ -26,18 +24,6 @@ pub fn are_integrable(rules: &Rules, cells: usize, ops: &[Op]) -> bool
     ensures { IsTrue result ↔ All (IsIntegrable (function_of rules.now) cells) ops.now }
 {
     ops.iter().all(|op| is_integrable(rules, cells, op))
-}
-
-fn is_integrable(rules: &Rules, cells: usize, op: &Op) -> bool
-    ensures { IsTrue result ↔ IsIntegrable (function_of rules.now) cells op.now }
-{
-    let head = rules.head();
-    let declared = match kind(op) {
-        Some(Kind::Ins) => head.ins,
-        Some(Kind::Del) => head.del,
-        None => true,
-    };
-    declared && enabled(op, cells)
 }
 
 /// Integrates the operations in the order that the numbers say, counted from 0; they were all made on
@@ -51,7 +37,7 @@ pub fn integrate(
 ) -> Result<End, NoMemory>
     requires integrable { All (IsIntegrable (function_of rules.now) (length doc.now)) ops.now }
     requires cells { length doc.now ≤ MAX_CELLS }
-    requires places { length order.now ≤ MAX_OPS }
+    requires places { length order.now ≤ MAX_OPERATIONS }
     ensures outcome { IfOk result (λ end. outcome_of end ≡ integrated (function_of rules.now) doc.now ops.now order.now) }
 
     // Where the function has both properties, no order of concurrent operations is stuck, and each ends
@@ -62,6 +48,7 @@ pub fn integrate(
         → EndsAsListed (function_of rules.now) doc.now ops.now (outcome_of end)) }
 {
     both_properties_give_one_outcome();
+    tests_decide_their_facts();
     let mode = rules.head().mode;
     let mut current = doc.try_clone()?;
     let mut executed = Vec::new(alloc);
@@ -89,12 +76,13 @@ fn named(ops: &[Op], number: u32) -> Op
 /// transformations has no result.
 fn form_behind(rules: &Rules, op: Op, executed: &[Op]) -> Option<Op>
     requires declared { IsForKind (function_of rules.now).head (kind_of op) }
-    requires near { IsWithin 1001000 op }
+    requires near { IsWithin most_cells op }
     requires executed { All (IsExecuted (function_of rules.now)) executed.now }
-    requires few { length executed.now ≤ MAX_OPS }
+    requires few { length executed.now ≤ MAX_OPERATIONS }
     ensures form { result ≡ through (function_of rules.now) op executed.now }
     ensures declared { IfSome result (λ form. IsForKind (function_of rules.now).head (kind_of form)) }
 {
+    // The contract of `head` tells that the function keeps the limits, which the laws below want.
     let _head = rules.head();
     transform_stays_near();
     transform_keeps_all_but_the_position();

@@ -1,6 +1,6 @@
 use super::*;
 use fn_rules::{Atom, Block, Case, Cmp, Guard, Head, Res, Side, Sort, is_within_limits};
-use ot_model::{Cell, Mode};
+use ot_model::{Cell, Kind, Mode};
 use std::alloc::AllocError;
 use std::process::Abort;
 use std::test::Fail;
@@ -38,6 +38,7 @@ fn apart(rt: &impl Abort, alloc: Global) -> Result<Rules, AllocError> {
         mode: Mode::Plain,
         ins: true,
         del: false,
+        upd: false,
         sites_differ: false,
         chars_differ: false,
     };
@@ -72,7 +73,7 @@ fn an_order_ends_with_a_document_or_stuck(rt: HostRuntime) -> Result<(), Fail> {
         ([2, 1, 0].as_slice(), Some(1), ""),
         ([0, 7].as_slice(), None, "xab"),
     ] {
-        assert!(rt; order.len() <= MAX_OPS);
+        assert!(rt; order.len() <= MAX_OPERATIONS);
         match integrate(alloc, &rules, &doc, &ops, order)? {
             End::Doc(end) => assert!(rt;
                 stuck.is_none() && end.same(&doc_of(alloc, text)?),

@@ -1,8 +1,7 @@
-use Rattle.std.proofs.Common.{inr, sym, refl}
+use Rattle.std.proofs.Common.{◌≡◌, Ok, inr, sym, refl}
 use Rattle.fn_rules.specs.Rules.{function_of}
 use Rattle.case_json.specs.Cases.{case_in, tested, trial_in}
 use Rattle.case_json.specs.Tests.{fault_of}
-use Rattle.case_json.proofs.FirstFault.{faultless-ready}
 use Rattle.case_json.proofs.Readings.{fault_passed_on, value_read, case_in-few}
 use Rattle.case_json.proofs.case.trial_read.Goals as goal
 
@@ -25,12 +24,12 @@ unfolding trial_in
 returns-in-Some-clause-reading c =
     inr (rw (value_read c.in_ok-trial.trial (case_in c.args.bytes.now) c.in_ok-trial.ensures, ← c.in-Some.ensures) refl)
 
-pub returns-in-None-clause-reading : goal.returns-in-None-clause-reading
+pub returns-in-None : goal.returns-in-None
 unfolding trial_in
-returns-in-None-clause-reading c =
-    inr (rw (value_read c.in_ok-trial.trial (case_in c.args.bytes.now) c.in_ok-trial.ensures, ← c.in-None.ensures) refl)
-
-pub returns-in-None-clause-ready : goal.returns-in-None-clause-ready
-returns-in-None-clause-ready c =
-    let few = case_in-few c.args.bytes.now c.in_ok-trial.trial (value_read c.in_ok-trial.trial (case_in c.args.bytes.now) c.in_ok-trial.ensures) in
-    faultless-ready (function_of c.args.rules.now) c.in_ok-trial.trial (sym c.in-None.ensures) few.0 few.1 few.2
+returns-in-None c =
+    let parts = value_read c.in_ok-trial.trial (case_in c.args.bytes.now) c.in_ok-trial.ensures in
+    let is : trial_in (function_of c.args.rules.now) c.args.bytes.now ≡ Ok c.in_ok-trial.trial = rw (parts, ← c.in-None.ensures) refl in
+    record {
+      reading = inr (sym is);
+      ready = c.read_trials_are_ready.ensures (function_of c.args.rules.now) c.args.bytes.now c.in_ok-trial.trial is;
+    }

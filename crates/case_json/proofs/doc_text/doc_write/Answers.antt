@@ -12,11 +12,15 @@ pub returns-in_err-write_cell-clause-err : goal.returns-in_err-write_cell-clause
 returns-in_err-write_cell-clause-err c =
     let doc : List Cell = c.cells-cell-items.result.now in
     let i : ℕ = c.loop-cell.cell-index in
-    let front : AppendsFront (c.args.out.now.items ++ doc_bytes (take i doc)) c.write_cell.new.out.items (cell_bytes (get_or doc i no_cell)) =
-    subst (λ (old : List ℕ). AppendsFront old c.write_cell.new.out.items (cell_bytes (get_or doc i no_cell))) c.loop-cell.invariant c.in_err-write_cell.ensures.err in
+    let old : List ℕ = c.args.out.now.items in
+    let new : List ℕ = c.write_cell.new.out.items in
+    let written : List ℕ = doc_bytes (take i doc) in
+    let text : List ℕ = cell_bytes (get_or doc i no_cell) in
+    let front : AppendsFront (old ++ written) new text =
+    subst (λ (before : List ℕ). AppendsFront before new text) c.loop-cell.invariant c.in_err-write_cell.ensures.err in
     on_err c.from_residual.result
-    (rw (← c.cells-cell-items.ensures) (front_of_rest c.args.out.now.items c.write_cell.new.out.items (doc_bytes doc) (doc_bytes (take i doc)) (cell_bytes (get_or doc i no_cell))
-    (doc_bytes (drop (i + 1) doc)) (doc_bytes-around doc i no_cell c.loop-cell-test.true) front))
+    (rw (← c.cells-cell-items.ensures) (front_of_rest old new (doc_bytes doc) written text (doc_bytes (drop (i + 1) doc))
+    (doc_bytes-around doc i no_cell c.loop-cell-test.true) front))
 
 pub loop-cell-preserved : goal.loop-cell-preserved
 loop-cell-preserved c =

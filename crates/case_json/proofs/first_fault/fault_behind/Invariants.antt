@@ -4,7 +4,7 @@ use Rattle.case_json.specs.Tests.{first_fault, pair_fault}
 use Rattle.case_json.proofs.first_fault.fault_behind.Given as goal
 
 -- the operations so far are allowed
-abbrev pub invariant-loop-k : goal.invariant-loop-k
-invariant-loop-k l =
+abbrev pub invariant-loop-n : goal.invariant-loop-n
+invariant-loop-n l =
     first_fault (pair_fault (function_of l.rules) l.i l.op) (l.i + 1) l.others
-    ≡ first_fault (pair_fault (function_of l.rules) l.i l.op) (l.i + 1 + l.k) (drop l.k l.others)
+    ≡ first_fault (pair_fault (function_of l.rules) l.i l.op) (l.i + 1 + l.n) (drop l.n l.others)

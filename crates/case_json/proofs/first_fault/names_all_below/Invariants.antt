@@ -1,5 +1,5 @@
 use Rattle.std.proofs.Common.{◌≡◌, true}
-use Rattle.case_json.specs.Tests.{names_below}
+use Rattle.fn_rules.specs.Orders.{names_below}
 use Rattle.case_json.proofs.first_fault.names_all_below.Given as goal
 
 -- the numbers so far are named

@@ -8,6 +8,8 @@ returns c =
     (record {
       tp1 = tp1;
       tp2 = tp2;
+      integrable_is_tested = c.tests_decide_their_facts.ensures.integrable f;
+      nop_alone_has_no_kind = λ o. (c.operations_have_the_parts_of_their_kind.ensures.nop o).0;
       nop_changes_nothing = c.nop_changes_nothing.ensures f;
       keeps_all_but_the_position = c.transform_keeps_all_but_the_position.ensures f;
       keeps_allowed = c.transform_keeps_allowed.ensures f;

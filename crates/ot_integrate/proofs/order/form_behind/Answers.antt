@@ -3,9 +3,10 @@ use Rattle.std.specs.Prelude.{pos}
 use Rattle.std.proofs.lemmas.List.Elements.{All-get_or}
 use Rattle.ot_model.specs.declared.op.Op.{Op}
 use Rattle.ot_model.specs.declared.op.Op.TheVariants.{Ins}
+use Rattle.fn_rules.specs.Functions.{Function}
 use Rattle.fn_rules.specs.Conditions.{IsWithin}
 use Rattle.fn_rules.specs.Rules.{function_of}
-use Rattle.ot_integrate.specs.Conditions.{IsExecuted}
+use Rattle.ot_integrate.specs.Conditions.{most_cells, IsExecuted}
 use Rattle.ot_integrate.proofs.Forms.{through-next, IsWithin-more, IsForKind-form}
 use Rattle.ot_integrate.proofs.order.form_behind.Goals as goal
 
@@ -19,29 +20,30 @@ loop-other-init c = record { form = refl; declared = c.requires.declared; near =
 pub transform-requires : goal.transform-requires
 transform-requires c =
     let i : ℕ = c.loop-other.other-index in
-    let other : IsExecuted (function_of c.args.rules.now) (get_or c.args.executed.now i no_op) =
+    let e : Op = get_or c.args.executed.now i no_op in
+    let other : IsExecuted (function_of c.args.rules.now) e =
     All-get_or (IsExecuted (function_of c.args.rules.now)) c.args.executed.now i no_op c.loop-other-test.true c.requires.executed in
     record {
       a_declared = c.loop-other.invariant.declared;
       b_declared = other.declared;
-      a_in_range = IsWithin-more (1001000 + 99 * i) 1099511627776 c.loop-other.form (omega arith) c.loop-other.invariant.near;
-      b_in_range = IsWithin-more 1001000 1099511627776 (get_or c.args.executed.now i no_op) (omega arith) other.near;
+      a_in_range = IsWithin-more (most_cells + 99 * i) 1099511627776 c.loop-other.form (omega arith) c.loop-other.invariant.near;
+      b_in_range = IsWithin-more most_cells 1099511627776 e (omega arith) other.near;
     }
 
 pub loop-other-preserved : goal.loop-other-preserved
 loop-other-preserved c =
+    let f : Function = function_of c.args.rules.now in
     let i : ℕ = c.loop-other.other-index in
     let e : Op = get_or c.args.executed.now i no_op in
-    let other : IsExecuted (function_of c.args.rules.now) (get_or c.args.executed.now i no_op) =
-    All-get_or (IsExecuted (function_of c.args.rules.now)) c.args.executed.now i no_op c.loop-other-test.true c.requires.executed in
-    let near : IsWithin (1001000 + 99 * i + 99) c.in_ok-form.form =
-    c.transform_stays_near.ensures (function_of c.args.rules.now) c.loop-other.form e c.in_ok-form.form (1001000 + 99 * i) c.head-head.ensures.valid
-    c.loop-other.invariant.near (IsWithin-more 1001000 (1001000 + 99 * i) e (omega arith) other.near) (sym c.in_ok-form.ensures) in
+    let o : Op = c.loop-other.form in
+    let p : Op = c.in_ok-form.form in
+    let other : IsExecuted f e = All-get_or (IsExecuted f) c.args.executed.now i no_op c.loop-other-test.true c.requires.executed in
+    let near : IsWithin (most_cells + 99 * i + 99) p =
+    c.transform_stays_near.ensures f o e p (most_cells + 99 * i) c.head-head.ensures.valid
+    c.loop-other.invariant.near (IsWithin-more most_cells (most_cells + 99 * i) e (omega arith) other.near) (sym c.in_ok-form.ensures) in
     record {
-      form = c.loop-other.invariant.form
-          ∙ through-next (function_of c.args.rules.now) c.loop-other.form c.in_ok-form.form c.args.executed.now i no_op c.loop-other-test.true (sym c.in_ok-form.ensures);
-      declared = IsForKind-form (function_of c.args.rules.now).head c.loop-other.form c.in_ok-form.form
-          (c.transform_keeps_all_but_the_position.ensures (function_of c.args.rules.now) c.loop-other.form e c.in_ok-form.form (sym c.in_ok-form.ensures))
-          c.loop-other.invariant.declared;
-      near = IsWithin-more (1001000 + 99 * i + 99) (1001000 + 99 * (i + 1)) c.in_ok-form.form (omega arith) near;
+      form = c.loop-other.invariant.form ∙ through-next f o p c.args.executed.now i no_op c.loop-other-test.true (sym c.in_ok-form.ensures);
+      declared = IsForKind-form f.head o p
+          (c.transform_keeps_all_but_the_position.ensures f o e p (sym c.in_ok-form.ensures)) c.loop-other.invariant.declared;
+      near = IsWithin-more (most_cells + 99 * i + 99) (most_cells + 99 * (i + 1)) p (omega arith) near;
     }

@@ -1,13 +1,16 @@
-use Rattle.std.proofs.Common.{◌≡◌, ◌++◌, ◌∷◌, [], ℕ, length, get_or, Some, None, Err, arith, refl, sym, ap, ◌∙◌, length-append}
+use Rattle.std.proofs.Common.{◌≡◌, ◌++◌, ◌∷◌, [], ℕ, List, length, get_or, Some, None, Err, arith, refl, sym, ap, ◌∙◌, length-append}
 use Rattle.std.proofs.lemmas.List.Elements.{All-nil, All-push}
+use Rattle.ot_model.specs.declared.op.Op.{Op}
 use Rattle.fn_rules.specs.declared.function.Head.{Head}
 use Rattle.fn_rules.specs.Functions.{Function}
 use Rattle.fn_rules.specs.Rules.{function_of}
+use Rattle.fn_rules.specs.Conditions.{IsIntegrable}
 use Rattle.fn_rules.specs.Orders.{Document, StuckAt, through, operation_at, integrated}
-use Rattle.ot_integrate.specs.Conditions.{IsIntegrable, IsExecuted}
+use Rattle.ot_integrate.specs.Conditions.{most_cells, IsExecuted}
 use Rattle.ot_integrate.proofs.Forms.{IsWithin-more, IsWithin-enabled}
 use Rattle.ot_integrate.proofs.OneOutcome.{EndsAsListed-from_law}
-use Rattle.ot_integrate.proofs.Outcomes.{operation_at-fact, length-document_after, outcome-without_form, outcome-refused, outcome-executed, outcome-end}
+use Rattle.ot_integrate.proofs.Outcomes.{is_enabled-true, is_enabled-false, operation_at-fact, length-document_after}
+use Rattle.ot_integrate.proofs.Outcomes.{outcome-without_form, outcome-refused, outcome-executed, outcome-end}
 use Rattle.ot_integrate.proofs.order.integrate.Goals as goal
 
 pub loop-place-init : goal.loop-place-init
@@ -22,75 +25,92 @@ loop-place-init c = record {
 pub form_behind-requires : goal.form_behind-requires
 form_behind-requires c =
     let f : Function = function_of c.args.rules.now in
-    let number : ℕ = get_or c.args.order.now c.loop-place.place 0 in
-    let integrable : IsIntegrable (function_of c.args.rules.now) (length c.args.doc.now) (operation_at c.args.ops.now number) =
-    operation_at-fact (IsIntegrable (function_of c.args.rules.now) (length c.args.doc.now)) c.args.ops.now number c.requires.integrable (record { declared = tt; enabled = tt }) in
+    let n : ℕ = length c.args.doc.now in
+    let o : Op = operation_at c.args.ops.now (get_or c.args.order.now c.loop-place.place 0) in
+    let integrable : IsIntegrable f n o =
+    operation_at-fact (IsIntegrable f n) c.args.ops.now (get_or c.args.order.now c.loop-place.place 0) c.requires.integrable
+    (record { declared = refl; enabled = tt }) in
     record {
       declared = rw c.named.ensures integrable.declared;
-      near = rw c.named.ensures (IsWithin-more (length c.args.doc.now) 1001000 (operation_at c.args.ops.now number) (omega arith)
-          (IsWithin-enabled (length c.args.doc.now) (operation_at c.args.ops.now number) integrable.enabled));
+      near = rw c.named.ensures (IsWithin-more n most_cells o (omega arith) (IsWithin-enabled n o integrable.enabled));
       executed = rw c.deref.ensures.value c.loop-place.invariant.executed;
       few = rw c.deref.ensures.value (omega arith);
     }
 
 pub returns-in_default : goal.returns-in_default
 returns-in_default c =
-    let none : through (function_of c.args.rules.now) (operation_at c.args.ops.now (get_or c.args.order.now c.loop-place.place 0)) c.loop-place.executed.items ≡ None =
+    let f : Function = function_of c.args.rules.now in
+    let ops : List Op = c.args.ops.now in
+    let order : List ℕ = c.args.order.now in
+    let place : ℕ = c.loop-place.place in
+    let executed : List Op = c.loop-place.executed.items in
+    let none : through f (operation_at ops (get_or order place 0)) executed ≡ None =
     rw (← c.named.ensures, ← c.deref.ensures.value) (sym c.in_default.ensures.form) in
-    let is : StuckAt c.loop-place.place ≡ integrated (function_of c.args.rules.now) c.args.doc.now c.args.ops.now c.args.order.now =
+    let is : StuckAt place ≡ integrated f c.args.doc.now ops order =
     sym (c.loop-place.invariant.outcome
-    ∙ outcome-without_form (function_of c.args.rules.now) c.loop-place.current c.loop-place.executed.items c.args.ops.now c.args.order.now c.loop-place.place
-    c.loop-place-test.true none) in
+    ∙ outcome-without_form f c.loop-place.current executed ops order place c.loop-place-test.true none) in
     record {
       outcome = is;
-      one_document = EndsAsListed-from_law c.both_properties_give_one_outcome.ensures (function_of c.args.rules.now) c.args.doc.now c.args.ops.now c.args.order.now
-          (StuckAt c.loop-place.place) is;
+      one_document = EndsAsListed-from_law c.both_properties_give_one_outcome.ensures f c.args.doc.now ops order (StuckAt place) is;
     }
 
 pub returns-in-Err-NotEnabled : goal.returns-in-Err-NotEnabled
 returns-in-Err-NotEnabled c =
-    let form : through (function_of c.args.rules.now) (operation_at c.args.ops.now (get_or c.args.order.now c.loop-place.place 0)) c.loop-place.executed.items
-    ≡ Some c.in-Some.form =
+    let f : Function = function_of c.args.rules.now in
+    let ops : List Op = c.args.ops.now in
+    let order : List ℕ = c.args.order.now in
+    let place : ℕ = c.loop-place.place in
+    let executed : List Op = c.loop-place.executed.items in
+    let p : Op = c.in-Some.form in
+    let form : through f (operation_at ops (get_or order place 0)) executed ≡ Some p =
     rw (← c.named.ensures, ← c.deref.ensures.value) (sym c.in-Some.ensures.form) in
-    let is : StuckAt c.loop-place.place ≡ integrated (function_of c.args.rules.now) c.args.doc.now c.args.ops.now c.args.order.now =
+    let refused = is_enabled-false f (c.tests_decide_their_facts.ensures.integrable f) (length c.loop-place.current) p
+    c.in-Some.ensures.declared (c.in-Err-NotEnabled.ensures.not_enabled.0 (ap Err c.in-Err-NotEnabled.field-0-is)) in
+    let is : StuckAt place ≡ integrated f c.args.doc.now ops order =
     sym (c.loop-place.invariant.outcome
-    ∙ outcome-refused (function_of c.args.rules.now) c.loop-place.current c.loop-place.executed.items c.args.ops.now c.args.order.now c.loop-place.place
-    c.loop-place-test.true c.in-Some.form form (c.in-Err-NotEnabled.ensures.not_enabled.0 (ap Err c.in-Err-NotEnabled.field-0-is))) in
+    ∙ outcome-refused f c.loop-place.current executed ops order place c.loop-place-test.true p form refused) in
     record {
       outcome = is;
-      one_document = EndsAsListed-from_law c.both_properties_give_one_outcome.ensures (function_of c.args.rules.now) c.args.doc.now c.args.ops.now c.args.order.now
-          (StuckAt c.loop-place.place) is;
+      one_document = EndsAsListed-from_law c.both_properties_give_one_outcome.ensures f c.args.doc.now ops order (StuckAt place) is;
     }
 
 pub loop-place-preserved : goal.loop-place-preserved
 loop-place-preserved c =
-    let form : through (function_of c.args.rules.now) (operation_at c.args.ops.now (get_or c.args.order.now c.loop-place.place 0)) c.loop-place.executed.items
-    ≡ Some c.in-Some.form =
+    let f : Function = function_of c.args.rules.now in
+    let ops : List Op = c.args.ops.now in
+    let order : List ℕ = c.args.order.now in
+    let place : ℕ = c.loop-place.place in
+    let executed : List Op = c.loop-place.executed.items in
+    let n : ℕ = length c.loop-place.current in
+    let p : Op = c.in-Some.form in
+    let form : through f (operation_at ops (get_or order place 0)) executed ≡ Some p =
     rw (← c.named.ensures, ← c.deref.ensures.value) (sym c.in-Some.ensures.form) in
-    let pushed : c.push.new.self.items ≡ c.loop-place.executed.items ++ c.in-Some.form ∷ [] = c.in_ok-push-in-Ok.ensures.items in
-    let one_more : IsExecuted (function_of c.args.rules.now) c.in-Some.form = record {
+    let enabled = is_enabled-true f (c.tests_decide_their_facts.ensures.integrable f) n p
+    (record { declared = c.in-Some.ensures.declared; enabled = c.in-Ok.ensures.was_enabled }) in
+    let pushed : c.push.new.self.items ≡ executed ++ p ∷ [] = c.in_ok-push-in-Ok.ensures.items in
+    let one_more : IsExecuted f p = record {
       declared = c.in-Some.ensures.declared;
-      near = IsWithin-more (length c.loop-place.current) 1001000 c.in-Some.form (omega arith)
-          (IsWithin-enabled (length c.loop-place.current) c.in-Some.form c.in-Ok.ensures.was_enabled);
+      near = IsWithin-more n most_cells p (omega arith) (IsWithin-enabled n p c.in-Ok.ensures.was_enabled);
     } in
     record {
       outcome = c.loop-place.invariant.outcome
           ∙ rw (c.in-Ok.ensures.ok, pushed, c.loop-place.invariant.mode)
-          (outcome-executed (function_of c.args.rules.now) c.loop-place.current c.loop-place.executed.items c.args.ops.now c.args.order.now c.loop-place.place
-          c.loop-place-test.true c.in-Some.form form c.in-Ok.ensures.was_enabled);
-      executed = rw pushed (All-push (IsExecuted (function_of c.args.rules.now)) c.loop-place.executed.items c.in-Some.form c.loop-place.invariant.executed one_more);
+          (outcome-executed f c.loop-place.current executed ops order place c.loop-place-test.true p form enabled);
+      executed = rw pushed (All-push (IsExecuted f) executed p c.loop-place.invariant.executed one_more);
       mode = c.loop-place.invariant.mode;
       count = rw (pushed, length-append) (omega arith);
-      cells = rw c.in-Ok.ensures.ok (omega (arith, length-document_after c.head-mode.result.mode c.in-Some.form c.loop-place.current));
+      cells = rw c.in-Ok.ensures.ok (omega (arith, length-document_after c.head-mode.result.mode p c.loop-place.current));
     }
 
 pub returns : goal.returns
 returns c =
-    let is : Document c.loop-place.current ≡ integrated (function_of c.args.rules.now) c.args.doc.now c.args.ops.now c.args.order.now =
+    let f : Function = function_of c.args.rules.now in
+    let current = c.loop-place.current in
+    let is : Document current ≡ integrated f c.args.doc.now c.args.ops.now c.args.order.now =
     sym (c.loop-place.invariant.outcome
-    ∙ outcome-end (function_of c.args.rules.now) c.loop-place.current c.loop-place.executed.items c.args.ops.now c.args.order.now c.loop-place.place c.loop-place-test.false) in
+    ∙ outcome-end f current c.loop-place.executed.items c.args.ops.now c.args.order.now c.loop-place.place c.loop-place-test.false) in
     record {
       outcome = is;
-      one_document = EndsAsListed-from_law c.both_properties_give_one_outcome.ensures (function_of c.args.rules.now) c.args.doc.now c.args.ops.now c.args.order.now
-          (Document c.loop-place.current) is;
+      one_document = EndsAsListed-from_law c.both_properties_give_one_outcome.ensures f c.args.doc.now c.args.ops.now c.args.order.now
+          (Document current) is;
     }

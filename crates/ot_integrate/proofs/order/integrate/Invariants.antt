@@ -1,4 +1,5 @@
 use Rattle.std.proofs.Common.{◌≡◌, ◌≤◌, ◌+◌, length, map, drop, All}
+use Rattle.ot_model.specs.declared.limits.TheConstants.{MAX_CELLS}
 use Rattle.fn_rules.specs.Rules.{function_of}
 use Rattle.fn_rules.specs.Orders.{integrated, outcome_from, operation_at}
 use Rattle.ot_integrate.specs.Conditions.{IsExecuted}
@@ -12,5 +13,5 @@ invariant-loop-place l = record {
   executed : All (IsExecuted (function_of l.rules)) l.executed.items;
   mode : l.mode ≡ (function_of l.rules).head.mode;
   count : length l.executed.items ≤ l.place;
-  cells : length l.current ≤ 1000000 + l.place;
+  cells : length l.current ≤ MAX_CELLS + l.place;
 }
