@@ -34,7 +34,8 @@ end_of_reverse (r ∷ rs) xs g is last =
     let parts : xs ≡ reverse rs ++ r ∷ [] = is ∙ reverse-append (r ∷ []) rs in
     let place : length xs - 1 ≡ length (reverse rs) = omega (arith, ap length parts, length-append (reverse rs) (r ∷ [])) in
     let get : slice_get xs (length xs - 1) ≡ Some r =
-    ap (λ (l : List Answer). slice_get l (length xs - 1)) parts ∙ ap (λ (n : ℕ). slice_get (reverse rs ++ r ∷ []) n) place ∙ slice_get-append_seam (reverse rs) r in
+    ap (λ (l : List Answer). slice_get l (length xs - 1)) parts
+    ∙ ap (λ (n : ℕ). slice_get (reverse rs ++ r ∷ []) n) place ∙ slice_get-append_seam (reverse rs) r in
     let there : Some r ≡ Some g = sym get ∙ last in
     record { front = reverse rs; is = parts ∙ ap (λ (h : Answer). reverse rs ++ h ∷ []) (some_same r g there); place = place }
 

@@ -1,5 +1,5 @@
 -- How the orders of a case end, one after another.
-use Rattle.std.proofs.Common.{◌≡◌, ℕ, suc, ◌+◌, All, List, [], ◌∷◌, ◌++◌, map, Some, sym, ap, ◌∙◌, subst, ◌↔◌, append_assoc, arith}
+use Rattle.std.proofs.Common.{◌≡◌, suc, All, List, [], ◌∷◌, map, Some, sym, ap, ◌∙◌, subst, ◌↔◌, arith}
 use Rattle.std.specs.Prelude.{slice_get}
 use Rattle.std.specs.List.{AllByRecursion}
 use Rattle.std.proofs.lemmas.List.Elements.{All-cons, All-nil}
@@ -8,7 +8,6 @@ use Rattle.fn_rules.specs.Orders.{Document}
 use Rattle.ot_integrate.specs.declared.end.End.{End}
 use Rattle.ot_integrate.specs.Ends.{outcome_of}
 use Rattle.ot_top.specs.Replies.{HaveOneEnd}
-use Rattle.ot_top.specs.Texts.{order_line, order_lines}
 
 -- the end is this document
 abbrev Is : List Cell → End → Type 0
@@ -29,19 +28,20 @@ same_document : (d other : List Cell) → Document other ≡ Document d → d �
 same_document d other e = cc
 
 -- an end is a document, so all ends are one document exactly where all are this one
-pub one_end : (ends : List End) (d : List Cell) → ((other : List Cell) → AllByRecursion (λ o. o ≡ Document other) (map outcome_of ends) → d ≡ other) → All (Is d) ends ↔ HaveOneEnd (map outcome_of ends)
+pub one_end :
+    (ends : List End) (d : List Cell)
+    → ((other : List Cell) → AllByRecursion (λ o. o ≡ Document other) (map outcome_of ends) → d ≡ other)
+    → All (Is d) ends ↔ HaveOneEnd (map outcome_of ends)
 one_end ends d same = (
   λ all. (d, outcomes_are d ends all),
   λ one. ends_are d ends (subst (λ x. AllByRecursion (λ o. o ≡ Document x) (map outcome_of ends)) (sym (same one.0 one.1)) one.1),
 )
 
 -- the first end is a document
-pub first_end : (ends : List End) (first : End) (d : List Cell) → slice_get ends 0 ≡ Some first → outcome_of first ≡ Document d → (other : List Cell) → AllByRecursion (λ o. o ≡ Document other) (map outcome_of ends) → d ≡ other
+pub first_end :
+    (ends : List End) (first : End) (d : List Cell) → slice_get ends 0 ≡ Some first → outcome_of first ≡ Document d
+    → (other : List Cell) → AllByRecursion (λ o. o ≡ Document other) (map outcome_of ends) → d ≡ other
 first_end [] first d is told other all = absurd (cc)
 first_end (e ∷ ends) first d is told other all =
     let same : e ≡ first = cc in
     same_document d other (sym all.0 ∙ (ap (λ x. outcome_of x) same ∙ told))
-
--- the line of one order more
-pub more_lines : (out whole : List ℕ) (i : ℕ) (e : End) (ends : List End) → out ++ order_lines i (outcome_of e ∷ map outcome_of ends) ≡ whole → (out ++ order_line i (outcome_of e)) ++ order_lines (i + 1) (map outcome_of ends) ≡ whole
-more_lines out whole i e ends so_far = append_assoc out (order_line i (outcome_of e)) (order_lines (i + 1) (map outcome_of ends)) ∙ so_far

@@ -1,7 +1,11 @@
+mod Behind
 mod Closing
 mod Completing
 mod Ends
+mod Examples
 mod FirstFormLemmas
+mod NamesRead
+mod PlainNames
 mod Showing
 mod SoleObligation
 mod Taking

@@ -14,13 +14,13 @@ use Rattle.ot_questions.specs.Obligation.{plan_of}
 use Rattle.ot_top.specs.Certificates.{AreAnswers, sections_text, IsCertificate, opening_text, closing_text, IsSoleCertificate}
 
 -- the obligations of a head for insertions alone
-sole_obligation : (head : Head) → head.ins ≡ true → head.del ≡ false → obligations_of head Tp1 ≡ Pair Ins Ins ∷ []
-sole_obligation head ins del = rw (ins, del) refl
+sole_obligation : (head : Head) → head.ins ≡ true → head.del ≡ false → head.upd ≡ false → obligations_of head Tp1 ≡ Pair Ins Ins ∷ []
+sole_obligation head ins del upd = rw (ins, del, upd) refl
 
 -- certificates, where these are the obligations
 AreBytes : List ℕ → Function → List ObName → Type 0
 AreBytes bytes f obs =
-    (trees : List AnswerTree) × AreAnswers f obs trees × (bytes ≡ header_text Tp1 ++ sections_text obs trees ++ end_text)
+    (trees : List AnswerTree) × AreAnswers f obs trees × (bytes ≡ header_text obs Tp1 ++ sections_text obs trees ++ end_text)
 
 -- the text with one tree, written in two ways
 one_text : (text : List ℕ) → opening_text ++ text ++ closing_text ≡ opening_text ++ ((text ++ 10 ∷ []) ++ end_text)
@@ -35,26 +35,26 @@ sole_tree bytes f = (
 )
   where
     from : (trees : List AnswerTree) → AreAnswers f (Pair Ins Ins ∷ []) trees
-        → bytes ≡ header_text Tp1 ++ sections_text (Pair Ins Ins ∷ []) trees ++ end_text → IsSoleCertificate bytes (plan_of f (Pair Ins Ins))
+        → bytes ≡ header_text (Pair Ins Ins ∷ []) Tp1 ++ sections_text (Pair Ins Ins ∷ []) trees ++ end_text → IsSoleCertificate bytes (plan_of f (Pair Ins Ins))
     from [] answers is = absurd answers
     from (t ∷ []) answers is = (t, answers.0, answers.1, is ∙ sym (one_text (tokens_text (tokens_of t))))
     from (t ∷ u ∷ trees) answers is = absurd answers.2
 
 pub sole_certificate :
-    (bytes : List ℕ) (f : Function) → f.head.ins ≡ true → f.head.del ≡ false
+    (bytes : List ℕ) (f : Function) → f.head.ins ≡ true → f.head.del ≡ false → f.head.upd ≡ false
     → IsCertificate bytes f Tp1 ↔ IsSoleCertificate bytes (plan_of f (Pair Ins Ins))
 unfolding AreBytes
-sole_certificate bytes f ins del =
-    let obs = sole_obligation f.head ins del in (
+sole_certificate bytes f ins del upd =
+    let obs = sole_obligation f.head ins del upd in (
       λ h. (sole_tree bytes f).0 (subst (λ (l : List ObName). AreBytes bytes f l) obs h),
       λ h. subst (λ (l : List ObName). AreBytes bytes f l) (sym obs) ((sole_tree bytes f).1 h),
     )
 
 -- an answer about the sole tree is one about the certificate
 pub answers_for_certificate :
-    {E : Type 0} (bytes : List ℕ) (f : Function) (r : Result Bool E) → f.head.ins ≡ true → f.head.del ≡ false
+    {E : Type 0} (bytes : List ℕ) (f : Function) (r : Result Bool E) → f.head.ins ≡ true → f.head.del ≡ false → f.head.upd ≡ false
     → IfOk r (λ found. IsTrue found ↔ IsSoleCertificate bytes (plan_of f (Pair Ins Ins)))
     → IfOk r (λ found. IsTrue found ↔ IsCertificate bytes f Tp1)
-answers_for_certificate bytes f (Ok found) ins del h =
-    let same = sole_certificate bytes f ins del in (λ e. same.1 (h.0 e), λ k. h.1 (same.0 k))
-answers_for_certificate bytes f (Err e) ins del h = tt
+answers_for_certificate bytes f (Ok found) ins del upd h =
+    let same = sole_certificate bytes f ins del upd in (λ e. same.1 (h.0 e), λ k. h.1 (same.0 k))
+answers_for_certificate bytes f (Err e) ins del upd h = tt

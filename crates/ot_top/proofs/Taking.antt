@@ -3,7 +3,6 @@ use Rattle.std.proofs.Common.{◌≡◌, ℕ, ◌+◌, Bool, true, false, List, 
 use Rattle.std.specs.Prelude.{if◌then◌else◌}
 use Rattle.std.specs.Bool.{OnTrue, OnFalse}
 use Rattle.std.proofs.lemmas.Bool.{false≢true}
-use Rattle.std.proofs.lemmas.List.{append-nil}
 use Rattle.ask_core.specs.declared.tree.Tok.{Tok}
 use Rattle.ask_core.specs.Plans.{Plan}
 use Rattle.ask_core.specs.Trees.{AnswerTree, Question, End, Impossible, tokens_of, Branch, Completes}
@@ -75,13 +74,6 @@ takes_by_close p path middle after tok true closes same yes_next no_next =
     takes_closed p path after tok closes (ap (λ (q : List Answer). next_path q) (sym same) ∙ yes_next)
 takes_by_close p path middle after tok false closes same yes_next no_next =
     takes_last p path after tok closes (ap (λ (q : List Answer). next_path q) (sym same) ∙ no_next)
-
--- the tokens fit exactly where they complete the one open place that there is at first
-pub fits_as_open : (tokens : List Tok) (p : Plan Why) → AreFitting tokens p ↔ Completes tokens (open_places true p [])
-fits_as_open tokens p = (
-  λ h. (h.0, [], h.2, h.1 ∙ sym (append-nil (tokens_of h.0)), refl),
-  λ h. (h.0, h.3 ∙ ap (λ (l : List Tok). tokens_of h.0 ++ l) h.4 ∙ append-nil (tokens_of h.0), h.2),
-)
 
 -- one more token was taken
 pub take_more :

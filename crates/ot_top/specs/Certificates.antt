@@ -30,7 +30,7 @@ abbrev pub IsCertificate : List ℕ → Function → Level → Type 0
 IsCertificate bytes f level =
     (trees : List AnswerTree)
     × AreAnswers f (obligations_of f.head level) trees
-    × (bytes ≡ header_text level ++ sections_text (obligations_of f.head level) trees ++ end_text)
+    × (bytes ≡ header_text (obligations_of f.head level) level ++ sections_text (obligations_of f.head level) trees ++ end_text)
 
 -- the bytes before the tree of a certificate that has the one obligation of two insertions, at level tp1
 abbrev pub opening_text : List ℕ

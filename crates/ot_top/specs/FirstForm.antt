@@ -1,13 +1,17 @@
 -- Which functions have certificates that can be judged.
-use Rattle.std.specs.Prelude.{Bool, true, false, not, ◌&&◌}
+use Rattle.std.specs.Prelude.{Bool, true, false, not, ◌&&◌, if◌then◌else◌}
 use Rattle.std.specs.List.{list_all}
+use Rattle.ot_model.specs.declared.op.Kind.{Kind}
+use Rattle.ot_model.specs.declared.op.Kind.TheVariants.{Ins}
 use Rattle.ot_model.specs.declared.op.Mode.{Mode}
 use Rattle.ot_model.specs.declared.op.Mode.TheVariants.{Plain, Tomb}
+use Rattle.ot_model.specs.declared.op.TheConstants.{KINDS}
+use Rattle.ot_model.specs.Kinds.{is_same_kind}
 use Rattle.fn_rules.specs.declared.guard.Sort.{Sort}
 use Rattle.fn_rules.specs.declared.guard.Sort.TheVariants.{Pos, Site, Char}
 use Rattle.fn_rules.specs.declared.function.Head.{Head}
 use Rattle.fn_rules.specs.Formulas.{Formula, Always, Compare, And, Or, Not}
-use Rattle.fn_rules.specs.Functions.{Function, GuardedCase}
+use Rattle.fn_rules.specs.Functions.{Function, GuardedCase, cases_of, is_declared}
 
 abbrev pub is_plain : Mode → Bool
 is_plain Plain = true
@@ -37,10 +41,14 @@ is_first_guard (Not g) = false
 abbrev pub is_first_case : GuardedCase → Bool
 is_first_case c = is_first_guard c.guard
 
--- a function on plain text that declares no deletion and does not assume that characters differ
+-- a kind that is declared exactly where it is that of insertions
+abbrev pub is_first_kind : Head → Kind → Bool
+is_first_kind head k = if is_same_kind k Ins then is_declared head k else not (is_declared head k)
+
+-- a function on plain text for insertions alone, which does not assume that characters differ
 abbrev pub has_first_head : Head → Bool
-has_first_head head = is_plain head.mode && not head.del && not head.chars_differ
+has_first_head head = is_plain head.mode && list_all (is_first_kind head) KINDS && not head.chars_differ
 
 -- such a function, each of whose guards is `true` or atoms over positions and sites
 abbrev pub has_first_form : Function → Bool
-has_first_form f = has_first_head f.head && list_all is_first_case f.ins_ins
+has_first_form f = has_first_head f.head && list_all is_first_case (cases_of f Ins Ins)

@@ -1,7 +1,9 @@
 pub mod Judging
 pub mod Certificates
 pub mod FirstForm
+pub mod Commands
 pub mod Words
 pub mod Replies
-pub mod Views
+pub mod FaultTexts
+pub mod OrderTexts
 pub mod Texts

@@ -1,5 +1,6 @@
--- Which reply words and files get, in the order in which they are refused.
-use Rattle.std.specs.Prelude.{◌≡◌, ℕ, ◌<◌, ◌≤◌, ◌⊎◌, ◌↔◌, Bool, true, false, List, length, map, Option, Some, Result, Ok, Err, IsTrue, IsOkAnd, MatchOption}
+-- Which reply a command gets, in the order in which it is refused.
+use Rattle.std.specs.Prelude.{◌≡◌, ℕ, ◌<◌, ◌≤◌, ◌⊎◌, ◌↔◌, Bool, true, false, List, length, map}
+use Rattle.std.specs.Prelude.{Option, Some, Result, Ok, Err, IsTrue, IsOkAnd, MatchOption}
 use Rattle.std.specs.List.{AllByRecursion}
 use Rattle.std.specs.Option.{ForSome}
 use Rattle.ot_model.specs.declared.cell.Cell.{Cell}
@@ -13,41 +14,54 @@ use Rattle.fn_text.specs.Reading.{function_in}
 use Rattle.case_json.specs.declared.fault.CaseFault.{CaseFault}
 use Rattle.case_json.specs.declared.trial.Trial.{Trial}
 use Rattle.case_json.specs.Cases.{trial_in}
-use Rattle.ot_top.specs.declared.words.Task.{Task}
-use Rattle.ot_top.specs.declared.words.Task.TheVariants.{Check, Integrate}
+use Rattle.ot_integrate.specs.Ends.{outcome_of}
+use Rattle.ot_top.specs.declared.reply.FileKind.{FileKind}
+use Rattle.ot_top.specs.declared.reply.FileKind.TheVariants as files
+use Rattle.ot_top.specs.declared.reply.Reply.{Reply}
+use Rattle.ot_top.specs.declared.reply.Reply.TheVariants.{Accepted, Refused, FunctionForm, FunctionRefused}
+use Rattle.ot_top.specs.declared.reply.Reply.TheVariants.{CaseRefused, Integrated, Usage, TooLong}
 use Rattle.ot_top.specs.Certificates.{IsCertificate}
+use Rattle.ot_top.specs.Commands.{Asked, Check, Integrate}
 use Rattle.ot_top.specs.FirstForm.{has_first_form}
 use Rattle.ot_top.specs.Words.{asked_by}
 
--- the replies
-pub data Reply : Type 0 where
-  Accepted : Reply
-  Refused : Reply
-  FunctionForm : Reply
-  FunctionRefused : TextFault → Reply
-  CaseRefused : CaseFault → Reply
-  Integrated : List Outcome → Bool → Reply
-  Usage : Reply
-  FunctionLimit : Reply
-  CertificateLimit : Reply
-  CaseLimit : Reply
+-- the most bytes of a file
+abbrev pub limit_of : FileKind → ℕ
+limit_of files.Function = 1048576
+limit_of files.Certificate = 83886080
+limit_of files.Case = 16777216
 
--- the most bytes of a function file, of a certificate file and of a case file
-abbrev pub function_limit : ℕ
-function_limit = 1048576
+-- In what follows `told` is what a file holds, where the shelf tells it.
 
-abbrev pub certificate_limit : ℕ
-certificate_limit = 83886080
+-- the file is within its limit and holds these bytes
+abbrev pub Holds : FileKind → List ℕ → Option (List ℕ) → Type 0
+Holds kind bytes told = (length bytes ≤ limit_of kind) × ForSome told (λ contents. bytes ≡ contents)
 
-abbrev pub case_limit : ℕ
-case_limit = 16777216
+-- the file is longer than its limit, and the reply says so
+abbrev pub IsTooLong : FileKind → Option (List ℕ) → Reply → Type 0
+IsTooLong kind told r = ForSome told (λ contents. limit_of kind < length contents) × (r ≡ TooLong kind)
 
--- the reply to a certificate file: the limit first, and then whether it is a certificate
+-- the file is within its limit and is read as this function, or with this fault
+abbrev pub IsReadAs : Result Function TextFault → Option (List ℕ) → Type 0
+IsReadAs read told = ForSome told (λ contents. (length contents ≤ limit_of files.Function) × (function_in contents ≡ read))
+
+-- the reply to a function's file that is refused: the limit first, and then the first fault of its text
+abbrev pub IsFunctionRefusal : Option (List ℕ) → Reply → Type 0
+IsFunctionRefusal told r =
+    IsTooLong files.Function told r ⊎ ((fault : TextFault) × IsReadAs (Err fault) told × (r ≡ FunctionRefused fault))
+
+-- the reply to a function's file, and then the one that its function gets
+abbrev pub IsReplyToFunction : Option (List ℕ) → (Function → Type 0) → Reply → Type 0
+IsReplyToFunction told Gets r = IsFunctionRefusal told r ⊎ ((f : Function) × IsReadAs (Ok f) told × Gets f)
+
+-- the reply to another file, and then the one that its bytes get
+abbrev pub IsReplyToFile : FileKind → Option (List ℕ) → (List ℕ → Type 0) → Reply → Type 0
+IsReplyToFile kind told Gets r = IsTooLong kind told r ⊎ ((bytes : List ℕ) × Holds kind bytes told × Gets bytes)
+
+-- the reply to a certificate: whether it is one of the function
 abbrev pub IsReplyToCertificate : Function → List ℕ → Reply → Type 0
 IsReplyToCertificate f bytes r =
-    ((certificate_limit < length bytes) × (r ≡ CertificateLimit))
-    ⊎ ((length bytes ≤ certificate_limit) × IsCertificate bytes f Tp1 × (r ≡ Accepted))
-    ⊎ ((length bytes ≤ certificate_limit) × (¬ (IsCertificate bytes f Tp1)) × (r ≡ Refused))
+    (IsCertificate bytes f Tp1 × (r ≡ Accepted)) ⊎ (¬ (IsCertificate bytes f Tp1) × (r ≡ Refused))
 
 -- each outcome is one document
 abbrev pub HaveOneEnd : List Outcome → Type 0
@@ -57,59 +71,52 @@ HaveOneEnd outcomes = (d : List Cell) × AllByRecursion (λ o. o ≡ Document d)
 abbrev pub outcomes_of : Function → Trial → List Outcome
 outcomes_of f t = map (integrated f t.doc t.ops) t.orders
 
--- the reply to what a case file is read as: its first fault, or its outcomes and whether they are the same
+-- the reply tells how each order of a case ends, and whether all end with one document
+abbrev pub TellsOutcomes : List Outcome → Reply → Type 0
+TellsOutcomes outcomes (Integrated ends same) = (map outcome_of ends ≡ outcomes) × (IsTrue same ↔ HaveOneEnd outcomes)
+TellsOutcomes outcomes r = ⊥
+
+-- the reply to what a case is read as: its first fault, or the outcomes of its orders
 abbrev pub IsReplyToTrial : Function → Result Trial CaseFault → Reply → Type 0
 IsReplyToTrial f (Err fault) r = r ≡ CaseRefused fault
-IsReplyToTrial f (Ok t) r =
-    (same : Bool) × (IsTrue same ↔ HaveOneEnd (outcomes_of f t)) × (r ≡ Integrated (outcomes_of f t) same)
+IsReplyToTrial f (Ok t) r = TellsOutcomes (outcomes_of f t) r
 
--- the reply to a case file: the limit first
-abbrev pub IsReplyToCase : Function → List ℕ → Reply → Type 0
-IsReplyToCase f bytes r =
-    ((case_limit < length bytes) × (r ≡ CaseLimit))
-    ⊎ ((length bytes ≤ case_limit) × IsReplyToTrial f (trial_in f bytes) r)
+unfoldable pub IsReplyToCase : Function → List ℕ → Reply → Type 0
+IsReplyToCase f bytes r = IsReplyToTrial f (trial_in f bytes) r
 
--- the task can be done with the function
-abbrev pub serves : Task → Function → Bool
-serves Check f = has_first_form f
-serves Integrate f = true
+-- the reply to a command, where `holds` says what each name holds
+abbrev pub IsReplyTo : (List ℕ → Option (List ℕ)) → Asked → Reply → Type 0
+IsReplyTo holds (Check function certificate) r =
+    IsReplyToFunction (holds function)
+    (λ f. ((has_first_form f ≡ false) × (r ≡ FunctionForm))
+    ⊎ ((has_first_form f ≡ true)
+    × IsReplyToFile files.Certificate (holds certificate) (λ bytes. IsReplyToCertificate f bytes r) r)) r
+IsReplyTo holds (Integrate function case) r =
+    IsReplyToFunction (holds function)
+    (λ f. IsReplyToFile files.Case (holds case) (λ bytes. IsReplyToCase f bytes r) r) r
 
--- the reply to the second file
-abbrev pub IsReplyToSecond : Task → Function → List ℕ → Reply → Type 0
-IsReplyToSecond Check f bytes r = IsReplyToCertificate f bytes r
-IsReplyToSecond Integrate f bytes r = IsReplyToCase f bytes r
-
--- the reply to what a function file is read as, and to the contents of the second file, where these are
--- told: the first fault, the form, and then the second file
-abbrev pub IsReplyToText : Task → Result Function TextFault → Option (List ℕ) → Reply → Type 0
-IsReplyToText task (Err fault) second r = r ≡ FunctionRefused fault
-IsReplyToText task (Ok f) second r =
-    ((serves task f ≡ false) × (r ≡ FunctionForm))
-    ⊎ ((serves task f ≡ true) × ForSome second (λ bytes. IsReplyToSecond task f bytes r))
-
--- the reply to a function file: the limit first
-abbrev pub IsReplyToFunction : Task → List ℕ → Option (List ℕ) → Reply → Type 0
-IsReplyToFunction task bytes second r =
-    ((function_limit < length bytes) × (r ≡ FunctionLimit))
-    ⊎ ((length bytes ≤ function_limit) × IsReplyToText task (function_in bytes) second r)
-
--- the reply to words, where this says what each name holds
+-- the reply to words
 abbrev pub IsReply : List (List ℕ) → (List ℕ → Option (List ℕ)) → Reply → Type 0
-IsReply words holds r =
-    MatchOption (asked_by words) (r ≡ Usage)
-    (λ asked. ForSome (holds asked.function) (λ bytes. IsReplyToFunction asked.task bytes (holds asked.second) r))
+IsReply words holds r = MatchOption (asked_by words) (r ≡ Usage) (λ asked. IsReplyTo holds asked r)
 
--- the second file is read only where the first one, if it is told, is within its limit and is read as a
--- function with which the task can be done
-abbrev pub GoesOn : Task → Option (List ℕ) → Type 0
-GoesOn task told =
-    ForSome told (λ bytes. (length bytes ≤ function_limit) × IsOkAnd (function_in bytes) (λ f. serves task f ≡ true))
+-- a command goes on behind a function's file: where that is told, it is within its limit and is read as a
+-- function that the command serves
+abbrev pub GoesOn : Option (List ℕ) → (Function → Bool) → Type 0
+GoesOn told serves = ForSome told
+    (λ contents. (length contents ≤ limit_of files.Function) × IsOkAnd (function_in contents) (λ f. serves f ≡ true))
+
+-- the names that a command opens are on offer: its first, and each other one where it goes on to it
+abbrev pub AreOffered : (List ℕ → Option (List ℕ)) → (List ℕ → Type 0) → Asked → Type 0
+AreOffered holds Offered (Check function certificate) =
+    Offered function × (GoesOn (holds function) has_first_form → Offered certificate)
+AreOffered holds Offered (Integrate function case) =
+    Offered function × (GoesOn (holds function) (λ f. true) → Offered case)
 
 -- the words ask to judge a certificate; where both files are told, the first one is the text of a function
 -- by the grammar, the second is a certificate of it, and the function has the first property
 abbrev pub IsShown : List (List ℕ) → (List ℕ → Option (List ℕ)) → Type 0
 IsShown words holds =
     (name certificate_name bytes certificate : List ℕ)
-    → asked_by words ≡ Some record { task = Check; function = name; second = certificate_name }
+    → asked_by words ≡ Some (Check name certificate_name)
     → holds name ≡ Some bytes → holds certificate_name ≡ Some certificate
     → (f : Function) × IsTextOf bytes f × IsCertificate certificate f Tp1 × HasTp1 f

@@ -30,7 +30,7 @@ fn is_fitting_text<Q: Questions>(
     ensures { IfOk result (λ yes. IsTrue yes ↔ IsFittingText text.now (Q.plan questions.now)) }
 {
     match read_tree(alloc, text)? {
-        Some(tree) => Ok(is_fitting(alloc, questions, tree.toks())?),
+        Some(tree) => Ok(is_fitting(alloc, questions, tree.as_slice())?),
         None => Ok(false),
     }
 }

@@ -4,10 +4,11 @@ ghost use Rattle.std.specs.List.{list_all};
 ghost use Rattle.fn_rules.specs.Formulas.{formula_of};
 ghost use Rattle.fn_rules.specs.Functions.{case_of};
 ghost use Rattle.fn_rules.specs.Rules.{function_of};
-ghost use Rattle.ot_top.specs.FirstForm.{is_plain, is_position_or_site, is_conjunction, is_first_guard, is_first_case, has_first_head, has_first_form};
+ghost use Rattle.ot_top.specs.FirstForm.{has_first_form, has_first_head, is_first_case, is_first_guard};
+ghost use Rattle.ot_top.specs.FirstForm.{is_conjunction, is_first_kind, is_plain, is_position_or_site};
 
 use fn_rules::{Case, Guard, Head, Rules, Sort};
-use ot_model::{Kind, Mode};
+use ot_model::{KINDS, Kind, Mode};
 
 fn is_plain(mode: Mode) -> bool
     ensures { result ≡ is_plain mode }
@@ -55,14 +56,31 @@ fn are_first(cases: &[Case]) -> bool
     cases.iter().all(|case| is_first_guard(&case.guard))
 }
 
+// The kind is declared exactly where it is that of insertions.
+fn is_first_kind(head: &Head, kind: Kind) -> bool
+    ensures { result ≡ is_first_kind head.now kind }
+{
+    if kind.same(Kind::Ins) {
+        head.declares(kind)
+    } else {
+        !head.declares(kind)
+    }
+}
+
+fn is_for_insertions_alone(head: &Head) -> bool
+    ensures { result ≡ list_all (is_first_kind head.now) KINDS }
+{
+    KINDS.iter().all(|kind| is_first_kind(head, *kind))
+}
+
 fn has_first_head(head: &Head) -> bool
     ensures { result ≡ has_first_head head.now }
 {
-    is_plain(head.mode) && !head.del && !head.chars_differ
+    is_plain(head.mode) && is_for_insertions_alone(head) && !head.chars_differ
 }
 
-/// Whether certificates of the function can be judged: it is one on plain text, declares no deletion
-/// and does not assume that characters differ, and each of its guards is `true` or a conjunction of
+/// Whether certificates of the function can be judged: it is one on plain text, is for
+/// insertions alone and does not assume that characters differ, and each of its guards is `true` or a conjunction of
 /// atoms over positions and sites.
 pub(crate) fn has_first_form(rules: &Rules) -> bool
     ensures { result ≡ has_first_form (function_of rules.now) }

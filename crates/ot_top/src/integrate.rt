@@ -1,21 +1,24 @@
-//! The reply to a case: its operations, integrated in each of its orders.
-ghost use Rattle.std.specs.Prelude.{◌≡◌, ◌≤◌, ◌↔◌, IfOk, IsTrue, All, length, map};
+//! `integrate FUNCTION CASE`: the operations of the case, integrated in each of its orders.
+ghost use Rattle.std.specs.Prelude.{◌≡◌, ◌≤◌, ◌↔◌, Err, IfOk, IsErrOf, IsTrue, All, length, map, true};
 ghost use Rattle.case_json.specs.Tests.{IsReady};
 ghost use Rattle.fn_rules.specs.Orders.{integrated, Document};
 ghost use Rattle.fn_rules.specs.Rules.{function_of};
 ghost use Rattle.ot_integrate.specs.Ends.{outcome_of};
-ghost use Rattle.ot_top.specs.Replies.{HaveOneEnd, IsReplyToCase, outcomes_of};
-ghost use Rattle.ot_top.specs.Views.{reply_of};
+ghost use Rattle.ot_outside.specs.Faults.{Rose};
+ghost use Rattle.ot_outside.specs.Unchanged.{Unchanged};
+ghost use Rattle.ot_top.specs.Commands.{Integrate};
+ghost use Rattle.ot_top.specs.Replies.{limit_of, GoesOn, HaveOneEnd, IsReplyTo, IsReplyToCase, TellsOutcomes, outcomes_of};
+ghost use Rattle.ot_top.specs.declared.reply.FileKind.TheVariants as files;
 
-use crate::reply::Reply;
+use crate::load::{Stop, load_function, read_file};
+use crate::reply::{FileKind, Reply};
 use case_json::{CaseFault, Trial, trial_read};
 use fn_rules::Rules;
-use ot_integrate::{End, integrate};
+use ot_integrate::End;
 use ot_model::{Doc, NoMemory};
+use ot_outside::Shelf;
+use plain_list::List;
 use std::alloc::Global;
-
-/// The most bytes of a case file.
-pub(crate) const CASE_LIMIT: usize = 16_777_216;
 
 // The end of an order is this document.
 fn is_document(end: &End, doc: &Doc) -> bool
@@ -51,34 +54,63 @@ fn end_of(alloc: Global, rules: &Rules, trial: &Trial, order: &[u32]) -> Result<
     requires places { length order.now ≤ 1000 }
     ensures { IfOk result (λ end. outcome_of end ≡ integrated (function_of rules.now) trial.now.doc trial.now.ops order.now) }
 {
-    let end = integrate(alloc, rules, &trial.doc, trial.ops.as_slice(), order)?;
+    let end = ot_integrate::integrate(alloc, rules, &trial.doc, trial.ops.as_slice(), order)?;
     Ok(end)
 }
 
 // How each order of a case ends.
-fn ends_of(alloc: Global, rules: &Rules, trial: &Trial) -> Result<Vec<End>, NoMemory>
+fn ends_of(alloc: Global, rules: &Rules, trial: &Trial) -> Result<List<End>, NoMemory>
     requires { IsReady (function_of rules.now) trial.now }
-    ensures { IfOk result (λ ends. map outcome_of ends.items ≡ outcomes_of (function_of rules.now) trial.now) }
+    ensures { IfOk result (λ ends. map outcome_of ends ≡ outcomes_of (function_of rules.now) trial.now) }
 {
-    let mut ends = Vec::new(alloc);
+    let mut ends = List::new(alloc);
     for order in trial.orders.as_slice() {
         ends.push(end_of(alloc, rules, trial, order.as_slice())?)?;
     }
     Ok(ends)
 }
 
-/// The reply to a case file within its limit.
-pub(crate) fn reply_to_case(alloc: Global, rules: &Rules, bytes: &[u8]) -> Result<Reply, NoMemory>
-    requires { length bytes.now ≤ CASE_LIMIT }
-    ensures { IfOk result (λ reply. IsReplyToCase (function_of rules.now) bytes.now (reply_of reply)) }
+// How the orders of a case end, as a reply.
+fn outcomes(alloc: Global, rules: &Rules, trial: &Trial) -> Result<Reply, NoMemory>
+    requires { IsReady (function_of rules.now) trial.now }
+    ensures { IfOk result (TellsOutcomes (outcomes_of (function_of rules.now) trial.now)) }
+{
+    let ends = ends_of(alloc, rules, trial)?;
+    let same = have_one_end(ends.as_slice());
+    Ok(Reply::Integrated(ends, same))
+}
+
+// The reply to a case.
+#[tactic(auto, unfolding(crate::specs::Replies::IsReplyToCase))]
+fn reply_to_case(alloc: Global, rules: &Rules, bytes: &[u8]) -> Result<Reply, NoMemory>
+    requires { length bytes.now ≤ limit_of files.Case }
+    ensures { IfOk result (λ reply. IsReplyToCase (function_of rules.now) bytes.now reply) }
 {
     match trial_read(alloc, rules, bytes) {
-        Ok(trial) => {
-            let ends = ends_of(alloc, rules, &trial)?;
-            let same = have_one_end(&ends);
-            Ok(Reply::Integrated(ends, same))
-        }
+        Ok(trial) => outcomes(alloc, rules, &trial),
         Err(CaseFault::NoMemory) => Err(NoMemory),
         Err(fault) => Ok(Reply::CaseRefused(fault)),
     }
+}
+
+/// The reply to the command.
+pub(crate) fn integrate<H: Shelf>(
+    alloc: Global,
+    shelf: &mut H,
+    function: &str,
+    case: &str,
+) -> Result<Reply, Stop>
+    requires function { H.offered shelf.old function.now }
+    requires case { GoesOn (H.holds shelf.old function.now) (λ f. true) → H.offered shelf.old case.now }
+
+    ensures ok { IfOk result (λ reply. IsReplyTo (H.holds shelf.old) (Integrate function.now case.now) reply) }
+    ensures replied { (r : Reply) → result ≡ Err (Stop.Replied r)
+        → IsReplyTo (H.holds shelf.old) (Integrate function.now case.now) r }
+    ensures shelf { IsErrOf result Stop.Shelf → Rose (H.faults shelf.old) (H.faults shelf.new) }
+    ensures unchanged { Unchanged H.holds H.offered H.faults shelf.old shelf.new }
+{
+    let rules = load_function(alloc, shelf, function)?;
+    let bytes = read_file(alloc, shelf, case, FileKind::Case)?;
+    let reply = reply_to_case(alloc, &rules, &bytes)?;
+    Ok(reply)
 }

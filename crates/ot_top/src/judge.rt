@@ -7,9 +7,9 @@ ghost use Rattle.ask_core.specs.Trees.{IsCycleAmong};
 ghost use Rattle.ot_questions.specs.declared.why.Why.{Why};
 ghost use Rattle.ot_questions.specs.Nexts.{next_after};
 
-use ask_core::{NoMemory, Picks, Tok};
+use ask_core::{NoMemory, Picks, Tok, trees_are_judged_token_by_token};
 use diff_graph::{Lit, is_negative_cycle, negate};
-use ot_questions::Next;
+use ot_questions::{Next, Why};
 use std::alloc::Global;
 
 /// An answer on the open path.
@@ -95,6 +95,7 @@ fn turn<Q: Questions>(
 ) -> Result<Turned, NoMemory>
     ensures { IfOk result (λ turned. Turns (Q.plan questions.now) (reverse path.old.items) tok.now turned (reverse path.new.items)) }
 {
+    trees_are_judged_token_by_token::<Why>();
     match tok {
         Tok::Ask => match next_at(alloc, questions, path)? {
             Next::Asked(lit) => {

@@ -12,6 +12,7 @@
 mod answer;
 mod certificate;
 mod check;
+mod command;
 mod first_form;
 mod integrate;
 mod judge;
@@ -24,6 +25,5 @@ mod text;
 mod words;
 
 pub use program::{NO_MEMORY, SHELF_FAULT, SINK_FAULT, run};
-pub use reply::Reply;
+pub use reply::{FileKind, Reply};
 pub use soundness::certificates_show_the_properties;
-pub use words::Task;

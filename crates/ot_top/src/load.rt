@@ -1,15 +1,23 @@
-//! Files as they are read.
-ghost use Rattle.std.specs.Prelude.{◌≡◌, ◌<◌, ◌≤◌, ℕ, List, length, IfOk, IfSome, IsErrOf, IsNone, ◌↔◌};
-ghost use Rattle.std.specs.Option.{ForSome};
+//! Files as they are read, and what stops a command before its work is done.
+ghost use Rattle.std.specs.Prelude.{◌≡◌, Ok, Err, IfOk, IsErrOf};
+ghost use Rattle.fn_rules.specs.Rules.{function_of};
 ghost use Rattle.ot_outside.specs.Faults.{Rose};
+ghost use Rattle.ot_outside.specs.Unchanged.{Unchanged};
+ghost use Rattle.ot_top.specs.Replies.{limit_of, Holds, IsFunctionRefusal, IsReadAs, IsTooLong};
 
+use crate::reply::{FileKind, Reply};
+use fn_rules::Rules;
+use fn_text::{ReadError, read_rules};
 use ot_model::NoMemory;
 use ot_outside::{ReadEnd, Shelf, read_all};
 use std::alloc::Global;
 
-/// Why there is no reply.
-#[derive(Clone, Copy, Debug, PartialEq, Eq)]
-pub(crate) enum Unanswered {
+/// Why a command goes no further.
+#[derive(Debug, Drop)]
+pub(crate) enum Stop {
+    /// What it has read gets a reply.
+    Replied(Reply),
+
     /// The shelf failed; its count of faults rose.
     Shelf,
 
@@ -17,39 +25,67 @@ pub(crate) enum Unanswered {
     NoMemory,
 }
 
-impl From<NoMemory> for Unanswered {
-    ghost use Rattle.ot_top.specs.declared.load.Unanswered.TheVariants as unanswered;
+impl From<NoMemory> for Stop {
+    ghost use Rattle.ot_top.specs.declared.load.Stop.TheVariants as stop;
 
-    ghost from_gives = { λ _ e. e ≡ unanswered.NoMemory };
+    ghost from_gives = { λ _ e. e ≡ stop.NoMemory };
 
-    fn from(_: NoMemory) -> Unanswered {
-        Unanswered::NoMemory
+    fn from(_: NoMemory) -> Stop {
+        Stop::NoMemory
     }
 }
 
-/// The bytes of a file, none where it is longer than the limit.
+// The most bytes of a file.
+fn limit(kind: FileKind) -> usize
+    ensures { result ≡ limit_of kind }
+{
+    match kind {
+        FileKind::Function => 1_048_576,
+        FileKind::Certificate => 83_886_080,
+        FileKind::Case => 16_777_216,
+    }
+}
+
+/// The bytes of a file within its limit.
 pub(crate) fn read_file<H: Shelf>(
     alloc: Global,
     shelf: &mut H,
     name: &str,
-    limit: usize,
-) -> Result<Option<Vec<u8>>, Unanswered>
+    kind: FileKind,
+) -> Result<Vec<u8>, Stop>
     requires { H.offered shelf.old name.now }
 
-    ensures read { IfOk result (λ file. IfSome file (λ bytes. ForSome (H.holds shelf.old name.now) (λ contents. bytes.items ≡ contents))) }
-    ensures within { IfOk result (λ file. IfSome file (λ bytes. length bytes.items ≤ limit)) }
-    ensures too_long { IfOk result (λ file. IsNone file → ForSome (H.holds shelf.old name.now) (λ contents. limit < length contents)) }
-    ensures shelf { IsErrOf result Unanswered.Shelf → Rose (H.faults shelf.old) (H.faults shelf.new) }
-
-    ensures holds { (n : List ℕ) → H.holds shelf.new n ≡ H.holds shelf.old n }
-    ensures offered { (n : List ℕ) → H.offered shelf.old n ↔ H.offered shelf.new n }
-    ensures faults { H.faults shelf.old ≤ H.faults shelf.new }
+    ensures ok { IfOk result (λ bytes. Holds kind bytes.items (H.holds shelf.old name.now)) }
+    ensures replied { (r : Reply) → result ≡ Err (Stop.Replied r) → IsTooLong kind (H.holds shelf.old name.now) r }
+    ensures shelf { IsErrOf result Stop.Shelf → Rose (H.faults shelf.old) (H.faults shelf.new) }
+    ensures unchanged { Unchanged H.holds H.offered H.faults shelf.old shelf.new }
 {
     let mut bytes = Vec::new(alloc);
-    match read_all(shelf, name, limit, &mut bytes) {
-        Ok(()) => Ok(Some(bytes)),
-        Err(ReadEnd::TooLong) => Ok(None),
-        Err(ReadEnd::Failed) => Err(Unanswered::Shelf),
-        Err(ReadEnd::NoMemory) => Err(Unanswered::NoMemory),
+    match read_all(shelf, name, limit(kind), &mut bytes) {
+        Ok(()) => Ok(bytes),
+        Err(ReadEnd::TooLong) => Err(Stop::Replied(Reply::TooLong(kind))),
+        Err(ReadEnd::Failed) => Err(Stop::Shelf),
+        Err(ReadEnd::NoMemory) => Err(Stop::NoMemory),
+    }
+}
+
+/// The function of a file.
+pub(crate) fn load_function<H: Shelf>(
+    alloc: Global,
+    shelf: &mut H,
+    name: &str,
+) -> Result<Rules, Stop>
+    requires { H.offered shelf.old name.now }
+
+    ensures ok { IfOk result (λ rules. IsReadAs (Ok (function_of rules)) (H.holds shelf.old name.now)) }
+    ensures replied { (r : Reply) → result ≡ Err (Stop.Replied r) → IsFunctionRefusal (H.holds shelf.old name.now) r }
+    ensures shelf { IsErrOf result Stop.Shelf → Rose (H.faults shelf.old) (H.faults shelf.new) }
+    ensures unchanged { Unchanged H.holds H.offered H.faults shelf.old shelf.new }
+{
+    let bytes = read_file(alloc, shelf, name, FileKind::Function)?;
+    match read_rules(alloc, &bytes) {
+        Ok(rules) => Ok(rules),
+        Err(ReadError::Fault(fault)) => Err(Stop::Replied(Reply::FunctionRefused(fault))),
+        Err(ReadError::NoMemory) => Err(Stop::NoMemory),
     }
 }

@@ -1,14 +1,16 @@
 //! The call that does all that the program does.
-ghost use Rattle.std.specs.Prelude.{◌≡◌, ◌≢◌, ◌≤◌, ◌↔◌, ℕ, List, map, IfSome, string_bytes};
+ghost use Rattle.std.specs.Prelude.{◌≡◌, ◌≢◌, ◌≤◌, map, IfSome, string_bytes};
 ghost use Rattle.std.specs.Io.KnownBytes.{append_known};
 ghost use Rattle.ot_outside.specs.Faults.{Rose};
 ghost use Rattle.ot_outside.specs.Whole.{AppendsFront};
-ghost use Rattle.ot_top.specs.Replies.{Reply, IsReply, IsShown, GoesOn};
+ghost use Rattle.ot_outside.specs.Unchanged.{Unchanged};
+ghost use Rattle.ot_top.specs.Replies.{AreOffered, IsReply, IsShown};
 ghost use Rattle.ot_top.specs.Texts.{status_of, text_of};
 ghost use Rattle.ot_top.specs.Words.{asked_by};
 
-use crate::answer::reply_to;
-use crate::load::Unanswered;
+use crate::answer::answer;
+use crate::load::Stop;
+use crate::reply::Reply;
 use crate::soundness::certificates_show_the_properties;
 use crate::text::{status, text};
 use fn_text::what_is_read_is_in_the_grammar;
@@ -31,8 +33,7 @@ pub const NO_MEMORY: u8 = 10;
 /// No name is opened but those that the words give, and the second one only after the first was
 /// judged.
 pub fn run<H: Shelf, S: Sink>(alloc: Global, words: &[String], shelf: &mut H, out: &mut S) -> u8
-    requires function { IfSome (asked_by (map string_bytes words.now)) (λ asked. H.offered shelf.old asked.function) }
-    requires second { IfSome (asked_by (map string_bytes words.now)) (λ asked. GoesOn asked.task (H.holds shelf.old asked.function) → H.offered shelf.old asked.second) }
+    requires { IfSome (asked_by (map string_bytes words.now)) (AreOffered (H.holds shelf.old) (H.offered shelf.old)) }
 
     // Every other status is that of the reply, whose text was appended.
     ensures replied { result ≢ SHELF_FAULT → result ≢ SINK_FAULT → result ≢ NO_MEMORY →
@@ -49,17 +50,16 @@ pub fn run<H: Shelf, S: Sink>(alloc: Global, words: &[String], shelf: &mut H, ou
         × AppendsFront (S.written out.old) (text_of reply) (S.written out.new)) }
     ensures no_memory { result ≡ NO_MEMORY → S.written out.new ≡ S.written out.old }
 
-    ensures holds { (n : List ℕ) → H.holds shelf.new n ≡ H.holds shelf.old n }
-    ensures offered { (n : List ℕ) → H.offered shelf.old n ↔ H.offered shelf.new n }
-    ensures shelf_faults { H.faults shelf.old ≤ H.faults shelf.new }
+    ensures unchanged { Unchanged H.holds H.offered H.faults shelf.old shelf.new }
     ensures sink_faults { S.faults out.old ≤ S.faults out.new }
 {
     certificates_show_the_properties();
     what_is_read_is_in_the_grammar();
-    let reply = match reply_to(alloc, words, shelf) {
+    let reply = match answer(alloc, words, shelf) {
         Ok(reply) => reply,
-        Err(Unanswered::Shelf) => return SHELF_FAULT,
-        Err(Unanswered::NoMemory) => return NO_MEMORY,
+        Err(Stop::Replied(reply)) => reply,
+        Err(Stop::Shelf) => return SHELF_FAULT,
+        Err(Stop::NoMemory) => return NO_MEMORY,
     };
     let Ok(text) = text(alloc, &reply) else {
         return NO_MEMORY;

@@ -2,8 +2,22 @@
 use case_json::CaseFault;
 use fn_text::TextFault;
 use ot_integrate::End;
+use plain_list::List;
 
-/// The replies to words and files. Contracts see them as the plain replies of `specs/Replies.antt`.
+/// What a file holds.
+#[derive(Clone, Copy, Debug, PartialEq, Eq)]
+pub enum FileKind {
+    /// A function.
+    Function,
+
+    /// A certificate.
+    Certificate,
+
+    /// A case.
+    Case,
+}
+
+/// The reply to a command.
 #[derive(Debug, Drop)]
 pub enum Reply {
     /// The file is a certificate of the function.
@@ -22,17 +36,11 @@ pub enum Reply {
     CaseRefused(CaseFault),
 
     /// How integrating ended, an order each, and whether every order gave the same document.
-    Integrated(Vec<End>, bool),
+    Integrated(List<End>, bool),
 
     /// The words are not those of a command.
     Usage,
 
-    /// The function's file is longer than its limit.
-    FunctionLimit,
-
-    /// The certificate's file is longer than its limit.
-    CertificateLimit,
-
-    /// The case's file is longer than its limit.
-    CaseLimit,
+    /// A file is longer than its limit.
+    TooLong(FileKind),
 }

@@ -1,7 +1,9 @@
 //! Faults of the outside, and files at their limits.
 use crate::samples::{FAR_CERT, INS_CERT, INS_OT};
-use crate::setting::{Files, shelf_of, status_of};
+use crate::setting::{Files, expect, shelf_of, status_of};
 use ot_outside::{MemShelf, MemSink};
+use std::alloc::Global;
+use std::process::Abort;
 use std::test::Fail;
 
 const FILES: Files<'static> = &[
@@ -10,7 +12,7 @@ const FILES: Files<'static> = &[
     ("far.cert", FAR_CERT),
 ];
 
-const WORDS: &[&str] = &["check", "ins.ot", "ins.cert"];
+const CHECK: &str = "check ins.ot ins.cert";
 
 #[test]
 fn a_call_that_fails_is_answered(rt: HostRuntime) -> Result<(), Fail> {
@@ -18,14 +20,22 @@ fn a_call_that_fails_is_answered(rt: HostRuntime) -> Result<(), Fail> {
     // The calls of the shelf: open, read, read at the end, and the same for the second file.
     for call in 1..=6 {
         let mut shelf = shelf_of(alloc, FILES, &[call])?;
-        let mut sink = MemSink::new(alloc, 64, 64, Vec::new(alloc))?;
-        assert_eq!(rt;
-            status_of(alloc, WORDS, &mut shelf, &mut sink)?,
-            6,
-            "call {call}"
-        );
-        assert_eq!(rt; sink.written().len(), 0, "call {call}");
+        expect(&rt, alloc, &mut shelf, CHECK, 6, "")?;
     }
+    Ok(())
+}
+
+// Fails the test unless the sink makes the command end with this status and this text.
+fn expect_over(
+    rt: &impl Abort,
+    alloc: Global,
+    mut sink: MemSink,
+    status: u8,
+    text: &str,
+) -> Result<(), Fail> {
+    let mut shelf = shelf_of(alloc, FILES, &[])?;
+    assert_eq!(rt; status_of(alloc, CHECK, &mut shelf, &mut sink)?, status);
+    assert_eq!(rt; sink.written(), text.as_bytes());
     Ok(())
 }
 
@@ -38,49 +48,53 @@ fn a_reply_is_written_in_any_pieces(rt: HostRuntime) -> Result<(), Fail> {
         (4, 3, 7, "acce"),
         (0, 1, 7, ""),
     ] {
-        let mut shelf = shelf_of(alloc, FILES, &[])?;
-        let mut sink = MemSink::new(alloc, room, per_call, Vec::new(alloc))?;
-        assert_eq!(rt;
-            status_of(alloc, WORDS, &mut shelf, &mut sink)?,
-            status,
-            "room {room}"
-        );
-        assert_eq!(rt; sink.written(), text.as_bytes(), "room {room}");
+        let sink = MemSink::new(alloc, room, per_call, Vec::new(alloc))?;
+        expect_over(&rt, alloc, sink, status, text)?;
     }
-    Ok(())
+    let failing = MemSink::new(alloc, 64, 4, Vec::from_slice(alloc, &[2])?)?;
+    expect_over(&rt, alloc, failing, 7, "acce")
 }
 
-#[test]
-fn a_write_that_fails_is_answered(rt: HostRuntime) -> Result<(), Fail> {
-    let alloc = rt.alloc();
-    let mut shelf = shelf_of(alloc, FILES, &[])?;
-    let mut sink = MemSink::new(alloc, 64, 4, Vec::from_slice(alloc, &[2])?)?;
-    assert_eq!(rt; status_of(alloc, WORDS, &mut shelf, &mut sink)?, 7);
-    assert_eq!(rt; sink.written(), b"acce".as_slice());
-    Ok(())
+// Fails the test unless the command over a file of so many of these bytes has the status and the text.
+fn expect_long(
+    rt: &impl Abort,
+    alloc: Global,
+    line: &str,
+    long: Vec<u8>,
+    status: u8,
+    text: &str,
+) -> Result<(), Fail> {
+    let mut files = Vec::new(alloc);
+    files.push((
+        String::from_str(alloc, "ins.ot")?,
+        Vec::from_slice(alloc, INS_OT.as_bytes())?,
+    ))?;
+    files.push((String::from_str(alloc, "long")?, long))?;
+    let mut shelf = MemShelf::new(files, Vec::new(alloc));
+    expect(rt, alloc, &mut shelf, line, status, text)
 }
 
+const FUNCTION: &str = "check long long";
+
+const CASE: &str = "integrate ins.ot long";
+
 #[test]
-fn a_function_file_has_a_limit(rt: HostRuntime) -> Result<(), Fail> {
+fn files_have_limits(rt: HostRuntime) -> Result<(), Fail> {
     let alloc = rt.alloc();
-    for (size, status, text) in [
-        (1_048_576, 3, "function 1:1048577 expected\n"),
-        (1_048_577, 9, "limit function\n"),
+    for (line, byte, size, status, text) in [
+        (
+            FUNCTION,
+            b'#',
+            1_048_576,
+            3,
+            "function 1:1048577 expected\n",
+        ),
+        (FUNCTION, b'#', 1_048_577, 9, "limit function\n"),
+        (CASE, b' ', 16_777_216, 4, "case json\n"),
+        (CASE, b' ', 16_777_217, 9, "limit file\n"),
     ] {
-        let mut files = Vec::new(alloc);
-        files.push((
-            String::from_str(alloc, "long")?,
-            vec![in alloc; b'#'; size]?,
-        ))?;
-        let mut shelf = MemShelf::new(files, Vec::new(alloc));
-        let mut sink = MemSink::new(alloc, 64, 64, Vec::new(alloc))?;
-        let words = ["check", "long", "long"];
-        assert_eq!(rt;
-            status_of(alloc, &words, &mut shelf, &mut sink)?,
-            status,
-            "{size} bytes"
-        );
-        assert_eq!(rt; sink.written(), text.as_bytes(), "{size} bytes");
+        let long = vec![in alloc; byte; size]?;
+        expect_long(&rt, alloc, line, long, status, text)?;
     }
     Ok(())
 }

@@ -97,7 +97,7 @@ fn write_cycle(alloc: Global, cycle: &[usize], text: &mut String) -> Result<(), 
 
 /// A certificate at level tp1, or none where the obligation fails or asks too much.
 pub fn certificate_of(alloc: Global, rules: &Rules) -> Result<Option<String>, AllocError> {
-    if !rules.head().ins {
+    if !rules.head().declares(Kind::Ins) {
         return Ok(None);
     }
     let mut text = String::from_str(alloc, "otcert 1 tp1\nob ins ins\n")?;

@@ -1,6 +1,5 @@
 //! What is asked next: a function, an obligation and the answers so far.
 ghost use Rattle.std.specs.Prelude.{◌≡◌};
-ghost use Rattle.fn_rules.specs.Functions.{is_declared};
 ghost use Rattle.fn_rules.specs.Obligations.{is_obligation};
 
 use crate::samples::{FAR_OT, INS_OT, MARKS_OT};
@@ -9,7 +8,7 @@ use fn_rules::{Head, ObName};
 use fn_text::read;
 use ot_model::Kind;
 use ot_questions::{Next, Why, next_question};
-use std::alloc::Global;
+use std::alloc::{AllocError, Global};
 use std::process::Abort;
 use std::test::Fail;
 
@@ -19,22 +18,19 @@ const DELETIONS: ObName = ObName::Pair(Kind::Del, Kind::Del);
 
 const THREE_DELETIONS: ObName = ObName::Triple(Kind::Del, Kind::Del, Kind::Del);
 
-fn declares(head: &Head, kind: Kind) -> bool
-    ensures { result ≡ is_declared head.now kind }
-{
-    match kind {
-        Kind::Ins => head.ins,
-        Kind::Del => head.del,
-    }
-}
-
-fn is_meant(head: &Head, ob: ObName) -> bool
+/// Whether the function has the obligation.
+pub fn is_meant(head: &Head, ob: ObName) -> bool
     ensures { result ≡ is_obligation head.now ob }
 {
     match ob {
-        ObName::Pair(k, l) => declares(head, k) && declares(head, l),
-        ObName::Triple(k, l, m) => declares(head, k) && declares(head, l) && declares(head, m),
+        ObName::Pair(k, l) => head.declares(k) && head.declares(l),
+        ObName::Triple(k, l, m) => head.declares(k) && head.declares(l) && head.declares(m),
     }
+}
+
+// The answers that a word of `y` and `n` stands for.
+fn answers_in(alloc: Global, word: &str) -> Result<Vec<bool>, AllocError> {
+    word.bytes().map(|letter| letter == b'y').collect(alloc)
 }
 
 fn next_in(
@@ -52,53 +48,67 @@ fn next_in(
     Ok(next_question(&rules, ob, answers))
 }
 
-fn asked(x: u8, y: u8, k: i32) -> Next {
-    Next::Asked(Lit { x, y, k })
+// Rows: answers, yes or no, and what comes behind them: `x <= y + k` is asked, or the plan ends.
+type Rows = &'static [(&'static str, Option<(u8, u8, i32)>)];
+
+const OF_INS: Rows = &[
+    // The length, and whether the first and the second operation are enabled.
+    ("", Some((0, 1, 0))),
+    ("y", Some((0, 3, 0))),
+    ("yy", Some((3, 1, 0))),
+    ("yyy", Some((0, 6, 0))),
+    ("yyyy", Some((6, 1, 0))),
+    ("yyyyn", None),
+    // The two sites, which are assumed to differ.
+    ("yyyyy", Some((4, 7, 0))),
+    ("yyyyyy", Some((7, 4, 0))),
+    ("yyyyyyy", None),
+    // The guards for the second operation behind the first.
+    ("yyyyyn", Some((6, 3, -1))),
+    ("yyyyynn", Some((6, 3, 0))),
+];
+
+const OF_FAR: Rows = &[("yyyyy", Some((6, 3, 99))), ("yyyyyy", Some((3, 6, 99)))];
+
+// Deletions that leave tombstones stay where they are, so the documents are read at once.
+const OF_MARKS: Rows = &[
+    ("yy", Some((3, 1, -1))),
+    ("yyyyyyyyy", Some((0, 2, 0))),
+    ("yyyyyyyyyy", Some((2, 1, -1))),
+    ("yyyyyyyyyyy", Some((2, 6, -1))),
+    ("yyyyyyyyyyyyyyy", None),
+];
+
+const OF_THREE_MARKS: Rows = &[("yyyyyy", Some((9, 1, -1))), ("yyyyyyy", None)];
+
+fn expect_rows(
+    rt: &impl Abort,
+    alloc: Global,
+    text: &str,
+    ob: ObName,
+    rows: Rows,
+) -> Result<(), Fail> {
+    for (word, asked) in rows {
+        let answers = answers_in(alloc, word)?;
+        let found = next_in(rt, alloc, text, ob, &answers)?;
+        let want = match *asked {
+            Some((x, y, k)) => Next::Asked(Lit { x, y, k }),
+            None => Next::Holds,
+        };
+        assert_eq!(rt; found, want, "{ob:?} after {word} of {text}");
+    }
+    Ok(())
 }
 
 #[test]
 fn answers_lead_to_the_next_question(rt: HostRuntime) -> Result<(), Fail> {
-    let t = true;
-    let f = false;
-    for (text, ob, answers, want) in [
-        // The length, and whether the first and the second operation are enabled.
-        (INS_OT, INSERTIONS, &[][..], asked(0, 1, 0)),
-        (INS_OT, INSERTIONS, &[t][..], asked(0, 3, 0)),
-        (INS_OT, INSERTIONS, &[t, t][..], asked(3, 1, 0)),
-        (INS_OT, INSERTIONS, &[t, t, t][..], asked(0, 6, 0)),
-        (INS_OT, INSERTIONS, &[t, t, t, t][..], asked(6, 1, 0)),
-        (INS_OT, INSERTIONS, &[t, t, t, t, f][..], Next::Holds),
-        // The two sites, which are assumed to differ.
-        (INS_OT, INSERTIONS, &[t, t, t, t, t][..], asked(4, 7, 0)),
-        (INS_OT, INSERTIONS, &[t, t, t, t, t, t][..], asked(7, 4, 0)),
-        (INS_OT, INSERTIONS, &[t, t, t, t, t, t, t][..], Next::Holds),
-        // The guards for the second operation behind the first.
-        (INS_OT, INSERTIONS, &[t, t, t, t, t, f][..], asked(6, 3, -1)),
-        (
-            INS_OT,
-            INSERTIONS,
-            &[t, t, t, t, t, f, f][..],
-            asked(6, 3, 0),
-        ),
-        (FAR_OT, INSERTIONS, &[t, t, t, t, t][..], asked(6, 3, 99)),
-        (
-            FAR_OT,
-            INSERTIONS,
-            &[t, t, t, t, t, f][..],
-            Next::Fails(Why::Undefined),
-        ),
-        (FAR_OT, INSERTIONS, &[t, t, t, t, t, t][..], asked(3, 6, 99)),
-        // Deletions that leave tombstones stay where they are, so the documents are read at once.
-        (MARKS_OT, DELETIONS, &[t, t][..], asked(3, 1, -1)),
-        (MARKS_OT, DELETIONS, &[t; 9][..], asked(0, 2, 0)),
-        (MARKS_OT, DELETIONS, &[t; 10][..], asked(2, 1, -1)),
-        (MARKS_OT, DELETIONS, &[t; 11][..], asked(2, 6, -1)),
-        (MARKS_OT, DELETIONS, &[t; 15][..], Next::Holds),
-        (MARKS_OT, THREE_DELETIONS, &[t; 6][..], asked(9, 1, -1)),
-        (MARKS_OT, THREE_DELETIONS, &[t; 7][..], Next::Holds),
-    ] {
-        let found = next_in(&rt, rt.alloc(), text, ob, answers)?;
-        assert_eq!(rt; found, want, "{ob:?} after {answers:?} of {text}");
-    }
+    let alloc = rt.alloc();
+    expect_rows(&rt, alloc, INS_OT, INSERTIONS, OF_INS)?;
+    expect_rows(&rt, alloc, FAR_OT, INSERTIONS, OF_FAR)?;
+    expect_rows(&rt, alloc, MARKS_OT, DELETIONS, OF_MARKS)?;
+    expect_rows(&rt, alloc, MARKS_OT, THREE_DELETIONS, OF_THREE_MARKS)?;
+    let answers = answers_in(alloc, "yyyyyn")?;
+    let found = next_in(&rt, alloc, FAR_OT, INSERTIONS, &answers)?;
+    assert_eq!(rt; found, Next::Fails(Why::Undefined));
     Ok(())
 }

@@ -1,9 +1,10 @@
 //! Rows of `check`: words and files, with the status and the text that they get.
 use crate::maker::certificate_of;
 use crate::samples::{FAR_CERT, FAR_OT, INS_CERT, INS_OT, SITES_OT, TIES_OT, TTF_OT};
-use crate::setting::{Files, expect, shelf_of, status_of};
+use crate::setting::{Files, Rows, expect, expect_rows, shelf_of};
 use fn_text::read;
-use ot_outside::MemSink;
+use ot_outside::{MemShelf, MemSink};
+use ot_top::run;
 use std::test::Fail;
 
 const FILES: Files<'static> = &[
@@ -56,73 +57,103 @@ const FILES: Files<'static> = &[
     ("wrong_kinds.cert", "otcert 1 tp1\nob del del\n.\nend\n"),
     ("leading_zero.cert", "otcert 1 tp1\nob ins ins\nx00;\nend\n"),
     ("two_trees.cert", "otcert 1 tp1\nob ins ins\n..\nend\n"),
+    // Names that need `--` before them, or that only look as if they did.
+    ("-ins.ot", INS_OT),
+    ("--tp1", INS_CERT),
+    ("", INS_OT),
+    ("-", INS_CERT),
 ];
 
-const USAGE: &str = "usage: otp COMMAND ARGUMENTS\n";
+const ACCEPTED: &str = "accepted tp1\n";
 
 const REFUSED: &str = "certificate refused\n";
 
 const FORM: &str = "function form\n";
 
+const USAGE: &str = "usage: otp COMMAND ARGUMENTS\n";
+
+const CERTIFICATES: Rows<'static> = &[
+    ("check ins.ot ins.cert", 0, ACCEPTED),
+    ("check spaced.ot ins.cert", 0, ACCEPTED),
+    ("check far.ot far.cert", 2, REFUSED),
+    ("check far.ot cut.cert", 2, REFUSED),
+    ("check far.ot ins.cert", 2, REFUSED),
+    ("check ties.ot ins.cert", 2, REFUSED),
+    ("check two_spaces.ot far.cert", 2, REFUSED),
+    ("check grouped.ot far.cert", 2, REFUSED),
+    ("check ins.ot far.cert", 2, REFUSED),
+    ("check ins.ot wrong_kinds.cert", 2, REFUSED),
+    ("check ins.ot leading_zero.cert", 2, REFUSED),
+    ("check ins.ot two_trees.cert", 2, REFUSED),
+    ("check ins.ot empty", 2, REFUSED),
+    ("check sites.ot far.cert", 3, FORM),
+    ("check ttf.ot far.cert", 3, FORM),
+    ("check tomb.ot far.cert", 3, FORM),
+    ("check chars.ot far.cert", 3, FORM),
+    ("check chars_differ.ot far.cert", 3, FORM),
+    ("check not_true.ot ins.cert", 3, FORM),
+    ("check sites.ot missing", 3, FORM),
+    ("check no_end.ot ins.cert", 3, "function 8:23 expected\n"),
+    ("check far_100.ot far.cert", 3, "function 5:17 offset\n"),
+    ("check empty far.cert", 3, "function 1:1 expected\n"),
+    ("check plane.ot missing", 3, "function 2:6 word\n"),
+    ("check missing far.cert", 6, ""),
+    ("check ins.ot missing", 6, ""),
+];
+
+const WORDS: Rows<'static> = &[
+    ("check -- ins.ot ins.cert", 0, ACCEPTED),
+    ("check ins.ot -- ins.cert", 0, ACCEPTED),
+    ("check ins.ot ins.cert --", 0, ACCEPTED),
+    ("check -- -ins.ot ins.cert", 0, ACCEPTED),
+    ("check ins.ot -- --tp1", 0, ACCEPTED),
+    ("check  -", 0, ACCEPTED),
+    ("check -- -a b", 6, ""),
+    ("check -- --", 5, USAGE),
+    ("", 5, USAGE),
+    (" ins.ot ins.cert", 5, USAGE),
+    ("check", 5, USAGE),
+    ("check --", 5, USAGE),
+    ("check ins.ot", 5, USAGE),
+    ("check -- ins.ot", 5, USAGE),
+    ("check ins.ot ins.cert ins.cert", 5, USAGE),
+    ("check --x ins.ot ins.cert", 5, USAGE),
+    ("check --tp1 ins.ot", 5, USAGE),
+    ("check -h ins.ot ins.cert", 5, USAGE),
+    ("check ins.ot ins.cert --help", 5, USAGE),
+    ("check -ins.ot ins.cert", 5, USAGE),
+    ("check ins.ot -ins.cert", 5, USAGE),
+    ("check ins.ot ins.cert --tp1=1", 5, USAGE),
+    ("integrate ins.ot", 5, USAGE),
+    ("integrate --help", 5, USAGE),
+    ("integrate --version", 5, USAGE),
+    ("integrate -ins.ot ins.cert", 5, USAGE),
+    ("--version", 5, USAGE),
+    ("--help", 5, USAGE),
+    ("help", 5, USAGE),
+    ("-- check ins.ot ins.cert", 5, USAGE),
+    ("Check ins.ot ins.cert", 5, USAGE),
+    ("fly ins.ot", 5, USAGE),
+    ("prove ins.ot ins.cert", 5, USAGE),
+];
+
 #[test]
 fn certificates_are_judged(rt: HostRuntime) -> Result<(), Fail> {
-    for (function, certificate, status, text) in [
-        ("ins.ot", "ins.cert", 0, "accepted tp1\n"),
-        ("spaced.ot", "ins.cert", 0, "accepted tp1\n"),
-        ("far.ot", "far.cert", 2, REFUSED),
-        ("far.ot", "cut.cert", 2, REFUSED),
-        ("far.ot", "ins.cert", 2, REFUSED),
-        ("ties.ot", "ins.cert", 2, REFUSED),
-        ("two_spaces.ot", "far.cert", 2, REFUSED),
-        ("grouped.ot", "far.cert", 2, REFUSED),
-        ("ins.ot", "far.cert", 2, REFUSED),
-        ("ins.ot", "wrong_kinds.cert", 2, REFUSED),
-        ("ins.ot", "leading_zero.cert", 2, REFUSED),
-        ("ins.ot", "two_trees.cert", 2, REFUSED),
-        ("ins.ot", "empty", 2, REFUSED),
-        ("sites.ot", "far.cert", 3, FORM),
-        ("ttf.ot", "far.cert", 3, FORM),
-        ("tomb.ot", "far.cert", 3, FORM),
-        ("chars.ot", "far.cert", 3, FORM),
-        ("chars_differ.ot", "far.cert", 3, FORM),
-        ("not_true.ot", "ins.cert", 3, FORM),
-        ("sites.ot", "missing", 3, FORM),
-        ("no_end.ot", "ins.cert", 3, "function 8:23 expected\n"),
-        ("far_100.ot", "far.cert", 3, "function 5:17 offset\n"),
-        ("empty", "far.cert", 3, "function 1:1 expected\n"),
-        ("plane.ot", "missing", 3, "function 2:6 word\n"),
-        ("missing", "far.cert", 6, ""),
-        ("ins.ot", "missing", 6, ""),
-    ] {
-        expect(
-            &rt,
-            rt.alloc(),
-            FILES,
-            &["check", function, certificate],
-            status,
-            text,
-        )?;
-    }
-    Ok(())
+    expect_rows(&rt, rt.alloc(), FILES, CERTIFICATES)
 }
 
 #[test]
-fn other_words_are_no_command(rt: HostRuntime) -> Result<(), Fail> {
-    let rows: [&[&str]; 10] = [
-        &[],
-        &["check"],
-        &["fly", "ins.ot"],
-        &["check", "ins.ot"],
-        &["integrate", "ins.ot"],
-        &["prove", "ins.ot", "ins.cert"],
-        &["check", "--tp1", "ins.ot"],
-        &["check", "ins.ot", "-"],
-        &["integrate", "-ins.ot", "ins.cert"],
-        &["check", "ins.ot", "ins.cert", "ins.cert"],
-    ];
-    for words in rows {
-        expect(&rt, rt.alloc(), FILES, words, 5, USAGE)?;
-    }
+fn words_are_read(rt: HostRuntime) -> Result<(), Fail> {
+    expect_rows(&rt, rt.alloc(), FILES, WORDS)
+}
+
+#[test]
+fn no_words_are_no_command(rt: HostRuntime) -> Result<(), Fail> {
+    let alloc = rt.alloc();
+    let mut shelf = MemShelf::new(Vec::new(alloc), Vec::new(alloc));
+    let mut sink = MemSink::new(alloc, 64, 64, Vec::new(alloc))?;
+    assert_eq!(rt; run(alloc, &[], &mut shelf, &mut sink), 5);
+    assert_eq!(rt; sink.written(), USAGE.as_bytes());
     Ok(())
 }
 
@@ -136,16 +167,7 @@ fn a_certificate_that_is_made_is_accepted(rt: HostRuntime) -> Result<(), Fail> {
         ("far.ot", FAR_OT),
         ("made", made.as_str()),
     ];
-    for (function, status, text) in [("ins.ot", 0, "accepted tp1\n"), ("far.ot", 2, REFUSED)] {
-        let mut shelf = shelf_of(alloc, &files, &[])?;
-        let mut sink = MemSink::new(alloc, 64, 64, Vec::new(alloc))?;
-        let words = ["check", function, "made"];
-        assert_eq!(rt;
-            status_of(alloc, &words, &mut shelf, &mut sink)?,
-            status,
-            "{function}"
-        );
-        assert_eq!(rt; sink.written(), text.as_bytes(), "{function}");
-    }
-    Ok(())
+    let mut shelf = shelf_of(alloc, &files, &[])?;
+    expect(&rt, alloc, &mut shelf, "check ins.ot made", 0, ACCEPTED)?;
+    expect(&rt, alloc, &mut shelf, "check far.ot made", 2, REFUSED)
 }

@@ -8,12 +8,16 @@ use std::test::Fail;
 /// The files of a shelf: names and contents.
 pub type Files<'a> = &'a [(&'a str, &'a str)];
 
-fn strings(alloc: Global, words: &[&str]) -> Result<Vec<String>, AllocError> {
-    let mut strings = Vec::new(alloc);
-    for word in words {
-        strings.push(String::from_str(alloc, word)?)?;
+/// Rows: the words of a command, with a space between two, its status and its text.
+pub type Rows<'a> = &'a [(&'a str, u8, &'a str)];
+
+// The words of a line.
+fn words_of(alloc: Global, line: &str) -> Result<Vec<String>, AllocError> {
+    let mut words = Vec::new(alloc);
+    for word in line.split(' ') {
+        words.push(String::from_str(alloc, word)?)?;
     }
-    Ok(strings)
+    Ok(words)
 }
 
 /// A shelf with these files, whose calls of these numbers fail.
@@ -30,27 +34,40 @@ pub fn shelf_of(alloc: Global, files: Files<'_>, failing: &[u32]) -> Result<MemS
 /// The status of a command over a shelf, which writes to the sink.
 pub fn status_of(
     alloc: Global,
-    words: &[&str],
+    line: &str,
     shelf: &mut MemShelf,
     sink: &mut MemSink,
 ) -> Result<u8, AllocError> {
-    let words = strings(alloc, words)?;
+    let words = words_of(alloc, line)?;
     Ok(run(alloc, words.as_slice(), shelf, sink))
 }
 
-/// Fails the test unless the command over these files has the status and the text.
+/// Fails the test unless the command over this shelf has the status and the text.
 pub fn expect(
     rt: &impl Abort,
     alloc: Global,
-    files: Files<'_>,
-    words: &[&str],
+    shelf: &mut MemShelf,
+    line: &str,
     status: u8,
     text: &str,
 ) -> Result<(), Fail> {
-    let mut shelf = shelf_of(alloc, files, &[])?;
     let mut sink = MemSink::new(alloc, 256, 64, Vec::new(alloc))?;
-    let found = status_of(alloc, words, &mut shelf, &mut sink)?;
-    assert_eq!(rt; found, status, "the status of {words:?}");
-    assert_eq!(rt; sink.written(), text.as_bytes(), "the text of {words:?}");
+    let found = status_of(alloc, line, shelf, &mut sink)?;
+    assert_eq!(rt; found, status, "the status of {line}");
+    assert_eq!(rt; sink.written(), text.as_bytes(), "the text of {line}");
+    Ok(())
+}
+
+/// Fails the test unless each command over these files has its status and its text.
+pub fn expect_rows(
+    rt: &impl Abort,
+    alloc: Global,
+    files: Files<'_>,
+    rows: Rows<'_>,
+) -> Result<(), Fail> {
+    for (line, status, text) in rows {
+        let mut shelf = shelf_of(alloc, files, &[])?;
+        expect(rt, alloc, &mut shelf, line, *status, text)?;
+    }
     Ok(())
 }

@@ -13,5 +13,6 @@ returns-then-last-clause-open c =
     let changed : Answer = record { lit = c.negate.result; yes = false } in
     let place : length c.loop-last.path.items - 1 ≡ c.len-at.result - 1 = omega (arith, c.len-at.ensures, c.loop-last.path.ok) in
     c.loop-last.invariant
-    ∙ next_path-last_yes c.loop-last.path.items c.in-Some.last changed last c.if-last.true (ap (λ (l : Lit). record { lit = l; yes = false }) c.negate.ensures.exact)
+    ∙ next_path-last_yes c.loop-last.path.items c.in-Some.last changed last c.if-last.true
+    (ap (λ (l : Lit). record { lit = l; yes = false }) c.negate.ensures.exact)
     ∙ ap (λ (n : ℕ). Some (reverse (slice_set c.loop-last.path.items n changed))) place

@@ -1,5 +1,6 @@
 -- Each token is taken at the open places.
-use Rattle.std.proofs.Common.{◌≡◌, ℕ, suc, ◌+◌, ◌<◌, get_or, add-one, drop-cons, ◌↔◌, Bool, true, false, List, [], ◌∷◌, drop, Option, length, refl, sym, ap, subst, ◌∙◌}
+use Rattle.std.proofs.Common.{◌≡◌, ℕ, suc, ◌+◌, ◌<◌, get_or, add-one, drop-cons, ◌↔◌}
+use Rattle.std.proofs.Common.{Bool, true, false, List, [], ◌∷◌, drop, Option, length, refl, sym, ap, subst, ◌∙◌}
 use Rattle.std.specs.Prelude.{reverse, not}
 use Rattle.std.proofs.lemmas.Bool.{false≢true}
 use Rattle.std.proofs.lemmas.List.{drop_all}
@@ -17,7 +18,8 @@ not_true true e = absurd (false≢true e)
 not_true false e = refl
 
 -- the tokens that are left begin with the one at the place
-front_of : (tokens : List Tok) (i : ℕ) (tok : Tok) → i < length tokens → tok ≡ get_or tokens i tok → drop i tokens ≡ tok ∷ drop (i + 1) tokens
+front_of :
+    (tokens : List Tok) (i : ℕ) (tok : Tok) → i < length tokens → tok ≡ get_or tokens i tok → drop i tokens ≡ tok ∷ drop (i + 1) tokens
 front_of tokens i tok below is = rw add-one (drop-cons tokens i tok below ∙ ap (λ (t : Tok). t ∷ drop (suc i) tokens) (sym is))
 
 pub returns-in-None : goal.returns-in-None
@@ -27,7 +29,8 @@ returns-in-None g c =
     let path : List Answer = reverse c.loop-tok.path.items in
     let after : List Answer = reverse c.take.new.path.items in
     let refused = subst (λ (t : Option Bool). Takes p path c.tok-item.result t after) c.in-None.is c.in_ok-still_open.ensures in
-    let before = subst (λ (b : Bool). AreFitting tokens p ↔ Completes (drop c.loop-tok.tok-index tokens) (open_places b p path)) c.if-not-open.false c.loop-tok.invariant in (
+    let before = subst (λ (b : Bool). AreFitting tokens p ↔ Completes (drop c.loop-tok.tok-index tokens) (open_places b p path))
+    c.if-not-open.false c.loop-tok.invariant in (
       λ e. absurd (false≢true e),
       λ h. absurd (take_refused p tokens c.loop-tok.tok-index c.tok-item.result path after
           (front_of tokens c.loop-tok.tok-index c.tok-item.result c.loop-tok-test.true c.tok-item.is) refused before h),
@@ -40,7 +43,8 @@ loop-tok-preserved g c =
     let path : List Answer = reverse c.loop-tok.path.items in
     let after : List Answer = reverse c.take.new.path.items in
     let takes = subst (λ (t : Option Bool). Takes p path c.tok-item.result t after) c.in-Some.is c.in_ok-still_open.ensures in
-    let before = subst (λ (b : Bool). AreFitting tokens p ↔ Completes (drop c.loop-tok.tok-index tokens) (open_places b p path)) c.if-not-open.false c.loop-tok.invariant in
+    let before = subst (λ (b : Bool). AreFitting tokens p ↔ Completes (drop c.loop-tok.tok-index tokens) (open_places b p path))
+    c.if-not-open.false c.loop-tok.invariant in
     take_more p tokens c.loop-tok.tok-index c.tok-item.result path after c.in-Some.still_open
     (front_of tokens c.loop-tok.tok-index c.tok-item.result c.loop-tok-test.true c.tok-item.is) takes before
 

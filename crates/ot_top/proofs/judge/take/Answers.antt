@@ -23,7 +23,8 @@ returns-in-Closed g c =
     let path : List Answer = reverse c.args.path.now.items in
     let middle : List Answer = reverse c.turn.new.path.items in
     let closed = subst (λ (t : Turned). Turns p path c.args.tok.now t middle) c.in-Closed.is c.in_ok-turn.ensures in
-    takes_by_close p path middle (reverse c.close.new.path.items) c.args.tok.now c.close.result closed.1 closed.0 c.close.ensures.open c.close.ensures.closed
+    takes_by_close p path middle (reverse c.close.new.path.items) c.args.tok.now c.close.result closed.1 closed.0
+    c.close.ensures.open c.close.ensures.closed
 
 pub returns-in-Refused : goal.returns-in-Refused
 returns-in-Refused g c =

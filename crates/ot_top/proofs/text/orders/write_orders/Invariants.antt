@@ -1,7 +1,7 @@
 use Rattle.std.proofs.Common.{◌≡◌, ◌++◌, map, drop}
 use Rattle.ot_integrate.specs.Ends.{outcome_of}
-use Rattle.ot_top.specs.Texts.{order_lines}
-use Rattle.ot_top.proofs.text.write_orders.Given as goal
+use Rattle.ot_top.specs.OrderTexts.{order_lines}
+use Rattle.ot_top.proofs.text.orders.write_orders.Given as goal
 
 -- the lines of the orders that are left are still to be written
 abbrev pub invariant-loop-number : goal.invariant-loop-number

@@ -1,0 +1,14 @@
+-- What words ask for: a command, with the names of its files.
+use Rattle.std.specs.Prelude.{ℕ, List}
+use Rattle.ot_top.specs.declared.command.Command.{Command}
+use Rattle.ot_top.specs.declared.command.Command.TheVariants as rust
+
+pub data Asked : Type 0 where
+  -- of a function's file and a certificate's file: the certificate is judged
+  Check : List ℕ → List ℕ → Asked
+  -- of a function's file and a case's file: the operations are integrated
+  Integrate : List ℕ → List ℕ → Asked
+
+abbrev pub asked_of : Command → Asked
+asked_of (rust.Check function certificate) = Check function.now certificate.now
+asked_of (rust.Integrate function case) = Integrate function.now case.now

@@ -1,0 +1,52 @@
+-- The lines of faults: of the text of a function, and of a case.
+use Rattle.std.specs.Prelude.{ℕ, List, [], ◌∷◌, ◌++◌, codes}
+use Rattle.std.specs.Fmt.{decimal}
+use Rattle.fn_text.specs.declared.fault.FaultKind.{FaultKind}
+use Rattle.fn_text.specs.declared.fault.FaultKind.TheVariants as kinds
+use Rattle.fn_text.specs.declared.fault.TextFault.{TextFault}
+use Rattle.case_json.specs.declared.fault.CaseFault.{CaseFault}
+use Rattle.case_json.specs.declared.fault.CaseFault.TheVariants as faults
+use Rattle.case_json.specs.declared.fault.Name.{Name}
+use Rattle.case_json.specs.declared.fault.Name.TheVariants as names
+
+abbrev pub kind_word : FaultKind → List ℕ
+kind_word kinds.Byte = codes "byte"
+kind_word kinds.Word = codes "word"
+kind_word kinds.Expected = codes "expected"
+kind_word kinds.Sort = codes "sort"
+kind_word kinds.Offset = codes "offset"
+kind_word kinds.Missing = codes "missing"
+kind_word kinds.Double = codes "double"
+kind_word kinds.Kind = codes "kind"
+kind_word kinds.Cases = codes "cases"
+kind_word kinds.Atoms = codes "atoms"
+kind_word kinds.Nesting = codes "nesting"
+kind_word kinds.Outcome = codes "result"
+kind_word kinds.Version = codes "version"
+kind_word kinds.NoMemory = codes "memory"
+
+abbrev pub name_word : Name → List ℕ
+name_word names.Doc = codes "doc"
+name_word names.Ops = codes "ops"
+name_word names.Orders = codes "orders"
+name_word names.Sites = codes "sites"
+name_word names.Events = codes "events"
+name_word names.Cells = codes "cells"
+
+-- the place and the cause of a fault
+abbrev pub text_fault_text : TextFault → List ℕ
+text_fault_text fault =
+    codes "function " ++ decimal fault.line ++ codes ":" ++ decimal fault.column ++ codes " " ++ kind_word fault.kind ++ 10 ∷ []
+
+abbrev pub case_text : CaseFault → List ℕ
+case_text faults.Json = codes "case json"
+case_text (faults.Field name) = codes "case field " ++ name_word name
+case_text (faults.Kind i) = codes "case kind " ++ decimal i
+case_text (faults.Enabled i) = codes "case enabled " ++ decimal i
+case_text (faults.Pair i j) = codes "case pair " ++ decimal i ++ codes " " ++ decimal j
+case_text (faults.Order i) = codes "case order " ++ decimal i
+case_text (faults.Limit name) = codes "limit " ++ name_word name
+case_text faults.NoMemory = codes "memory"
+
+abbrev pub case_fault_text : CaseFault → List ℕ
+case_fault_text fault = case_text fault ++ 10 ∷ []
