@@ -1,0 +1,10 @@
+pub mod Forms
+pub mod Documents
+pub mod Cells
+pub mod Goals
+pub mod Meaning
+pub mod Standing
+pub mod Weights
+pub mod Placing
+pub mod Starting
+pub mod Belonging

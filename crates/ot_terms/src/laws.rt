@@ -1,0 +1,26 @@
+//! What terms mean at a valuation, and that what is asked of them comes to it.
+ghost use Rattle.std.specs.Prelude.{◌≡◌, ◌↔◌, ℕ, ℤ, if◌then◌else◌, None};
+ghost use Rattle.fn_rules.specs.Functions.{Function};
+ghost use Rattle.ask_core.specs.Plans.{Plan, end_of};
+ghost use Rattle.ot_questions.specs.declared.why.Why.{Why};
+ghost use Rattle.ot_terms.specs.Forms.{FormTree, form_holds};
+ghost use Rattle.ot_terms.specs.Cells.{CellTree};
+ghost use Rattle.ot_terms.specs.Goals.{Same};
+ghost use Rattle.ot_terms.specs.Meaning.{BaseDocument, cell_of};
+ghost use Rattle.ot_terms.specs.Standing.{ask_form, ask_goal};
+ghost use Rattle.ot_terms.specs.Belonging.{IsCellOf};
+
+/// At a valuation what is asked of a form goes on as the form is true.
+#[tactic(auto, using(crate::proofs::Forms::end_form))]
+pub fn forms_are_asked_as_they_are_true()
+    ensures { (t : FormTree) (v : ℕ → ℤ) (p q : Plan Why)
+        → end_of (ask_form t p q) v ≡ (if form_holds v t then end_of p v else end_of q v) }
+{}
+
+/// At a valuation a comparison of two cells holds exactly where they are the same for every base document.
+#[tactic(auto, using(crate::proofs::Comparisons::compared_over_all))]
+pub fn cells_are_compared_over_all_documents()
+    ensures { (f : Function) (count : ℕ) (left right : CellTree) (v : ℕ → ℤ)
+        → IsCellOf f.head.mode count left → IsCellOf f.head.mode count right
+        → (end_of (ask_goal f (Same left right)) v ≡ None) ↔ ((base : BaseDocument) → cell_of base v left ≡ cell_of base v right) }
+{}

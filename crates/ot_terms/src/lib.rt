@@ -1,0 +1,31 @@
+//! What an obligation still asks, as terms in an arena.
+//!
+//! A goal is what is left to be shown of an obligation at some place of its plan. Its parts are forms,
+//! which are what is asked, and cells, which are read from documents. All of them are shared references
+//! into an arena that stands outside, and nothing writes to a term.
+//!
+//! Contracts see a term as a plain tree, which has the same variants and holds its parts as values. What a
+//! term means, how much it weighs and the plan that it stands for are said of plain trees alone.
+#![tactic(auto)]
+
+mod cell;
+mod document;
+mod form;
+mod goal;
+mod laws;
+mod parts;
+mod placing;
+mod starting;
+
+pub use ask_core::NoMemory;
+pub use cell::CellT;
+pub use document::DocT;
+pub use form::Form;
+pub use goal::{Goal, Progress};
+pub use laws::{cells_are_compared_over_all_documents, forms_are_asked_as_they_are_true};
+pub use ot_questions::{Place, SymOp, Why};
+pub use placing::place_form;
+pub use starting::start_goal;
+
+#[cfg(test)]
+mod tests;

@@ -1,0 +1,192 @@
+//! The goal that an obligation begins with.
+ghost use Rattle.std.specs.Prelude.{◌≡◌, IsTrue, IfOk};
+ghost use Rattle.fn_rules.specs.Obligations.{is_obligation};
+ghost use Rattle.fn_rules.specs.Rules.{function_of};
+ghost use Rattle.ot_questions.specs.Obligation.{plan_of};
+ghost use Rattle.ot_terms.specs.Belonging.{IsGoalOf};
+ghost use Rattle.ot_terms.specs.Forms.{form_tree};
+ghost use Rattle.ot_terms.specs.Goals.{goal_tree};
+ghost use Rattle.ot_terms.specs.Standing.{ask_goal};
+ghost use Rattle.ot_terms.specs.Starting as starting;
+
+use crate::form::Form;
+use crate::goal::{Goal, Progress};
+use crate::parts::{char_of, length_and, place_named, site_of, zero_place};
+use ask_core::NoMemory;
+use bumpalo::Bump;
+use fn_rules::{Head, ObName, Rules};
+use ot_model::Kind;
+use ot_questions::{Place, SymOp, Who};
+
+// The place is in the document, where `last` says what is asked of its end.
+fn within<'a>(bump: &'a Bump, at: Place, last: &'a Form<'a>) -> Result<&'a Form<'a>, NoMemory>
+    ensures { IfOk result (λ r. form_tree r.now ≡ starting.within at (form_tree last.now)) }
+{
+    Ok(Form::and(bump, Form::le(bump, zero_place(), at)?, last)?)
+}
+
+// The operation is enabled on a document of the length plus an offset.
+fn enabled_form<'a>(bump: &'a Bump, op: SymOp, off: i32) -> Result<&'a Form<'a>, NoMemory>
+    ensures { IfOk result (λ r. form_tree r.now ≡ starting.enabled_form op off) }
+{
+    match op {
+        SymOp::Ins { at, .. } => Ok(within(bump, at, Form::le(bump, at, length_and(off))?)?),
+        SymOp::Del { at, .. } | SymOp::Upd { at, .. } => {
+            Ok(within(bump, at, Form::lt(bump, at, length_and(off))?)?)
+        }
+        SymOp::Nop => Ok(Form::always(bump)?),
+    }
+}
+
+// The goal, where the two names stand for different integers.
+fn if_differ<'a>(
+    bump: &'a Bump,
+    x: Option<u8>,
+    y: Option<u8>,
+    next: &'a Goal<'a>,
+) -> Result<&'a Goal<'a>, NoMemory>
+    ensures { IfOk result (λ r. goal_tree r.now ≡ starting.if_differ x y (goal_tree next.now)) }
+{
+    let Some(x) = x else {
+        return Ok(next);
+    };
+    let Some(y) = y else {
+        return Ok(next);
+    };
+    let equal = Form::eq(bump, place_named(x), place_named(y))?;
+    Ok(Goal::either(bump, equal, Goal::holds(bump)?, next)?)
+}
+
+// The goal, where the two names differ if it is assumed that they do.
+fn if_assumed<'a>(
+    bump: &'a Bump,
+    assumed: bool,
+    x: Option<u8>,
+    y: Option<u8>,
+    next: &'a Goal<'a>,
+) -> Result<&'a Goal<'a>, NoMemory>
+    ensures { IfOk result (λ r. goal_tree r.now ≡ starting.if_assumed assumed x y (goal_tree next.now)) }
+{
+    if assumed {
+        return Ok(if_differ(bump, x, y, next)?);
+    }
+    Ok(next)
+}
+
+// The goal, where the two operations are allowed beside each other.
+fn if_allowed<'a>(
+    bump: &'a Bump,
+    head: &Head,
+    a: SymOp,
+    b: SymOp,
+    next: &'a Goal<'a>,
+) -> Result<&'a Goal<'a>, NoMemory>
+    ensures { IfOk result (λ r. goal_tree r.now ≡ starting.if_allowed head.now a b (goal_tree next.now)) }
+{
+    let next = if_assumed(bump, head.chars_differ, char_of(a), char_of(b), next)?;
+    Ok(if_assumed(bump, head.sites_differ, site_of(a), site_of(b), next)?)
+}
+
+// The goal, where the operation is enabled on the document itself.
+fn if_enabled<'a>(bump: &'a Bump, op: SymOp, next: &'a Goal<'a>) -> Result<&'a Goal<'a>, NoMemory>
+    ensures { IfOk result (λ r. goal_tree r.now ≡ starting.if_enabled op (goal_tree next.now)) }
+{
+    let enabled = enabled_form(bump, op, 0)?;
+    Ok(Goal::either(bump, enabled, next, Goal::holds(bump)?)?)
+}
+
+// The goal, where each of the operations is.
+fn if_all_enabled<'a>(
+    bump: &'a Bump,
+    ops: &[SymOp],
+    next: &'a Goal<'a>,
+) -> Result<&'a Goal<'a>, NoMemory>
+    ensures { IfOk result (λ r. goal_tree r.now ≡ starting.if_all_enabled ops.now (goal_tree next.now)) }
+{
+    match ops {
+        [] => Ok(next),
+        [op, others @ ..] => {
+            let next = if_all_enabled(bump, others, next)?;
+            Ok(if_enabled(bump, *op, next)?)
+        }
+    }
+}
+
+// The goal, where the length is one.
+fn if_length<'a>(bump: &'a Bump, next: &'a Goal<'a>) -> Result<&'a Goal<'a>, NoMemory>
+    ensures { IfOk result (λ r. goal_tree r.now ≡ starting.if_length (goal_tree next.now)) }
+{
+    let length = Form::le(bump, zero_place(), length_and(0))?;
+    Ok(Goal::either(bump, length, next, Goal::holds(bump)?)?)
+}
+
+// What the second operation becomes behind the first is the first result.
+fn first_choice<'a>(
+    bump: &'a Bump,
+    ob: ObName,
+    a: SymOp,
+    b: SymOp,
+    third: SymOp,
+) -> Result<&'a Goal<'a>, NoMemory>
+    ensures { IfOk result (λ r. goal_tree r.now ≡ starting.first_choice ob a b third) }
+{
+    let plan = Progress {
+        ob,
+        ops: [a, b, third],
+        got: [SymOp::Nop; 6],
+        count: 0,
+    };
+    Ok(Goal::choose(bump, 0, b, a, plan.placed(bump)?)?)
+}
+
+fn start_pair<'a>(bump: &'a Bump, head: &Head, k: Kind, l: Kind) -> Result<&'a Goal<'a>, NoMemory>
+    ensures { IfOk result (λ r. goal_tree r.now ≡ starting.start_pair head.now k l) }
+{
+    let a = SymOp::named(k, Who::A);
+    let b = SymOp::named(l, Who::B);
+    let converge = first_choice(bump, ObName::Pair(k, l), a, b, SymOp::Nop)?;
+    let allowed = if_allowed(bump, head, a, b, converge)?;
+    let enabled = if_all_enabled(bump, &[a, b], allowed)?;
+    Ok(if_length(bump, enabled)?)
+}
+
+fn start_triple<'a>(
+    bump: &'a Bump,
+    head: &Head,
+    k: Kind,
+    l: Kind,
+    m: Kind,
+) -> Result<&'a Goal<'a>, NoMemory>
+    ensures { IfOk result (λ r. goal_tree r.now ≡ starting.start_triple head.now k l m) }
+{
+    let a = SymOp::named(k, Who::A);
+    let b = SymOp::named(l, Who::B);
+    let c = SymOp::named(m, Who::C);
+    let commute = first_choice(bump, ObName::Triple(k, l, m), a, b, c)?;
+    let last_two = if_allowed(bump, head, b, c, commute)?;
+    let outer_two = if_allowed(bump, head, a, c, last_two)?;
+    let first_two = if_allowed(bump, head, a, b, outer_two)?;
+    let enabled = if_all_enabled(bump, &[a, b, c], first_two)?;
+    Ok(if_length(bump, enabled)?)
+}
+
+fn start<'a>(bump: &'a Bump, head: &Head, ob: ObName) -> Result<&'a Goal<'a>, NoMemory>
+    ensures { IfOk result (λ r. goal_tree r.now ≡ starting.start_of head.now ob) }
+{
+    match ob {
+        ObName::Pair(k, l) => Ok(start_pair(bump, head, k, l)?),
+        ObName::Triple(k, l, m) => Ok(start_triple(bump, head, k, l, m)?),
+    }
+}
+
+/// The goal that an obligation begins with. It is of the function and the obligation, and stands for the
+/// plan of the obligation.
+#[tactic(auto, using(crate::proofs::Starts::ask_goal_start_of, crate::proofs::StartParts::start_of_belongs))]
+pub fn start_goal<'a>(bump: &'a Bump, rules: &Rules, ob: ObName) -> Result<&'a Goal<'a>, NoMemory>
+    requires { IsTrue (is_obligation (function_of rules.now).head ob) }
+    ensures tree { IfOk result (λ r. goal_tree r.now ≡ starting.start_of (function_of rules.now).head ob) }
+    ensures belongs { IfOk result (λ r. IsGoalOf (function_of rules.now) ob (goal_tree r.now)) }
+    ensures plan { IfOk result (λ r. ask_goal (function_of rules.now) (goal_tree r.now) ≡ plan_of (function_of rules.now) ob) }
+{
+    Ok(start(bump, &rules.head(), ob)?)
+}
