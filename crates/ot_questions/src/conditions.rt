@@ -12,7 +12,7 @@ ghost use Rattle.ot_questions.specs.Obligation as obligations;
 
 use crate::ask::{Answers, ask_eq, ask_le, ask_lt};
 use crate::next::Stop;
-use crate::place::{SymOp, length_and, place_named, zero_place};
+use crate::place::{Place, SymOp};
 use fn_rules::Head;
 
 // Whether an operation is enabled on a document of the length plus an offset.
@@ -25,14 +25,14 @@ pub(crate) fn ask_enabled(op: SymOp, off: i32, answers: &mut Answers<'_>) -> Res
 {
     match op {
         SymOp::Ins { at, .. } => {
-            if ask_le(zero_place(), at, answers)? {
-                return ask_le(at, length_and(off), answers);
+            if ask_le(Place::zero(), at, answers)? {
+                return ask_le(at, Place::length_and(off), answers);
             }
             Ok(false)
         }
         SymOp::Del { at, .. } | SymOp::Upd { at, .. } => {
-            if ask_le(zero_place(), at, answers)? {
-                return ask_lt(at, length_and(off), answers);
+            if ask_le(Place::zero(), at, answers)? {
+                return ask_lt(at, Place::length_and(off), answers);
             }
             Ok(false)
         }
@@ -70,7 +70,7 @@ fn ask_differ(x: Option<u8>, y: Option<u8>, answers: &mut Answers<'_>) -> Result
     let Some(y) = y else {
         return Ok(true);
     };
-    if ask_eq(place_named(x), place_named(y), answers)? {
+    if ask_eq(Place::named(x), Place::named(y), answers)? {
         return Ok(false);
     }
     Ok(true)

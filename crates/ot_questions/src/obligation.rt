@@ -18,7 +18,7 @@ use crate::conditions::{ask_all_enabled, ask_allowed, ask_enabled};
 use crate::guards::ask_transform;
 use crate::name::Who;
 use crate::next::{Next, Stop};
-use crate::place::{SymOp, index_and, length_and, zero_place};
+use crate::place::{Place, SymOp};
 use crate::reading::{ask_cell, ask_same};
 use crate::why::Why;
 use fn_rules::{Head, ObName, Rules};
@@ -41,10 +41,10 @@ fn ask_documents(
     requires off_near { IsNear 999 off }
     ensures { next_after (obligations.ask_documents mode left.now right.now off) (iter_rest answers.old) ≡ ended result }
 {
-    if !ask_le(zero_place(), index_and(0), answers)? {
+    if !ask_le(Place::zero(), Place::index_and(0), answers)? {
         return Ok(());
     }
-    if !ask_lt(index_and(0), length_and(off), answers)? {
+    if !ask_lt(Place::index_and(0), Place::length_and(off), answers)? {
         return Ok(());
     }
     let left_cell = ask_cell(mode, left, 0, answers)?;
@@ -147,7 +147,7 @@ fn ask_pair(rules: &Rules, a: SymOp, b: SymOp, answers: &mut Answers<'_>) -> Res
     requires b_declared { IsDeclaredOp (function_of rules.now).head b }
     ensures { next_after (obligations.ask_pair (function_of rules.now) a b) (iter_rest answers.old) ≡ ended result }
 {
-    if !ask_le(zero_place(), length_and(0), answers)? {
+    if !ask_le(Place::zero(), Place::length_and(0), answers)? {
         return Ok(());
     }
     if !ask_all_enabled(&[a, b], answers)? {
@@ -242,7 +242,7 @@ fn ask_triple(
     ensures { next_after (obligations.ask_triple (function_of rules.now) a b c) (iter_rest answers.old) ≡ ended result }
 {
     let head = rules.head();
-    if !ask_le(zero_place(), length_and(0), answers)? {
+    if !ask_le(Place::zero(), Place::length_and(0), answers)? {
         return Ok(());
     }
     if !ask_all_enabled(&[a, b, c], answers)? {

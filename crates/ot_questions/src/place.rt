@@ -32,35 +32,37 @@ pub enum SymOp {
     Nop,
 }
 
-// The integer of a name.
-pub(crate) fn place_named(var: u8) -> Place
-    ensures { result ≡ places.place var (pos 0) }
-{
-    Place { var, off: 0 }
-}
-
-pub(crate) fn zero_place() -> Place
-    ensures { result ≡ places.zero_place }
-{
-    place_named(ZERO)
-}
-
-// The length of the document, plus an offset.
-pub(crate) fn length_and(off: i32) -> Place
-    ensures { result ≡ places.length_and off }
-{
-    Place { var: LENGTH, off }
-}
-
-// The index, plus an offset.
-pub(crate) fn index_and(off: i32) -> Place
-    ensures { result ≡ places.index_and off }
-{
-    Place { var: INDEX, off }
-}
-
 impl Place {
-    pub(crate) fn plus(self, off: i32) -> Place
+    /// The integer of a name.
+    pub fn named(var: u8) -> Place
+        ensures { result ≡ places.place var (pos 0) }
+    {
+        Place { var, off: 0 }
+    }
+
+    /// Zero.
+    pub fn zero() -> Place
+        ensures { result ≡ places.zero_place }
+    {
+        Place::named(ZERO)
+    }
+
+    /// The length of the document, plus an offset.
+    pub fn length_and(off: i32) -> Place
+        ensures { result ≡ places.length_and off }
+    {
+        Place { var: LENGTH, off }
+    }
+
+    /// The index, plus an offset.
+    pub fn index_and(off: i32) -> Place
+        ensures { result ≡ places.index_and off }
+    {
+        Place { var: INDEX, off }
+    }
+
+    /// The place, plus an offset.
+    pub fn plus(self, off: i32) -> Place
         requires self_near { IsNear 1000 self.off }
         requires off_near { IsNear 1000 off }
         ensures { result ≡ places.plus self off }
@@ -77,8 +79,8 @@ fn place_of_name(name: Option<u8>) -> Place
     ensures { result ≡ places.place_of_name name }
 {
     match name {
-        None => zero_place(),
-        Some(var) => place_named(var),
+        None => Place::zero(),
+        Some(var) => Place::named(var),
     }
 }
 
@@ -89,7 +91,7 @@ impl SymOp {
         ensures near { IsNearOp 0 result }
         ensures declared { (head : Head) → IsTrue (is_declared head kind) → IsDeclaredOp head result }
     {
-        let at = place_named(position_name(who));
+        let at = Place::named(position_name(who));
         let ch = char_name(who);
         let site = site_name(who);
         match kind {
@@ -99,7 +101,8 @@ impl SymOp {
         }
     }
 
-    pub(crate) fn kind(self) -> Option<Kind>
+    /// The kind, which nop has not.
+    pub fn kind(self) -> Option<Kind>
         ensures { result ≡ places.sym_kind self }
     {
         match self {
@@ -110,16 +113,18 @@ impl SymOp {
         }
     }
 
-    pub(crate) fn at(self) -> Place
+    /// The position, or zero for nop.
+    pub fn at(self) -> Place
         ensures { result ≡ places.sym_at self }
     {
         match self {
             SymOp::Ins { at, .. } | SymOp::Del { at, .. } | SymOp::Upd { at, .. } => at,
-            SymOp::Nop => zero_place(),
+            SymOp::Nop => Place::zero(),
         }
     }
 
-    pub(crate) fn site(self) -> Option<u8>
+    /// The name of the site.
+    pub fn site(self) -> Option<u8>
         ensures { result ≡ places.sym_site self }
     {
         match self {
@@ -130,7 +135,8 @@ impl SymOp {
         }
     }
 
-    pub(crate) fn ch(self) -> Option<u8>
+    /// The name of the character, which a deletion has not.
+    pub fn ch(self) -> Option<u8>
         ensures { result ≡ places.sym_char self }
     {
         match self {
@@ -151,8 +157,8 @@ impl SymOp {
         }
     }
 
-    // What an atom of the sort compares.
-    pub(crate) fn thing(self, sort: Sort) -> Place
+    /// What an atom of the sort compares.
+    pub fn thing(self, sort: Sort) -> Place
         ensures { result ≡ places.sym_thing sort self }
     {
         match sort {
@@ -162,8 +168,8 @@ impl SymOp {
         }
     }
 
-    // How many cells the operation adds to a document.
-    pub(crate) fn growth(self, mode: Mode) -> i32
+    /// How many cells the operation adds to a document.
+    pub fn growth(self, mode: Mode) -> i32
         ensures value { result ≡ places.growth mode self }
         ensures small { IsNear 1 result }
     {
@@ -177,7 +183,7 @@ impl SymOp {
         }
     }
 
-    // What a result makes of the operation, beside the second one.
+    // What a result makes of the operation.
     fn made_by(self, res: Res, other: SymOp) -> SymOp
         requires self_near { IsNearOp 500 self }
         requires other_near { IsNearOp 500 other }
@@ -196,8 +202,8 @@ impl SymOp {
         }
     }
 
-    // The same, and how far it is from the two operations.
-    pub(crate) fn result(self, res: Res, other: SymOp) -> SymOp
+    /// What a result makes of the operation, beside the second one.
+    pub fn result(self, res: Res, other: SymOp) -> SymOp
         requires self_near { IsNearOp 500 self }
         requires other_near { IsNearOp 500 other }
         requires near { IsNear 99 (places.offset_of res) }

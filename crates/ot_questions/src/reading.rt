@@ -13,13 +13,13 @@ ghost use Rattle.ot_questions.specs.Reading as readings;
 use crate::ask::{Answers, ask_eq, ask_le, ask_lt};
 use crate::cell::{Finished, Flag, Source};
 use crate::next::Stop;
-use crate::place::{Place, SymOp, index_and, place_named};
+use crate::place::{Place, SymOp};
 use crate::why::Why;
 use ot_model::Mode;
 
 impl Finished {
-    // The cell of the base document at the index plus an offset.
-    fn base(off: i32) -> Finished
+    /// The cell of the base document at the index plus an offset.
+    pub fn base(off: i32) -> Finished
         ensures { result ≡ readings.base_cell off }
     {
         Finished {
@@ -28,8 +28,8 @@ impl Finished {
         }
     }
 
-    // A character that an insertion put.
-    fn put(ch: u8) -> Finished
+    /// A character that an insertion put.
+    pub fn put(ch: u8) -> Finished
         ensures { result ≡ readings.put_cell ch }
     {
         Finished {
@@ -38,8 +38,8 @@ impl Finished {
         }
     }
 
-    // The tombstone of a cell.
-    fn buried(self) -> Finished
+    /// The tombstone of a cell.
+    pub fn buried(self) -> Finished
         ensures { result ≡ readings.buried_cell self }
     {
         Finished {
@@ -48,13 +48,40 @@ impl Finished {
         }
     }
 
-    // The cell with the character of an update.
-    fn replaced(self, ch: u8) -> Finished
+    /// The cell with the character of an update.
+    pub fn replaced(self, ch: u8) -> Finished
         ensures { result ≡ readings.replaced_cell ch self }
     {
         Finished {
             source: Source::Named(ch),
             flag: self.flag,
+        }
+    }
+
+    /// The cause where two cells differ.
+    pub fn cause_beside(self, right: Finished) -> Why
+        ensures { result ≡ readings.cells_cause self right }
+    {
+        let dead = match (self.source, right.source) {
+            (Source::Named(_), Source::Named(_)) => dead_of_half(self.flag, right.flag),
+            _ => None,
+        };
+        Why::Cells {
+            left: base_read(self),
+            dead,
+        }
+    }
+}
+
+impl Flag {
+    /// Whether two flags are the same for every base document.
+    pub fn is_same(self, other: Flag) -> bool
+        ensures { result ≡ readings.is_same_flag self other }
+    {
+        match (self, other) {
+            (Flag::Live, Flag::Live) | (Flag::Dead, Flag::Dead) => true,
+            (Flag::From(j), Flag::From(k)) => j == k,
+            _ => false,
         }
     }
 }
@@ -78,22 +105,22 @@ pub(crate) fn ask_cell(
         [] => Ok(Finished::base(off)),
         [op, others @ ..] => match *op {
             SymOp::Ins { at, ch, .. } => {
-                if ask_lt(index_and(off), at, answers)? {
+                if ask_lt(Place::index_and(off), at, answers)? {
                     return ask_cell(mode, others, off, answers);
                 }
-                if ask_le(index_and(off), at, answers)? {
+                if ask_le(Place::index_and(off), at, answers)? {
                     return Ok(Finished::put(ch));
                 }
                 ask_cell(mode, others, off - 1, answers)
             }
             SymOp::Del { at, .. } => {
-                if ask_lt(index_and(off), at, answers)? {
+                if ask_lt(Place::index_and(off), at, answers)? {
                     return ask_cell(mode, others, off, answers);
                 }
                 match mode {
                     Mode::Plain => ask_cell(mode, others, off + 1, answers),
                     Mode::Tomb => {
-                        if ask_le(index_and(off), at, answers)? {
+                        if ask_le(Place::index_and(off), at, answers)? {
                             return Ok(ask_cell(mode, others, off, answers)?.buried());
                         }
                         ask_cell(mode, others, off, answers)
@@ -101,10 +128,10 @@ pub(crate) fn ask_cell(
                 }
             }
             SymOp::Upd { at, ch, .. } => {
-                if ask_lt(index_and(off), at, answers)? {
+                if ask_lt(Place::index_and(off), at, answers)? {
                     return ask_cell(mode, others, off, answers);
                 }
-                if ask_le(index_and(off), at, answers)? {
+                if ask_le(Place::index_and(off), at, answers)? {
                     return Ok(ask_cell(mode, others, off, answers)?.replaced(ch));
                 }
                 ask_cell(mode, others, off, answers)
@@ -141,31 +168,6 @@ fn dead_of_half(left: Flag, right: Flag) -> Option<i32>
     }
 }
 
-// The cause where two cells differ.
-fn cells_cause(left: Finished, right: Finished) -> Why
-    ensures { result ≡ readings.cells_cause left right }
-{
-    let dead = match (left.source, right.source) {
-        (Source::Named(_), Source::Named(_)) => dead_of_half(left.flag, right.flag),
-        _ => None,
-    };
-    Why::Cells {
-        left: base_read(left),
-        dead,
-    }
-}
-
-// Whether two flags are the same for every base document.
-fn is_same_flag(left: Flag, right: Flag) -> bool
-    ensures { result ≡ readings.is_same_flag left right }
-{
-    match (left, right) {
-        (Flag::Live, Flag::Live) | (Flag::Dead, Flag::Dead) => true,
-        (Flag::From(j), Flag::From(k)) => j == k,
-        _ => false,
-    }
-}
-
 // Whether two characters are the same for every base document.
 #[tactic(auto, unfolding(crate::specs::Reading::ask_same_source))]
 fn ask_same_source(left: Source, right: Source, answers: &mut Answers<'_>) -> Result<bool, Stop>
@@ -179,7 +181,7 @@ fn ask_same_source(left: Source, right: Source, answers: &mut Answers<'_>) -> Re
         },
         Source::Named(c) => match right {
             Source::Base(_) => Ok(false),
-            Source::Named(d) => ask_eq(place_named(c), place_named(d), answers),
+            Source::Named(d) => ask_eq(Place::named(c), Place::named(d), answers),
         },
     }
 }
@@ -193,11 +195,11 @@ pub(crate) fn ask_same(
 ) -> Result<(), Stop>
     ensures { next_after (readings.ask_same left right) (iter_rest answers.old) ≡ ended result }
 {
-    if !is_same_flag(left.flag, right.flag) {
-        return Err(Stop::Fails(cells_cause(left, right)));
+    if !left.flag.is_same(right.flag) {
+        return Err(Stop::Fails(left.cause_beside(right)));
     }
     if ask_same_source(left.source, right.source, answers)? {
         return Ok(());
     }
-    Err(Stop::Fails(cells_cause(left, right)))
+    Err(Stop::Fails(left.cause_beside(right)))
 }

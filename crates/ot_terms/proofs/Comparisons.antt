@@ -132,7 +132,7 @@ module _ (v : ℕ → ℤ) where
       (if_end (int_eq (v c +ℤ pos 0) (v d +ℤ pos 0)) Holds (Fails why) v
       ∙ (sym (end-eq (place c (pos 0)) (place d (pos 0)) Holds (Fails why) v) ∙ e))).0
 
-  found_where_same :
+  pub found_where_same :
       (x y : Finished) → ((base : BaseDocument) → finished_at base v x ≡ finished_at base v y)
       → end_of (ask_same x y) v ≡ None
   unfolding ask_same
@@ -141,7 +141,7 @@ module _ (v : ℕ → ℤ) where
       (flags_found x.flag y.flag (λ base. ap (λ cell. cell.live) (h base)))
       ∙ sources_found x.source y.source (cells_cause x y) (λ base. ap (λ cell. cell.ch) (h base))
 
-  same_where_found :
+  pub same_where_found :
       (x y : Finished) → end_of (ask_same x y) v ≡ None
       → (base : BaseDocument) → finished_at base v x ≡ finished_at base v y
   unfolding ask_same

@@ -6,3 +6,10 @@ pub mod Examples
 pub mod ReadCells
 pub mod Comparisons
 pub mod GuardPlaces
+pub mod Choices
+pub mod Results
+pub mod PairTruth
+pub mod TripleTruth
+pub mod GoalTruth
+pub mod StartTruth
+pub mod TruthExamples

@@ -1,5 +1,5 @@
 -- Reading a cell at a valuation: the finished cell that it comes to, which is the cell for every base document.
-use Rattle.std.proofs.Common.{◌≡◌, ℕ, ℤ, pos, negsuc, ◌+ℤ◌, Bool, true, false, if◌then◌else◌, int_lt, int_le, refl, ap, sym, ◌∙◌, arith}
+use Rattle.std.proofs.Common.{◌≡◌, ℕ, ℤ, pos, negsuc, ◌+ℤ◌, Bool, true, false, if◌then◌else◌, int_lt, int_le, List, [], ◌∷◌, refl, ap, sym, ◌∙◌, arith}
 use Rattle.std.proofs.lemmas.Int.{ints}
 use Rattle.std.specs.Ordering.{int_eq}
 use Rattle.ot_model.specs.declared.op.Mode.{Mode}
@@ -10,6 +10,8 @@ use Rattle.ot_questions.specs.declared.cell.Flag.{Flag}
 use Rattle.ot_questions.specs.declared.cell.Flag.TheVariants as flags
 use Rattle.ot_questions.specs.declared.cell.Source.{Source}
 use Rattle.ot_questions.specs.declared.cell.Source.TheVariants as sources
+use Rattle.ot_questions.specs.declared.place.SymOp.{SymOp}
+use Rattle.ot_questions.specs.declared.place.SymOp.TheVariants as ops
 use Rattle.ot_questions.specs.declared.why.Why.{Why}
 use Rattle.ot_questions.specs.Places.{integer_at}
 use Rattle.ot_questions.specs.Reading.{put_cell, buried_cell, replaced_cell}
@@ -21,6 +23,7 @@ use Rattle.ot_terms.specs.Documents.{DocTree}
 use Rattle.ot_terms.specs.Cells as cells
 use Rattle.ot_terms.specs.Cells.{CellTree}
 use Rattle.ot_terms.specs.Meaning.{IntegerCell, BaseDocument, base_cell_at, char_cell, killed, rewritten, by_place, cell_of_doc, cell_of}
+use Rattle.ot_terms.specs.Changes.{changed, doc_of}
 use Rattle.ot_terms.specs.Standing.{changes_of, ask_read}
 use Rattle.ot_terms.specs.Belonging.{IsDocOf, IsCellOf}
 use Rattle.ot_terms.proofs.Forms.{end_form}
@@ -77,34 +80,50 @@ module _ (base : BaseDocument) (v : ℕ → ℤ) where
       ≡ finished_at (if int_lt j p then x else (if int_le j p then y else z))
   by_place-le j p x y z = by_tests (int_lt j p) (int_eq j p) (int_le j p) x y z (at_place j p)
 
+  -- what an operation makes of a document reads as the operation does before those that made the document
+  read_changed :
+      (mode : Mode) (o : SymOp) (d : DocTree) (os : List SymOp) (off : ℤ)
+      → ((k : ℤ) → cell_of_doc base v d (v 2 +ℤ k) ≡ finished_at (seen v mode os k))
+      → cell_of_doc base v (changed mode o d) (v 2 +ℤ off) ≡ finished_at (seen v mode (o ∷ os) off)
+  read_changed mode (ops.Ins at ch site) d os off h =
+      ap (λ x. by_place (v 2 +ℤ off) (integer_at v at) x (char_cell (v ch)) (cell_of_doc base v d ((v 2 +ℤ off) +ℤ negsuc 0))) (h off)
+      ∙ (ap (λ x. by_place (v 2 +ℤ off) (integer_at v at) (finished_at (seen v mode os off)) (char_cell (v ch)) x)
+      (ap (cell_of_doc base v d) (sym (plus-assoc (v 2) off (negsuc 0))) ∙ h (off +ℤ negsuc 0))
+      ∙ by_place-le (v 2 +ℤ off) (integer_at v at) (seen v mode os off) (put_cell ch) (seen v mode os (off +ℤ negsuc 0)))
+  read_changed Plain (ops.Del at site) d os off h =
+      ap (λ x. if int_lt (v 2 +ℤ off) (integer_at v at) then x else cell_of_doc base v d ((v 2 +ℤ off) +ℤ pos 1)) (h off)
+      ∙ (ap (λ x. if int_lt (v 2 +ℤ off) (integer_at v at) then finished_at (seen v Plain os off) else x)
+      (ap (cell_of_doc base v d) (sym (plus-assoc (v 2) off (pos 1))) ∙ h (off +ℤ pos 1))
+      ∙ if_through finished_at (int_lt (v 2 +ℤ off) (integer_at v at)) (seen v Plain os off) (seen v Plain os (off +ℤ pos 1)))
+  read_changed Tomb (ops.Del at site) d os off h =
+      ap (λ x. by_place (v 2 +ℤ off) (integer_at v at) x (killed x) x) (h off)
+      ∙ by_place-le (v 2 +ℤ off) (integer_at v at) (seen v Tomb os off) (buried_cell (seen v Tomb os off)) (seen v Tomb os off)
+  read_changed mode (ops.Upd at ch site) d os off h =
+      ap (λ x. by_place (v 2 +ℤ off) (integer_at v at) x (rewritten (v ch) x) x) (h off)
+      ∙ by_place-le (v 2 +ℤ off) (integer_at v at) (seen v mode os off) (replaced_cell ch (seen v mode os off)) (seen v mode os off)
+  read_changed mode ops.Nop d os off h = h off
+
   read_doc :
       (mode : Mode) (count : ℕ) (d : DocTree) (off : ℤ) → IsDocOf mode count d
       → cell_of_doc base v d (v 2 +ℤ off) ≡ finished_at (seen v mode (changes_of d) off)
   read_doc mode count documents.Base off h = refl
   read_doc mode count (documents.Put d at ch) off h =
-      ap (λ x. by_place (v 2 +ℤ off) (integer_at v at) x (char_cell (v ch)) (cell_of_doc base v d ((v 2 +ℤ off) +ℤ negsuc 0)))
-      (read_doc mode count d off h.2)
-      ∙ (ap (λ x. by_place (v 2 +ℤ off) (integer_at v at) (finished_at (seen v mode (changes_of d) off)) (char_cell (v ch)) x)
-      (ap (cell_of_doc base v d) (sym (plus-assoc (v 2) off (negsuc 0))) ∙ read_doc mode count d (off +ℤ negsuc 0) h.2)
-      ∙ by_place-le (v 2 +ℤ off) (integer_at v at) (seen v mode (changes_of d) off) (put_cell ch)
-      (seen v mode (changes_of d) (off +ℤ negsuc 0)))
+      read_changed mode (ops.Ins at ch 0) d (changes_of d) off (λ k. read_doc mode count d k h.2)
   read_doc Plain count (documents.Cut d at) off h =
-      ap (λ x. if int_lt (v 2 +ℤ off) (integer_at v at) then x else cell_of_doc base v d ((v 2 +ℤ off) +ℤ pos 1))
-      (read_doc Plain count d off h.2)
-      ∙ (ap (λ x. if int_lt (v 2 +ℤ off) (integer_at v at) then finished_at (seen v Plain (changes_of d) off) else x)
-      (ap (cell_of_doc base v d) (sym (plus-assoc (v 2) off (pos 1))) ∙ read_doc Plain count d (off +ℤ pos 1) h.2)
-      ∙ if_through finished_at (int_lt (v 2 +ℤ off) (integer_at v at)) (seen v Plain (changes_of d) off)
-      (seen v Plain (changes_of d) (off +ℤ pos 1)))
+      read_changed Plain (ops.Del at 0) d (changes_of d) off (λ k. read_doc Plain count d k h.2)
   read_doc Tomb count (documents.Cut d at) off h = absurd (cc)
   read_doc Plain count (documents.Mark d at) off h = absurd (cc)
   read_doc Tomb count (documents.Mark d at) off h =
-      ap (λ x. by_place (v 2 +ℤ off) (integer_at v at) x (killed x) x) (read_doc Tomb count d off h.2)
-      ∙ by_place-le (v 2 +ℤ off) (integer_at v at) (seen v Tomb (changes_of d) off)
-      (buried_cell (seen v Tomb (changes_of d) off)) (seen v Tomb (changes_of d) off)
+      read_changed Tomb (ops.Del at 0) d (changes_of d) off (λ k. read_doc Tomb count d k h.2)
   read_doc mode count (documents.Over d at ch) off h =
-      ap (λ x. by_place (v 2 +ℤ off) (integer_at v at) x (rewritten (v ch) x) x) (read_doc mode count d off h.2)
-      ∙ by_place-le (v 2 +ℤ off) (integer_at v at) (seen v mode (changes_of d) off)
-      (replaced_cell ch (seen v mode (changes_of d) off)) (seen v mode (changes_of d) off)
+      read_changed mode (ops.Upd at ch 0) d (changes_of d) off (λ k. read_doc mode count d k h.2)
+
+  -- the document that operations make
+  pub read_made :
+      (mode : Mode) (os : List SymOp) (off : ℤ)
+      → cell_of_doc base v (doc_of mode os) (v 2 +ℤ off) ≡ finished_at (seen v mode os off)
+  read_made mode [] off = refl
+  read_made mode (o ∷ os) off = read_changed mode o (doc_of mode os) os off (λ k. read_made mode os k)
 
   pub read_cell :
       (mode : Mode) (count : ℕ) (cell : CellTree) → IsCellOf mode count cell

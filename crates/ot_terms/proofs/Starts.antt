@@ -17,7 +17,7 @@ use Rattle.ot_terms.specs.Goals.{GoalTree}
 use Rattle.ot_terms.specs.Standing.{ask_form, ask_goal, ask_after, ask_pair_after, ask_triple_after, ask_second_way_after}
 use Rattle.ot_terms.specs.Starting.{enabled_form, if_differ, if_assumed, if_allowed, if_all_enabled, if_length, first_choice, start_of}
 
-ask_form-enabled_form :
+pub ask_form-enabled_form :
     (o : SymOp) (off : ℤ) (p q : Plan Why) → ask_form (enabled_form o off) p q ≡ ask_enabled o off p q
 unfolding ask_form ask_enabled
 ask_form-enabled_form (Ins at ch site) off p q = refl

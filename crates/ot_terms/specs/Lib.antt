@@ -1,6 +1,7 @@
 pub mod Forms
 pub mod Documents
 pub mod Cells
+pub mod Changes
 pub mod Goals
 pub mod Meaning
 pub mod Standing
@@ -8,3 +9,4 @@ pub mod Weights
 pub mod Placing
 pub mod Starting
 pub mod Belonging
+pub mod Truth

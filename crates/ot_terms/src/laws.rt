@@ -1,14 +1,16 @@
 //! What terms mean at a valuation, and that what is asked of them comes to it.
-ghost use Rattle.std.specs.Prelude.{◌≡◌, ◌↔◌, ℕ, ℤ, if◌then◌else◌, None};
+ghost use Rattle.std.specs.Prelude.{◌≡◌, ◌↔◌, ℕ, ℤ, if◌then◌else◌, IsTrue, None};
+ghost use Rattle.fn_rules.specs.declared.function.ObName.{ObName};
 ghost use Rattle.fn_rules.specs.Functions.{Function};
-ghost use Rattle.ask_core.specs.Plans.{Plan, end_of};
+ghost use Rattle.ask_core.specs.Plans.{Plan, end_of, value};
 ghost use Rattle.ot_questions.specs.declared.why.Why.{Why};
 ghost use Rattle.ot_terms.specs.Forms.{FormTree, form_holds};
 ghost use Rattle.ot_terms.specs.Cells.{CellTree};
-ghost use Rattle.ot_terms.specs.Goals.{Same};
+ghost use Rattle.ot_terms.specs.Goals.{GoalTree, Same};
 ghost use Rattle.ot_terms.specs.Meaning.{BaseDocument, cell_of};
 ghost use Rattle.ot_terms.specs.Standing.{ask_form, ask_goal};
-ghost use Rattle.ot_terms.specs.Belonging.{IsCellOf};
+ghost use Rattle.ot_terms.specs.Belonging.{IsCellOf, IsGoalOf};
+ghost use Rattle.ot_terms.specs.Truth.{goal_holds};
 
 /// At a valuation what is asked of a form goes on as the form is true.
 #[tactic(auto, using(crate::proofs::Forms::end_form))]
@@ -23,4 +25,16 @@ pub fn cells_are_compared_over_all_documents()
     ensures { (f : Function) (count : ℕ) (left right : CellTree) (v : ℕ → ℤ)
         → IsCellOf f.head.mode count left → IsCellOf f.head.mode count right
         → (end_of (ask_goal f (Same left right)) v ≡ None) ↔ ((base : BaseDocument) → cell_of base v left ≡ cell_of base v right) }
+{}
+
+/// A goal of a function and an obligation is true at a valuation exactly where the plan that it stands for
+/// ends in `Holds` there. So two goals that stand for one plan are true at the same valuations.
+#[tactic(auto, using(crate::proofs::GoalTruth::goal_holds_ends, crate::proofs::GoalTruth::goal_holds_value, crate::proofs::GoalTruth::goal_holds_alike))]
+pub fn goals_are_true_as_their_plans()
+    ensures end { (f : Function) (ob : ObName) (g : GoalTree) (v : ℕ → ℤ) → IsGoalOf f ob g
+        → goal_holds f v g ↔ (end_of (ask_goal f g) v ≡ None) }
+    ensures value { (f : Function) (ob : ObName) (g : GoalTree) (v : ℕ → ℤ) → IsGoalOf f ob g
+        → goal_holds f v g ↔ IsTrue (value (ask_goal f g) v) }
+    ensures alike { (f : Function) (ob : ObName) (g h : GoalTree) (v : ℕ → ℤ) → IsGoalOf f ob g → IsGoalOf f ob h
+        → ask_goal f g ≡ ask_goal f h → goal_holds f v g ↔ goal_holds f v h }
 {}

@@ -13,7 +13,6 @@ mod document;
 mod form;
 mod goal;
 mod laws;
-mod parts;
 mod placing;
 mod starting;
 
@@ -22,10 +21,13 @@ pub use cell::CellT;
 pub use document::DocT;
 pub use form::Form;
 pub use goal::{Goal, Progress};
-pub use laws::{cells_are_compared_over_all_documents, forms_are_asked_as_they_are_true};
+pub use laws::{
+    cells_are_compared_over_all_documents, forms_are_asked_as_they_are_true,
+    goals_are_true_as_their_plans,
+};
 pub use ot_questions::{Place, SymOp, Why};
 pub use placing::place_form;
-pub use starting::start_goal;
+pub use starting::{enabled_form, start_goal};
 
 #[cfg(test)]
 mod tests;

@@ -15,7 +15,6 @@ ghost use Rattle.ot_terms.specs.Placing.{atom_form, guard_form};
 ghost use Rattle.ot_terms.specs.Standing.{ask_form};
 
 use crate::form::Form;
-use crate::parts::{plus, thing_of};
 use ask_core::NoMemory;
 use bumpalo::Bump;
 use fn_rules::{Atom, Cmp, Guard, Side};
@@ -41,14 +40,14 @@ fn place_atom<'a>(bump: &'a Bump, atom: &Atom, a: SymOp, b: SymOp) -> Result<&'a
         Side::First => Ok(compared(
             bump,
             atom.cmp,
-            thing_of(a, atom.sort),
-            plus(thing_of(b, atom.sort), atom.k),
+            a.thing(atom.sort),
+            b.thing(atom.sort).plus(atom.k),
         )?),
         Side::Second => Ok(compared(
             bump,
             atom.cmp,
-            thing_of(b, atom.sort),
-            plus(thing_of(a, atom.sort), atom.k),
+            b.thing(atom.sort),
+            a.thing(atom.sort).plus(atom.k),
         )?),
     }
 }

@@ -1,5 +1,5 @@
 //! The goal that an obligation begins with.
-ghost use Rattle.std.specs.Prelude.{◌≡◌, IsTrue, IfOk};
+ghost use Rattle.std.specs.Prelude.{◌≡◌, ◌↔◌, ℕ, IsTrue, IfOk};
 ghost use Rattle.fn_rules.specs.Obligations.{is_obligation};
 ghost use Rattle.fn_rules.specs.Rules.{function_of};
 ghost use Rattle.ot_questions.specs.Obligation.{plan_of};
@@ -8,10 +8,10 @@ ghost use Rattle.ot_terms.specs.Forms.{form_tree};
 ghost use Rattle.ot_terms.specs.Goals.{goal_tree};
 ghost use Rattle.ot_terms.specs.Standing.{ask_goal};
 ghost use Rattle.ot_terms.specs.Starting as starting;
+ghost use Rattle.ot_terms.specs.Truth.{IsTrueEverywhere, IsTrueAtLength, HasInstance};
 
 use crate::form::Form;
 use crate::goal::{Goal, Progress};
-use crate::parts::{char_of, length_and, place_named, site_of, zero_place};
 use ask_core::NoMemory;
 use bumpalo::Bump;
 use fn_rules::{Head, ObName, Rules};
@@ -22,17 +22,17 @@ use ot_questions::{Place, SymOp, Who};
 fn within<'a>(bump: &'a Bump, at: Place, last: &'a Form<'a>) -> Result<&'a Form<'a>, NoMemory>
     ensures { IfOk result (λ r. form_tree r.now ≡ starting.within at (form_tree last.now)) }
 {
-    Ok(Form::and(bump, Form::le(bump, zero_place(), at)?, last)?)
+    Ok(Form::and(bump, Form::le(bump, Place::zero(), at)?, last)?)
 }
 
-// The operation is enabled on a document of the length plus an offset.
-fn enabled_form<'a>(bump: &'a Bump, op: SymOp, off: i32) -> Result<&'a Form<'a>, NoMemory>
+/// The operation is enabled on a document of the length plus an offset.
+pub fn enabled_form<'a>(bump: &'a Bump, op: SymOp, off: i32) -> Result<&'a Form<'a>, NoMemory>
     ensures { IfOk result (λ r. form_tree r.now ≡ starting.enabled_form op off) }
 {
     match op {
-        SymOp::Ins { at, .. } => Ok(within(bump, at, Form::le(bump, at, length_and(off))?)?),
+        SymOp::Ins { at, .. } => Ok(within(bump, at, Form::le(bump, at, Place::length_and(off))?)?),
         SymOp::Del { at, .. } | SymOp::Upd { at, .. } => {
-            Ok(within(bump, at, Form::lt(bump, at, length_and(off))?)?)
+            Ok(within(bump, at, Form::lt(bump, at, Place::length_and(off))?)?)
         }
         SymOp::Nop => Ok(Form::always(bump)?),
     }
@@ -53,7 +53,7 @@ fn if_differ<'a>(
     let Some(y) = y else {
         return Ok(next);
     };
-    let equal = Form::eq(bump, place_named(x), place_named(y))?;
+    let equal = Form::eq(bump, Place::named(x), Place::named(y))?;
     Ok(Goal::either(bump, equal, Goal::holds(bump)?, next)?)
 }
 
@@ -83,8 +83,8 @@ fn if_allowed<'a>(
 ) -> Result<&'a Goal<'a>, NoMemory>
     ensures { IfOk result (λ r. goal_tree r.now ≡ starting.if_allowed head.now a b (goal_tree next.now)) }
 {
-    let next = if_assumed(bump, head.chars_differ, char_of(a), char_of(b), next)?;
-    Ok(if_assumed(bump, head.sites_differ, site_of(a), site_of(b), next)?)
+    let next = if_assumed(bump, head.chars_differ, a.ch(), b.ch(), next)?;
+    Ok(if_assumed(bump, head.sites_differ, a.site(), b.site(), next)?)
 }
 
 // The goal, where the operation is enabled on the document itself.
@@ -116,7 +116,7 @@ fn if_all_enabled<'a>(
 fn if_length<'a>(bump: &'a Bump, next: &'a Goal<'a>) -> Result<&'a Goal<'a>, NoMemory>
     ensures { IfOk result (λ r. goal_tree r.now ≡ starting.if_length (goal_tree next.now)) }
 {
-    let length = Form::le(bump, zero_place(), length_and(0))?;
+    let length = Form::le(bump, Place::zero(), Place::length_and(0))?;
     Ok(Goal::either(bump, length, next, Goal::holds(bump)?)?)
 }
 
@@ -180,13 +180,17 @@ fn start<'a>(bump: &'a Bump, head: &Head, ob: ObName) -> Result<&'a Goal<'a>, No
 }
 
 /// The goal that an obligation begins with. It is of the function and the obligation, and stands for the
-/// plan of the obligation.
+/// plan of the obligation. It is true at all integers exactly where the property holds for all operations of
+/// the kinds on all documents; and for each length by itself, it is true at all integers with that length
+/// exactly where the property holds on all documents of the length.
 #[tactic(auto, using(crate::proofs::Starts::ask_goal_start_of, crate::proofs::StartParts::start_of_belongs))]
 pub fn start_goal<'a>(bump: &'a Bump, rules: &Rules, ob: ObName) -> Result<&'a Goal<'a>, NoMemory>
     requires { IsTrue (is_obligation (function_of rules.now).head ob) }
     ensures tree { IfOk result (λ r. goal_tree r.now ≡ starting.start_of (function_of rules.now).head ob) }
     ensures belongs { IfOk result (λ r. IsGoalOf (function_of rules.now) ob (goal_tree r.now)) }
     ensures plan { IfOk result (λ r. ask_goal (function_of rules.now) (goal_tree r.now) ≡ plan_of (function_of rules.now) ob) }
+    ensures instance { IfOk result (λ r. (n : ℕ) → IsTrueAtLength (function_of rules.now) (goal_tree r.now) n ↔ HasInstance (function_of rules.now) ob n) }
+    ensures whole { IfOk result (λ r. IsTrueEverywhere (function_of rules.now) (goal_tree r.now) ↔ ((n : ℕ) → HasInstance (function_of rules.now) ob n)) }
 {
     Ok(start(bump, &rules.head(), ob)?)
 }
