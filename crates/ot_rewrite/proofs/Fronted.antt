@@ -1,0 +1,19 @@
+-- What a step of several rules gives: the next front, or that none fits.
+use Rattle.std.proofs.Common.{◌≡◌, Option, Some, None, MatchOption, sym, subst}
+use Rattle.fn_rules.specs.Functions.{Function}
+use Rattle.ot_terms.specs.Goals.{GoalTree}
+use Rattle.ot_rewrite.specs.declared.front.Front.{Front}
+use Rattle.ot_rewrite.specs.Reaching.{Advances}
+use Rattle.ot_rewrite.specs.Steps.{front_tree}
+use Rattle.ot_rewrite.specs.Table.{rewritten}
+
+abbrev pub Given : Function → GoalTree → Option Front → Type 0
+Given f old o = MatchOption o (rewritten f old ≡ None) (λ next. Advances f old (front_tree next))
+
+pub next_given :
+    (f : Function) (old : GoalTree) (o : Option Front) (next got : Front) → Given f old o → o ≡ Some next → got ≡ next
+    → Advances f old (front_tree got)
+next_given f old o next got h e same = subst (λ t. Advances f old (front_tree t)) (sym same) (subst (Given f old) e h)
+
+pub none_given : (f : Function) (old : GoalTree) (o : Option Front) → Given f old o → o ≡ None → rewritten f old ≡ None
+none_given f old o h e = subst (Given f old) e h
