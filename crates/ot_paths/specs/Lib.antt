@@ -1,0 +1,3 @@
+pub mod Nodes
+pub use Rattle.ot_terms.specs.Belonging
+pub use Rattle.ot_terms.specs.Standing

@@ -1,0 +1,141 @@
+//! The asker of one obligation.
+ghost use Rattle.std.specs.Prelude.{◌≡◌, IsTrue};
+ghost use Rattle.fn_rules.specs.Obligations.{is_obligation};
+ghost use Rattle.fn_rules.specs.Rules.{function_of};
+ghost use Rattle.ask_core.specs.Askers.{Begins};
+ghost use Rattle.ot_terms.specs.Forms.{form_tree};
+ghost use Rattle.ot_terms.specs.Goals.{goal_tree, If};
+ghost use Rattle.ot_terms.specs.Standing.{ask_goal};
+ghost use Rattle.ot_rewrite.specs.Fronts.{is_at_front, is_question};
+ghost use Rattle.ot_rewrite.specs.Steps.{front_tree};
+ghost use Rattle.ot_questions.specs.Nears.{IsNear};
+ghost use Rattle.ot_paths.specs.Nodes as nodes;
+ghost use Rattle.ot_paths.specs.Nodes.{IsNode};
+
+use ask_core::{Asker, NoMemory, Turn};
+use bumpalo::Bump;
+use diff_graph::Lit;
+use fn_rules::{ObName, Rules};
+use ot_questions::plans_keep_limits;
+use ot_rewrite::{Front, front_of};
+use ot_terms::{Form, Goal, Place, Why, start_goal};
+
+// The literal of the question whether the first place is at most the second.
+fn literal(x: Place, y: Place) -> Lit
+    requires x_near { IsNear 1000 x.off }
+    requires y_near { IsNear 1000 y.off }
+    ensures { result ≡ nodes.literal x y }
+{
+    Lit {
+        x: x.var,
+        y: y.var,
+        k: y.off - x.off,
+    }
+}
+
+/// What an obligation of a function asks. Its nodes are goals in an arena that stands outside; a node is
+/// rewritten when its turn is asked for.
+#[derive(Drop)]
+pub struct PathAsker<'a> {
+    bump: &'a Bump,
+    rules: &'a Rules,
+    ob: ObName,
+    ghost listed: { IsTrue (is_obligation (function_of rules.now).head ob) },
+}
+
+impl<'a> PathAsker<'a> {
+    /// The asker of an obligation that is one of the function's.
+    pub fn new(bump: &'a Bump, rules: &'a Rules, ob: ObName) -> PathAsker<'a>
+        requires { IsTrue (is_obligation (function_of rules.now).head ob) }
+        ensures rules { result.rules.now ≡ rules.now }
+        ensures obligation { result.ob ≡ ob }
+    {
+        PathAsker { bump, rules, ob }
+    }
+
+    // How the plan of a question begins, with a goal for each answer.
+    fn asked(&self, form: Form<'a>, yes: &'a Goal<'a>, no: &'a Goal<'a>) -> Turn<&'a Goal<'a>, Why>
+        requires node { IsNode (function_of self.now.rules.now) self.now.ob (If (form_tree form) (goal_tree yes.now) (goal_tree no.now)) }
+        requires question { IsTrue (is_question (form_tree form)) }
+        ensures { Begins (λ n. IsNode (function_of self.now.rules.now) self.now.ob (goal_tree n.now))
+            (λ n. ask_goal (function_of self.now.rules.now) (goal_tree n.now)) result
+            (ask_goal (function_of self.now.rules.now) (If (form_tree form.entry) (goal_tree yes.now) (goal_tree no.now))) }
+    {
+        match form {
+            Form::Le(x, y) => Turn::Ask {
+                lit: literal(x, y),
+                yes,
+                no,
+            },
+            Form::True => Turn::Holds,
+            Form::Lt(_, _) => Turn::Holds,
+            Form::Eq(_, _) => Turn::Holds,
+            Form::And(_, _) => Turn::Holds,
+            Form::Or(_, _) => Turn::Holds,
+            Form::Not(_) => Turn::Holds,
+        }
+    }
+
+    // How the plan of a goal begins at whose front nothing is left to be rewritten.
+    #[tactic(auto, using(crate::proofs::Questions::ask_goal_holds, crate::proofs::Questions::ask_goal_fails))]
+    fn turn_at(&self, front: Front<'a>) -> Turn<&'a Goal<'a>, Why>
+        requires node { IsNode (function_of self.now.rules.now) self.now.ob (front_tree front) }
+        requires at_front { IsTrue (is_at_front (front_tree front)) }
+        ensures { Begins (λ n. IsNode (function_of self.now.rules.now) self.now.ob (goal_tree n.now))
+            (λ n. ask_goal (function_of self.now.rules.now) (goal_tree n.now)) result
+            (ask_goal (function_of self.now.rules.now) (front_tree front.entry)) }
+    {
+        match front {
+            Front::Holds => Turn::Holds,
+            Front::Fails(why) => Turn::Fails(why),
+            Front::If { form, yes, no } => self.asked(form, yes, no),
+            Front::Choose { .. } => Turn::Holds,
+            Front::Deliver { .. } => Turn::Holds,
+            Front::Same { .. } => Turn::Holds,
+        }
+    }
+}
+
+impl<'a> Asker for PathAsker<'a> {
+    ghost use Rattle.fn_rules.specs.Rules.{function_of};
+    ghost use Rattle.ot_questions.specs.Names as names;
+    ghost use Rattle.ot_questions.specs.Obligation.{plan_of};
+    ghost use Rattle.ot_terms.specs.Goals.{goal_tree};
+    ghost use Rattle.ot_terms.specs.Standing.{ask_goal};
+    ghost use Rattle.ot_paths.specs.Nodes.{IsNode};
+
+    type Node = &'a Goal<'a>;
+
+    type Why = Why;
+
+    ghost is_own = { λ a n. IsNode (function_of a.rules.now) a.ob (goal_tree n.now) };
+
+    ghost plan = { λ a n. ask_goal (function_of a.rules.now) (goal_tree n.now) };
+
+    ghost root = { λ a. plan_of (function_of a.rules.now) a.ob };
+
+    ghost name_count = { λ a. names.name_count a.ob };
+
+    fn names(&self) -> u8 {
+        match self.ob {
+            ObName::Pair(..) => 9,
+            ObName::Triple(..) => 12,
+        }
+    }
+
+    fn start(&mut self) -> Result<&'a Goal<'a>, NoMemory> {
+        plans_keep_limits();
+        let _head = self.rules.head();
+        Ok(start_goal(self.bump, self.rules, self.ob)?)
+    }
+
+    fn turn(&mut self, node: &'a Goal<'a>) -> Result<Turn<&'a Goal<'a>, Why>, NoMemory> {
+        let front = front_of(self.bump, self.rules, node)?;
+        Ok(self.turn_at(front))
+    }
+
+    ghost fine = { λ a n own. own.fine };
+}
+
+#[cfg(test)]
+mod tests;

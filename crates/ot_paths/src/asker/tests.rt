@@ -1,0 +1,72 @@
+//! The questions of one pair, along the answers yes.
+
+use super::*;
+use fn_rules::{Block, Case, Guard, Head, Res, Side, is_within_limits};
+use ot_model::{Kind, Mode};
+use std::alloc::Global;
+use std::process::Abort;
+use std::test::Fail;
+
+// Deletions leave tombstones and stay where they are.
+fn marks(rt: &impl Abort, alloc: Global) -> Result<Rules, Fail> {
+    let head = Head {
+        mode: Mode::Tomb,
+        ins: false,
+        del: true,
+        upd: false,
+        sites_differ: false,
+        chars_differ: false,
+    };
+    let mut cases = Vec::new(alloc);
+    cases.push(Case {
+        guard: Guard::True,
+        res: Res::Keep {
+            base: Side::First,
+            k: 0,
+        },
+    })?;
+    let mut blocks = Vec::new(alloc);
+    blocks.push(Block {
+        first: Kind::Del,
+        second: Kind::Del,
+        cases,
+    })?;
+    assert!(rt; is_within_limits(&head, &blocks));
+    Ok(Rules::build(head, blocks))
+}
+
+// The length is asked first, and then the first deletion's position; where the length is none, nothing is to be shown.
+fn first_questions_are_asked(rt: &impl Abort, asker: &mut PathAsker<'_>) -> Result<(), NoMemory> {
+    let start = asker.start()?;
+    match asker.turn(start)? {
+        Turn::Ask { lit, yes, no } => {
+            assert_eq!(rt; lit, Lit { x: 0, y: 1, k: 0 });
+            let behind_no = asker.turn(no)?;
+            assert!(rt; matches!(behind_no, Turn::Holds));
+            let behind_yes = asker.turn(yes)?;
+            assert!(rt;
+                matches!(
+                    behind_yes,
+                    Turn::Ask {
+                        lit: Lit { x: 0, y: 3, k: 0 },
+                        ..
+                    }
+                )
+            );
+        }
+        _ => rt.abort(),
+    }
+    Ok(())
+}
+
+#[test]
+fn a_pair_asks_its_questions(rt: HostRuntime) -> Result<(), Fail> {
+    let rules = marks(&rt, rt.alloc())?;
+    let head = rules.head();
+    assert!(rt; head.declares_pair(Kind::Del, Kind::Del));
+    let bump = Bump::new(rt.alloc());
+    let mut asker = PathAsker::new(&bump, &rules, ObName::Pair(Kind::Del, Kind::Del));
+    assert_eq!(rt; asker.names(), 9);
+    first_questions_are_asked(&rt, &mut asker)?;
+    Ok(())
+}

@@ -1,0 +1,11 @@
+//! The askers of obligations.
+//!
+//! A node of a `PathAsker` is a goal in an arena, and stands for the plan that the goal stands for. The
+//! asker's own plan is that of its obligation. So whatever is checked or proved over an asker is checked or
+//! proved of the obligation.
+#![tactic(auto)]
+
+mod asker;
+
+pub use ask_core::NoMemory;
+pub use asker::PathAsker;
