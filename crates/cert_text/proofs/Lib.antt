@@ -1,3 +1,12 @@
+pub mod CycleLemmas
 pub mod Digits
+mod Examples
+pub mod LineLemmas
 pub mod NumberLists
+pub mod PartLemmas
+pub mod ReaderLemmas
+pub mod ReadingLemmas
+pub mod StepLemmas
 pub mod TokenLists
+pub mod WholeCertificates
+pub mod WriterLemmas

@@ -29,7 +29,7 @@ pub record Next (left more rest : List ℕ) : Type 0 where
   pub behind : IsBehindNumber (more_numbers_text others ++ 59 ∷ rest)
 
 -- no digit stands behind a number of a cycle
-no_digit_behind : (others rest : List ℕ) → IsBehindNumber (more_numbers_text others ++ 59 ∷ rest)
+pub no_digit_behind : (others rest : List ℕ) → IsBehindNumber (more_numbers_text others ++ 59 ∷ rest)
 no_digit_behind [] rest = refl
 no_digit_behind (n ∷ ns) rest = refl
 

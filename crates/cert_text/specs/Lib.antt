@@ -1,4 +1,12 @@
+pub mod Certificates
+pub mod Cycles
 pub mod Numbers
+pub mod Places
+pub mod Readers
+pub mod Reading
 pub mod Spelling
+pub mod Stages
+pub mod Steps
+pub mod Writing
 pub use Rattle.ask_core.specs.Plans
 pub use Rattle.ask_core.specs.Trees

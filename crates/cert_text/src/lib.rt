@@ -1,16 +1,30 @@
-//! The text of certificates: the tokens of trees, and their one spelling.
+//! The text of certificates: the parts of a certificate, and their one spelling.
 //!
-//! A tree is written in preorder without separators: `?` is a question, `.` an end at which the plan
-//! holds, and `x` with numbers between commas and a `;` a negative cycle. A number is decimal, without
-//! leading zeros and with at most five digits.
+//! A certificate is a header, a line and a tree for each obligation, and a last line. A tree is written in
+//! preorder without separators: `?` is a question, `.` an end at which the plan holds, and `x` with numbers
+//! between commas and a `;` a negative cycle. A number is decimal, without leading zeros and with at most
+//! five digits.
 //!
-//! The layers above rely on one clause: `read_tree` gives the tokens that bytes spell, exactly where
-//! they spell some.
+//! The layers above rely on two clauses: what a `Reader` gives for a byte, and which parts the bytes that
+//! are still to come give it; and on the writers, which append the one spelling. `read_tree` gives the tokens
+//! that bytes spell, exactly where they spell some.
 #![tactic(auto)]
 
+mod cycle;
+mod item;
+mod laws;
+mod line;
 mod number;
+mod reader;
+mod stage;
+mod step;
 mod token;
 mod tree;
+mod writer;
 
 pub use ask_core::{MAX_PICKS, NoMemory, Picks, Tok, Tree};
+pub use item::{CertEnd, Item, Part};
+pub use laws::{read_certificates_are_written, written_certificates_are_read};
+pub use reader::Reader;
 pub use tree::read_tree;
+pub use writer::{write_end, write_header, write_ob};

@@ -1,3 +1,5 @@
 mod Examples
 pub mod FilesLemmas
+mod Keeping
 pub mod Known
+pub mod Pieces

@@ -4,5 +4,6 @@ pub mod Faults
 pub mod Files
 pub mod MemShelf
 pub mod MemSink
+pub mod ShelfFeed
 pub mod Unchanged
 pub mod Whole

@@ -6,6 +6,9 @@ ghost use Rattle.ot_outside.specs.Faults.{Rose, next_count};
 #[derive(Clone, Copy, Debug, PartialEq, Eq)]
 pub struct Failed;
 
+// How many bytes a shelf is asked for at a time.
+pub(crate) const PIECE: usize = 65_536;
+
 /// Files under names, of which at most one is open.
 ///
 /// No call changes what a name holds, whether that is told, or which names are on offer. Before the

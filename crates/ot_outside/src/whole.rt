@@ -6,6 +6,7 @@ ghost use Rattle.ot_outside.specs.Faults.{Rose};
 ghost use Rattle.ot_outside.specs.Whole.{AppendsFront, IsFront};
 ghost use Rattle.ot_outside.specs.declared.whole.ReadEnd.TheVariants as end;
 
+use crate::shelf::PIECE;
 use crate::{Failed, NoMemory, Shelf, Sink};
 
 /// Why a file was not read to its end.
@@ -36,9 +37,6 @@ impl From<NoMemory> for ReadEnd {
         ReadEnd::NoMemory
     }
 }
-
-// The bytes that one turn of `read_all` asks for.
-const PIECE: usize = 65_536;
 
 /// Reads a file of at most `limit` bytes into `into`.
 ///

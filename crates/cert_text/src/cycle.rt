@@ -1,0 +1,131 @@
+//! Cycles, byte by byte.
+ghost use Rattle.std.specs.Prelude.{◌≡◌, ◌↔◌, ◌<◌, ◌≤◌, ◌+◌, ◌^◌, ◌∷◌, [], IsTrue};
+ghost use Rattle.cert_text.specs.Cycles.{CycleStepsTo, IsBegunCycle, cycle_text};
+
+use ask_core::{MAX_PICKS, Picks};
+use std::alloc::Global;
+
+/// A cycle of which a front was read: `x`, whole numbers with a comma behind each, and digits of a
+/// further one.
+#[derive(Drop)]
+pub(crate) struct Cycle {
+    pub(crate) picks: Picks,
+    pub(crate) number: Option<u32>,
+
+    // How many bytes that is.
+    pub(crate) len: u64,
+}
+
+/// What a byte makes of a cycle.
+#[derive(Drop)]
+pub(crate) enum CycleStep {
+    /// More of it.
+    More(Cycle),
+
+    /// A whole cycle, of these numbers.
+    Whole(Picks),
+
+    /// The front of no cycle.
+    Wrong,
+}
+
+impl Cycle {
+    /// The front `x`.
+    pub(crate) fn new(alloc: Global) -> Cycle
+        ensures begun { IsBegunCycle result }
+        ensures text { cycle_text result.picks result.number ≡ 120 ∷ [] }
+    {
+        Cycle {
+            picks: Picks::new(alloc),
+            number: None,
+            len: 1,
+        }
+    }
+
+    /// The byte behind what came.
+    pub(crate) fn step(self, byte: u8) -> CycleStep
+        requires begun { IsBegunCycle self }
+        requires len { self.len < 2 ^ 63 }
+        ensures { CycleStepsTo self byte result }
+    {
+        if b'0' <= byte && byte <= b'9' {
+            return self.with_digit(byte);
+        }
+        if byte == b',' {
+            return self.with_comma();
+        }
+        if byte == b';' {
+            return self.with_end();
+        }
+        CycleStep::Wrong
+    }
+
+    fn with_digit(self, digit: u8) -> CycleStep
+        requires begun { IsBegunCycle self }
+        requires len { self.len < 2 ^ 63 }
+        requires low { 48 ≤ digit }
+        requires high { digit ≤ 57 }
+        ensures { CycleStepsTo self digit result }
+    {
+        let Cycle { picks, number, len } = self;
+        let value = u32::from(digit - b'0');
+        let number = match number {
+            None => value,
+            Some(number) if takes_digit(number) => number * 10 + value,
+            Some(_) => return CycleStep::Wrong,
+        };
+        CycleStep::More(Cycle {
+            picks,
+            number: Some(number),
+            len: len + 1,
+        })
+    }
+
+    fn with_comma(self) -> CycleStep
+        requires begun { IsBegunCycle self }
+        requires len { self.len < 2 ^ 63 }
+        ensures { CycleStepsTo self 44 result }
+    {
+        let Cycle {
+            mut picks,
+            number,
+            len,
+        } = self;
+        let Some(number) = number else {
+            return CycleStep::Wrong;
+        };
+        if picks.as_slice().len() + 1 == MAX_PICKS {
+            return CycleStep::Wrong;
+        }
+        picks.push(number);
+        CycleStep::More(Cycle {
+            picks,
+            number: None,
+            len: len + 1,
+        })
+    }
+
+    fn with_end(self) -> CycleStep
+        requires begun { IsBegunCycle self }
+        ensures { CycleStepsTo self 59 result }
+    {
+        let Cycle {
+            mut picks,
+            number,
+            len: _,
+        } = self;
+        let Some(number) = number else {
+            return CycleStep::Wrong;
+        };
+        picks.push(number);
+        CycleStep::Whole(picks)
+    }
+}
+
+// Whether a further digit may stand behind those of a number: a leading zero has none, and a number has at
+// most five.
+fn takes_digit(number: u32) -> bool
+    ensures { IsTrue result ↔ ((0 < number) × (number < 10000)) }
+{
+    0 < number && number < 10_000
+}

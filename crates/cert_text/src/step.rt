@@ -1,0 +1,183 @@
+//! What one byte makes of the front of a part.
+ghost use Rattle.std.specs.Prelude.{◌≡◌, ℕ, ◌+◌, ◌^◌, ◌<◌, ◌≤◌, List, [], ◌∷◌, ◌++◌, length, drop};
+ghost use Rattle.fn_rules.specs.declared.function.ObName.{ObName};
+ghost use Rattle.cert_text.specs.Cycles.{IsBegunCycle, cycle_text};
+ghost use Rattle.cert_text.specs.Places.{Line, Start, names_of};
+ghost use Rattle.cert_text.specs.Stages.{IsLineSound, IsSound, KnowsLength, LineStepsTo, PartStepsTo, begun_text, branches_of, place_of};
+
+use crate::cycle::{Cycle, CycleStep};
+use crate::line::{Fit, LineBytes, end_line, header_fit, ob_line};
+use crate::stage::Stage;
+use crate::{Part, Tok};
+use fn_rules::{Level, ObName};
+use std::alloc::Global;
+
+/// What came of the part that is being read. A part of one byte never comes in part.
+#[derive(Drop)]
+pub(crate) enum Begun {
+    Line(LineBytes),
+    Cycle(Cycle),
+}
+
+/// What a byte makes of it.
+#[derive(Drop)]
+pub(crate) enum Step {
+    /// More of a part.
+    More(Begun),
+
+    /// A whole part, and the stage behind it.
+    Whole(Part, Stage),
+
+    /// The front of no part.
+    Wrong,
+}
+
+impl Begun {
+    /// How many bytes came.
+    pub(crate) fn len(&self) -> u64
+        requires { KnowsLength self.now }
+        ensures { result ≡ length (begun_text self.now) }
+    {
+        match self {
+            Begun::Line(line) => line.as_slice().len() as u64,
+            Begun::Cycle(cycle) => cycle.len,
+        }
+    }
+}
+
+fn header_step(
+    alloc: Global,
+    tp1: &[ObName],
+    tp2: &[ObName],
+    mut begun: LineBytes,
+    byte: u8,
+) -> Step
+    requires sound { IsLineSound (Start tp1.now tp2.now) begun }
+    ensures { PartStepsTo tp1.now tp2.now Stage.Header begun byte result }
+{
+    begun.push(byte);
+    match header_fit(alloc, tp1, Level::Tp1, &begun) {
+        Fit::Whole => return Step::Whole(Part::Header(Level::Tp1), Stage::Line(Level::Tp1, 0)),
+        Fit::Front => return Step::More(Begun::Line(begun)),
+        Fit::Other => (),
+    }
+    match header_fit(alloc, tp2, Level::Tp2, &begun) {
+        Fit::Whole => Step::Whole(Part::Header(Level::Tp2), Stage::Line(Level::Tp2, 0)),
+        Fit::Front => Step::More(Begun::Line(begun)),
+        Fit::Other => Step::Wrong,
+    }
+}
+
+// What the bytes are of a line, where only this part may stand.
+fn line_step(line: &LineBytes, came: LineBytes, part: Part, next: Stage) -> Step
+    ensures { LineStepsTo line.now came part next result }
+{
+    match line.fit(&came) {
+        Fit::Whole => Step::Whole(part, next),
+        Fit::Front => Step::More(Begun::Line(came)),
+        Fit::Other => Step::Wrong,
+    }
+}
+
+fn next_line_step(
+    alloc: Global,
+    names: &[ObName],
+    level: Level,
+    came: u32,
+    mut begun: LineBytes,
+    byte: u8,
+) -> Step
+    requires few { length names.now < 2 ^ 32 }
+    requires sound { IsLineSound (Line came (drop came names.now)) begun }
+    ensures { (tp1 tp2 : List ObName) → names_of tp1 tp2 level ≡ names.now → PartStepsTo tp1 tp2 (Stage.Line level came) begun byte result }
+{
+    begun.push(byte);
+    match names.get(came as usize) {
+        Some(name) => {
+            let line = ob_line(alloc, *name);
+            line_step(
+                &line,
+                begun,
+                Part::Ob(came),
+                Stage::Tree(level, came + 1, 1),
+            )
+        }
+        None => {
+            let line = end_line(alloc);
+            line_step(&line, begun, Part::End, Stage::Over)
+        }
+    }
+}
+
+// A byte behind a whole token of a tree, or behind the line before the tree.
+fn tree_step(alloc: Global, level: Level, came: u32, branches: u64, byte: u8) -> Step
+    requires few { branches < 2 ^ 63 }
+    ensures { (tp1 tp2 : List ObName) → PartStepsTo tp1 tp2 (Stage.Tree level came branches) [] byte result }
+{
+    if branches == 0 {
+        return match byte {
+            b'\n' => Step::Whole(Part::LineEnd, Stage::Line(level, came)),
+            _ => Step::Wrong,
+        };
+    }
+    match byte {
+        b'?' => Step::Whole(Part::Tok(Tok::Ask), Stage::Tree(level, came, branches + 1)),
+        b'.' => Step::Whole(
+            Part::Tok(Tok::Holds),
+            Stage::Tree(level, came, branches - 1),
+        ),
+        b'x' => Step::More(Begun::Cycle(Cycle::new(alloc))),
+        _ => Step::Wrong,
+    }
+}
+
+fn cycle_step(cycle: Cycle, level: Level, came: u32, branches: u64, byte: u8) -> Step
+    requires sound { IsBegunCycle cycle }
+    requires len { cycle.len < 2 ^ 63 }
+    requires still_open { 0 < branches }
+    ensures { (tp1 tp2 : List ObName) → PartStepsTo tp1 tp2 (Stage.Tree level came branches) (cycle_text cycle.picks cycle.number) byte result }
+{
+    match cycle.step(byte) {
+        CycleStep::More(cycle) => Step::More(Begun::Cycle(cycle)),
+        CycleStep::Whole(picks) => Step::Whole(
+            Part::Tok(Tok::Cycle(picks)),
+            Stage::Tree(level, came, branches - 1),
+        ),
+        CycleStep::Wrong => Step::Wrong,
+    }
+}
+
+/// What a byte makes of what came.
+pub(crate) fn part_step(
+    alloc: Global,
+    tp1: &[ObName],
+    tp2: &[ObName],
+    stage: Stage,
+    begun: Begun,
+    byte: u8,
+) -> Step
+    requires few_tp1 { length tp1.now < 2 ^ 32 }
+    requires few_tp2 { length tp2.now < 2 ^ 32 }
+    requires branches { branches_of stage < 2 ^ 63 }
+    requires sound { IsSound (place_of tp1.now tp2.now stage) begun }
+    requires len { length (begun_text begun) < 2 ^ 63 }
+    ensures { PartStepsTo tp1.now tp2.now stage (begun_text begun) byte result }
+{
+    match (stage, begun) {
+        (Stage::Header, Begun::Line(line)) => header_step(alloc, tp1, tp2, line, byte),
+        (Stage::Line(level, came), Begun::Line(line)) => {
+            let names = match level {
+                Level::Tp1 => tp1,
+                Level::Tp2 => tp2,
+            };
+            next_line_step(alloc, names, level, came, line, byte)
+        }
+        (Stage::Tree(level, came, branches), Begun::Line(_)) => tree_step(
+            alloc, level, came, branches, byte,
+        ),
+        (Stage::Tree(level, came, branches), Begun::Cycle(cycle)) => cycle_step(
+            cycle, level, came, branches, byte,
+        ),
+        _ => Step::Wrong,
+    }
+}

@@ -1,0 +1,109 @@
+//! Certificates, written part by part.
+ghost use Rattle.std.specs.Prelude.{◌≡◌, ◌∷◌, ◌++◌, [], OnOk, OnErr};
+ghost use Rattle.std.specs.Fmt.{decimal};
+ghost use Rattle.ask_core.specs.Trees.{AnswerTree, tokens_of};
+ghost use Rattle.cert_text.specs.Numbers.{more_numbers_text, numbers_text};
+ghost use Rattle.cert_text.specs.Spelling.{AreSpellable, end_text, header_text, ob_text, token_text, tokens_text};
+ghost use Rattle.cert_text.specs.Writing.{AppendsFront, section_text};
+
+use crate::line::{end_line, header_line, ob_line};
+use crate::{NoMemory, Tok, Tree};
+use fn_rules::{Level, ObName};
+use itoa::Buffer;
+
+/// Appends the first line of a certificate of a level that has these obligations. After `NoMemory` a
+/// front of it was appended.
+pub fn write_header(names: &[ObName], level: Level, out: &mut Vec<u8>) -> Result<(), NoMemory>
+    ensures ok { OnOk result (out.new.items ≡ out.old.items ++ header_text names.now level) }
+    ensures err { OnErr result (AppendsFront out.old.items (header_text names.now level) out.new.items) }
+{
+    let line = header_line(*out.allocator(), names, level);
+    append(line.as_slice(), out)
+}
+
+/// Appends an obligation's line, its tree and a newline. After `NoMemory` a front of them was appended.
+pub fn write_ob(name: ObName, tree: &Tree, out: &mut Vec<u8>) -> Result<(), NoMemory>
+    requires one_tree { (t : AnswerTree) × (tree.now ≡ tokens_of t) }
+    requires spellable { AreSpellable tree.now }
+    ensures ok { OnOk result (out.new.items ≡ out.old.items ++ section_text name tree.now) }
+    ensures err { OnErr result (AppendsFront out.old.items (section_text name tree.now) out.new.items) }
+{
+    let line = ob_line(*out.allocator(), name);
+    append(line.as_slice(), out)?;
+    write_tokens(tree.as_slice(), out)?;
+    append(b"\n", out)
+}
+
+/// Appends the last line. After `NoMemory` a front of it was appended.
+pub fn write_end(out: &mut Vec<u8>) -> Result<(), NoMemory>
+    ensures ok { OnOk result (out.new.items ≡ out.old.items ++ end_text) }
+    ensures err { OnErr result (AppendsFront out.old.items end_text out.new.items) }
+{
+    append(b"end\n", out)
+}
+
+fn append(bytes: &[u8], out: &mut Vec<u8>) -> Result<(), NoMemory>
+    ensures ok { OnOk result (out.new.items ≡ out.old.items ++ bytes.now) }
+    ensures err { OnErr result (AppendsFront out.old.items bytes.now out.new.items) }
+{
+    out.extend_from_slice(bytes)
+}
+
+fn write_number(number: u32, out: &mut Vec<u8>) -> Result<(), NoMemory>
+    ensures ok { OnOk result (out.new.items ≡ out.old.items ++ decimal number) }
+    ensures err { OnErr result (AppendsFront out.old.items (decimal number) out.new.items) }
+{
+    let mut buffer = Buffer::new();
+    append(buffer.format(number).as_bytes(), out)
+}
+
+fn write_more_numbers(numbers: &[u32], out: &mut Vec<u8>) -> Result<(), NoMemory>
+    ensures ok { OnOk result (out.new.items ≡ out.old.items ++ more_numbers_text numbers.now) }
+    ensures err { OnErr result (AppendsFront out.old.items (more_numbers_text numbers.now) out.new.items) }
+{
+    let Some((first, rest)) = numbers.split_first() else {
+        return Ok(());
+    };
+    append(b",", out)?;
+    write_number(*first, out)?;
+    write_more_numbers(rest, out)
+}
+
+fn write_numbers(numbers: &[u32], out: &mut Vec<u8>) -> Result<(), NoMemory>
+    ensures ok { OnOk result (out.new.items ≡ out.old.items ++ numbers_text numbers.now) }
+    ensures err { OnErr result (AppendsFront out.old.items (numbers_text numbers.now) out.new.items) }
+{
+    let Some((first, rest)) = numbers.split_first() else {
+        return Ok(());
+    };
+    write_number(*first, out)?;
+    write_more_numbers(rest, out)
+}
+
+fn write_token(tok: &Tok, out: &mut Vec<u8>) -> Result<(), NoMemory>
+    ensures ok { OnOk result (out.new.items ≡ out.old.items ++ token_text tok.now) }
+    ensures err { OnErr result (AppendsFront out.old.items (token_text tok.now) out.new.items) }
+{
+    match tok {
+        Tok::Ask => append(b"?", out),
+        Tok::Holds => append(b".", out),
+        Tok::Cycle(picks) => {
+            append(b"x", out)?;
+            write_numbers(picks.as_slice(), out)?;
+            append(b";", out)
+        }
+    }
+}
+
+fn write_tokens(tokens: &[Tok], out: &mut Vec<u8>) -> Result<(), NoMemory>
+    ensures ok { OnOk result (out.new.items ≡ out.old.items ++ tokens_text tokens.now) }
+    ensures err { OnErr result (AppendsFront out.old.items (tokens_text tokens.now) out.new.items) }
+{
+    for tok in tokens {
+        write_token(tok, out)?;
+    }
+    Ok(())
+}
+
+#[cfg(test)]
+mod tests;

@@ -1,0 +1,23 @@
+-- What a feed of a shelf's file keeps over calls.
+use Rattle.std.proofs.Common.{◌≡◌, ◌∙◌, arith}
+use Rattle.ot_outside.specs.declared.shelf.Shelf.{Ghosts}
+use Rattle.ot_outside.specs.declared.shelf_feed.ShelfFeed.{ShelfFeed}
+use Rattle.ot_outside.specs.Unchanged.{Unchanged}
+use Rattle.ot_outside.specs.ShelfFeed.{KeepsShelf, beyond_limit, shelf_of}
+
+pub kept_on :
+    {S : Type 0} {shelf : Ghosts S} (before old new : ShelfFeed S shelf) → KeepsShelf before old
+    → Unchanged shelf.holds shelf.offered shelf.faults (shelf_of old) (shelf_of new)
+    → beyond_limit new ≡ beyond_limit old → KeepsShelf before new
+kept_on before old new kept unchanged beyond =
+    record {
+      unchanged = record {
+        same_files = λ n. unchanged.same_files n ∙ kept.unchanged.same_files n;
+        same_offer = λ n. (
+          λ h. (unchanged.same_offer n).0 ((kept.unchanged.same_offer n).0 h),
+          λ h. (kept.unchanged.same_offer n).1 ((unchanged.same_offer n).1 h),
+        );
+        more_faults = omega (arith, unchanged.more_faults, kept.unchanged.more_faults);
+      };
+      beyond = beyond ∙ kept.beyond;
+    }

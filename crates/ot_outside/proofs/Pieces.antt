@@ -1,0 +1,99 @@
+-- What is left of a file that is read in pieces.
+use Rattle.std.proofs.Common.{◌≡◌, ℕ, ◌+◌, ◌-◌, ◌≤◌, ◌<◌, zero, suc, List, [], ◌∷◌, ◌++◌, take, drop, length, get_or, Bool, true, false, ◌↔◌, IsTrue, Option, Some, None, Result, Ok, Err, IfOk, refl, ap, ◌∙◌, arith, subst, drop-cons, add-one}
+use Rattle.std.proofs.lemmas.List.{length-take-le, get_or-take}
+use Rattle.std.specs.Prelude.{option_map}
+use Rattle.std.specs.Option.{ForSome}
+use Rattle.std.specs.Io.KnownBytes.{IsAtEnd, prepend_known}
+
+-- nothing of the piece is left behind its last byte
+drop-take_same : (n : ℕ) (piece : List ℕ) → drop n (take n piece) ≡ []
+drop-take_same zero piece = refl
+drop-take_same (suc n) [] = refl
+drop-take_same (suc n) (b ∷ piece) = drop-take_same n piece
+
+prepend_known-nil : (left : Option (List ℕ)) → prepend_known [] left ≡ left
+prepend_known-nil None = refl
+prepend_known-nil (Some bytes) = refl
+
+-- where the piece was given whole, what is left of the file is what is left of the shelf
+pub used_up : (at filled : ℕ) (piece : List ℕ) (left : Option (List ℕ)) → at ≡ filled → prepend_known (drop at (take filled piece)) left ≡ left
+used_up at filled piece left e = rw (e, drop-take_same, prepend_known-nil) refl
+
+-- the next byte of the piece, and those behind it
+next_of_piece :
+    (at filled : ℕ) (piece : List ℕ) → at < filled → filled ≤ length piece
+    → drop at (take filled piece) ≡ get_or piece at 0 ∷ drop (at + 1) (take filled piece)
+next_of_piece at filled piece below within =
+    let len : length (take filled piece) ≡ filled = length-take-le filled piece within in
+    let there : at < length (take filled piece) = omega arith in
+    rw add-one (drop-cons (take filled piece) at 0 there ∙ ap (λ b. b ∷ drop (suc at) (take filled piece)) (get_or-take filled piece at 0 below))
+
+-- a byte at the front of what is given
+give_first :
+    (room b : ℕ) (bytes : List ℕ) (left : Option (List ℕ)) → 0 < room
+    → option_map (take room) (prepend_known (b ∷ bytes) left) ≡ prepend_known (b ∷ []) (option_map (take (room - 1)) (prepend_known bytes left))
+give_first zero b bytes left some = absurd (omega arith)
+give_first (suc n) b bytes None some = refl
+give_first (suc n) b bytes (Some more) some = let one : suc n - 1 ≡ n = omega arith in rw one refl
+
+-- the feed gives the next byte of its piece
+pub next_given :
+    (room at filled : ℕ) (piece : List ℕ) (left : Option (List ℕ)) → 0 < room → at < filled → filled ≤ length piece
+    → option_map (take room) (prepend_known (drop at (take filled piece)) left)
+    ≡ prepend_known (get_or piece at 0 ∷ []) (option_map (take (room - 1)) (prepend_known (drop (at + 1) (take filled piece)) left))
+next_given room at filled piece left some below within =
+    rw (next_of_piece at filled piece below within) (give_first room (get_or piece at 0) (drop (at + 1) (take filled piece)) left some)
+
+-- a byte that is given was not beyond the limit
+beyond_first :
+    (room b : ℕ) (bytes : List ℕ) (left : Option (List ℕ)) → 0 < room
+    → option_map (drop (room - 1)) (prepend_known bytes left) ≡ option_map (drop room) (prepend_known (b ∷ bytes) left)
+beyond_first zero b bytes left some = absurd (omega arith)
+beyond_first (suc n) b bytes None some = refl
+beyond_first (suc n) b bytes (Some more) some = let one : suc n - 1 ≡ n = omega arith in rw one refl
+
+pub beyond_given :
+    (room at filled : ℕ) (piece : List ℕ) (left : Option (List ℕ)) → 0 < room → at < filled → filled ≤ length piece
+    → option_map (drop (room - 1)) (prepend_known (drop (at + 1) (take filled piece)) left)
+    ≡ option_map (drop room) (prepend_known (drop at (take filled piece)) left)
+beyond_given room at filled piece left some below within =
+    rw (next_of_piece at filled piece below within) (beyond_first room (get_or piece at 0) (drop (at + 1) (take filled piece)) left some)
+
+-- a feed with no room left is at its end
+pub no_room : (room : ℕ) (file : Option (List ℕ)) → room ≡ 0 → IsAtEnd (option_map (take room) file)
+no_room room None none = tt
+no_room room (Some bytes) none = rw none refl
+
+-- where the file is at its end, the feed is
+pub at_end : (room : ℕ) (file : Option (List ℕ)) → IsAtEnd file → IsAtEnd (option_map (take room) file)
+at_end room None end = tt
+at_end zero (Some bytes) end = refl
+at_end (suc n) (Some bytes) end = rw end refl
+
+-- a byte of the piece is a byte of the file
+some_left :
+    (at filled : ℕ) (piece : List ℕ) (left : Option (List ℕ)) (bytes : List ℕ) → at < filled → filled ≤ length piece
+    → prepend_known (drop at (take filled piece)) left ≡ Some bytes → 0 < length bytes
+some_left at filled piece None bytes below within is = cc
+some_left at filled piece (Some more) bytes below within is =
+    let all : drop at (take filled piece) ++ more ≡ bytes = cc in
+    rw (← all) (rw (next_of_piece at filled piece below within) (omega arith))
+
+-- whether a byte is left of a file whose limit was reached
+told :
+    (room : ℕ) (more : Bool) (bytes : List ℕ) → room ≡ 0 → (more ≡ true → 0 < length bytes) → (more ≡ false → bytes ≡ [])
+    → IsTrue more ↔ ((room ≡ 0) × (0 < length bytes))
+told room true bytes none some end = (λ t. (none, some refl), λ h. refl)
+told room false bytes none some end = (λ t. cc, λ h. absurd (omega (arith, h.1, ap length (end refl))))
+
+-- the same for what a call answers, where a byte that is left stands in the piece
+pub told_by_piece :
+    {E : Type 0} (room at filled : ℕ) (piece : List ℕ) (left file : Option (List ℕ)) (answer : Result Bool E) → room ≡ 0
+    → prepend_known (drop at (take filled piece)) left ≡ file → filled ≤ length piece
+    → IfOk answer (λ more. more ≡ true → at < filled) → IfOk answer (λ more. more ≡ false → IsAtEnd file)
+    → IfOk answer (λ more. ForSome file (λ bytes. IsTrue more ↔ ((room ≡ 0) × (0 < length bytes))))
+told_by_piece room at filled piece left file (Ok more) none is within there end =
+    λ bytes file_is.
+    told room more bytes none (λ t. some_left at filled piece left bytes (there t) within (is ∙ file_is))
+    (λ e. subst IsAtEnd file_is (end e))
+told_by_piece room at filled piece left file (Err e) none is within there end = tt

@@ -1,0 +1,41 @@
+//! Bytes one at a time: of a slice, and of a shelf's open file.
+ghost use Rattle.std.specs.Prelude.{◌≡◌, ℕ, ◌+◌, ◌≤◌, List, Option, None, [], ◌∷◌, IfOk, OnErr, MatchOption};
+ghost use Rattle.std.specs.Io.KnownBytes.{IsAtEnd, prepend_known};
+ghost use Rattle.ot_outside.specs.Faults.{Rose};
+
+use crate::Failed;
+
+/// What gives bytes one at a time.
+pub trait Feed {
+    /// The bytes that are left, where the feed tells them.
+    ghost left: { Self → Option (List ℕ) };
+
+    /// How many bytes it can still give, at most. It is always told.
+    ghost bound: { Self → ℕ };
+
+    /// How often the feed has failed. The count never falls.
+    ghost faults: { Self → ℕ };
+
+    /// The reference by which it holds an object, if it holds one. No call puts another in its place, so
+    /// the object is as the feed last held it when the feed is given up.
+    ghost held: { Self → Option ℕ };
+
+    /// What a feed keeps of how it stood before, as the files of a shelf that it holds. No call gives up
+    /// what was kept until then.
+    ghost keeps: { Self → Self → Type 0 };
+
+    /// The next byte, or none exactly where no byte is left. After `Failed` nothing was taken.
+    fn next(&mut self) -> Result<Option<u8>, Failed>
+        ensures ok { IfOk result (λ byte. MatchOption byte
+            (IsAtEnd (left self.old) × (left self.new ≡ left self.old))
+            (λ b. left self.old ≡ prepend_known (b ∷ []) (left self.new))) }
+        ensures err { OnErr result (left self.new ≡ left self.old) }
+
+        ensures given { IfOk result (λ byte. MatchOption byte (bound self.new ≤ bound self.old) (λ _. bound self.old ≡ bound self.new + 1)) }
+        ensures never_rises { bound self.new ≤ bound self.old }
+
+        ensures faults { faults self.old ≤ faults self.new }
+        ensures failed { OnErr result (Rose (faults self.old) (faults self.new)) }
+        ensures held { held self.new ≡ held self.old }
+        ensures keeps { (before : Self) → keeps before self.old → keeps before self.new };
+}

@@ -1,0 +1,43 @@
+//! The bytes of a slice, one at a time.
+ghost use Rattle.std.specs.Prelude.{◌≡◌, None, Some, length};
+
+use crate::{Failed, Feed};
+
+/// The bytes of a slice. It never fails, and holds no object.
+#[derive(Drop)]
+pub struct SliceFeed<'a> {
+    bytes: &'a [u8],
+}
+
+impl<'a> SliceFeed<'a> {
+    /// It takes no memory.
+    pub fn new(bytes: &'a [u8]) -> SliceFeed<'a>
+        ensures left { ⟦<SliceFeed<'a> as Feed>⟧.left result ≡ Some bytes.now }
+        ensures bound { ⟦<SliceFeed<'a> as Feed>⟧.bound result ≡ length bytes.now }
+    {
+        SliceFeed { bytes }
+    }
+}
+
+impl Feed for SliceFeed<'_> {
+    ghost left = { λ feed. Some feed.bytes.now };
+
+    ghost bound = { λ feed. length feed.bytes.now };
+
+    ghost faults = { λ _. 0 };
+
+    ghost held = { λ _. None };
+
+    ghost keeps = { λ _ _. Unit {0} };
+
+    fn next(&mut self) -> Result<Option<u8>, Failed> {
+        let Some((byte, rest)) = self.bytes.split_first() else {
+            return Ok(None);
+        };
+        self.bytes = rest;
+        Ok(Some(*byte))
+    }
+}
+
+#[cfg(test)]
+mod tests;
