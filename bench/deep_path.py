@@ -1,5 +1,5 @@
 #!/usr/bin/env python3
-"""Measures the checker on a plan with 99,999 questions on one path: time and peak memory.
+"""Measures search and checker on a plan with 99,999 questions on one path: time and peak memory.
 
 usage: deep_path.py      (after `rt run` in crates/deep_path, or `rt ci`)
 """
@@ -10,4 +10,4 @@ from measure import measure
 TOP = os.path.dirname(os.path.dirname(os.path.abspath(__file__)))
 
 text, _, seconds, peak = measure([os.path.join(TOP, "crates/deep_path/out/deep_path")])
-print(f"199,999 tokens: {seconds:.3f} s, {peak} KiB at the peak: {text}")
+print(f"two searches, 199,999 tokens: {seconds:.3f} s, {peak} KiB at the peak: {text}")

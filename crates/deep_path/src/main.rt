@@ -1,13 +1,14 @@
-//! A measure, and no part of the product: feeds the checker the tree of a plan with 99,999 questions on
-//! one path, and says how it ends. `bench/deep_path.py` reports time and memory.
+//! A measure, and no part of the product: searches a plan with 99,999 questions on one path, feeds the tree
+//! to the checker, and says how both end. `bench/deep_path.py` reports time and memory.
 #![tactic(auto)]
 
 ghost use Rattle.std.specs.Prelude.{◌≡◌, ◌≤◌};
 ghost use Rattle.ask_core.specs.declared.asker.TheConstants.{MAX_QUESTIONS};
 
-use ask_core::{Asker, MAX_QUESTIONS, NoMemory, Tok, Turn};
+use ask_core::{Asker, MAX_QUESTIONS, NoMemory, Tree, Turn};
 use cert_check::{CheckEnd, Checker, Progress};
 use diff_graph::Lit;
+use ot_prove::{Outcome, prove};
 use std::alloc::Global;
 use std::io;
 
@@ -58,20 +59,16 @@ impl Asker for Deep {
     ghost fine = { λ a n own. IsFine-deep_plan n own };
 }
 
-// Feeds all questions, then all ends.
-fn run(alloc: Global) -> Result<Result<Progress, CheckEnd>, NoMemory> {
-    let mut checker = Checker::new(
-        alloc,
-        Deep {
-            depth: MAX_QUESTIONS,
-        },
-    )?;
-    for i in 0..2 * MAX_QUESTIONS + 1 {
-        let tok = if i < MAX_QUESTIONS {
-            Tok::Ask
-        } else {
-            Tok::Holds
-        };
+fn whole_depth() -> Deep {
+    Deep {
+        depth: MAX_QUESTIONS,
+    }
+}
+
+// Feeds the tokens to a checker, and says how it ends.
+fn check(alloc: Global, tree: Tree) -> Result<Result<Progress, CheckEnd>, NoMemory> {
+    let mut checker = Checker::new(alloc, whole_depth())?;
+    for tok in tree.into_vec() {
         match checker.feed(tok) {
             Ok(Progress::More) => {}
             other => return Ok(other),
@@ -80,9 +77,25 @@ fn run(alloc: Global) -> Result<Result<Progress, CheckEnd>, NoMemory> {
     Ok(Ok(Progress::More))
 }
 
-fn main(rt: HostRuntime) -> io::Result<()> {
-    match run(rt.alloc()) {
-        Ok(answer) => println!(rt; "{answer:?}"),
+// Says how the search ends, and how the checker takes the tree that it finds.
+fn run(rt: HostRuntime, budget: u64) -> io::Result<()> {
+    match prove(rt.alloc(), &mut whole_depth(), budget) {
+        Ok(Outcome::Yes { tree, asked }) => match check(rt.alloc(), tree) {
+            Ok(answer) => println!(rt; "{asked} questions: {answer:?}"),
+            Err(_) => println!(rt; "no memory"),
+        },
+        Ok(
+            Outcome::No {
+                answers: _answers,
+                why,
+            },
+        ) => println!(rt; "fails with {why}"),
+        Ok(Outcome::Spent) => println!(rt; "more than {budget} questions"),
         Err(_) => println!(rt; "no memory"),
     }
+}
+
+fn main(rt: HostRuntime) -> io::Result<()> {
+    run(rt, u64::from(MAX_QUESTIONS))?;
+    run(rt, u64::from(MAX_QUESTIONS - 1))
 }

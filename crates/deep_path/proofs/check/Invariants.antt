@@ -1,0 +1,5 @@
+use Rattle.std.proofs.Common.{◌<◌, length}
+use Rattle.deep_path.proofs.check.Given as goal
+
+abbrev pub invariant-loop-tok : goal.invariant-loop-tok
+invariant-loop-tok l = 0 < length l.checker.places

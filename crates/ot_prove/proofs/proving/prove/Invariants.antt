@@ -1,0 +1,17 @@
+use Rattle.std.proofs.Common.{◌≡◌, ◌≤◌}
+use Rattle.ask_core.specs.Paths.{branches_at}
+use Rattle.ot_prove.specs.declared.split.TheConstants.{MAX_NAMES}
+use Rattle.ot_prove.specs.Searching.{IsUnderWay, SamePlans, weight_of}
+use Rattle.ot_prove.proofs.proving.prove.Given as goal
+
+abbrev pub invariant-places : goal.invariant-places
+invariant-places g l = record {
+  few : g.A.Asker.name_count l.asker ≤ MAX_NAMES;
+  count : g.A.Asker.name_count l.asker ≡ g.A.Asker.name_count l.fn.asker;
+  root : g.A.Asker.root l.asker ≡ g.A.Asker.root l.fn.asker;
+  same : SamePlans (g.A.Asker.is_own l.fn.asker) (g.A.Asker.is_own l.asker) (g.A.Asker.plan l.fn.asker) (g.A.Asker.plan l.asker);
+  searching : IsUnderWay (g.A.Asker.is_own l.asker) (g.A.Asker.plan l.asker) (g.A.Asker.root l.asker) l.budget l.search;
+}
+
+abbrev pub decreases-places : goal.decreases-places
+decreases-places g l = weight_of (branches_at (g.A.Asker.plan l.asker) l.search.path)

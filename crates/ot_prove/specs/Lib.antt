@@ -1,0 +1,3 @@
+pub mod Sides
+pub mod Outcomes
+pub mod Searching

@@ -1,0 +1,123 @@
+-- How far a search of a plan has come: the open branches, the tokens written and the questions asked.
+use Rattle.std.specs.Prelude.{◌≡◌, ◌↔◌, ◌⊎◌, ℕ, true, false, ◌+◌, ◌<◌, ◌≤◌, List, [], ◌∷◌, ◌++◌, length, map, reverse, Option, MatchOption}
+use Rattle.std.specs.List.{AllByRecursion}
+use Rattle.diff_graph.specs.declared.lit.Lit.{Lit}
+use Rattle.diff_graph.specs.Literals.{answered_of}
+use Rattle.ask_core.specs.declared.asker.TheConstants.{MAX_QUESTIONS}
+use Rattle.ask_core.specs.declared.tree.Tok.{Tok}
+use Rattle.ask_core.specs.Plans.{Plan, Ask, Holds, Fails}
+use Rattle.ask_core.specs.Askers.{longest_path}
+use Rattle.ask_core.specs.Trees.{AnswerTree, Fits, tokens_of, Branch}
+use Rattle.ask_core.specs.Questions.{Questions, QuestionList, no_questions}
+use Rattle.ask_core.specs.Paths.{OpenPlace, branches_at}
+use Rattle.ot_prove.specs.Outcomes.{asked_along, IsDecided}
+use Rattle.ot_prove.specs.declared.outcome.Outcome.{Outcome}
+use Rattle.ot_prove.specs.declared.search.Search.{Search}
+use Rattle.ot_prove.specs.Sides.{Rows, AreJudged}
+
+-- how many questions and ends a plan has
+abbrev pub plan_weight : {W : Type 0} → Plan W → ℕ
+plan_weight (Ask l on_yes on_no) = 1 + (plan_weight on_yes + plan_weight on_no)
+plan_weight Holds = 1
+plan_weight (Fails why) = 1
+
+abbrev pub weight_of : {W : Type 0} → List (Branch W) → ℕ
+weight_of [] = 0
+weight_of (b ∷ branches) = plan_weight b.plan + weight_of branches
+
+-- the questions of one plan and then those of others
+abbrev pub joined : {W : Type 0} → Questions W → Questions W → Questions W
+joined y n = record { asked = y.asked ++ n.asked; failing = n.failing }
+
+-- `q` is the question lists of the branches one after another, up to the first failing end
+abbrev pub Listed : {W : Type 0} → List (Branch W) → Questions W → Type 0
+Listed [] q = q ≡ no_questions
+Listed {W = W} (b ∷ branches) q =
+    (y : Questions W) × QuestionList b.plan b.answers y
+    × MatchOption y.failing ((n : Questions W) × Listed branches n × (q ≡ joined y n)) (λ _. q ≡ y)
+
+-- the tokens are, in order, one fitting tree for each branch, and nothing else; `asked` are the answers in
+-- front of their questions
+abbrev pub Answered : {W : Type 0} → List Tok → List (List Lit) → List (Branch W) → Type 0
+Answered tokens asked [] = (tokens ≡ []) × (asked ≡ [])
+Answered tokens asked (b ∷ branches) =
+    (t : AnswerTree) × (rest : List Tok) × (later : List (List Lit)) × Fits t b.plan b.answers
+    × (tokens ≡ tokens_of t ++ rest) × (asked ≡ asked_along t b.plan b.answers ++ later)
+    × Answered rest later branches
+
+-- the plan, still to be answered
+abbrev pub whole : {W : Type 0} → Plan W → List (Branch W)
+whole p = record { plan = p; answers = [] } ∷ []
+
+-- what answers the open branches answers the plan, behind the tokens and the questions so far, and the
+-- plan's questions are those so far and then those of the open branches
+pub record HasCome {W : Type 0} (root : Plan W) (tokens : List Tok) (asked : List (List Lit)) (open_ones : List (Branch W)) : Type 0 where
+  pub trees :
+      (rest : List Tok) (later : List (List Lit)) → Answered rest later open_ones
+      → Answered (tokens ++ rest) (asked ++ later) (whole root)
+  pub lists :
+      (q : Questions W) → QuestionList root [] q
+      → (later : Questions W) × Listed open_ones later × (q ≡ joined (record { asked = asked; failing = later.failing }) later)
+
+-- the answers of the first place
+abbrev pub first_answers : {N : Type 0} → List (OpenPlace N) → List Lit
+first_answers [] = []
+first_answers (p ∷ places) = p.answers
+
+abbrev pub answers_at : {N : Type 0} → List (OpenPlace N) → List (List Lit)
+answers_at places = map (λ p. p.answers) places
+
+-- the literals stand for answers that lead from a plan to another
+abbrev pub LeadsTo : {W : Type 0} → Plan W → List Lit → Plan W → Type 0
+LeadsTo p [] end = p ≡ end
+LeadsTo (Ask l on_yes on_no) (m ∷ w) end =
+    ((m ≡ answered_of l true) × LeadsTo on_yes w end) ⊎ ((m ≡ answered_of l false) × LeadsTo on_no w end)
+LeadsTo Holds (m ∷ w) end = ⊥
+LeadsTo (Fails why) (m ∷ w) end = ⊥
+
+-- its answers lead to the plan of each branch
+abbrev pub AreReached : {W : Type 0} → Plan W → List (Branch W) → Type 0
+AreReached root branches = AllByRecursion (λ b. LeadsTo root b.answers b.plan) branches
+
+-- the branch's answers and the questions of its plan keep the limit of a path
+abbrev pub IsShort : {W : Type 0} → Branch W → Type 0
+IsShort b = length b.answers + longest_path b.plan ≤ MAX_QUESTIONS
+
+abbrev pub AreShort : {W : Type 0} → List (Branch W) → Type 0
+AreShort branches = AllByRecursion IsShort branches
+
+abbrev pub AreOwn : {N : Type 0} → (N → Type 0) → List (OpenPlace N) → Type 0
+AreOwn is_own places = AllByRecursion (λ p. is_own p.node) places
+
+-- own nodes stay own, and stand for the same plans
+pub record SamePlans {N W : Type 0} (was_own is_own : N → Type 0) (old new : N → Plan W) : Type 0 where
+  pub own : (n : N) → was_own n ↔ is_own n
+  pub plans : (n : N) → was_own n → new n ≡ old n
+
+-- a search of the asker's plan under way: its open places, what is known of each, the tree so far and how
+-- many questions it has
+pub record IsSearching {N W : Type 0} (is_own : N → Type 0) (plan : N → Plan W) (root : Plan W) (budget : ℕ)
+    (places : List (OpenPlace N)) (cycles : List (Option (List ℕ))) (tables : List Rows) (tree : List Tok) (asked : ℕ) : Type 0 where
+  pub own : AreOwn is_own places
+  pub short : AreShort (branches_at plan places)
+  pub reached : AreReached root (branches_at plan places)
+  pub judged : AreJudged (answers_at places) cycles tables
+  pub so_far : List (List Lit)
+  pub come : HasCome root tree so_far (branches_at plan places)
+  pub count : asked ≡ length so_far
+  pub within : asked ≤ budget
+
+-- the same of a search, whose last cycle and last table are those of the first place
+abbrev pub IsUnderWay : {N W : Type 0} → (N → Type 0) → (N → Plan W) → Plan W → ℕ → Search N → Type 0
+IsUnderWay is_own plan root budget s =
+    IsSearching is_own plan root budget s.path (reverse s.cycles.items) (reverse s.tables.items) s.tree s.asked
+
+-- a step leaves a search under way, or an outcome that is decided
+abbrev pub IsUnderWayOr : {N W : Type 0} → (N → Type 0) → (N → Plan W) → Plan W → ℕ → Search N → Option (Outcome W) → Type 0
+IsUnderWayOr is_own plan root budget s r =
+    MatchOption r (IsUnderWay is_own plan root budget s) (λ o. IsDecided root budget o)
+
+-- where it leaves a search, the plans that are open weigh less than before
+abbrev pub WeighsLess : {N W : Type 0} → (N → Plan W) → (N → Plan W) → Search N → Search N → Option (Outcome W) → Type 0
+WeighsLess old new before after r =
+    MatchOption r (weight_of (branches_at new after.path) < weight_of (branches_at old before.path)) (λ _. Unit {0})

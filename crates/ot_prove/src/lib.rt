@@ -1,0 +1,24 @@
+//! The prover: it searches any asker's plan, and says whether every end that some integers meet holds.
+//!
+//! The search answers each question by yes and then by no, and goes on where some integers meet the
+//! answers. Where none do it names a negative cycle among them. A tree that it finds is judged anew by
+//! whoever is handed it: nothing here need be trusted.
+//!
+//! The layers above rely on the clause `decides` of `prove`, which says each outcome by the question list
+//! of the asker's own plan, and on the law that there is exactly one such list.
+#![tactic(auto)]
+
+mod answers;
+mod laws;
+mod outcome;
+mod proving;
+mod search;
+mod split;
+
+pub use ask_core::NoMemory;
+pub use laws::{
+    impossible_places_have_short_cycles, plans_have_one_question_list, question_lists_are_possible,
+};
+pub use outcome::{Answer, Outcome};
+pub use proving::prove;
+pub use split::MAX_NAMES;

@@ -1,0 +1,159 @@
+//! A search under way: the open places, what is known of each, and the tree so far.
+ghost use Rattle.std.specs.Prelude.{◌≡◌, ◌+◌, ◌-◌, ◌<◌, ◌≤◌, ◌^◌, [], ◌∷◌, ◌++◌, None, length, reverse, drop, slice_index_or, map, IfOk, OnOk};
+ghost use Rattle.diff_graph.specs.Tables.{IsNamed, StandsFor, kept_of};
+ghost use Rattle.diff_graph.specs.declared.lit.Lit.{Lit};
+ghost use Rattle.ask_core.specs.declared.tree.Tok.TheVariants as token;
+ghost use Rattle.ask_core.specs.Paths.{OpenPlace, after_question};
+ghost use Rattle.ot_prove.specs.declared.split.TheConstants.{MAX_NAMES};
+ghost use Rattle.ot_prove.specs.Sides.{IsAsked, JudgesSides, StandsForSome};
+ghost use Rattle.ot_prove.specs.Searching.{IsSearching, IsUnderWay, IsUnderWayOr, WeighsLess, SamePlans, first_answers};
+
+use crate::NoMemory;
+use crate::answers::answers_along;
+use crate::outcome::Outcome;
+use crate::split::{MAX_NAMES, judge_sides};
+use ask_core::{Asker, Path, Picks, Tok, Tree, Turn};
+use diff_bounds::Bounds;
+use diff_graph::{Lit, negative_cycles_are_never_met};
+use std::alloc::Global;
+
+/// A search under way. The last of `cycles` is of the first open place: a negative cycle of its answers,
+/// or none where some integers meet them. Those places have a table each, the last one that of the first
+/// of them.
+#[derive(Drop)]
+pub struct Search<N: Copy> {
+    pub path: Path<N>,
+    pub cycles: Vec<Option<Picks>>,
+    pub tables: Vec<Bounds<MAX_NAMES>>,
+    pub tree: Tree,
+    pub asked: u64,
+}
+
+impl<N: Copy> Search<N> {
+    /// A search with one open place, to which no answers lead.
+    pub fn begin(alloc: Global, first: N) -> Result<Search<N>, NoMemory>
+        ensures path { IfOk result (λ s. s.path ≡ record { node = first; answers = [] } ∷ []) }
+        ensures cycles { IfOk result (λ s. s.cycles.items ≡ None ∷ []) }
+        ensures tables { IfOk result (λ s. (length s.tables.items ≡ 1) × StandsFor MAX_NAMES (kept_of (slice_index_or s.tables.items 0 [])) []) }
+        ensures nothing { IfOk result (λ s. (s.tree ≡ []) × (s.asked ≡ 0)) }
+    {
+        let mut cycles = Vec::new(alloc);
+        cycles.push(None)?;
+        let mut tables = Vec::new(alloc);
+        tables.push(Bounds::new())?;
+        Ok(Search {
+            path: Path::new(alloc, first),
+            cycles,
+            tables,
+            tree: Tree::new(alloc),
+            asked: 0,
+        })
+    }
+
+    /// Closes the first place with a token.
+    pub fn close(&mut self, tok: Tok) -> Result<(), NoMemory>
+        requires { 0 < length self.old.path }
+        ensures { OnOk result (self.new ≡ record self.old { path = drop 1 self.old.path; tree = self.old.tree ++ tok ∷ [] }) }
+    {
+        self.tree.push(tok)?;
+        self.path.close();
+        Ok(())
+    }
+
+    /// Asks a literal at the first place, which some integers meet.
+    pub fn ask(&mut self, alloc: Global, lit: Lit, yes: N, no: N) -> Result<(), NoMemory>
+        requires opened { 0 < length self.old.path }
+        requires few { length (first_answers self.old.path) < 2 ^ 32 }
+        requires fits { self.old.asked + 1 < 2 ^ 64 }
+        requires named { IsNamed MAX_NAMES lit }
+        requires asked { IsAsked lit }
+        requires some { 0 < length self.old.tables.items }
+        requires stands { StandsForSome MAX_NAMES (slice_index_or self.old.tables.items (length self.old.tables.items - 1) []) }
+        ensures path { OnOk result (self.new.path ≡ after_question lit yes no self.old.path) }
+        ensures tree { OnOk result (self.new.tree ≡ self.old.tree ++ token.Ask ∷ []) }
+        ensures asked { OnOk result (self.new.asked ≡ self.old.asked + 1) }
+        ensures judged { OnOk result (JudgesSides lit (length (first_answers self.old.path)) (reverse self.old.cycles.items)
+            (reverse self.old.tables.items) (reverse self.new.cycles.items) (reverse self.new.tables.items)) }
+    {
+        let number = self.path.answers().len() as u32;
+        judge_sides(alloc, &mut self.cycles, &mut self.tables, lit, number)?;
+        self.path.ask(lit, yes, no)?;
+        self.tree.push(Tok::Ask)?;
+        self.asked += 1;
+        Ok(())
+    }
+}
+
+/// Goes on at a first place that some integers meet, by the turn of its node.
+fn take_turn<A: Asker>(
+    alloc: Global,
+    asker: &mut A,
+    search: &mut Search<A::Node>,
+    budget: u64,
+) -> Result<Option<Outcome<A::Why>>, NoMemory>
+    requires names { A.name_count asker.old ≤ MAX_NAMES }
+    requires opened { 0 < length search.old.path }
+    requires searching { IsSearching (A.is_own asker.old) (A.plan asker.old) (A.root asker.old) budget search.old.path
+        (None ∷ reverse search.old.cycles.items) (reverse search.old.tables.items) search.old.tree search.old.asked }
+    ensures step { IfOk result (λ r. IsUnderWayOr (A.is_own asker.new) (A.plan asker.new) (A.root asker.new) budget search.new r) }
+    ensures falls { IfOk result (λ r. WeighsLess (A.plan asker.old) (A.plan asker.new) search.old search.new r) }
+    ensures same { SamePlans (A.is_own asker.old) (A.is_own asker.new) (A.plan asker.old) (A.plan asker.new) }
+    ensures root { A.root asker.new ≡ A.root asker.old }
+    ensures count { A.name_count asker.new ≡ A.name_count asker.old }
+{
+    match asker.turn(search.path.node())? {
+        Turn::Ask { lit, yes, no } => {
+            if search.asked == budget {
+                return Ok(Some(Outcome::Spent));
+            }
+            search.ask(alloc, lit, yes, no)?;
+            Ok(None)
+        }
+        Turn::Holds => {
+            search.tables.pop();
+            search.close(Tok::Holds)?;
+            Ok(None)
+        }
+        Turn::Fails(why) => {
+            let answers = answers_along(alloc, asker, search.path.answers())?;
+            Ok(Some(Outcome::No { answers, why }))
+        }
+    }
+}
+
+/// Takes what is known of the first place.
+fn next_cycle(cycles: &mut Vec<Option<Picks>>) -> Option<Picks>
+    requires { 0 < length cycles.old.items }
+    ensures { cycles.old.items ≡ cycles.new.items ++ result ∷ [] }
+{
+    match cycles.pop() {
+        Some(cycle) => cycle,
+        None => None,
+    }
+}
+
+/// Goes on at the first place: where no integers meet its answers it is closed with their cycle.
+pub fn step<A: Asker>(
+    alloc: Global,
+    asker: &mut A,
+    search: &mut Search<A::Node>,
+    budget: u64,
+) -> Result<Option<Outcome<A::Why>>, NoMemory>
+    requires names { A.name_count asker.old ≤ MAX_NAMES }
+    requires opened { 0 < length search.old.path }
+    requires searching { IsUnderWay (A.is_own asker.old) (A.plan asker.old) (A.root asker.old) budget search.old }
+    ensures step { IfOk result (λ r. IsUnderWayOr (A.is_own asker.new) (A.plan asker.new) (A.root asker.new) budget search.new r) }
+    ensures falls { IfOk result (λ r. WeighsLess (A.plan asker.old) (A.plan asker.new) search.old search.new r) }
+    ensures same { SamePlans (A.is_own asker.old) (A.is_own asker.new) (A.plan asker.old) (A.plan asker.new) }
+    ensures root { A.root asker.new ≡ A.root asker.old }
+    ensures count { A.name_count asker.new ≡ A.name_count asker.old }
+{
+    negative_cycles_are_never_met();
+    match next_cycle(&mut search.cycles) {
+        Some(picks) => {
+            search.close(Tok::Cycle(picks))?;
+            Ok(None)
+        }
+        None => take_turn(alloc, asker, search, budget),
+    }
+}
