@@ -1,0 +1,15 @@
+pub mod Leading
+pub mod Values
+pub mod Sides
+pub mod Counters
+pub use Rattle.ot_model.specs.Cells
+pub use Rattle.ot_model.specs.Effect
+pub use Rattle.fn_rules.specs.Functions
+pub use Rattle.fn_rules.specs.Transformation
+pub use Rattle.fn_rules.specs.Properties
+pub use Rattle.fn_rules.specs.Obligations
+pub use Rattle.ask_core.specs.Plans
+pub use Rattle.diff_graph.specs.Literals
+pub use Rattle.diff_graph.specs.Solutions
+pub use Rattle.ot_questions.specs.Obligation
+pub use Rattle.ot_questions.specs.Instances
