@@ -1,0 +1,17 @@
+pub mod Born
+pub mod Closed
+pub mod Examples
+pub mod Forms
+pub mod Frames
+pub mod Members
+pub mod Openings
+pub mod Pairs
+pub mod Induction
+pub mod Steps
+pub mod Convergence
+pub mod Counts
+pub mod Sought
+pub mod Bound
+pub mod Near
+pub mod Counted
+pub mod StepCounts

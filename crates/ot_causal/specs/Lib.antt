@@ -1,0 +1,10 @@
+pub mod Members
+pub mod Past
+pub mod Forms
+pub mod Counting
+pub mod Sessions
+pub mod Convergence
+pub use Rattle.ot_model.specs.Effect
+pub use Rattle.fn_rules.specs.Functions
+pub use Rattle.fn_rules.specs.Transformation
+pub use Rattle.fn_rules.specs.Properties
