@@ -4,4 +4,6 @@ pub mod Examples
 pub mod FirstFault
 pub mod Reading
 pub mod Readings
+pub mod ScriptExamples
+pub mod Scripts
 pub mod Writing

@@ -105,7 +105,7 @@ cells_within-few (suc room) (c ∷ behind) doc is = by (cell_at (c ∷ behind)) 
         let bound : length parts.0 ≤ room = few first.1 parts.0 parts.1 in
         omega (arith, parts.2, bound)
 
-document_from-few : (text : Option (List ℕ)) (doc : List Cell) → document_from text ≡ Ok doc → length doc ≤ MAX_CELLS
+pub document_from-few : (text : Option (List ℕ)) (doc : List Cell) → document_from text ≡ Ok doc → length doc ≤ MAX_CELLS
 document_from-few None doc is = cc
 document_from-few (Some text) doc is = cells_within-few MAX_CELLS (chars text) doc is
 

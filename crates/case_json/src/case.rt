@@ -42,7 +42,8 @@ fn case_read(alloc: Global, bytes: &[u8]) -> Result<Trial, CaseFault>
     parts_read(alloc, &json)
 }
 
-fn json_read(alloc: Global, bytes: &[u8]) -> Result<Value, CaseFault>
+/// Reads bytes as JSON.
+pub(crate) fn json_read(alloc: Global, bytes: &[u8]) -> Result<Value, CaseFault>
     ensures { Reads (seen_as view result) (ok_or (json_in bytes.now) Json) }
 {
     Ok(Value::from_slice(alloc, bytes)?)
@@ -57,7 +58,8 @@ fn parts_read(alloc: Global, json: &Value) -> Result<Trial, CaseFault>
     Ok(Trial { doc, ops, orders })
 }
 
-fn document(alloc: Global, json: &Value) -> Result<Doc, CaseFault>
+/// Reads the document under the key `doc`.
+pub(crate) fn document(alloc: Global, json: &Value) -> Result<Doc, CaseFault>
     ensures { Reads result (document_in (view json.now)) }
 {
     match json.get("doc").and_then(Value::as_str) {

@@ -20,7 +20,7 @@ impl Element for Op {
 }
 
 /// The operation that a value is.
-fn operation(json: &Value) -> Option<Op>
+pub(crate) fn operation(json: &Value) -> Option<Op>
     ensures { result ≡ operation_in (view json.now) }
 {
     of_elements(elements(json)?)

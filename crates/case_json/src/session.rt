@@ -1,0 +1,95 @@
+//! The reading of the script of a session.
+ghost use Rattle.std.specs.Prelude.{◌≡◌, IfOk, map};
+ghost use Rattle.serde_json.specs.View.{view};
+ghost use Rattle.case_json.specs.Faults.{Reads};
+ghost use Rattle.case_json.specs.Json.{is_word};
+ghost use Rattle.case_json.specs.Scripts.{event_in, event_from, make_from, take_from, sites_in, script_from, script_in, IsPlayable};
+
+use crate::case::{document, json_read};
+use crate::fault::{CaseFault, Name};
+use crate::json::{Element, elements, list_at, number};
+use crate::limits::{MAX_EVENTS, MAX_NUMBER, MAX_SITES};
+use crate::operation::operation;
+use crate::script::{Event, Script};
+use serde_json::Value;
+use std::alloc::{AllocError, Global};
+
+/// Reads the script of a session, and answers the first fault in the order of the tests.
+pub fn script_read(alloc: Global, bytes: &[u8]) -> Result<Script, CaseFault>
+    ensures reading { Reads result (script_in bytes.now) }
+    ensures limits { IfOk result IsPlayable }
+{
+    let json = json_read(alloc, bytes)?;
+    parts_read(alloc, &json)
+}
+
+fn parts_read(alloc: Global, json: &Value) -> Result<Script, CaseFault>
+    ensures reading { Reads result (script_from (view json.now)) }
+    ensures limits { IfOk result IsPlayable }
+{
+    let doc = document(alloc, json)?;
+    let sites = sites(json)?;
+    let events = list_at(alloc, json, "events", Name::Events, MAX_EVENTS)?;
+    Ok(Script { doc, sites, events })
+}
+
+/// The number of sites.
+fn sites(json: &Value) -> Result<u32, CaseFault>
+    ensures { result ≡ sites_in (view json.now) }
+{
+    match json.get("sites").and_then(Value::as_u64) {
+        None | Some(0) => Err(CaseFault::Field(Name::Sites)),
+        Some(sites) if sites <= u64::from(MAX_SITES) => Ok(sites as u32),
+        Some(_) => Err(CaseFault::Limit(Name::Sites)),
+    }
+}
+
+impl Element for Event {
+    ghost meant = { event_in };
+
+    fn read(_alloc: Global, json: &Value) -> Result<Option<Event>, AllocError> {
+        Ok(event(json))
+    }
+}
+
+/// The event that a value is.
+fn event(json: &Value) -> Option<Event>
+    ensures { result ≡ event_in (view json.now) }
+{
+    of_elements(elements(json)?)
+}
+
+/// An event, of the elements of its array.
+fn of_elements(elements: &[Value]) -> Option<Event>
+    ensures { result ≡ event_from (map view elements.now) }
+{
+    match elements {
+        [word, site, what] => match word.as_str()? {
+            "make" => make(site, what),
+            "take" => take(site, what),
+            _ => None,
+        },
+        _ => None,
+    }
+}
+
+fn make(site: &Value, op: &Value) -> Option<Event>
+    ensures { result ≡ make_from (view site.now) (view op.now) }
+{
+    Some(Event::Make {
+        site: number(MAX_NUMBER, site)?,
+        op: operation(op)?,
+    })
+}
+
+fn take(site: &Value, taken: &Value) -> Option<Event>
+    ensures { result ≡ take_from (view site.now) (view taken.now) }
+{
+    Some(Event::Take {
+        site: number(MAX_NUMBER, site)?,
+        number: number(MAX_NUMBER, taken)?,
+    })
+}
+
+#[cfg(test)]
+mod tests;

@@ -1,0 +1,28 @@
+-- Documents are told apart by their cells; what is seen of a site.
+use Rattle.std.proofs.Common.{◌≡◌, ◌<◌, ℕ, Bool, List, length, map, Option, Some, refl, sym, ap, ◌∙◌, reverse, get_or}
+use Rattle.std.specs.Prelude.{slice_get}
+use Rattle.std.specs.Option.{option_map}
+use Rattle.std.specs.Coded.{Coded, code_by, coded×, coded_ℕ, coded_bool, coded_list, coded_option}
+use Rattle.std.proofs.lemmas.Option.{slice_get-map, slice_get_read}
+use Rattle.ot_model.specs.declared.cell.Cell.{Cell}
+use Rattle.ot_session.specs.declared.site.Site.{Site}
+use Rattle.ot_session.specs.Sites.{SiteView, view_site, IsSameSite}
+
+cell_code : Coded Cell
+cell_code = code_by (ℕ × Bool) (coded× coded_ℕ coded_bool) (λ c. (c.ch, c.live)) (λ p. record { ch = p.0; live = p.1 }) (λ _. refl)
+
+pub document_code : Coded (Option (List Cell))
+document_code = coded_option (coded_list cell_code)
+
+-- the site at an index is seen there
+pub viewed : (sites : List Site) (i : ℕ) (site : Site) → i < length sites → site ≡ get_or sites i site
+    → slice_get (map view_site sites) i ≡ Some (view_site site)
+viewed sites i site inside is =
+    slice_get-map view_site sites i ∙ ap (option_map view_site) (slice_get_read sites (length sites) i site refl inside is)
+
+-- a site of which nothing changed is seen as it was
+pub view_site-same : (old new : Site) → IsSameSite old new → view_site new ≡ view_site old
+view_site-same old new same =
+    ap (λ (d : List Cell). record { document = d; seen = reverse new.seen.items; held = new.held }) same.document
+    ∙ ap (λ (l : List ℕ). record { document = old.doc; seen = reverse l; held = new.held }) same.seen
+    ∙ ap (λ (marks : List Bool). record { document = old.doc; seen = reverse old.seen.items; held = marks }) same.held

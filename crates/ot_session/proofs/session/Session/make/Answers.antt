@@ -1,0 +1,124 @@
+use Rattle.std.proofs.Common.{◌≡◌, ◌<◌, ◌≤◌, ◌+◌, ◌-◌, ◌∷◌, [], ℕ, List, length, length-append, map, Option, Some, None, true, false, refl, sym, ap, ◌∙◌, subst, reverse, arith}
+use Rattle.std.specs.Prelude.{slice_get, IfSome}
+use Rattle.std.specs.Option.{option_map}
+use Rattle.std.specs.Coded.{Coded-set, coded_bool}
+use Rattle.std.specs.Vec.{with_items}
+use Rattle.std.proofs.Math.Logic.{∥∥₁_elim, ∥∥₁_map}
+use Rattle.std.proofs.lemmas.List.{length-map, length-set, with_items_is}
+use Rattle.std.proofs.lemmas.Option.{slice_get-map}
+use Rattle.ot_model.specs.declared.cell.Cell.{Cell}
+use Rattle.ot_model.specs.declared.op.Op.{Op}
+use Rattle.ot_model.specs.Operations.{kind_of, site_of}
+use Rattle.ot_model.specs.Effect.{IsEnabled}
+use Rattle.fn_rules.specs.declared.function.Head.{Head}
+use Rattle.fn_rules.specs.Functions.{Function, HasDeclaredKind}
+use Rattle.fn_rules.specs.Rules.{function_of}
+use Rattle.ot_causal.specs.Sessions.{IsSite}
+use Rattle.ot_session.specs.declared.made.Made.{Made}
+use Rattle.ot_session.specs.declared.site.Site.{Site}
+use Rattle.ot_session.specs.declared.limits.TheConstants.{MAX_MADE}
+use Rattle.ot_session.specs.Sites.{view_site, document_in, ExecutesAt, IsMarked, IsKept}
+use Rattle.ot_session.specs.Views.{View, HasMade}
+use Rattle.ot_session.proofs.Lists.{AllByRecursion-at}
+use Rattle.ot_session.proofs.Making.{Makes-executed, held-executed, IsKept-executed}
+use Rattle.ot_session.proofs.session.Session.make.Goals as goal
+
+-- a fact of what is found, if something is
+IfSome-from : (P : Site → Type 0) (found : Option Site) → ((site : Site) → found ≡ Some site → P site) → IfSome found P
+IfSome-from P None all = tt
+IfSome-from P (Some site) all = all site refl
+
+pub execute_at-requires-clause-room : goal.execute_at-requires-clause-room
+execute_at-requires-clause-room c =
+    let s = c.args.self.now in
+    ∥∥₁_map s.kept (λ k. rw c.deref_mut.ensures.value k.marked)
+
+pub execute_at-requires-clause-enabled : goal.execute_at-requires-clause-enabled
+execute_at-requires-clause-enabled c =
+    let s = c.args.self.now in
+    let sites : List Site = s.sites.items in
+    let i : ℕ = c.args.site - 1 in
+    let enabled = c.if-not-can_execute.ensures.0 refl in
+    rw c.deref_mut.ensures.value
+    (IfSome-from (λ site. IsEnabled c.args.op (length site.doc)) (slice_get sites i)
+    (λ site is.
+    subst (λ (d : List Cell). IsEnabled c.args.op (length d))
+    (ap document_in (slice_get-map view_site sites i ∙ ap (option_map view_site) is)) enabled))
+
+pub invariant_of-self-in-Err : goal.invariant_of-self-in-Err
+invariant_of-self-in-Err c =
+    let s = c.args.self.now in
+    let f : Function = function_of s.rules in
+    let sites : List Site = s.sites.items in
+    let new_sites : List Site = c.execute_at.new.sites in
+    let same_views : map view_site new_sites ≡ map view_site sites =
+    c.in-Err.ensures.sites ∙ ap (λ (ss : List Site). map view_site ss) c.deref_mut.ensures.value in
+    let len : length new_sites ≡ length sites =
+    sym (length-map new_sites view_site) ∙ ap length same_views ∙ length-map sites view_site in
+    let items : (with_items s.sites new_sites).items ≡ new_sites = with_items_is s.sites new_sites (len ∙ sym s.sites.ok.0) in
+    record {
+      few = rw c.in-Err.ensures.made s.few;
+      kept = ∥∥₁_map s.kept (λ k. record {
+        sound = rw (items, same_views, c.in-Err.ensures.made) k.sound;
+        marked = rw items (c.in-Err.ensures.marked (rw c.deref_mut.ensures.value k.marked));
+      });
+    }
+
+pub invariant_of-self-in-Ok-1 : goal.invariant_of-self-in-Ok-1
+invariant_of-self-in-Ok-1 c =
+    let s = c.args.self.now in
+    let f : Function = function_of s.rules in
+    let t : ℕ = c.args.site in
+    let o : Op = c.args.op in
+    let made : List Made = s.made.items in
+    let new_made : List Made = c.execute_at.new.made.items in
+    let sites : List Site = s.sites.items in
+    let new_sites : List Site = c.execute_at.new.sites in
+    let step : ExecutesAt f.head.mode o (t - 1) made new_made sites new_sites =
+    subst (λ (ss : List Site). ExecutesAt f.head.mode o (t - 1) made new_made ss new_sites) c.deref_mut.ensures.value
+    (subst (λ (h : Head). ExecutesAt h.mode o (t - 1) made new_made c.deref_mut.result.now new_sites) c.head-mode.ensures.head c.in-Ok.ensures.ok) in
+    let site : IsSite (length (map view_site sites)) t = c.if-not-has_site.ensures.0 refl in
+    let at : IsSite (length sites) t = subst (λ (n : ℕ). IsSite n t) (length-map sites view_site) site in
+    let len : length new_sites ≡ length sites = ap length step.is ∙ length-set sites (t - 1) step.after in
+    let items : (with_items s.sites new_sites).items ≡ new_sites = with_items_is s.sites new_sites (len ∙ sym s.sites.ok.0) in
+    let few : length made < MAX_MADE = omega (arith, s.few, c.if-len-eq-MAX_MADE.false, c.len.ensures, s.made.ok.0) in
+    let own : site_of o ≡ Some t = c.if-not-is_made_at.ensures.0 refl in
+    let declared : HasDeclaredKind f.head (kind_of o) = c.if-not-has_declared_kind.ensures.0 refl in
+    record {
+      few = omega (arith, few, ap length step.made ∙ length-append made (record { op = o; known = step.before.integrated } ∷ []));
+      kept = ∥∥₁_map s.kept (λ k. rw items
+          (IsKept-executed f s.first t o made new_made sites new_sites at step
+          (λ old new. c.steps_keep_sessions_sound.ensures.made f old new t o) own declared few k));
+    }
+
+pub returns-in-Ok-clause-made : goal.returns-in-Ok-clause-made
+returns-in-Ok-clause-made c =
+    let s = c.args.self.now in
+    let f : Function = function_of s.rules in
+    let t : ℕ = c.args.site in
+    let o : Op = c.args.op in
+    let made : List Made = s.made.items in
+    let new_made : List Made = c.execute_at.new.made.items in
+    let sites : List Site = s.sites.items in
+    let new_sites : List Site = c.execute_at.new.sites in
+    let step : ExecutesAt f.head.mode o (t - 1) made new_made sites new_sites =
+    subst (λ (ss : List Site). ExecutesAt f.head.mode o (t - 1) made new_made ss new_sites) c.deref_mut.ensures.value
+    (subst (λ (h : Head). ExecutesAt h.mode o (t - 1) made new_made c.deref_mut.result.now new_sites) c.head-mode.ensures.head c.in-Ok.ensures.ok) in
+    let site : IsSite (length (map view_site sites)) t = c.if-not-has_site.ensures.0 refl in
+    let at : IsSite (length sites) t = subst (λ (n : ℕ). IsSite n t) (length-map sites view_site) site in
+    let len : length new_sites ≡ length sites = ap length step.is ∙ length-set sites (t - 1) step.after in
+    let items : new_sites ≡ (with_items s.sites new_sites).items = sym (with_items_is s.sites new_sites (len ∙ sym s.sites.ok.0)) in
+    let before : View = record { function = f; first = s.first; made = made; sites = map view_site sites; counted = s.counted; is_open = s.is_open } in
+    subst (λ (ss : List Site).
+    HasMade before (record { function = f; first = s.first; made = new_made; sites = map view_site ss; counted = s.counted; is_open = s.is_open }) t o c.in-Ok.number)
+    items
+    (record {
+      number = c.in-Ok.ensures.number;
+      makes = Makes-executed f s.first t o made new_made sites new_sites at step
+          (λ x. ∥∥₁_elim s.kept (Coded-set coded_bool _ _)
+          (λ k. (AllByRecursion-at IsMarked sites (t - 1) step.before k.marked step.was).marks x));
+      function = refl;
+      held = held-executed f s.first t o made new_made sites new_sites at step;
+      counted = refl;
+      is_open = refl;
+    })

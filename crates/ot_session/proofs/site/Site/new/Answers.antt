@@ -1,0 +1,20 @@
+use Rattle.std.proofs.Common.{◌≡◌, ◌∙◌, ℕ, List, Bool, false, sym, ap, length, replicate, reverse, refl}
+use Rattle.std.proofs.lemmas.List.{length-replicate}
+use Rattle.ot_session.specs.declared.limits.TheConstants.{MAX_MADE}
+use Rattle.ot_session.proofs.Marks.{unmarked}
+use Rattle.ot_session.proofs.site.Site.new.Goals as goal
+
+pub returns : goal.returns
+returns c =
+    let integrated = c.in_ok-no_marks.ensures in
+    let held = c.in_ok-no_marks-2.ensures in
+    record {
+      document = c.in_ok-try_clone.ensures;
+      seen = c.new.ensures.items;
+      held = λ x. rw held (unmarked x);
+      marked = record {
+        marks = λ x. rw (integrated, c.new.ensures.items) (unmarked x);
+        integrated = rw integrated (length-replicate MAX_MADE false);
+        held = rw held (length-replicate MAX_MADE false);
+      };
+    }

@@ -1,0 +1,49 @@
+use Rattle.std.proofs.Common.{◌≡◌, ◌<◌, ◌-◌, ◌++◌, ◌∷◌, [], ℕ, Bool, List, length, map, Some, refl, sym, ap, ◌∙◌, get_or, subst, arith}
+use Rattle.std.specs.Coded.{le_prop}
+use Rattle.std.proofs.Math.Logic.{∥∥₁_elim}
+use Rattle.std.proofs.Math.Seq.{map-set_same}
+use Rattle.std.proofs.lemmas.Option.{slice_get_read}
+use Rattle.ot_session.specs.declared.limits.TheConstants.{MAX_MADE}
+use Rattle.ot_session.specs.declared.made.Made.{Made}
+use Rattle.ot_session.specs.declared.site.Site.{Site}
+use Rattle.ot_session.specs.Sites.{view_site, IsMarked, Executes, ExecutesAt}
+use Rattle.ot_session.proofs.Lists.{AllByRecursion-at}
+use Rattle.ot_session.proofs.Views.{view_site-same}
+use Rattle.ot_session.proofs.steps.execute_at.Goals as goal
+
+pub execute-requires : goal.execute-requires
+execute-requires c =
+    let sites = c.args.sites.now in
+    let site = c.index-sites-place.result in
+    let was = slice_get_read sites (length sites) c.args.place site refl c.requires.place c.index-sites-place.is in
+    ∥∥₁_elim c.requires.room le_prop
+    (λ marked.
+    let room : length site.integrated ≡ MAX_MADE = (AllByRecursion-at IsMarked sites c.args.place site marked was).integrated in
+    rw (← c.index-sites-place.is) (omega (arith, room, c.requires.few, c.len-number.ensures)))
+
+pub returns-in-Ok-clause-ok : goal.returns-in-Ok-clause-ok
+returns-in-Ok-clause-ok c =
+    let sites : List Site = c.args.sites.now in
+    let made : List Made = c.args.made.now.items in
+    let site : Site = c.index-sites-place.result in
+    let number : c.len-number.result ≡ length made = c.len-number.ensures ∙ c.args.made.now.ok.0 in
+    let executed : Executes c.args.mode c.len-number.result c.args.op (get_or sites c.args.place site) c.execute.new.self = c.in-Ok.ensures.ok in
+    record {
+      before = site;
+      after = c.execute.new.self;
+      was = slice_get_read sites (length sites) c.args.place site refl c.requires.place c.index-sites-place.is;
+      is = refl;
+      executes = subst (λ (n : ℕ). Executes c.args.mode n c.args.op site c.execute.new.self) number
+          (subst (λ (old : Site). Executes c.args.mode c.len-number.result c.args.op old c.execute.new.self) (sym c.index-sites-place.is) executed);
+      made = c.push_reserved.ensures.items
+          ∙ ap (λ (ms : List Made). ms ++ record { op = c.args.op; known = c.in_ok-known.known } ∷ []) c.in_ok-reserve.ensures.items
+          ∙ ap (λ (marks : List Bool). made ++ record { op = c.args.op; known = marks } ∷ [])
+          (c.in_ok-known.ensures ∙ ap (λ (old : Site). old.integrated) (sym c.index-sites-place.is));
+    }
+
+pub returns-in-Err-clause-sites : goal.returns-in-Err-clause-sites
+returns-in-Err-clause-sites c =
+    let sites = c.args.sites.now in
+    let site = c.index-sites-place.result in
+    map-set_same view_site sites c.args.place c.execute.new.self site
+    (view_site-same (get_or sites c.args.place site) c.execute.new.self c.in-Err.ensures.err)

@@ -1,0 +1,5 @@
+pub mod Past
+pub mod Lists
+pub mod Entries
+pub mod Sites
+pub mod Views

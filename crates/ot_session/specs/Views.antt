@@ -1,0 +1,63 @@
+-- A session, seen as plain data: the function, the first document, what was made, and each site.
+use Rattle.std.specs.Prelude.{◌≡◌, ◌<◌, ℕ, Bool, true, false, List, [], length, map}
+use Rattle.std.specs.List.{AllByRecursion}
+use Rattle.ot_model.specs.declared.cell.Cell.{Cell}
+use Rattle.ot_model.specs.declared.op.Op.{Op}
+use Rattle.fn_rules.specs.Functions.{Function}
+use Rattle.fn_rules.specs.Rules.{function_of}
+use Rattle.ot_causal.specs.Sessions.{SessionData, Makes}
+use Rattle.ot_session.specs.declared.made.Made.{Made}
+use Rattle.ot_session.specs.declared.session.Session.{Session}
+use Rattle.ot_session.specs.Past.{is_marked}
+use Rattle.ot_session.specs.Sites.{SiteView, view_site, data_of}
+
+pub record View : Type 0 where
+  pub function : Function
+  pub first : List Cell
+  pub made : List Made
+  pub sites : List SiteView
+  pub counted : ℕ
+  pub is_open : Bool
+
+abbrev pub view_of : Session → View
+view_of s = record {
+  function = function_of s.rules;
+  first = s.first;
+  made = s.made.items;
+  sites = map view_site s.sites.items;
+  counted = s.counted;
+  is_open = s.is_open;
+}
+
+-- what the definitions of sessions speak of
+abbrev pub data_in : View → SessionData
+data_in v = data_of v.first v.made v.sites
+
+-- the same session, in which nothing more can be made or taken
+abbrev pub closed : View → View
+closed v = record v { is_open = false }
+
+-- a site that holds the document, where nothing is integrated or held
+pub record IsFreshView (d : List Cell) (site : SiteView) : Type 0 where
+  pub document : site.document ≡ d
+  pub seen : site.seen ≡ []
+  pub held : (x : ℕ) → is_marked site.held x ≡ false
+
+-- a new session: it is open, nothing was made and no form counted, and each of so many sites holds the document
+pub record IsBegun (f : Function) (d : List Cell) (sites : ℕ) (v : View) : Type 0 where
+  pub function : v.function ≡ f
+  pub first : v.first ≡ d
+  pub made : v.made ≡ []
+  pub count : length v.sites ≡ sites
+  pub fresh : AllByRecursion (IsFreshView d) v.sites
+  pub counted : v.counted ≡ 0
+  pub is_open : v.is_open ≡ true
+
+-- an operation was made at a site and has this number; nothing else changed, and each site holds what it held
+pub record HasMade (old new : View) (t : ℕ) (o : Op) (n : ℕ) : Type 0 where
+  pub number : n ≡ length old.made
+  pub makes : Makes old.function (data_in old) (data_in new) t o
+  pub function : new.function ≡ old.function
+  pub held : map (λ (s : SiteView). s.held) new.sites ≡ map (λ (s : SiteView). s.held) old.sites
+  pub counted : new.counted ≡ old.counted
+  pub is_open : new.is_open ≡ old.is_open
