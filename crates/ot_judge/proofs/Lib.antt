@@ -1,0 +1,13 @@
+mod Coming
+mod Examples
+mod Fitting
+mod Headers
+mod Leading
+mod Listed
+mod OneJudgement
+mod Only
+mod SectionRun
+mod Showing
+mod Tokens
+mod TreeRun
+mod WholeRun

@@ -1,0 +1,105 @@
+-- A whole certificate, from its header to its last line.
+use Rattle.std.proofs.Common.{◌≡◌, ℕ, IsTrue, List, [], Option, Some, Result, Ok, Err, ◌⊎◌, inl, inr, refl, sym, ap, subst, ◌∙◌}
+use Rattle.fn_rules.specs.declared.function.Head.{Head}
+use Rattle.fn_rules.specs.declared.function.Level.{Level}
+use Rattle.fn_rules.specs.declared.function.Level.TheVariants.{Tp1, Tp2}
+use Rattle.fn_rules.specs.declared.function.ObName.{ObName}
+use Rattle.fn_rules.specs.Functions.{Function}
+use Rattle.fn_rules.specs.Obligations.{obligations_of}
+use Rattle.fn_rules.specs.Validity.{is_valid}
+use Rattle.ask_core.specs.Plans.{Plan}
+use Rattle.cert_text.specs.declared.item.Part.TheVariants as part
+use Rattle.cert_text.specs.Spelling.{end_text}
+use Rattle.cert_text.specs.Places.{Place, Start, Line, Tree, Finish, part_text, place_after}
+use Rattle.cert_text.specs.Reading.{Progress, Reading}
+use Rattle.ot_questions.specs.declared.why.Why.{Why}
+use Rattle.ot_questions.specs.Obligation.{plan_of}
+use Rattle.ot_judge.specs.declared.refusal.JudgeEnd.{JudgeEnd}
+use Rattle.ot_judge.specs.declared.refusal.JudgeEnd.TheVariants as judge
+use Rattle.ot_judge.specs.Parts.{Point, IsJudged, point_behind}
+use Rattle.ot_judge.specs.Refusals.{IsJudgement, IsWant, IsWhole, start_of}
+use Rattle.ot_judge.specs.Feeding.{Comes, IsMisspeltBehind, IsRefusedBehind, Leads, offset_of, place_of, point_of}
+use Rattle.ot_judge.specs.Sections.{IsLastLine, IsLineWith}
+use Rattle.ot_judge.proofs.Coming.{rest_told}
+use Rattle.ot_judge.proofs.Fitting.{last_line_fits}
+use Rattle.ot_judge.proofs.Leading.{leads_on, misspelt_refused, part_leads, refused_through}
+
+-- the last line fits
+last_judged :
+    {W : Type 0} (plan : ObName → Plan W) (place : Place) (offset : ℕ) → IsLineWith [] place
+    → IsJudged plan (Ok tt) (record { place = place; offset = offset; branches = [] }) end_text
+last_judged plan (Line came names) offset line =
+    subst (λ (n : List ObName). IsJudged plan (Ok tt) (record { place = Line came n; offset = offset; branches = [] }) end_text)
+    (sym line) (last_line_fits plan came offset)
+last_judged plan (Start tp1 tp2) offset line = absurd line
+last_judged plan (Tree came names branches) offset line = absurd line
+last_judged plan Finish offset line = absurd line
+
+line_of_level :
+    (f : Function) (level : Level)
+    → IsLineWith (obligations_of f.head level)
+    (place_after (Start (obligations_of f.head Tp1) (obligations_of f.head Tp2)) (part.Header level))
+line_of_level f Tp1 = refl
+line_of_level f Tp2 = refl
+
+module _ (f : Function) (told : Option (List ℕ)) where
+  abbrev pub reader_at_start : Progress
+  reader_at_start = Reading (Start (obligations_of f.head Tp1) (obligations_of f.head Tp2)) 0 []
+
+  pub at_start :
+      (head : Head) (tp1 tp2 : List ObName) (r : Progress) → r ≡ Reading (Start tp1 tp2) 0 [] → tp1 ≡ obligations_of head Tp1
+      → tp2 ≡ obligations_of head Tp2 → head ≡ f.head → r ≡ reader_at_start
+  at_start head tp1 tp2 r is one two same =
+      is ∙ ap (λ (l : List ObName). Reading (Start l tp2) 0 []) (one ∙ ap (λ (h : Head). obligations_of h Tp1) same)
+      ∙ ap (λ (l : List ObName). Reading (Start (obligations_of f.head Tp1) l) 0 []) (two ∙ ap (λ (h : Head). obligations_of h Tp2) same)
+
+  -- an answer that is no certificate
+  pub answered :
+      (e : JudgeEnd) → IsRefusedBehind (plan_of f) (start_of f) told e
+      → (bytes : List ℕ) → told ≡ Some bytes → IsWant (Err e) ⊎ IsJudgement f bytes (Err e)
+  answered (judge.Refused offset why) refused bytes is = inr (refused tt bytes is)
+  answered judge.Failed refused bytes is = inl (inl refl)
+  answered judge.NoMemory refused bytes is = inl (inr refl)
+
+  pub header_refused : (e : JudgeEnd) → IsMisspeltBehind reader_at_start told e → IsRefusedBehind (plan_of f) (start_of f) told e
+  header_refused e misspelt = misspelt_refused (plan_of f) reader_at_start [] told e misspelt
+
+  module _ (level : Level) (first : Progress) (one : Option (List ℕ))
+      (header : Comes reader_at_start told (record { offset = 0; part = part.Header level }) first one) where
+    pub first_line : IsLineWith (obligations_of f.head level) (place_of first)
+    first_line =
+        subst (λ (p : Place). IsLineWith (obligations_of f.head level) p) (sym (ap place_of header.behind)) (line_of_level f level)
+
+    header_leads : Leads (plan_of f) (start_of f) told (point_of first []) one
+    header_leads =
+        part_leads (plan_of f) reader_at_start first told one (record { offset = 0; part = part.Header level }) [] [] header refl
+
+    pub sections_refused : (e : JudgeEnd) → IsRefusedBehind (plan_of f) (point_of first []) one e → IsRefusedBehind (plan_of f) (start_of f) told e
+    sections_refused e refused = refused_through (plan_of f) (start_of f) (point_of first []) told one e header_leads refused
+
+    module _ (last : Progress) (two : Option (List ℕ)) (sections : Leads (plan_of f) (point_of first []) one (point_of last []) two) where
+      pub end_refused : (e : JudgeEnd) → IsRefusedBehind (plan_of f) (point_of last []) two e → IsRefusedBehind (plan_of f) (start_of f) told e
+      end_refused e refused =
+          refused_through (plan_of f) (start_of f) (point_of last []) told two e
+          (leads_on (plan_of f) (start_of f) (point_of first []) (point_of last []) told one two header_leads sections) refused
+
+      pub whole : IsLineWith [] (place_of last) → IsLastLine two → (bytes : List ℕ) → told ≡ Some bytes → IsWhole f level bytes
+      whole line ends bytes is =
+          let behind = rest_told (part_text (place_of reader_at_start) (part.Header level)) bytes one (sym is ∙ header.bytes) in
+          let there = sections behind.0 behind.1 in
+          let end : IsJudged (plan_of f) (Ok tt) (point_of last []) there.0 =
+          subst (λ (l : List ℕ). IsJudged (plan_of f) (Ok tt) (point_of last []) l) (sym (ends there.0 there.1))
+          (last_judged (plan_of f) (place_of last) (offset_of last) line) in
+          let judged : IsJudged (plan_of f) (Ok tt) (point_behind (start_of f) (part.Header level) []) behind.0 =
+          subst (λ (p : Point Why). IsJudged (plan_of f) (Ok tt) p behind.0) (ap (λ (r : Progress). point_of r []) header.behind)
+          (there.2 (Ok tt) end) in
+          (judged.0, (header.stands, (behind.0, [], behind.2, refl, judged.1)))
+
+-- no other answer is the judgement
+pub no_other :
+    ((f : Function) (bytes : List ℕ) (one other : Result Level JudgeEnd) → IsTrue (is_valid f)
+    → IsJudgement f bytes one → IsJudgement f bytes other → one ≡ other)
+    → (f : Function) (bytes : List ℕ) (one other : Result Level JudgeEnd) → IsTrue (is_valid f)
+    → IsWant one ⊎ IsJudgement f bytes one → IsJudgement f bytes other → IsWant one ⊎ (one ≡ other)
+no_other law f bytes one other valid (inl want) judged = inl want
+no_other law f bytes one other valid (inr here) judged = inr (law f bytes one other valid here judged)

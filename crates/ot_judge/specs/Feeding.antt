@@ -1,0 +1,105 @@
+-- What a judge gets of a feed through a reader, and what no call does to a feed.
+use Rattle.std.specs.Prelude.{◌≡◌, ℕ, ◌+◌, ◌≤◌, List, [], ◌∷◌, length, Option, Some, Result, Err}
+use Rattle.std.specs.Io.KnownBytes.{prepend_known}
+use Rattle.fn_rules.specs.declared.function.ObName.{ObName}
+use Rattle.ask_core.specs.Plans.{Plan}
+use Rattle.ask_core.specs.Trees.{Branch}
+use Rattle.cert_text.specs.declared.item.Item.{Item}
+use Rattle.cert_text.specs.declared.item.CertEnd.{CertEnd}
+use Rattle.cert_text.specs.Places.{Place, Start, Line, Tree, Finish, Stands, part_text, place_after}
+use Rattle.cert_text.specs.Reading.{Progress, Reading, Refused, EndsThere}
+use Rattle.ot_judge.specs.declared.refusal.Refusal.TheVariants as why
+use Rattle.ot_judge.specs.declared.refusal.JudgeEnd.{JudgeEnd}
+use Rattle.ot_judge.specs.declared.refusal.JudgeEnd.TheVariants as judge
+use Rattle.ot_judge.specs.Parts.{Point, IsJudged, end_of_spelling}
+
+-- no call lets the count of a feed's faults fall, or its bound rise, or puts another object in the place of the
+-- one that it holds, or gives up what the feed kept until then
+pub record IsKept {F : Type 0} (faults bound : F → ℕ) (held : F → Option ℕ) (keeps : F → F → Type 0) (old new : F) : Type 0 where
+  pub more_faults : faults old ≤ faults new
+  pub no_more_bytes : bound new ≤ bound old
+  pub same_object : held new ≡ held old
+  pub still_keeps : (before : F) → keeps before old → keeps before new
+
+-- the place of a reader, how many bytes stand before the part that it reads, and what came of that part
+abbrev pub place_of : Progress → Place
+place_of (Reading place offset begun) = place
+place_of (Refused refusal) = Finish
+
+abbrev pub offset_of : Progress → ℕ
+offset_of (Reading place offset begun) = offset
+offset_of (Refused refusal) = 0
+
+abbrev pub begun_of : Progress → List ℕ
+begun_of (Reading place offset begun) = begun
+begun_of (Refused refusal) = []
+
+-- a reader between two parts
+abbrev pub IsBetween : Progress → Type 0
+IsBetween r = r ≡ Reading (place_of r) (offset_of r) []
+
+-- the point at which a reader stands where these branches are open
+abbrev pub point_of : {W : Type 0} → Progress → List (Branch W) → Point W
+point_of r branches = record { place = place_of r; offset = offset_of r; branches = branches }
+
+-- a reader between two parts of a tree of which so many branches are open
+abbrev pub IsTreeOf : ℕ → Place → Type 0
+IsTreeOf count (Tree came names branches) = branches ≡ count
+IsTreeOf count (Start tp1 tp2) = ⊥
+IsTreeOf count (Line came names) = ⊥
+IsTreeOf count Finish = ⊥
+
+-- the place in the same tree where so many branches are open
+abbrev pub tree_with : ℕ → Place → Place
+tree_with count (Tree came names branches) = Tree came names count
+tree_with count (Start tp1 tp2) = Start tp1 tp2
+tree_with count (Line came names) = Line came names
+tree_with count Finish = Finish
+
+-- the one branch that an obligation with this plan opens
+abbrev pub opened : {W : Type 0} → Plan W → List (Branch W)
+opened p = record { plan = p; answers = [] } ∷ []
+
+-- a part comes of a reader between two parts: it stands there, its bytes are taken, and the reader is behind it
+pub record Comes (was : Progress) (told : Option (List ℕ)) (item : Item) (now : Progress) (left : Option (List ℕ)) : Type 0 where
+  pub offset : item.offset ≡ offset_of was
+  pub stands : Stands (place_of was) item.part
+  pub bytes : told ≡ prepend_known (part_text (place_of was) item.part) left
+  pub behind :
+      now ≡ Reading (place_after (place_of was) item.part) (offset_of was + length (part_text (place_of was) item.part)) []
+
+-- the end is a refusal
+abbrev pub IsRefused : JudgeEnd → Type 0
+IsRefused (judge.Refused offset why) = Unit {0}
+IsRefused judge.Failed = ⊥
+IsRefused judge.NoMemory = ⊥
+
+-- it says that the bytes end too early
+abbrev pub IsTruncated : JudgeEnd → Type 0
+IsTruncated e = (offset : ℕ) × (e ≡ judge.Refused offset why.Truncated)
+
+-- the bytes behind a reader between two parts, where they are told, are refused by their spelling
+abbrev pub IsMisspeltBehind : Progress → Option (List ℕ) → JudgeEnd → Type 0
+IsMisspeltBehind was told e =
+    IsRefused e → (bytes : List ℕ) → told ≡ Some bytes
+    → (c : CertEnd) × EndsThere (place_of was) (offset_of was) bytes (Err c) × (e ≡ end_of_spelling c)
+
+-- what is judged of the bytes that are left at a later point is judged of those at the earlier point, where they are
+-- told
+abbrev pub Leads : {W : Type 0} → (ObName → Plan W) → Point W → Option (List ℕ) → Point W → Option (List ℕ) → Type 0
+Leads plan was told now left =
+    (bytes : List ℕ) → told ≡ Some bytes
+    → (rest : List ℕ) × (left ≡ Some rest)
+    × ((end : Result (Unit {0}) JudgeEnd) → IsJudged plan end now rest → IsJudged plan end was bytes)
+
+-- the bytes behind a point, where they are told, are refused so
+abbrev pub IsRefusedBehind : {W : Type 0} → (ObName → Plan W) → Point W → Option (List ℕ) → JudgeEnd → Type 0
+IsRefusedBehind plan was told e =
+    IsRefused e → (bytes : List ℕ) → told ≡ Some bytes → IsJudged plan (Err e) was bytes
+
+-- the same of a part of a certificate in which no obligation's line stands, whatever the plans of the obligations are
+abbrev pub LeadsAnyway : {W : Type 0} → Point W → Option (List ℕ) → Point W → Option (List ℕ) → Type 0
+LeadsAnyway {W = W} was told now left = (plan : ObName → Plan W) → Leads plan was told now left
+
+abbrev pub IsRefusedAnyway : {W : Type 0} → Point W → Option (List ℕ) → JudgeEnd → Type 0
+IsRefusedAnyway {W = W} was told e = (plan : ObName → Plan W) → IsRefusedBehind plan was told e

@@ -1,0 +1,40 @@
+-- What the judgement of bytes is: a certificate of a function at a level, or a refusal.
+use Rattle.std.specs.Prelude.{◌≡◌, ℕ, List, [], ◌∷◌, Result, Ok, Err, ◌⊎◌}
+use Rattle.fn_rules.specs.declared.function.Level.{Level}
+use Rattle.fn_rules.specs.declared.function.Level.TheVariants.{Tp1, Tp2}
+use Rattle.fn_rules.specs.Functions.{Function}
+use Rattle.fn_rules.specs.Obligations.{obligations_of}
+use Rattle.cert_text.specs.declared.item.Part.{Part}
+use Rattle.cert_text.specs.declared.item.Part.TheVariants.{Header}
+use Rattle.cert_text.specs.Places.{Start}
+use Rattle.ot_questions.specs.declared.why.Why.{Why}
+use Rattle.ot_questions.specs.Obligation.{plan_of}
+use Rattle.ot_judge.specs.declared.refusal.Refusal.{Refusal}
+use Rattle.ot_judge.specs.declared.refusal.JudgeEnd.{JudgeEnd}
+use Rattle.ot_judge.specs.declared.refusal.JudgeEnd.TheVariants as judge
+use Rattle.ot_judge.specs.Certificates.{IsCertificate}
+use Rattle.ot_judge.specs.Parts.{Point, FitThen, IsJudged}
+
+-- before the header
+abbrev pub start_of : Function → Point Why
+start_of f =
+    record { place = Start (obligations_of f.head Tp1) (obligations_of f.head Tp2); offset = 0; branches = [] }
+
+-- the bytes are refused at the offset for the cause: the parts before it fit, and what stands there does not
+abbrev pub IsRefusal : Function → List ℕ → ℕ → Refusal → Type 0
+IsRefusal f bytes offset why = IsJudged (plan_of f) (Err (judge.Refused offset why)) (start_of f) bytes
+
+-- the bytes are made of parts that fit, the header of the level first, and nothing is left behind the last one
+abbrev pub IsWhole : Function → Level → List ℕ → Type 0
+IsWhole f level bytes = (parts : List Part) × FitThen (plan_of f) (Ok tt) (start_of f) bytes (Header level ∷ parts)
+
+-- the judgement of the bytes: a certificate at a level, or a refusal
+abbrev pub IsJudgement : Function → List ℕ → Result Level JudgeEnd → Type 0
+IsJudgement f bytes (Ok level) = IsCertificate bytes f level
+IsJudgement f bytes (Err (judge.Refused offset why)) = IsRefusal f bytes offset why
+IsJudgement f bytes (Err judge.Failed) = ⊥
+IsJudgement f bytes (Err judge.NoMemory) = ⊥
+
+-- the answer is no judgement: the feed failed, or there was no memory
+abbrev pub IsWant : Result Level JudgeEnd → Type 0
+IsWant answer = (answer ≡ Err judge.Failed) ⊎ (answer ≡ Err judge.NoMemory)

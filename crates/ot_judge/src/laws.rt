@@ -1,0 +1,29 @@
+//! What certificates and refusals are. These functions work nothing out: their contracts are the laws.
+ghost use Rattle.std.specs.Prelude.{◌≡◌, ◌↔◌, IsTrue, ℕ, List, Result};
+ghost use Rattle.fn_rules.specs.declared.function.Level.{Level};
+ghost use Rattle.fn_rules.specs.Functions.{Function};
+ghost use Rattle.fn_rules.specs.Validity.{is_valid};
+ghost use Rattle.ot_judge.specs.declared.refusal.JudgeEnd.{JudgeEnd};
+ghost use Rattle.ot_judge.specs.Certificates.{IsCertificate};
+ghost use Rattle.ot_judge.specs.Refusals.{IsWhole, IsJudgement};
+
+use ask_core::trees_are_judged_token_by_token;
+use ot_questions::Why;
+
+/// Bytes are a certificate of a function at a level exactly where they are made of parts that fit one after
+/// another, the header of the level first and the last line last.
+pub fn certificates_are_parts_that_fit()
+    ensures parts { (f : Function) (level : Level) (bytes : List ℕ) → IsTrue (is_valid f) → IsCertificate bytes f level → IsWhole f level bytes }
+    ensures certificate { (f : Function) (level : Level) (bytes : List ℕ) → IsWhole f level bytes → IsCertificate bytes f level }
+{
+    trees_are_judged_token_by_token::<Why>();
+}
+
+/// Bytes have at most one judgement: they are a certificate of a function at one level, or are refused at one
+/// offset for one cause, and never both.
+pub fn bytes_have_one_judgement()
+    ensures { (f : Function) (bytes : List ℕ) (one other : Result Level JudgeEnd) → IsTrue (is_valid f)
+        → IsJudgement f bytes one → IsJudgement f bytes other → one ≡ other }
+{
+    trees_are_judged_token_by_token::<Why>();
+}
