@@ -1,12 +1,8 @@
 mod Behind
-mod Closing
-mod Completing
 mod Ends
 mod Examples
-mod FirstFormLemmas
+mod Feeding
+mod Judged
 mod NamesRead
 mod PlainNames
 mod Showing
-mod SoleObligation
-mod Taking
-mod Turning

@@ -1,35 +1,27 @@
--- A certificate shows that all plans of its level hold, and an accepted one the first property.
-use Rattle.std.proofs.Common.{◌≡◌, ℕ, ◌<◌, ℤ, pos, true, List, [], ◌∷◌, Option, Ok, refl, ap, subst, ◌∙◌, inl, inr, arith}
-use Rattle.std.specs.Prelude.{MatchOption}
-use Rattle.fn_rules.specs.declared.function.Level.TheVariants.{Tp1}
-use Rattle.fn_rules.specs.declared.function.ObName.{ObName}
+-- Status 0 of `check` is that of an accepted certificate, which shows what its level says.
+use Rattle.std.proofs.Common.{◌≡◌, ℕ, ◌<◌, ◌≤◌, List, length, take, Option, Some, Result, Ok, Err, refl, ap, subst, ◌∙◌, inl, inr, arith}
+use Rattle.std.specs.Prelude.{IsTrue, MatchOption}
+use Rattle.std.proofs.lemmas.List.{take_all}
+use Rattle.fn_rules.specs.declared.function.Level.{Level}
+use Rattle.fn_rules.specs.declared.function.Level.TheVariants.{Tp1, Tp2}
 use Rattle.fn_rules.specs.Functions.{Function}
-use Rattle.fn_rules.specs.Properties.{HasTp1}
+use Rattle.fn_rules.specs.Orders.{HasOneOutcome}
+use Rattle.fn_rules.specs.Properties.{HasTp1, HasTp2}
 use Rattle.fn_text.specs.Grammar.{IsTextOf}
 use Rattle.fn_text.specs.Reading.{function_in}
-use Rattle.ask_core.specs.Plans.{Plan, value}
-use Rattle.ask_core.specs.Trees.{AnswerTree, Fits}
-use Rattle.ot_questions.specs.declared.why.Why.{Why}
-use Rattle.ot_questions.specs.Obligation.{plan_of}
-use Rattle.ot_questions.specs.Meaning.{AllHold}
+use Rattle.ot_judge.specs.declared.refusal.JudgeEnd.{JudgeEnd}
+use Rattle.ot_judge.specs.declared.refusal.JudgeEnd.TheVariants as judge
+use Rattle.ot_judge.specs.Certificates.{IsCertificate}
+use Rattle.ot_judge.specs.Refusals.{IsJudgement}
 use Rattle.ot_top.specs.declared.reply.FileKind.{FileKind}
 use Rattle.ot_top.specs.declared.reply.FileKind.TheVariants as files
 use Rattle.ot_top.specs.declared.reply.Reply.{Reply}
-use Rattle.ot_top.specs.declared.reply.Reply.TheVariants.{Refused, FunctionForm, FunctionRefused, Usage, TooLong}
-use Rattle.ot_top.specs.Certificates.{AreAnswers, IsCertificate}
+use Rattle.ot_top.specs.declared.reply.Reply.TheVariants.{Accepted, Refused, FunctionRefused, Usage, TooLong}
 use Rattle.ot_top.specs.Commands.{Asked, Check}
-use Rattle.ot_top.specs.Replies.{Holds, IsFunctionRefusal, IsReadAs, IsReply, IsReplyTo, IsReplyToCertificate, IsReplyToFile, IsShown, IsTooLong}
-use Rattle.ot_top.specs.Texts.{status_of}
-
--- where each tree fits its plan, each plan holds
-pub answers_hold :
-    ((t : AnswerTree) (p : Plan Why) (v : ℕ → ℤ) → Fits t p [] → v 0 ≡ pos 0 → value p v ≡ true)
-    → (f : Function) (obs : List ObName) (trees : List AnswerTree) → AreAnswers f obs trees → AllHold f obs
-answers_hold law f [] [] answers = tt
-answers_hold law f [] (t ∷ trees) answers = tt
-answers_hold law f (ob ∷ obs) [] answers = absurd answers
-answers_hold law f (ob ∷ obs) (t ∷ trees) answers =
-    (λ v zero. law t (plan_of f ob) v answers.0 zero, answers_hold law f obs trees answers.2)
+use Rattle.ot_top.specs.Judgements.{IsReplyToCertificate, Tells, rests_on_the_end}
+use Rattle.ot_top.specs.Limits.{limit_of, IsTooLong}
+use Rattle.ot_top.specs.Replies.{HasLevel, IsFunctionRefusal, IsReadAs, IsReply, IsReplyTo, IsShown}
+use Rattle.ot_top.specs.Texts.{status_of, text_of}
 
 -- a reply of another status than 0
 other_status : (r other : Reply) (status : ℕ) → 0 ≡ status_of r → r ≡ other → status_of other ≡ status → 0 < status → ⊥
@@ -44,35 +36,55 @@ module _ (r : Reply) (is_zero : 0 ≡ status_of r) where
   not_refused told (inl h) = not_too_long files.Function told h
   not_refused told (inr h) = other_status r (FunctionRefused h.0) 3 is_zero h.2 refl (omega arith)
 
-  -- status 0 of a certificate's reply is that of an accepted one
-  is_certificate : (f : Function) (bytes : List ℕ) → IsReplyToCertificate f bytes r → IsCertificate bytes f Tp1
-  is_certificate f bytes (inl h) = h.0
-  is_certificate f bytes (inr h) = absurd (other_status r Refused 2 is_zero h.1 refl (omega arith))
+  -- status 0 of a judgement's reply is that of an accepted certificate, all of whose bytes were judged
+  accepted_bytes :
+      (f : Function) (contents : List ℕ) (judgement : Result Level JudgeEnd)
+      → IsJudgement f (take (limit_of files.Certificate) contents) judgement
+      → (IsTrue (rests_on_the_end judgement) → length contents ≤ limit_of files.Certificate) → Tells judgement r
+      → (level : Level) × IsCertificate contents f level × (r ≡ Accepted level)
+  accepted_bytes f contents (Ok level) is within tells =
+      (level, subst (λ (b : List ℕ). IsCertificate b f level) (take_all (limit_of files.Certificate) contents (within refl)) is, tells)
+  accepted_bytes f contents (Err (judge.Refused offset why)) is within tells =
+      absurd (other_status r (Refused offset why) 2 is_zero tells refl (omega arith))
+  accepted_bytes f contents (Err judge.Failed) is within tells = absurd tells
+  accepted_bytes f contents (Err judge.NoMemory) is within tells = absurd tells
 
   file_accepted :
-      (f : Function) (told : Option (List ℕ)) → IsReplyToFile files.Certificate told (λ bytes. IsReplyToCertificate f bytes r) r
-      → (bytes : List ℕ) × Holds files.Certificate bytes told × IsCertificate bytes f Tp1
-  file_accepted f told (inl h) = absurd (not_too_long files.Certificate told h)
-  file_accepted f told (inr h) = (h.0, h.1, is_certificate f h.0 h.2)
+      (f : Function) (told : Option (List ℕ)) (contents : List ℕ) → told ≡ Some contents → IsReplyToCertificate f told r
+      → (level : Level) × IsCertificate contents f level × (r ≡ Accepted level)
+  file_accepted f told contents is (judgement, judged, inl h) = absurd (not_too_long files.Certificate told h.1)
+  file_accepted f told contents is (judgement, judged, inr h) =
+      accepted_bytes f contents judgement (judged contents is) (λ rests. h.0 rests contents is) h.1
 
   -- the function is read, and the certificate is one of it
   accepted :
-      (holds : List ℕ → Option (List ℕ)) (name certificate : List ℕ) → IsReplyTo holds (Check name certificate) r
-      → (f : Function) × IsReadAs (Ok f) (holds name)
-      × ((bytes : List ℕ) × Holds files.Certificate bytes (holds certificate) × IsCertificate bytes f Tp1)
-  accepted holds name certificate (inl h) = absurd (not_refused (holds name) h)
-  accepted holds name certificate (inr (f, read, inl h)) = absurd (other_status r FunctionForm 3 is_zero h.1 refl (omega arith))
-  accepted holds name certificate (inr (f, read, inr h)) = (f, read, file_accepted f (holds certificate) h.1)
+      (holds : List ℕ → Option (List ℕ)) (name certificate contents : List ℕ) → holds certificate ≡ Some contents
+      → IsReplyTo holds (Check name certificate) r
+      → (f : Function) × IsReadAs (Ok f) (holds name) × ((level : Level) × IsCertificate contents f level × (r ≡ Accepted level))
+  accepted holds name certificate contents is (inl h) = absurd (not_refused (holds name) h)
+  accepted holds name certificate contents is (inr (f, read, h)) = (f, read, file_accepted f (holds certificate) contents is h)
 
-pub shown :
-    ((bytes : List ℕ) (f : Function) → IsCertificate bytes f Tp1 → HasTp1 f)
-    → ((bytes : List ℕ) (f : Function) → function_in bytes ≡ Ok f → IsTextOf bytes f)
-    → (words : List (List ℕ)) (holds : List ℕ → Option (List ℕ)) (r : Reply)
-    → 0 ≡ status_of r → IsReply words holds r → IsShown words holds
-shown law is_text words holds r is_zero is_reply name certificate_name bytes certificate named told certificate_told =
-    let reply : IsReplyTo holds (Check name certificate_name) r =
-    subst (λ (o : Option Asked). MatchOption o (r ≡ Usage) (λ asked. IsReplyTo holds asked r)) named is_reply in
-    let found = accepted r is_zero holds name certificate_name reply in
-    let text = is_text bytes found.0 (found.1 bytes told).1 in
-    let shows = subst (λ (b : List ℕ). IsCertificate b found.0 Tp1) (found.2.1.1 certificate certificate_told) found.2.2 in
-    (found.0, text, shows, law certificate found.0 shows)
+module _ (tp1 : (bytes : List ℕ) (f : Function) → IsCertificate bytes f Tp1 → HasTp1 f)
+    (tp2 : (bytes : List ℕ) (f : Function) → IsCertificate bytes f Tp2 → HasTp1 f × HasTp2 f)
+    (one_outcome : (bytes : List ℕ) (f : Function) → IsCertificate bytes f Tp2 → HasOneOutcome f)
+    (is_text : (bytes : List ℕ) (f : Function) → function_in bytes ≡ Ok f → IsTextOf bytes f) where
+  has_level : (bytes : List ℕ) (f : Function) (level : Level) → IsCertificate bytes f level → HasLevel f level
+  has_level bytes f Tp1 h = tp1 bytes f h
+  has_level bytes f Tp2 h = let both = tp2 bytes f h in (both.0, both.1, one_outcome bytes f h)
+
+  pub shown :
+      (words : List (List ℕ)) (holds : List ℕ → Option (List ℕ)) (r : Reply) (IsWritten : List ℕ → Type 0)
+      → 0 ≡ status_of r → IsReply words holds r → IsWritten (text_of r) → IsShown words holds IsWritten
+  shown words holds r IsWritten is_zero is_reply written name certificate_name bytes certificate named told certificate_told =
+      let reply : IsReplyTo holds (Check name certificate_name) r =
+      subst (λ (o : Option Asked). MatchOption o (r ≡ Usage) (λ asked. IsReplyTo holds asked r)) named is_reply in
+      let found = accepted r is_zero holds name certificate_name certificate certificate_told reply in
+      let text = is_text bytes found.0 (found.1 bytes told).1 in
+      let level = found.2.0 in (
+        found.0,
+        level,
+        text,
+        found.2.1,
+        has_level certificate found.0 level found.2.1,
+        subst IsWritten (ap (λ x. text_of x) found.2.2) written,
+      )

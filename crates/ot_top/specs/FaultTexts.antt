@@ -1,9 +1,11 @@
--- The lines of faults: of the text of a function, and of a case.
+-- The lines of faults: of the text of a function, of a certificate, and of a case.
 use Rattle.std.specs.Prelude.{ℕ, List, [], ◌∷◌, ◌++◌, codes}
 use Rattle.std.specs.Fmt.{decimal}
 use Rattle.fn_text.specs.declared.fault.FaultKind.{FaultKind}
 use Rattle.fn_text.specs.declared.fault.FaultKind.TheVariants as kinds
 use Rattle.fn_text.specs.declared.fault.TextFault.{TextFault}
+use Rattle.ot_judge.specs.declared.refusal.Refusal.{Refusal}
+use Rattle.ot_judge.specs.declared.refusal.Refusal.TheVariants as why
 use Rattle.case_json.specs.declared.fault.CaseFault.{CaseFault}
 use Rattle.case_json.specs.declared.fault.CaseFault.TheVariants as faults
 use Rattle.case_json.specs.declared.fault.Name.{Name}
@@ -37,6 +39,21 @@ name_word names.Cells = codes "cells"
 abbrev pub text_fault_text : TextFault → List ℕ
 text_fault_text fault =
     codes "function " ++ decimal fault.line ++ codes ":" ++ decimal fault.column ++ codes " " ++ kind_word fault.kind ++ 10 ∷ []
+
+abbrev pub refusal_word : Refusal → List ℕ
+refusal_word why.Token = codes "token"
+refusal_word why.Truncated = codes "truncated"
+refusal_word why.Trailing = codes "trailing"
+refusal_word why.NotAQuestion = codes "notaquestion"
+refusal_word why.NotDone = codes "notdone"
+refusal_word why.GoalFails = codes "fails"
+refusal_word why.BadPick = codes "pick"
+refusal_word why.NotACycle = codes "cycle"
+refusal_word why.NotNegative = codes "notnegative"
+
+-- the byte and the cause of a refusal
+abbrev pub refusal_text : ℕ → Refusal → List ℕ
+refusal_text offset why = codes "certificate " ++ decimal offset ++ codes " " ++ refusal_word why ++ 10 ∷ []
 
 abbrev pub case_text : CaseFault → List ℕ
 case_text faults.Json = codes "case json"

@@ -1,9 +1,8 @@
-pub mod Judging
-pub mod Certificates
-pub mod FirstForm
 pub mod Commands
 pub mod Words
-pub mod Replies
 pub mod FaultTexts
 pub mod OrderTexts
 pub mod Texts
+pub mod Limits
+pub mod Judgements
+pub mod Replies

@@ -1,13 +1,14 @@
 -- Which reply a command gets, in the order in which it is refused.
-use Rattle.std.specs.Prelude.{◌≡◌, ℕ, ◌<◌, ◌≤◌, ◌⊎◌, ◌↔◌, Bool, true, false, List, length, map}
-use Rattle.std.specs.Prelude.{Option, Some, Result, Ok, Err, IsTrue, IsOkAnd, MatchOption}
+use Rattle.std.specs.Prelude.{◌≡◌, ℕ, ◌≤◌, ◌⊎◌, ◌↔◌, true, List, length, map}
+use Rattle.std.specs.Prelude.{Option, Some, Result, Ok, Err, IsTrue, is_ok, MatchOption}
 use Rattle.std.specs.List.{AllByRecursion}
 use Rattle.std.specs.Option.{ForSome}
 use Rattle.ot_model.specs.declared.cell.Cell.{Cell}
-use Rattle.fn_rules.specs.declared.function.Level.TheVariants.{Tp1}
+use Rattle.fn_rules.specs.declared.function.Level.{Level}
+use Rattle.fn_rules.specs.declared.function.Level.TheVariants.{Tp1, Tp2}
 use Rattle.fn_rules.specs.Functions.{Function}
-use Rattle.fn_rules.specs.Properties.{HasTp1}
-use Rattle.fn_rules.specs.Orders.{Outcome, Document, integrated}
+use Rattle.fn_rules.specs.Properties.{HasTp1, HasTp2}
+use Rattle.fn_rules.specs.Orders.{HasOneOutcome, Outcome, Document, integrated}
 use Rattle.fn_text.specs.declared.fault.TextFault.{TextFault}
 use Rattle.fn_text.specs.Grammar.{IsTextOf}
 use Rattle.fn_text.specs.Reading.{function_in}
@@ -15,31 +16,22 @@ use Rattle.case_json.specs.declared.fault.CaseFault.{CaseFault}
 use Rattle.case_json.specs.declared.trial.Trial.{Trial}
 use Rattle.case_json.specs.Cases.{trial_in}
 use Rattle.ot_integrate.specs.Ends.{outcome_of}
+use Rattle.ot_judge.specs.Certificates.{IsCertificate}
 use Rattle.ot_top.specs.declared.reply.FileKind.{FileKind}
 use Rattle.ot_top.specs.declared.reply.FileKind.TheVariants as files
 use Rattle.ot_top.specs.declared.reply.Reply.{Reply}
-use Rattle.ot_top.specs.declared.reply.Reply.TheVariants.{Accepted, Refused, FunctionForm, FunctionRefused}
-use Rattle.ot_top.specs.declared.reply.Reply.TheVariants.{CaseRefused, Integrated, Usage, TooLong}
-use Rattle.ot_top.specs.Certificates.{IsCertificate}
+use Rattle.ot_top.specs.declared.reply.Reply.TheVariants.{FunctionRefused, CaseRefused, Integrated, Usage}
 use Rattle.ot_top.specs.Commands.{Asked, Check, Integrate}
-use Rattle.ot_top.specs.FirstForm.{has_first_form}
+use Rattle.ot_top.specs.Judgements.{IsReplyToCertificate}
+use Rattle.ot_top.specs.Limits.{limit_of, IsTooLong}
+use Rattle.ot_top.specs.Texts.{accepted_text}
 use Rattle.ot_top.specs.Words.{asked_by}
-
--- the most bytes of a file
-abbrev pub limit_of : FileKind → ℕ
-limit_of files.Function = 1048576
-limit_of files.Certificate = 83886080
-limit_of files.Case = 16777216
 
 -- In what follows `told` is what a file holds, where the shelf tells it.
 
 -- the file is within its limit and holds these bytes
 abbrev pub Holds : FileKind → List ℕ → Option (List ℕ) → Type 0
 Holds kind bytes told = (length bytes ≤ limit_of kind) × ForSome told (λ contents. bytes ≡ contents)
-
--- the file is longer than its limit, and the reply says so
-abbrev pub IsTooLong : FileKind → Option (List ℕ) → Reply → Type 0
-IsTooLong kind told r = ForSome told (λ contents. limit_of kind < length contents) × (r ≡ TooLong kind)
 
 -- the file is within its limit and is read as this function, or with this fault
 abbrev pub IsReadAs : Result Function TextFault → Option (List ℕ) → Type 0
@@ -57,11 +49,6 @@ IsReplyToFunction told Gets r = IsFunctionRefusal told r ⊎ ((f : Function) × 
 -- the reply to another file, and then the one that its bytes get
 abbrev pub IsReplyToFile : FileKind → Option (List ℕ) → (List ℕ → Type 0) → Reply → Type 0
 IsReplyToFile kind told Gets r = IsTooLong kind told r ⊎ ((bytes : List ℕ) × Holds kind bytes told × Gets bytes)
-
--- the reply to a certificate: whether it is one of the function
-abbrev pub IsReplyToCertificate : Function → List ℕ → Reply → Type 0
-IsReplyToCertificate f bytes r =
-    (IsCertificate bytes f Tp1 × (r ≡ Accepted)) ⊎ (¬ (IsCertificate bytes f Tp1) × (r ≡ Refused))
 
 -- each outcome is one document
 abbrev pub HaveOneEnd : List Outcome → Type 0
@@ -87,10 +74,7 @@ IsReplyToCase f bytes r = IsReplyToTrial f (trial_in f bytes) r
 -- the reply to a command, where `holds` says what each name holds
 abbrev pub IsReplyTo : (List ℕ → Option (List ℕ)) → Asked → Reply → Type 0
 IsReplyTo holds (Check function certificate) r =
-    IsReplyToFunction (holds function)
-    (λ f. ((has_first_form f ≡ false) × (r ≡ FunctionForm))
-    ⊎ ((has_first_form f ≡ true)
-    × IsReplyToFile files.Certificate (holds certificate) (λ bytes. IsReplyToCertificate f bytes r) r)) r
+    IsReplyToFunction (holds function) (λ f. IsReplyToCertificate f (holds certificate) r) r
 IsReplyTo holds (Integrate function case) r =
     IsReplyToFunction (holds function)
     (λ f. IsReplyToFile files.Case (holds case) (λ bytes. IsReplyToCase f bytes r) r) r
@@ -99,24 +83,27 @@ IsReplyTo holds (Integrate function case) r =
 abbrev pub IsReply : List (List ℕ) → (List ℕ → Option (List ℕ)) → Reply → Type 0
 IsReply words holds r = MatchOption (asked_by words) (r ≡ Usage) (λ asked. IsReplyTo holds asked r)
 
--- a command goes on behind a function's file: where that is told, it is within its limit and is read as a
--- function that the command serves
-abbrev pub GoesOn : Option (List ℕ) → (Function → Bool) → Type 0
-GoesOn told serves = ForSome told
-    (λ contents. (length contents ≤ limit_of files.Function) × IsOkAnd (function_in contents) (λ f. serves f ≡ true))
+-- a command goes on behind a function's file: where that is told, it is within its limit and is read as a function
+abbrev pub GoesOn : Option (List ℕ) → Type 0
+GoesOn told = ForSome told (λ contents. (length contents ≤ limit_of files.Function) × (is_ok (function_in contents) ≡ true))
 
 -- the names that a command opens are on offer: its first, and each other one where it goes on to it
 abbrev pub AreOffered : (List ℕ → Option (List ℕ)) → (List ℕ → Type 0) → Asked → Type 0
-AreOffered holds Offered (Check function certificate) =
-    Offered function × (GoesOn (holds function) has_first_form → Offered certificate)
-AreOffered holds Offered (Integrate function case) =
-    Offered function × (GoesOn (holds function) (λ f. true) → Offered case)
+AreOffered holds Offered (Check function certificate) = Offered function × (GoesOn (holds function) → Offered certificate)
+AreOffered holds Offered (Integrate function case) = Offered function × (GoesOn (holds function) → Offered case)
+
+-- what a certificate at a level shows of its function
+abbrev pub HasLevel : Function → Level → Type 0
+HasLevel f Tp1 = HasTp1 f
+HasLevel f Tp2 = HasTp1 f × HasTp2 f × HasOneOutcome f
 
 -- the words ask to judge a certificate; where both files are told, the first one is the text of a function
--- by the grammar, the second is a certificate of it, and the function has the first property
-abbrev pub IsShown : List (List ℕ) → (List ℕ → Option (List ℕ)) → Type 0
-IsShown words holds =
+-- by the grammar, the second is a certificate of it at a level, the function has what the level says, and the
+-- text of the level was written
+abbrev pub IsShown : List (List ℕ) → (List ℕ → Option (List ℕ)) → (List ℕ → Type 0) → Type 0
+IsShown words holds IsWritten =
     (name certificate_name bytes certificate : List ℕ)
     → asked_by words ≡ Some (Check name certificate_name)
     → holds name ≡ Some bytes → holds certificate_name ≡ Some certificate
-    → (f : Function) × IsTextOf bytes f × IsCertificate certificate f Tp1 × HasTp1 f
+    → (f : Function) × (level : Level)
+    × IsTextOf bytes f × IsCertificate certificate f level × HasLevel f level × IsWritten (accepted_text level)

@@ -1,14 +1,16 @@
 -- The status and the text of a reply.
 use Rattle.std.specs.Prelude.{ℕ, if◌then◌else◌, List, [], ◌∷◌, ◌++◌, codes, map}
+use Rattle.fn_rules.specs.declared.function.Level.{Level}
+use Rattle.cert_text.specs.Spelling.{level_text}
 use Rattle.case_json.specs.declared.fault.CaseFault.{CaseFault}
 use Rattle.case_json.specs.declared.fault.CaseFault.TheVariants as faults
 use Rattle.ot_integrate.specs.Ends.{outcome_of}
 use Rattle.ot_top.specs.declared.reply.FileKind.{FileKind}
 use Rattle.ot_top.specs.declared.reply.FileKind.TheVariants as files
 use Rattle.ot_top.specs.declared.reply.Reply.{Reply}
-use Rattle.ot_top.specs.declared.reply.Reply.TheVariants.{Accepted, Refused, FunctionForm, FunctionRefused}
+use Rattle.ot_top.specs.declared.reply.Reply.TheVariants.{Accepted, Refused, FunctionRefused}
 use Rattle.ot_top.specs.declared.reply.Reply.TheVariants.{CaseRefused, Integrated, Usage, TooLong}
-use Rattle.ot_top.specs.FaultTexts.{text_fault_text, case_fault_text}
+use Rattle.ot_top.specs.FaultTexts.{text_fault_text, case_fault_text, refusal_text}
 use Rattle.ot_top.specs.OrderTexts.{orders_text}
 
 -- too much of a part is a limit, and every other fault is one of the case
@@ -17,10 +19,9 @@ case_status (faults.Limit name) = 9
 case_status fault = 4
 
 abbrev pub status_of : Reply → ℕ
-status_of Accepted = 0
+status_of (Accepted level) = 0
 status_of (Integrated ends same) = if same then 0 else 1
-status_of Refused = 2
-status_of FunctionForm = 3
+status_of (Refused offset why) = 2
 status_of (FunctionRefused fault) = 3
 status_of (CaseRefused fault) = case_status fault
 status_of Usage = 5
@@ -34,11 +35,14 @@ limit_word files.Case = codes "file"
 abbrev pub limit_text : FileKind → List ℕ
 limit_text kind = codes "limit " ++ limit_word kind ++ 10 ∷ []
 
+-- that a certificate is accepted at a level
+abbrev pub accepted_text : Level → List ℕ
+accepted_text level = codes "accepted " ++ level_text level ++ 10 ∷ []
+
 abbrev pub text_of : Reply → List ℕ
-text_of Accepted = codes "accepted tp1" ++ 10 ∷ []
+text_of (Accepted level) = accepted_text level
 text_of (Integrated ends same) = orders_text (map outcome_of ends) same
-text_of Refused = codes "certificate refused" ++ 10 ∷ []
-text_of FunctionForm = codes "function form" ++ 10 ∷ []
+text_of (Refused offset why) = refusal_text offset why
 text_of (FunctionRefused fault) = text_fault_text fault
 text_of (CaseRefused fault) = case_fault_text fault
 text_of Usage = codes "usage: otp COMMAND ARGUMENTS" ++ 10 ∷ []

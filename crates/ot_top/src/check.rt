@@ -1,45 +1,98 @@
 //! `check FUNCTION CERTIFICATE`: whether the certificate is one of the function.
-ghost use Rattle.std.specs.Prelude.{◌≡◌, Err, IfOk, IsErrOf, IsTrue, ◌↔◌};
-ghost use Rattle.fn_rules.specs.declared.function.Level.TheVariants.{Tp1};
+ghost use Rattle.std.specs.Prelude.{◌≡◌, Err, IfOk, IsErrOf};
 ghost use Rattle.fn_rules.specs.Rules.{function_of};
+ghost use Rattle.ot_judge.specs.declared.refusal.JudgeEnd.TheVariants as judge;
 ghost use Rattle.ot_outside.specs.Faults.{Rose};
+ghost use Rattle.ot_outside.specs.ShelfFeed.{file_left, held_by, room_of, shelf_of};
 ghost use Rattle.ot_outside.specs.Unchanged.{Unchanged};
-ghost use Rattle.ot_top.specs.Certificates.{IsCertificate};
 ghost use Rattle.ot_top.specs.Commands.{Check};
-ghost use Rattle.ot_top.specs.FirstForm.{has_first_form};
-ghost use Rattle.ot_top.specs.Replies.{GoesOn, IsReplyTo, IsReplyToCertificate};
+ghost use Rattle.ot_top.specs.Judgements.{IsReplyToCertificate, Tells, is_truncated, rests_on_the_end};
+ghost use Rattle.ot_top.specs.Replies.{GoesOn, IsReplyTo};
+ghost use Rattle.ot_top.specs.Limits.{limit_of};
+ghost use Rattle.ot_top.specs.declared.reply.FileKind.TheVariants as files;
 
-use crate::certificate::is_certificate;
-use crate::first_form::has_first_form;
-use crate::load::{Stop, load_function, read_file};
-use crate::obligation::TwoInsertions;
+use crate::load::{Stop, limit, load_function};
 use crate::reply::{FileKind, Reply};
-use ask_core::NoMemory;
-use fn_rules::Rules;
-use ot_outside::Shelf;
+use fn_rules::{Level, Rules};
+use ot_judge::{JudgeEnd, Refusal, check_all};
+use ot_outside::{Shelf, ShelfFeed};
 use std::alloc::Global;
 
-// Whether the bytes are a certificate of a function of the first form.
-fn is_certificate_of(alloc: Global, rules: &Rules, bytes: &[u8]) -> Result<bool, NoMemory>
-    requires { IsTrue (has_first_form (function_of rules.now)) }
-    ensures { IfOk result (λ yes. IsTrue yes ↔ IsCertificate bytes.now (function_of rules.now) Tp1) }
+fn is_truncated(why: Refusal) -> bool
+    ensures { result ≡ is_truncated why }
 {
-    is_certificate(alloc, &TwoInsertions { rules }, bytes)
-}
-
-// The reply to a certificate.
-fn reply_to_certificate(alloc: Global, rules: &Rules, bytes: &[u8]) -> Result<Reply, NoMemory>
-    requires { IsTrue (has_first_form (function_of rules.now)) }
-    ensures { IfOk result (λ reply. IsReplyToCertificate (function_of rules.now) bytes.now reply) }
-{
-    if is_certificate_of(alloc, rules, bytes)? {
-        Ok(Reply::Accepted)
-    } else {
-        Ok(Reply::Refused)
+    match why {
+        Refusal::Truncated => true,
+        _ => false,
     }
 }
 
-/// The reply to the command. The certificate is opened only for a function of the first form.
+// Whether bytes behind those that were judged could change the judgement.
+fn rests_on_the_end(judgement: &Result<Level, JudgeEnd>) -> bool
+    ensures { result ≡ rests_on_the_end judgement.now }
+{
+    match judgement {
+        Ok(_) => true,
+        Err(JudgeEnd::Refused { why, .. }) => is_truncated(*why),
+        Err(JudgeEnd::Failed | JudgeEnd::NoMemory) => false,
+    }
+}
+
+// The reply that tells a judgement.
+fn told(judgement: Result<Level, JudgeEnd>) -> Result<Reply, Stop>
+    ensures ok { IfOk result (λ reply. Tells judgement reply) }
+    ensures replied { (r : Reply) → result ≡ Err (Stop.Replied r) → ⊥ }
+    ensures shelf { IsErrOf result Stop.Shelf → judgement ≡ Err judge.Failed }
+{
+    match judgement {
+        Ok(level) => Ok(Reply::Accepted(level)),
+        Err(JudgeEnd::Refused { offset, why }) => Ok(Reply::Refused { offset, why }),
+        Err(JudgeEnd::Failed) => Err(Stop::Shelf),
+        Err(JudgeEnd::NoMemory) => Err(Stop::NoMemory),
+    }
+}
+
+// The reply to the bytes of a feed that gives as many as a certificate may have.
+fn reply_to_feed<H: Shelf>(
+    alloc: Global,
+    rules: &Rules,
+    feed: &mut ShelfFeed<'_, H>,
+) -> Result<Reply, Stop>
+    requires { room_of feed.old ≡ limit_of files.Certificate }
+
+    ensures ok { IfOk result (λ reply. IsReplyToCertificate (function_of rules.now) (file_left feed.old) reply) }
+    ensures replied { (r : Reply) → result ≡ Err (Stop.Replied r) → ⊥ }
+    ensures shelf { IsErrOf result Stop.Shelf → Rose (H.faults (shelf_of feed.old)) (H.faults (shelf_of feed.new)) }
+    ensures unchanged { Unchanged H.holds H.offered H.faults (shelf_of feed.old) (shelf_of feed.new) }
+    ensures held { held_by feed.new ≡ held_by feed.old }
+{
+    let judgement = check_all(alloc, rules, feed);
+    if rests_on_the_end(&judgement) && feed.too_long()? {
+        return Ok(Reply::TooLong(FileKind::Certificate));
+    }
+    told(judgement)
+}
+
+// The reply to a certificate's file, of which no more bytes are judged than it may have.
+fn reply_to_certificate<H: Shelf>(
+    alloc: Global,
+    shelf: &mut H,
+    rules: &Rules,
+    name: &str,
+) -> Result<Reply, Stop>
+    requires { H.offered shelf.old name.now }
+
+    ensures ok { IfOk result (λ reply. IsReplyToCertificate (function_of rules.now) (H.holds shelf.old name.now) reply) }
+    ensures replied { (r : Reply) → result ≡ Err (Stop.Replied r) → ⊥ }
+    ensures shelf { IsErrOf result Stop.Shelf → Rose (H.faults shelf.old) (H.faults shelf.new) }
+    ensures unchanged { Unchanged H.holds H.offered H.faults shelf.old shelf.new }
+{
+    shelf.open(name)?;
+    let mut feed = ShelfFeed::new(shelf, limit(FileKind::Certificate) as u64);
+    reply_to_feed(alloc, rules, &mut feed)
+}
+
+/// The reply to the command. The certificate is opened only behind a function that is read.
 pub(crate) fn check<H: Shelf>(
     alloc: Global,
     shelf: &mut H,
@@ -47,7 +100,7 @@ pub(crate) fn check<H: Shelf>(
     certificate: &str,
 ) -> Result<Reply, Stop>
     requires function { H.offered shelf.old function.now }
-    requires certificate { GoesOn (H.holds shelf.old function.now) has_first_form → H.offered shelf.old certificate.now }
+    requires certificate { GoesOn (H.holds shelf.old function.now) → H.offered shelf.old certificate.now }
 
     ensures ok { IfOk result (λ reply. IsReplyTo (H.holds shelf.old) (Check function.now certificate.now) reply) }
     ensures replied { (r : Reply) → result ≡ Err (Stop.Replied r)
@@ -56,10 +109,6 @@ pub(crate) fn check<H: Shelf>(
     ensures unchanged { Unchanged H.holds H.offered H.faults shelf.old shelf.new }
 {
     let rules = load_function(alloc, shelf, function)?;
-    if !has_first_form(&rules) {
-        return Ok(Reply::FunctionForm);
-    }
-    let bytes = read_file(alloc, shelf, certificate, FileKind::Certificate)?;
-    let reply = reply_to_certificate(alloc, &rules, &bytes)?;
+    let reply = reply_to_certificate(alloc, shelf, &rules, certificate)?;
     Ok(reply)
 }

@@ -1,5 +1,5 @@
 //! `integrate FUNCTION CASE`: the operations of the case, integrated in each of its orders.
-ghost use Rattle.std.specs.Prelude.{◌≡◌, ◌≤◌, ◌↔◌, Err, IfOk, IsErrOf, IsTrue, All, length, map, true};
+ghost use Rattle.std.specs.Prelude.{◌≡◌, ◌≤◌, ◌↔◌, Err, IfOk, IsErrOf, IsTrue, All, length, map};
 ghost use Rattle.case_json.specs.Tests.{IsReady};
 ghost use Rattle.fn_rules.specs.Orders.{integrated, Document};
 ghost use Rattle.fn_rules.specs.Rules.{function_of};
@@ -7,7 +7,8 @@ ghost use Rattle.ot_integrate.specs.Ends.{outcome_of};
 ghost use Rattle.ot_outside.specs.Faults.{Rose};
 ghost use Rattle.ot_outside.specs.Unchanged.{Unchanged};
 ghost use Rattle.ot_top.specs.Commands.{Integrate};
-ghost use Rattle.ot_top.specs.Replies.{limit_of, GoesOn, HaveOneEnd, IsReplyTo, IsReplyToCase, TellsOutcomes, outcomes_of};
+ghost use Rattle.ot_top.specs.Limits.{limit_of};
+ghost use Rattle.ot_top.specs.Replies.{GoesOn, HaveOneEnd, IsReplyTo, IsReplyToCase, TellsOutcomes, outcomes_of};
 ghost use Rattle.ot_top.specs.declared.reply.FileKind.TheVariants as files;
 
 use crate::load::{Stop, load_function, read_file};
@@ -101,7 +102,7 @@ pub(crate) fn integrate<H: Shelf>(
     case: &str,
 ) -> Result<Reply, Stop>
     requires function { H.offered shelf.old function.now }
-    requires case { GoesOn (H.holds shelf.old function.now) (λ f. true) → H.offered shelf.old case.now }
+    requires case { GoesOn (H.holds shelf.old function.now) → H.offered shelf.old case.now }
 
     ensures ok { IfOk result (λ reply. IsReplyTo (H.holds shelf.old) (Integrate function.now case.now) reply) }
     ensures replied { (r : Reply) → result ≡ Err (Stop.Replied r)

@@ -3,13 +3,14 @@ ghost use Rattle.std.specs.Prelude.{◌≡◌, Ok, Err, IfOk, IsErrOf};
 ghost use Rattle.fn_rules.specs.Rules.{function_of};
 ghost use Rattle.ot_outside.specs.Faults.{Rose};
 ghost use Rattle.ot_outside.specs.Unchanged.{Unchanged};
-ghost use Rattle.ot_top.specs.Replies.{limit_of, Holds, IsFunctionRefusal, IsReadAs, IsTooLong};
+ghost use Rattle.ot_top.specs.Limits.{limit_of, IsTooLong};
+ghost use Rattle.ot_top.specs.Replies.{Holds, IsFunctionRefusal, IsReadAs};
 
 use crate::reply::{FileKind, Reply};
 use fn_rules::Rules;
 use fn_text::{ReadError, read_rules};
 use ot_model::NoMemory;
-use ot_outside::{ReadEnd, Shelf, read_all};
+use ot_outside::{Failed, ReadEnd, Shelf, read_all};
 use std::alloc::Global;
 
 /// Why a command goes no further.
@@ -35,8 +36,18 @@ impl From<NoMemory> for Stop {
     }
 }
 
-// The most bytes of a file.
-fn limit(kind: FileKind) -> usize
+impl From<Failed> for Stop {
+    ghost use Rattle.ot_top.specs.declared.load.Stop.TheVariants as stop;
+
+    ghost from_gives = { λ _ e. e ≡ stop.Shelf };
+
+    fn from(_: Failed) -> Stop {
+        Stop::Shelf
+    }
+}
+
+/// The most bytes of a file.
+pub(crate) fn limit(kind: FileKind) -> usize
     ensures { result ≡ limit_of kind }
 {
     match kind {

@@ -11,9 +11,9 @@ ghost use Rattle.ot_top.specs.Words.{asked_by};
 use crate::answer::answer;
 use crate::load::Stop;
 use crate::reply::Reply;
-use crate::soundness::certificates_show_the_properties;
 use crate::text::{status, text};
 use fn_text::what_is_read_is_in_the_grammar;
+use ot_judge::certificates_show_the_properties;
 use ot_outside::{Shelf, Sink, write_all};
 use std::alloc::Global;
 
@@ -30,8 +30,8 @@ pub const NO_MEMORY: u8 = 10;
 ///
 /// `SHELF_FAULT` comes only where the shelf's faults rose, and `SINK_FAULT` only where the sink's did.
 /// Nothing is written at `SHELF_FAULT` and `NO_MEMORY`, and a front of the reply at `SINK_FAULT`.
-/// No name is opened but those that the words give, and the second one only after the first was
-/// judged.
+/// No name is opened but those that the words give, and the second one only after the first was read
+/// as a function.
 pub fn run<H: Shelf, S: Sink>(alloc: Global, words: &[String], shelf: &mut H, out: &mut S) -> u8
     requires { IfSome (asked_by (map string_bytes words.now)) (AreOffered (H.holds shelf.old) (H.offered shelf.old)) }
 
@@ -40,8 +40,9 @@ pub fn run<H: Shelf, S: Sink>(alloc: Global, words: &[String], shelf: &mut H, ou
         (reply : Reply) × IsReply (map string_bytes words.now) (H.holds shelf.old) reply × (result ≡ status_of reply)
         × (S.written out.new ≡ append_known (S.written out.old) (text_of reply)) }
 
-    // What is accepted has the first property, where the shelf tells both files.
-    ensures sound { result ≡ 0 → IsShown (map string_bytes words.now) (H.holds shelf.old) }
+    // What is accepted has the properties of the level that is written, where the shelf tells both files.
+    ensures sound { result ≡ 0 → IsShown (map string_bytes words.now) (H.holds shelf.old)
+        (λ text. S.written out.new ≡ append_known (S.written out.old) text) }
 
     ensures shelf_fault { result ≡ SHELF_FAULT → Rose (H.faults shelf.old) (H.faults shelf.new) × (S.written out.new ≡ S.written out.old) }
     ensures sink_fault { result ≡ SINK_FAULT →

@@ -1,7 +1,9 @@
 //! What a command replies.
 use case_json::CaseFault;
+use fn_rules::Level;
 use fn_text::TextFault;
 use ot_integrate::End;
+use ot_judge::Refusal;
 use plain_list::List;
 
 /// What a file holds.
@@ -20,14 +22,17 @@ pub enum FileKind {
 /// The reply to a command.
 #[derive(Debug, Drop)]
 pub enum Reply {
-    /// The file is a certificate of the function.
-    Accepted,
+    /// The file is a certificate of the function at this level.
+    Accepted(Level),
 
     /// The file is none.
-    Refused,
+    Refused {
+        /// How many bytes stand before the part that is refused, or in the file where it ends too early.
+        offset: u64,
 
-    /// Certificates of the function can't be judged.
-    FunctionForm,
+        /// The cause.
+        why: Refusal,
+    },
 
     /// The function's file is refused for its first fault.
     FunctionRefused(TextFault),

@@ -1,18 +1,14 @@
 //! Faults of the outside, and files at their limits.
-use crate::samples::{FAR_CERT, INS_CERT, INS_OT};
-use crate::setting::{Files, expect, shelf_of, status_of};
-use ot_outside::{MemShelf, MemSink};
+use crate::samples::{INS_OT, MARKS_CERT, MARKS_OT};
+use crate::setting::{Files, expect, shelf_of, shelf_with, status_of};
+use ot_outside::MemSink;
 use std::alloc::Global;
 use std::process::Abort;
 use std::test::Fail;
 
-const FILES: Files<'static> = &[
-    ("ins.ot", INS_OT),
-    ("ins.cert", INS_CERT),
-    ("far.cert", FAR_CERT),
-];
+const FILES: Files<'static> = &[("marks.ot", MARKS_OT), ("marks.cert", MARKS_CERT)];
 
-const CHECK: &str = "check ins.ot ins.cert";
+const CHECK: &str = "check marks.ot marks.cert";
 
 #[test]
 fn a_call_that_fails_is_answered(rt: HostRuntime) -> Result<(), Fail> {
@@ -22,7 +18,10 @@ fn a_call_that_fails_is_answered(rt: HostRuntime) -> Result<(), Fail> {
         let mut shelf = shelf_of(alloc, FILES, &[call])?;
         expect(&rt, alloc, &mut shelf, CHECK, 6, "")?;
     }
-    Ok(())
+    let mut shelf = shelf_of(alloc, FILES, &[7])?;
+    expect(&rt, alloc, &mut shelf, CHECK, 0, "accepted tp1\n")?;
+    let mut shelf = shelf_of(alloc, &[("marks.ot", MARKS_OT)], &[])?;
+    expect(&rt, alloc, &mut shelf, CHECK, 6, "")
 }
 
 // Fails the test unless the sink makes the command end with this status and this text.
@@ -51,8 +50,19 @@ fn a_reply_is_written_in_any_pieces(rt: HostRuntime) -> Result<(), Fail> {
         let sink = MemSink::new(alloc, room, per_call, Vec::new(alloc))?;
         expect_over(&rt, alloc, sink, status, text)?;
     }
-    let failing = MemSink::new(alloc, 64, 4, Vec::from_slice(alloc, &[2])?)?;
-    expect_over(&rt, alloc, failing, 7, "acce")
+    Ok(())
+}
+
+#[test]
+fn what_was_written_is_a_front_of_the_reply(rt: HostRuntime) -> Result<(), Fail> {
+    let alloc = rt.alloc();
+    let mut front = String::new(alloc);
+    for (letter, call) in "accepted tp1\n".chars().zip(1..14) {
+        let sink = MemSink::new(alloc, 64, 1, Vec::from_slice(alloc, &[call])?)?;
+        expect_over(&rt, alloc, sink, 7, front.as_str())?;
+        front.push(letter)?;
+    }
+    Ok(())
 }
 
 // Fails the test unless the command over a file of so many of these bytes has the status and the text.
@@ -64,19 +74,15 @@ fn expect_long(
     status: u8,
     text: &str,
 ) -> Result<(), Fail> {
-    let mut files = Vec::new(alloc);
-    files.push((
-        String::from_str(alloc, "ins.ot")?,
-        Vec::from_slice(alloc, INS_OT.as_bytes())?,
-    ))?;
-    files.push((String::from_str(alloc, "long")?, long))?;
-    let mut shelf = MemShelf::new(files, Vec::new(alloc));
+    let mut shelf = shelf_with(alloc, INS_OT, long)?;
     expect(rt, alloc, &mut shelf, line, status, text)
 }
 
-const FUNCTION: &str = "check long long";
+const FUNCTION: &str = "check other other";
 
-const CASE: &str = "integrate ins.ot long";
+const CERTIFICATE: &str = "check function other";
+
+const CASE: &str = "integrate function other";
 
 #[test]
 fn files_have_limits(rt: HostRuntime) -> Result<(), Fail> {
@@ -90,6 +96,8 @@ fn files_have_limits(rt: HostRuntime) -> Result<(), Fail> {
             "function 1:1048577 expected\n",
         ),
         (FUNCTION, b'#', 1_048_577, 9, "limit function\n"),
+        // A wrong token is refused before the size of the file.
+        (CERTIFICATE, b'o', 83_886_081, 2, "certificate 0 token\n"),
         (CASE, b' ', 16_777_216, 4, "case json\n"),
         (CASE, b' ', 16_777_217, 9, "limit file\n"),
     ] {

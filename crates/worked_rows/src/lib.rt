@@ -10,6 +10,8 @@ mod faults;
 #[cfg(test)]
 mod maker;
 #[cfg(test)]
+mod marks;
+#[cfg(test)]
 mod orders;
 #[cfg(test)]
 mod questions;
@@ -21,3 +23,5 @@ mod samples;
 mod setting;
 #[cfg(test)]
 mod sides;
+#[cfg(test)]
+mod terms;

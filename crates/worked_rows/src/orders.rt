@@ -84,7 +84,7 @@ const CASES: Rows<'static> = &[
         "function 1:6 version\n",
     ),
     ("integrate first.ot updates.json", 3, "function 3:11 word\n"),
-    ("check ttfu.ot updates.json", 3, "function form\n"),
+    ("check ttfu.ot updates.json", 2, "certificate 0 token\n"),
     (
         "integrate ttf.ot dead.json",
         0,

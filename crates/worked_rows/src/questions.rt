@@ -28,8 +28,8 @@ pub fn is_meant(head: &Head, ob: ObName) -> bool
     }
 }
 
-// The answers that a word of `y` and `n` stands for.
-fn answers_in(alloc: Global, word: &str) -> Result<Vec<bool>, AllocError> {
+/// The answers that a word of `y` and `n` stands for.
+pub fn answers_in(alloc: Global, word: &str) -> Result<Vec<bool>, AllocError> {
     word.bytes().map(|letter| letter == b'y').collect(alloc)
 }
 
@@ -48,8 +48,8 @@ fn next_in(
     Ok(next_question(&rules, ob, answers))
 }
 
-// Rows: answers, yes or no, and what comes behind them: `x <= y + k` is asked, or the plan ends.
-type Rows = &'static [(&'static str, Option<(u8, u8, i32)>)];
+/// Rows: answers, yes or no, and what comes behind them: `x <= y + k` is asked, or the plan ends.
+pub type Rows = &'static [(&'static str, Option<(u8, u8, i32)>)];
 
 const OF_INS: Rows = &[
     // The length, and whether the first and the second operation are enabled.

@@ -1,6 +1,6 @@
 //! Rows of `check`: words and files, with the status and the text that they get.
 use crate::maker::certificate_of;
-use crate::samples::{FAR_CERT, FAR_OT, INS_CERT, INS_OT, SITES_OT, TIES_OT, TTF_OT};
+use crate::samples::{FAR_CERT, FAR_OT, INS_CERT, INS_OT, SITES_OT, TIES_OT, TTF_OT, TTFU_OT};
 use crate::setting::{Files, Rows, expect, expect_rows, shelf_of};
 use fn_text::read;
 use ot_outside::{MemShelf, MemSink};
@@ -13,6 +13,7 @@ const FILES: Files<'static> = &[
     ("ties.ot", TIES_OT),
     ("sites.ot", SITES_OT),
     ("ttf.ot", TTF_OT),
+    ("ttfu.ot", TTFU_OT),
     (
         "two_spaces.ot",
         "otfn 1\ntext  plain\nkinds ins\nblock ins ins\nend\n",
@@ -54,6 +55,7 @@ const FILES: Files<'static> = &[
     ("ins.cert", INS_CERT),
     ("far.cert", FAR_CERT),
     ("cut.cert", "otcert 1 tp1\nob ins ins\n"),
+    ("wrong_version.cert", "otcert 1 tp2\n"),
     ("wrong_kinds.cert", "otcert 1 tp1\nob del del\n.\nend\n"),
     ("leading_zero.cert", "otcert 1 tp1\nob ins ins\nx00;\nend\n"),
     ("two_trees.cert", "otcert 1 tp1\nob ins ins\n..\nend\n"),
@@ -66,33 +68,50 @@ const FILES: Files<'static> = &[
 
 const ACCEPTED: &str = "accepted tp1\n";
 
-const REFUSED: &str = "certificate refused\n";
-
-const FORM: &str = "function form\n";
-
 const USAGE: &str = "usage: otp COMMAND ARGUMENTS\n";
 
 const CERTIFICATES: Rows<'static> = &[
     ("check ins.ot ins.cert", 0, ACCEPTED),
     ("check spaced.ot ins.cert", 0, ACCEPTED),
-    ("check far.ot far.cert", 2, REFUSED),
-    ("check far.ot cut.cert", 2, REFUSED),
-    ("check far.ot ins.cert", 2, REFUSED),
-    ("check ties.ot ins.cert", 2, REFUSED),
-    ("check two_spaces.ot far.cert", 2, REFUSED),
-    ("check grouped.ot far.cert", 2, REFUSED),
-    ("check ins.ot far.cert", 2, REFUSED),
-    ("check ins.ot wrong_kinds.cert", 2, REFUSED),
-    ("check ins.ot leading_zero.cert", 2, REFUSED),
-    ("check ins.ot two_trees.cert", 2, REFUSED),
-    ("check ins.ot empty", 2, REFUSED),
-    ("check sites.ot far.cert", 3, FORM),
-    ("check ttf.ot far.cert", 3, FORM),
-    ("check tomb.ot far.cert", 3, FORM),
-    ("check chars.ot far.cert", 3, FORM),
-    ("check chars_differ.ot far.cert", 3, FORM),
-    ("check not_true.ot ins.cert", 3, FORM),
-    ("check sites.ot missing", 3, FORM),
+    ("check far.ot far.cert", 2, "certificate 24 notdone\n"),
+    ("check far.ot cut.cert", 2, "certificate 24 truncated\n"),
+    ("check far.ot ins.cert", 2, "certificate 31 notdone\n"),
+    ("check ties.ot ins.cert", 2, "certificate 40 cycle\n"),
+    (
+        "check two_spaces.ot far.cert",
+        2,
+        "certificate 24 notdone\n",
+    ),
+    ("check grouped.ot far.cert", 2, "certificate 24 notdone\n"),
+    ("check ins.ot far.cert", 2, "certificate 24 notdone\n"),
+    ("check ins.ot wrong_kinds.cert", 2, "certificate 13 token\n"),
+    (
+        "check ins.ot leading_zero.cert",
+        2,
+        "certificate 24 token\n",
+    ),
+    ("check ins.ot two_trees.cert", 2, "certificate 24 notdone\n"),
+    ("check ins.ot empty", 2, "certificate 0 truncated\n"),
+    ("check sites.ot far.cert", 2, "certificate 24 notdone\n"),
+    ("check ttf.ot far.cert", 2, "certificate 24 notdone\n"),
+    ("check tomb.ot far.cert", 2, "certificate 24 notdone\n"),
+    ("check chars.ot far.cert", 2, "certificate 24 notdone\n"),
+    (
+        "check chars_differ.ot far.cert",
+        2,
+        "certificate 24 notdone\n",
+    ),
+    (
+        "check not_true.ot ins.cert",
+        2,
+        "certificate 45 notaquestion\n",
+    ),
+    (
+        "check ttfu.ot wrong_version.cert",
+        2,
+        "certificate 0 token\n",
+    ),
+    ("check sites.ot missing", 6, ""),
     ("check no_end.ot ins.cert", 3, "function 8:23 expected\n"),
     ("check far_100.ot far.cert", 3, "function 5:17 offset\n"),
     ("check empty far.cert", 3, "function 1:1 expected\n"),
@@ -169,5 +188,12 @@ fn a_certificate_that_is_made_is_accepted(rt: HostRuntime) -> Result<(), Fail> {
     ];
     let mut shelf = shelf_of(alloc, &files, &[])?;
     expect(&rt, alloc, &mut shelf, "check ins.ot made", 0, ACCEPTED)?;
-    expect(&rt, alloc, &mut shelf, "check far.ot made", 2, REFUSED)
+    expect(
+        &rt,
+        alloc,
+        &mut shelf,
+        "check far.ot made",
+        2,
+        "certificate 31 notdone\n",
+    )
 }

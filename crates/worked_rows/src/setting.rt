@@ -31,6 +31,15 @@ pub fn shelf_of(alloc: Global, files: Files<'_>, failing: &[u32]) -> Result<MemS
     Ok(MemShelf::new(held, Vec::from_slice(alloc, failing)?))
 }
 
+/// A shelf with the file `function` and the file `other`.
+pub fn shelf_with(alloc: Global, function: &str, other: Vec<u8>) -> Result<MemShelf, AllocError> {
+    let mut held = Vec::new(alloc);
+    let bytes = Vec::from_slice(alloc, function.as_bytes())?;
+    held.push((String::from_str(alloc, "function")?, bytes))?;
+    held.push((String::from_str(alloc, "other")?, other))?;
+    Ok(MemShelf::new(held, Vec::new(alloc)))
+}
+
 /// The status of a command over a shelf, which writes to the sink.
 pub fn status_of(
     alloc: Global,

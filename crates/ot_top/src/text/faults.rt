@@ -1,10 +1,11 @@
 //! The lines of faults.
 ghost use Rattle.std.specs.Prelude.{◌≡◌, [], string_bytes, IfOk, OnOk};
 ghost use Rattle.case_json.specs.declared.fault.CaseFault.TheVariants.{Pair};
-ghost use Rattle.ot_top.specs.FaultTexts.{case_text, case_fault_text, kind_word, name_word, text_fault_text};
+ghost use Rattle.ot_top.specs.FaultTexts.{case_text, case_fault_text, kind_word, name_word, refusal_text, refusal_word, text_fault_text};
 
 use case_json::{CaseFault, Name};
 use fn_text::{FaultKind, TextFault};
+use ot_judge::Refusal;
 use ot_model::NoMemory;
 use std::alloc::Global;
 
@@ -40,6 +41,39 @@ fn name_word(name: Name) -> &'static str
         Name::Events => "events",
         Name::Cells => "cells",
     }
+}
+
+fn refusal_word(why: Refusal) -> &'static str
+    ensures { result.now ≡ refusal_word why }
+{
+    match why {
+        Refusal::Token => "token",
+        Refusal::Truncated => "truncated",
+        Refusal::Trailing => "trailing",
+        Refusal::NotAQuestion => "notaquestion",
+        Refusal::NotDone => "notdone",
+        Refusal::GoalFails => "fails",
+        Refusal::BadPick => "pick",
+        Refusal::NotACycle => "cycle",
+        Refusal::NotNegative => "notnegative",
+    }
+}
+
+/// Writes the line of a certificate that is refused.
+pub(crate) fn write_refusal(
+    alloc: Global,
+    offset: u64,
+    why: Refusal,
+    out: &mut Vec<u8>,
+) -> Result<(), NoMemory>
+    requires { out.old.items ≡ [] }
+    ensures { OnOk result (out.new.items ≡ refusal_text offset why) }
+{
+    let place = format!(in alloc; "certificate {offset} ")?;
+    out.extend_from_slice(place.as_bytes())?;
+    out.extend_from_slice(refusal_word(why).as_bytes())?;
+    out.push(b'\n')?;
+    Ok(())
 }
 
 /// Writes the line of a function whose text has a fault.

@@ -1,0 +1,124 @@
+-- The reply to a certificate, from the judgement of a feed and what is left of its file.
+use Rattle.std.proofs.Common.{◌≡◌, ℕ, ◌-◌, ◌≤◌, ◌<◌, zero, suc, Bool, true, false, List, [], ◌∷◌, take, drop, length, length-drop, Option, Some, None, Result, Ok, Err, IfOk, IsTrue, ◌↔◌, ◌⊎◌, inl, inr, refl, sym, ap, ◌∙◌, subst, arith}
+use Rattle.std.specs.Prelude.{IfErr, option_map}
+use Rattle.std.specs.Option.{ForSome}
+use Rattle.std.specs.Io.KnownBytes.{IsAtEnd}
+use Rattle.fn_rules.specs.declared.function.Level.{Level}
+use Rattle.fn_rules.specs.Functions.{Function}
+use Rattle.ot_judge.specs.declared.refusal.JudgeEnd.{JudgeEnd}
+use Rattle.ot_judge.specs.declared.refusal.JudgeEnd.TheVariants as judge
+use Rattle.ot_judge.specs.declared.refusal.Refusal.{Refusal}
+use Rattle.ot_judge.specs.declared.refusal.Refusal.TheVariants as why
+use Rattle.ot_judge.specs.Feeding.{IsTruncated}
+use Rattle.ot_judge.specs.Refusals.{IsJudgement, IsWant}
+use Rattle.ot_top.specs.declared.reply.FileKind.TheVariants as files
+use Rattle.ot_top.specs.declared.reply.Reply.{Reply}
+use Rattle.ot_top.specs.declared.reply.Reply.TheVariants.{TooLong}
+use Rattle.ot_top.specs.Judgements.{IsReplyToCertificate, Tells, is_truncated, rests_on_the_end}
+use Rattle.ot_top.specs.Limits.{limit_of}
+
+-- a told judgement is no want
+not_want : (judgement : Result Level JudgeEnd) (r : Reply) → Tells judgement r → IsWant judgement → ⊥
+not_want judgement r tells (inl failed) = subst (λ j. Tells j r) failed tells
+not_want judgement r tells (inr wanting) = subst (λ j. Tells j r) wanting tells
+
+-- a judgement that rests on the end is no want
+sure : (judgement : Result Level JudgeEnd) → rests_on_the_end judgement ≡ true → IsWant judgement → ⊥
+sure judgement rests (inl failed) = let clash : false ≡ true = sym (ap (λ j. rests_on_the_end j) failed) ∙ rests in cc
+sure judgement rests (inr wanting) = let clash : false ≡ true = sym (ap (λ j. rests_on_the_end j) wanting) ∙ rests in cc
+
+truncated : (cause : Refusal) → is_truncated cause ≡ true → cause ≡ why.Truncated
+truncated why.Token is = cc
+truncated why.Truncated is = refl
+truncated why.Trailing is = cc
+truncated why.NotAQuestion is = cc
+truncated why.NotDone is = cc
+truncated why.GoalFails is = cc
+truncated why.BadPick is = cc
+truncated why.NotACycle is = cc
+truncated why.NotNegative is = cc
+
+-- where a judgement rests on the end, the feed is at its end
+pub at_its_end :
+    (judgement : Result Level JudgeEnd) (P : Type 0) → rests_on_the_end judgement ≡ true → IfOk judgement (λ level. P)
+    → IfErr judgement (λ e. IsTruncated e → P) → P
+at_its_end (Ok level) P rests ok err = ok
+at_its_end (Err (judge.Refused offset cause)) P rests ok err = err (offset, ap (λ w. judge.Refused offset w) (truncated cause rests))
+at_its_end (Err judge.Failed) P rests ok err = cc
+at_its_end (Err judge.NoMemory) P rests ok err = cc
+
+nothing_taken : (n : ℕ) (bytes : List ℕ) → take (suc n) bytes ≡ [] → bytes ≡ []
+nothing_taken n [] e = refl
+nothing_taken n (b ∷ bytes) e = cc
+
+-- of a feed that is at its end, with these bytes beyond its limit: whether its file goes on behind the limit
+goes_on_behind :
+    (room limit : ℕ) (left contents : List ℕ) (more : Bool) → take room left ≡ [] → drop room left ≡ drop limit contents
+    → IsTrue more ↔ ((room ≡ 0) × (0 < length left)) → IsTrue more ↔ (limit < length contents)
+goes_on_behind zero limit left contents more none same told =
+    let count : length left ≡ length contents - limit = ap length same ∙ length-drop limit contents in
+    (λ t. omega (arith, count, (told.0 t).1), λ longer. told.1 (refl, omega (arith, count, longer)))
+goes_on_behind (suc n) limit left contents more none same told =
+    let empty : left ≡ [] = nothing_taken n left none in
+    let count : 0 ≡ length contents - limit =
+    sym (ap (λ (l : List ℕ). length (drop (suc n) l)) empty) ∙ ap length same ∙ length-drop limit contents in
+    (λ t. absurd (let one : suc n ≡ 0 = (told.0 t).0 in omega (arith, one)), λ longer. absurd (omega (arith, count, longer)))
+
+pub goes_on :
+    (room limit : ℕ) (left file : Option (List ℕ)) (more : Bool) → IsAtEnd (option_map (take room) left)
+    → option_map (drop room) left ≡ option_map (drop limit) file
+    → ForSome left (λ bytes. IsTrue more ↔ ((room ≡ 0) × (0 < length bytes)))
+    → ForSome file (λ contents. IsTrue more ↔ (limit < length contents))
+goes_on room limit None file more none same told =
+    λ contents is.
+    let clash : None ≡ Some (drop limit contents) = same ∙ ap (λ (o : Option (List ℕ)). option_map (drop limit) o) is in cc
+goes_on room limit (Some bytes) file more none same told =
+    λ contents is.
+    let both : Some (drop room bytes) ≡ Some (drop limit contents) = same ∙ ap (λ (o : Option (List ℕ)). option_map (drop limit) o) is in
+    let behind : drop room bytes ≡ drop limit contents = cc in
+    goes_on_behind room limit bytes contents more none behind (told bytes refl)
+
+module _ (f : Function) (told : Option (List ℕ)) (room : ℕ) (judgement : Result Level JudgeEnd)
+    (whole : room ≡ limit_of files.Certificate)
+    (judged : (bytes : List ℕ) → option_map (take room) told ≡ Some bytes → IsWant judgement ⊎ IsJudgement f bytes judgement) where
+  -- the judgement is that of the bytes within the limit
+  judged_within : (IsWant judgement → ⊥) → ForSome told (λ contents. IsJudgement f (take (limit_of files.Certificate) contents) judgement)
+  judged_within no_want contents is =
+      elim (judged (take room contents) (ap (λ (o : Option (List ℕ)). option_map (take room) o) is)) [
+        | inl want ↦ absurd (no_want want)
+        | inr h ↦ subst (λ (n : ℕ). IsJudgement f (take n contents) judgement) whole h
+      ]
+
+  -- the file goes on
+  pub too_long_reply :
+      rests_on_the_end judgement ≡ true → (more : Bool) → more ≡ true → ForSome told (λ contents. IsTrue more ↔ (room < length contents))
+      → IsReplyToCertificate f told (TooLong files.Certificate)
+  too_long_reply rests more follows goes = (
+    judgement,
+    judged_within (sure judgement rests),
+    inl (rests, (λ contents is. subst (λ (n : ℕ). n < length contents) whole ((goes contents is).0 follows), refl)),
+  )
+
+  -- the judgement does not rest on the end, or the file does not go on
+  told_reply :
+      (r : Reply) → Tells judgement r
+      → (rests_on_the_end judgement ≡ true → (more : Bool) × (more ≡ false) × ForSome told (λ contents. IsTrue more ↔ (room < length contents)))
+      → IsReplyToCertificate f told r
+  told_reply r tells ends = (
+    judgement,
+    judged_within (not_want judgement r tells),
+    inr (
+      λ rests contents is.
+          let end = ends rests in
+          let shorter : ¬ (room < length contents) = λ longer. let follows : end.0 ≡ true = (end.2 contents is).1 longer in let ends_there : end.0 ≡ false = end.1 in cc in
+          subst (λ (n : ℕ). length contents ≤ n) whole (omega (arith, shorter)),
+      tells,
+    ),
+  )
+
+  pub told_replies :
+      {E : Type 0} (answer : Result Reply E) → IfOk answer (λ r. Tells judgement r)
+      → (rests_on_the_end judgement ≡ true → (more : Bool) × (more ≡ false) × ForSome told (λ contents. IsTrue more ↔ (room < length contents)))
+      → IfOk answer (λ r. IsReplyToCertificate f told r)
+  told_replies (Ok r) tells ends = told_reply r tells ends
+  told_replies (Err e) tells ends = tt

@@ -1,0 +1,7 @@
+use Rattle.ot_top.proofs.answer.reply_to.Goals as goal
+
+pub returns-in-Check-clause-ok : goal.returns-in-Check-clause-ok
+returns-in-Check-clause-ok g c = rw c.in-Check.is c.check.ensures.ok
+
+pub returns-in-Check-clause-replied : goal.returns-in-Check-clause-replied
+returns-in-Check-clause-replied g c = rw c.in-Check.is c.check.ensures.replied

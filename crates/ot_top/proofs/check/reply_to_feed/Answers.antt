@@ -1,0 +1,62 @@
+-- The bytes are judged, and where the judgement rests on their end the feed tells whether a byte follows.
+use Rattle.std.proofs.Common.{◌≡◌, ◌<◌, ◌↔◌, Bool, true, false, IsTrue, length, sym, ◌∙◌}
+use Rattle.std.specs.Option.{ForSome}
+use Rattle.std.specs.Io.KnownBytes.{IsAtEnd}
+use Rattle.fn_rules.specs.Rules.{function_of}
+use Rattle.ot_outside.specs.ShelfFeed.{feed_left, file_left, room_of}
+use Rattle.ot_top.specs.Judgements.{rests_on_the_end}
+use Rattle.ot_top.proofs.Feeding.{kept_since, unchanged_on}
+use Rattle.ot_top.proofs.Judged.{at_its_end, goes_on, told_replies, too_long_reply}
+use Rattle.ot_top.proofs.check.reply_to_feed.Goals as goal
+use Rattle.ot_top.proofs.check.reply_to_feed.Goals.{else-rests_on_the_end-via-then-rests_on_the_end+in_ok-too_long+else-branch, else-rests_on_the_end-via-else-rests_on_the_end}
+
+pub returns-in_err-too_long-clause-unchanged : goal.returns-in_err-too_long-clause-unchanged
+returns-in_err-too_long-clause-unchanged g c =
+    unchanged_on _ _ _ (kept_since _ _ c.check_all-judgement.ensures.kept.still_keeps).unchanged c.too_long.ensures.unchanged
+
+pub returns-then-branch-clause-unchanged : goal.returns-then-branch-clause-unchanged
+returns-then-branch-clause-unchanged g c =
+    unchanged_on _ _ _ (kept_since _ _ c.check_all-judgement.ensures.kept.still_keeps).unchanged c.too_long.ensures.unchanged
+
+pub returns-clause-unchanged : goal.returns-clause-unchanged
+returns-clause-unchanged g c =
+    let kept = kept_since _ _ c.check_all-judgement.ensures.kept.still_keeps in
+    elim c.else-rests_on_the_end.branch [
+      | else-rests_on_the_end-via-then-rests_on_the_end+in_ok-too_long+else-branch w ↦
+          rw w.feed-is (unchanged_on _ _ _ kept.unchanged w.too_long.ensures.unchanged)
+      | else-rests_on_the_end-via-else-rests_on_the_end w ↦ rw w.feed-is kept.unchanged
+    ]
+
+pub returns-then-branch-clause-ok : goal.returns-then-branch-clause-ok
+returns-then-branch-clause-ok g c =
+    let judged = c.check_all-judgement in
+    let kept = kept_since c.args.feed.now judged.new.feed judged.ensures.kept.still_keeps in
+    let rests : rests_on_the_end judged.result ≡ true = sym c.rests_on_the_end.ensures ∙ c.if-rests_on_the_end.true in
+    let at_end : IsAtEnd (feed_left judged.new.feed) =
+    at_its_end judged.result (IsAtEnd (feed_left judged.new.feed)) rests judged.ensures.nothing_left judged.ensures.truncated in
+    let goes = goes_on (room_of judged.new.feed) (room_of c.args.feed.now) (file_left judged.new.feed) (file_left c.args.feed.now)
+    c.in_ok-too_long.field-0 at_end kept.beyond c.in_ok-too_long.ensures.ok in
+    too_long_reply (function_of c.args.rules.now) (file_left c.args.feed.now) (room_of c.args.feed.now) judged.result c.requires
+    judged.ensures.judged rests c.in_ok-too_long.field-0 c.if-branch.true goes
+
+pub returns-clause-ok : goal.returns-clause-ok
+returns-clause-ok g c =
+    let judged = c.check_all-judgement in
+    let kept = kept_since c.args.feed.now judged.new.feed judged.ensures.kept.still_keeps in
+    let ends : rests_on_the_end judged.result ≡ true → (more : Bool) × (more ≡ false)
+    × ForSome (file_left c.args.feed.now) (λ contents. IsTrue more ↔ (room_of c.args.feed.now < length contents)) =
+    λ rests.
+    elim c.else-rests_on_the_end.branch [
+      | else-rests_on_the_end-via-then-rests_on_the_end+in_ok-too_long+else-branch w ↦ (
+        w.in_ok-too_long.field-0,
+        w.if-branch.false,
+        goes_on (room_of judged.new.feed) (room_of c.args.feed.now) (file_left judged.new.feed) (file_left c.args.feed.now)
+            w.in_ok-too_long.field-0
+            (at_its_end judged.result (IsAtEnd (feed_left judged.new.feed)) rests judged.ensures.nothing_left judged.ensures.truncated)
+            kept.beyond w.in_ok-too_long.ensures.ok,
+      )
+      | else-rests_on_the_end-via-else-rests_on_the_end w ↦
+          absurd (let clash : true ≡ false = sym rests ∙ sym c.rests_on_the_end.ensures ∙ w.if-rests_on_the_end.false in cc)
+    ] in
+    told_replies (function_of c.args.rules.now) (file_left c.args.feed.now) (room_of c.args.feed.now) judged.result c.requires
+    judged.ensures.judged c.told.result c.told.ensures.ok ends
