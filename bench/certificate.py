@@ -1,171 +1,341 @@
 #!/usr/bin/env python3
-"""Writes a certificate at level tp1 of a function of the first form, for its one obligation.
+"""Writes a certificate of a function at a level, or says where an obligation fails.
 
-usage: certificate.py FN > CERT
+usage: certificate.py [--tp1] [--questions] FN > CERT
 
-It walks the questions of two insertions in their order. Wherever the answers so far have a negative
-cycle, found by plain relaxation over the nine names, it writes that cycle; wherever the obligation
-holds, an end. It ends with status 1 where the obligation fails. Nothing of the program is used, and
-nothing of the program rests on it.
+It reads both languages of function files, walks the questions of each obligation in their order, and keeps a
+closed table of distances between the names. Wherever the answers so far have a negative cycle it writes that
+cycle, and wherever the obligation holds, an end. It ends with status 1 where an obligation fails at answers
+that some integers meet. With --questions it writes the number of questions to the standard error. Nothing of
+the program is used, and nothing of the program rests on it.
 """
 import re
 import sys
+from collections import namedtuple
 
 ZERO, LENGTH, INDEX = 0, 1, 2
-A = {"p": 3, "s": 4, "c": 5}
-B = {"p": 6, "s": 7, "c": 8}
+KINDS = ["ins", "del", "upd"]
+
+Op = namedtuple("Op", "kind at ch site")  # `at` is a name and an offset
+Function = namedtuple("Function", "tomb kinds sites chars blocks version")
+Holds, Fails, Ask = namedtuple("Holds", ""), namedtuple("Fails", "why"), namedtuple("Ask", "lit yes no")
 
 
-class Ask(Exception):
-    def __init__(self, lit):
-        self.lit = lit
+# Function files. A guard is a tuple: true, an atom, or one joined by and, or, not.
+
+def tokens_of(text):
+    for line in text.splitlines():
+        found = re.findall(r"[a-z][a-z0-9]*|[0-9]+|<=|[<=+\-():]", line.split("#")[0])
+        if found:
+            yield found
 
 
-class Ends(Exception):
-    def __init__(self, why):
-        self.why = why
+class Phrase:
+    def __init__(self, tokens):
+        self.tokens, self.at = tokens, 0
+
+    def next(self):
+        self.at += 1
+        return self.tokens[self.at - 1]
+
+    def sees(self, *words):
+        return self.at < len(self.tokens) and self.tokens[self.at] in words
+
+    def offset(self):
+        if not self.sees("+", "-"):
+            return 0
+        sign = -1 if self.next() == "-" else 1
+        return sign * int(self.next())
+
+    def joined(self, word, part):
+        left = part()
+        while self.sees(word):
+            self.next()
+            left = (word, left, part())
+        return left
+
+    def guard(self):
+        return self.joined("or", lambda: self.joined("and", self.unary))
+
+    def unary(self):
+        word = self.next()
+        if word == "not":
+            return ("not", self.unary())
+        if word == "(":
+            inner = self.guard()
+            self.next()
+            return inner
+        if word == "true":
+            return ("true",)
+        compare, other = self.next(), self.next()
+        assert other[0] == word[0] and other[1] != word[1]
+        return ("atom", word[0], word[1] == "1", compare, self.offset())
+
+    def result(self):
+        if self.next() == "nop":
+            return None
+        return self.next() == "p1", self.offset()
 
 
 def read_function(text):
-    sites = "assume sites differ" in text
-    cases = []
-    for line in text.splitlines():
-        if line.startswith("case "):
-            guard, result = line[5:].split(" : ")
-            atoms = []
-            if guard != "true":
-                for atom in guard.split(" and "):
-                    m = re.fullmatch(r"([ps])([12]) (<=|<|=) ([ps])([12])(?: ([+-]) (\d+))?", atom)
-                    k = int(m[7] or 0) * (-1 if m[6] == "-" else 1)
-                    atoms.append((m[1], m[2] == "1", m[3], k))
-            if result == "nop":
-                cases.append((atoms, None))
-            else:
-                m = re.fullmatch(r"ins p([12])(?: ([+-]) (\d+))?", result)
-                cases.append((atoms, (m[1] == "1", int(m[3] or 0) * (-1 if m[2] == "-" else 1))))
-    return sites, cases
+    blocks, block, assumed, kinds, tomb, version = {}, None, set(), [], False, 1
+    for line in tokens_of(text):
+        if line[0] == "otfn":
+            version = int(line[1])
+        elif line[0] == "text":
+            tomb = line[1] == "tomb"
+        elif line[0] == "kinds":
+            kinds = line[1:]
+        elif line[0] == "assume":
+            assumed.add(line[1])
+        elif line[0] == "block":
+            block = blocks.setdefault((line[1], line[2]), [])
+        elif line[0] == "case":
+            phrase = Phrase(line[1:])
+            guard = phrase.guard()
+            assert phrase.next() == ":"
+            block.append((guard, phrase.result()))
+    return Function(tomb, kinds, "sites" in assumed, "chars" in assumed, blocks, version)
 
 
-def next_question(sites, cases, answers):
-    """What is asked after the answers: an Ask, or an Ends with 'holds' or a cause."""
-    left = list(answers)
+# Plans. Each function goes on with functions of no argument, or of a value, so that a plan is made as it is
+# walked through.
 
-    def le(x, j, y, l):
-        if x == y:
-            return j <= l
-        if not left:
-            raise Ask((x, y, l - j))
-        return left.pop(0)
+def le(x, y, yes, no):
+    if x[0] == y[0]:
+        return yes() if x[1] <= y[1] else no()
+    return Ask((x[0], y[0], y[1] - x[1]), yes, no)
 
-    def eq(x, j, y, l):
-        return le(x, j, y, l) and le(y, l, x, j)
 
-    def enabled(op, k):
-        return op is None or (le(ZERO, 0, op[0], op[1]) and le(op[0], op[1], LENGTH, k))
+def lt(x, y, yes, no):
+    return le(x, (y[0], y[1] - 1), yes, no)
 
-    def atom_true(atom, one, two):
-        sort, first, compare, k = atom
-        left_op, right_op = (one, two) if first else (two, one)
-        if sort == "p":
-            x, j, y, l = left_op[0], left_op[1], right_op[0], right_op[1] + k
+
+def eq(x, y, yes, no):
+    return le(x, y, lambda: le(y, x, yes, no), no)
+
+
+COMPARE = {"<": lt, "<=": le, "=": eq}
+
+
+def thing(op, sort):
+    return op.at if sort == "p" else (op.site if sort == "s" else op.ch, 0)
+
+
+def ask_guard(guard, one, two, yes, no):
+    if guard[0] == "true":
+        return yes()
+    if guard[0] == "atom":
+        _, sort, first, compare, offset = guard
+        left, right = (one, two) if first else (two, one)
+        x, y = thing(left, sort), thing(right, sort)
+        return COMPARE[compare](x, (y[0], y[1] + offset), yes, no)
+    if guard[0] == "and":
+        return ask_guard(guard[1], one, two, lambda: ask_guard(guard[2], one, two, yes, no), no)
+    if guard[0] == "or":
+        return ask_guard(guard[1], one, two, yes, lambda: ask_guard(guard[2], one, two, yes, no))
+    return ask_guard(guard[1], one, two, no, yes)
+
+
+def transform(f, one, two, go):
+    if one is None or two is None:
+        return go(one)
+    cases = f.blocks[one.kind, two.kind]
+
+    def from_case(number):
+        if number == len(cases):
+            return Fails("undefined")
+        guard, result = cases[number]
+
+        def taken():
+            if result is None:
+                return go(None)
+            base = one if result[0] else two
+            return go(one._replace(at=(base.at[0], base.at[1] + result[1])))
+
+        return ask_guard(guard, one, two, taken, lambda: from_case(number + 1))
+
+    return from_case(0)
+
+
+def enabled(op, more, yes, no):
+    if op is None:
+        return yes()
+    last = le if op.kind == "ins" else lt
+    return le((ZERO, 0), op.at, lambda: last(op.at, (LENGTH, more), yes, no), no)
+
+
+def growth(f, op):
+    if op is None or op.kind == "upd":
+        return 0
+    return 1 if op.kind == "ins" else (0 if f.tomb else -1)
+
+
+def read_cell(f, ops, j, go):
+    """The cell at the index plus j, as (source of its character, source of its flag)."""
+    if not ops:
+        return go((("base", j), ("base", j)))
+    op, below = ops[0], ops[1:]
+    if op is None:
+        return read_cell(f, below, j, go)
+    here = (INDEX, j)
+
+    def before():
+        return read_cell(f, below, j, go)
+
+    def behind():
+        if op.kind == "del" and not f.tomb:
+            return read_cell(f, below, j + 1, go)
+        return le(here, op.at, at, lambda: read_cell(f, below, j - 1 if op.kind == "ins" else j, go))
+
+    def at():
+        if op.kind == "ins":
+            return go((("name", op.ch), "live"))
+        if op.kind == "del":
+            return read_cell(f, below, j, lambda cell: go((cell[0], "dead")))
+        return read_cell(f, below, j, lambda cell: go((("name", op.ch), cell[1])))
+
+    return lt(here, op.at, before, behind)
+
+
+def same_cells(x, y):
+    if x[1] != y[1]:
+        return Fails("cells")
+    if x[0] == y[0]:
+        return Holds()
+    if x[0][0] == "name" and y[0][0] == "name":
+        return eq((x[0][1], 0), (y[0][1], 0), Holds, lambda: Fails("cells"))
+    return Fails("cells")
+
+
+def differ(f, one, two, go):
+    def chars():
+        if f.chars and one.kind != "del" and two.kind != "del":
+            return eq((one.ch, 0), (two.ch, 0), Holds, go)
+        return go()
+
+    return eq((one.site, 0), (two.site, 0), Holds, chars) if f.sites else chars()
+
+
+def converge(f, a, b):
+    def both(b1, a1):
+        left, right = growth(f, a) + growth(f, b1), growth(f, b) + growth(f, a1)
+
+        def compare():
+            if left != right:
+                return Fails("lengths")
+            return le((ZERO, 0), (INDEX, 0), lambda: lt((INDEX, 0), (LENGTH, left), cells, Holds), Holds)
+
+        def cells():
+            return read_cell(f, [b1, a], 0, lambda x: read_cell(f, [a1, b], 0, lambda y: same_cells(x, y)))
+
+        out = lambda: Fails("out of range")
+        return enabled(b1, growth(f, a), lambda: enabled(a1, growth(f, b), compare, out), out)
+
+    return transform(f, b, a, lambda b1: transform(f, a, b, lambda a1: both(b1, a1)))
+
+
+def behind(f, a, b, c, go):
+    return transform(f, b, a, lambda b1: transform(f, c, a, lambda c1: transform(f, c1, b1, go)))
+
+
+def commute(f, a, b, c):
+    def compare(left, right):
+        if left is None or right is None:
+            return Holds() if left is right else Fails("operations")
+        return eq(left.at, right.at, Holds, lambda: Fails("operations"))
+
+    return behind(f, a, b, c, lambda left: behind(f, b, a, c, lambda right: compare(left, right)))
+
+
+def plan_of(f, kinds):
+    ops = [Op(kind, (3 + 3 * i, 0), 5 + 3 * i, 4 + 3 * i) for i, kind in enumerate(kinds)]
+    pairs = [(i, j) for i in range(len(ops)) for j in range(i + 1, len(ops))]
+
+    def all_enabled(i):
+        if i == len(ops):
+            return all_differ(0)
+        return enabled(ops[i], 0, lambda: all_enabled(i + 1), Holds)
+
+    def all_differ(i):
+        if i == len(pairs):
+            return converge(f, *ops) if len(ops) == 2 else commute(f, *ops)
+        return differ(f, ops[pairs[i][0]], ops[pairs[i][1]], lambda: all_differ(i + 1))
+
+    return le((ZERO, 0), (LENGTH, 0), lambda: all_enabled(0), Holds)
+
+
+def obligations(f, tp2):
+    kinds = [kind for kind in KINDS if kind in f.kinds]
+    pairs = [(k, l) for i, k in enumerate(kinds) for l in kinds[i:]]
+    return pairs + ([(k, l, m) for m in kinds for (k, l) in pairs] if tp2 else [])
+
+
+# Answers. A table has for each two names x, y the least offset k known for x <= y + k, with the numbers of
+# the answers that it comes from, in the order of a walk from x to y.
+
+def closed(table, x, y, k, number):
+    """The table with one more answer; or the numbers of a negative cycle."""
+    back = table[y][x]
+    if back is not None and back[0] + k < 0:
+        return None, (number,) + back[1]
+    to_x = [(p, row[x]) for p, row in enumerate(table) if row[x] is not None]
+    from_y = [(q, way) for q, way in enumerate(table[y]) if way is not None]
+    new = [list(row) for row in table]
+    for p, first in to_x:
+        for q, last in from_y:
+            offset, known = first[0] + k + last[0], new[p][q]
+            if p != q and (known is None or offset < known[0]):
+                new[p][q] = (offset, first[1] + (number,) + last[1])
+    return new, None
+
+
+def tree_of(f, kinds):
+    """The tokens of the tree, the number of questions, and the cause of a failure or None."""
+    count = 9 if len(kinds) == 2 else 12
+    table = [[(0, ()) if x == y else None for y in range(count)] for x in range(count)]
+    tokens, questions = [], 0
+    waiting = [(lambda: plan_of(f, kinds), 0, table, None)]
+    while waiting:
+        go, depth, table, lit = waiting.pop()
+        if lit is not None:
+            table, cycle = closed(table, *lit, depth - 1)
+            if cycle is not None:
+                tokens.append("x" + ",".join(map(str, cycle)) + ";")
+                continue
+        plan = go()
+        if isinstance(plan, Ask):
+            x, y, k = plan.lit
+            tokens.append("?")
+            questions += 1
+            waiting.append((plan.no, depth + 1, table, (y, x, -k - 1)))
+            waiting.append((plan.yes, depth + 1, table, (x, y, k)))
+        elif isinstance(plan, Holds):
+            tokens.append(".")
         else:
-            x, j, y, l = left_op[2]["s"], 0, right_op[2]["s"], k
-        if compare == "<":
-            return le(x, j, y, l - 1)
-        if compare == "<=":
-            return le(x, j, y, l)
-        return eq(x, j, y, l)
-
-    def transform(one, two):
-        for atoms, result in cases:
-            if all(atom_true(atom, one, two) for atom in atoms):
-                if result is None:
-                    return None
-                base = one if result[0] else two
-                return (base[0], base[1] + result[1], one[2])
-        raise Ends("undefined")
-
-    def cell(ops, k):
-        for op in reversed(ops):
-            if op is None:
-                continue
-            if le(INDEX, k, op[0], op[1] - 1):
-                continue
-            if le(INDEX, k, op[0], op[1]):
-                return ("put", op[2]["c"])
-            k -= 1
-        return ("base", k)
-
-    a, b = (A["p"], 0, A), (B["p"], 0, B)
-    if not le(ZERO, 0, LENGTH, 0):
-        raise Ends("holds")
-    for op in (a, b):
-        if not enabled(op, 0):
-            raise Ends("holds")
-    if sites and eq(A["s"], 0, B["s"], 0):
-        raise Ends("holds")
-    b1 = transform(b, a)
-    a1 = transform(a, b)
-    for op in (b1, a1):
-        if not enabled(op, 1):
-            raise Ends("range")
-    size = 1 + (b1 is not None)
-    if size != 1 + (a1 is not None):
-        raise Ends("lengths")
-    if not (le(ZERO, 0, INDEX, 0) and le(INDEX, 0, LENGTH, size - 1)):
-        raise Ends("holds")
-    x, y = cell([a, b1], 0), cell([b, a1], 0)
-    if x[0] == "base" and y[0] == "base":
-        raise Ends("holds" if x[1] == y[1] else "cells")
-    if x[0] == "put" and y[0] == "put" and (x[1] == y[1] or eq(x[1], 0, y[1], 0)):
-        raise Ends("holds")
-    raise Ends("cells")
-
-
-def negative_cycle(lits):
-    """Numbers of literals that are a negative cycle, by relaxation; None where there is none."""
-    dist, by = [0] * 9, [None] * 9
-    last = None
-    for _ in range(9):
-        last = None
-        for number, (x, y, k) in enumerate(lits):
-            if dist[y] + k < dist[x]:
-                dist[x], by[x], last = dist[y] + k, number, x
-        if last is None:
-            return None
-    name = last
-    for _ in range(9):
-        name = lits[by[name]][1]
-    cycle, start = [], name
-    while True:
-        cycle.append(by[name])
-        name = lits[by[name]][1]
-        if name == start:
-            return cycle
+            return tokens, questions, plan.why
+    return tokens, questions, None
 
 
 def main():
-    sites, cases = read_function(open(sys.argv[1]).read())
-    tree, waiting = [], [((), ())]
-    while waiting:
-        answers, lits = waiting.pop()
-        cycle = negative_cycle(lits)
-        if cycle is not None:
-            tree.append("x" + ",".join(map(str, cycle)) + ";")
-            continue
-        try:
-            next_question(sites, cases, answers)
-        except Ask as asked:
-            x, y, k = asked.lit
-            tree.append("?")
-            waiting.append((answers + (False,), lits + ((y, x, -k - 1),)))
-            waiting.append((answers + (True,), lits + ((x, y, k),)))
-        except Ends as ends:
-            if ends.why != "holds":
-                print(f"the obligation fails: {ends.why}", file=sys.stderr)
-                sys.exit(1)
-            tree.append(".")
-    sys.stdout.write("otcert 1 tp1\nob ins ins\n" + "".join(tree) + "\nend\n")
+    words = sys.argv[1:]
+    tp2 = "--tp1" not in words
+    f = read_function(open([w for w in words if not w.startswith("--")][0]).read())
+    names = obligations(f, tp2)
+    version = 2 if any("upd" in name for name in names) else 1
+    parts, asked = [f"otcert {version} {'tp2' if tp2 else 'tp1'}\n"], 0
+    for kinds in names:
+        tokens, questions, why = tree_of(f, kinds)
+        asked += questions
+        if why is not None:
+            print(f"no {'tp1' if len(kinds) == 2 else 'tp2'} {why}: {' '.join(kinds)}, {asked} questions", file=sys.stderr)
+            sys.exit(1)
+        parts.append("ob " + " ".join(kinds) + "\n" + "".join(tokens) + "\n")
+    parts.append("end\n")
+    sys.stdout.write("".join(parts))
+    if "--questions" in words:
+        print(f"{asked} questions", file=sys.stderr)
 
 
-main()
+if __name__ == "__main__":
+    main()

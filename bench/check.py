@@ -43,7 +43,7 @@ def main():
         for name, function in [("ins.ot", os.path.join(TOP, "examples/functions/ins.ot")), ("64 cases", many)]:
             certificate = os.path.join(folder, "certificate")
             with open(certificate, "w") as file:
-                made = subprocess.run([sys.executable, os.path.join(HERE, "certificate.py"), function], stdout=file)
+                made = subprocess.run([sys.executable, os.path.join(HERE, "certificate.py"), "--tp1", function], stdout=file)
             if made.returncode == 0:
                 report(name, function, certificate)
             else:
