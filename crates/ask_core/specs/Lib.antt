@@ -1,4 +1,5 @@
 pub mod Plans
+pub mod Tokens
 pub mod Trees
 pub mod Askers
 pub mod Paths

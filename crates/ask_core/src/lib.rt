@@ -11,6 +11,7 @@
 
 mod asker;
 mod fitting;
+mod lengths;
 mod path;
 mod picks;
 mod tree;
@@ -18,8 +19,9 @@ mod turn;
 
 pub use asker::{Asker, MAX_QUESTIONS};
 pub use fitting::{fitting_trees_hold, trees_are_judged_token_by_token};
+pub use lengths::paths_bound_question_lists;
 pub use path::Path;
 pub use picks::{MAX_PICKS, Picks};
 pub use std::alloc::AllocError as NoMemory;
-pub use tree::{Tok, Tree};
+pub use tree::{Tok, Tokens, Tree};
 pub use turn::Turn;

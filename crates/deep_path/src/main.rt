@@ -66,9 +66,10 @@ fn whole_depth() -> Deep {
 }
 
 // Feeds the tokens to a checker, and says how it ends.
-fn check(alloc: Global, tree: Tree) -> Result<Result<Progress, CheckEnd>, NoMemory> {
+fn check(alloc: Global, tree: &Tree) -> Result<Result<Progress, CheckEnd>, NoMemory> {
     let mut checker = Checker::new(alloc, whole_depth())?;
-    for tok in tree.into_vec() {
+    let mut tokens = tree.tokens();
+    while let Some(tok) = tokens.next(alloc) {
         match checker.feed(tok) {
             Ok(Progress::More) => {}
             other => return Ok(other),
@@ -80,7 +81,7 @@ fn check(alloc: Global, tree: Tree) -> Result<Result<Progress, CheckEnd>, NoMemo
 // Says how the search ends, and how the checker takes the tree that it finds.
 fn run(rt: HostRuntime, budget: u64) -> io::Result<()> {
     match prove(rt.alloc(), &mut whole_depth(), budget) {
-        Ok(Outcome::Yes { tree, asked }) => match check(rt.alloc(), tree) {
+        Ok(Outcome::Yes { tree, asked }) => match check(rt.alloc(), &tree) {
             Ok(answer) => println!(rt; "{asked} questions: {answer:?}"),
             Err(_) => println!(rt; "no memory"),
         },

@@ -16,6 +16,7 @@ use Rattle.fn_rules.specs.declared.function.ObName.TheVariants.{Pair, Triple}
 use Rattle.fn_rules.specs.declared.function.Res.TheVariants as results
 use Rattle.fn_rules.specs.Formulas.{Formula, Always, Compare, And, Or, Not}
 use Rattle.fn_rules.specs.Validity.{atoms_of, nesting_of, compares_chars, is_valid, is_valid_case, are_valid_cases}
+use Rattle.fn_rules.specs.Atoms.{guard_atoms, function_atoms}
 use Rattle.fn_rules.specs.Building.{function_from}
 use Rattle.fn_rules.specs.Transformation.{transform_of}
 use Rattle.ot_model.specs.declared.op.Mode.TheVariants.{Plain}
@@ -271,3 +272,16 @@ right_chain = refl
 
 atoms_are_counted : atoms_of (Not (And Always (Or (p1_to_p2 Lt (pos 0)) Always))) ≡ 3
 atoms_are_counted = refl
+
+without_true : guard_atoms (Not (And Always (Or (p1_to_p2 Lt (pos 0)) Always))) ≡ 1
+without_true = refl
+
+-- over all blocks
+atoms_of_sites : function_atoms sites ≡ 7
+atoms_of_sites = refl
+
+atoms_of_ttfu : function_atoms ttfu ≡ 8
+atoms_of_ttfu = refl
+
+no_atoms : function_atoms marks ≡ 0
+no_atoms = refl

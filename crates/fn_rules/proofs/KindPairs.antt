@@ -1,13 +1,11 @@
 -- The obligations that the kinds of a function have.
-use Rattle.std.proofs.Common.{◌≡◌, ℕ, zero, suc, ◌+◌, ◌<◌, Bool, true, false, ◌&&◌, List, [], ◌∷◌, ◌++◌, length, map, refl, ap₂, ◌∙◌, sym, subst, inl, inr, lit<, arith}
+use Rattle.std.proofs.Common.{◌≡◌, ℕ, zero, suc, ◌<◌, Bool, true, List, [], ◌∷◌, length, map, sym, subst, inl, inr, lit<, arith}
 use Rattle.std.specs.Prelude.{◌⊎◌, filter, slice_index_or}
-use Rattle.std.specs.List.{Contains, flat_map, list_all}
-use Rattle.std.proofs.lemmas.List.Folds.{list_all-append, list_all-map}
+use Rattle.std.specs.List.{Contains}
 use Rattle.std.proofs.lemmas.List.Elements.{Contains-append_left, Contains-append_right}
-use Rattle.std.proofs.lemmas.Bool.{and_parts, cases_Bool}
+use Rattle.std.proofs.lemmas.Bool.{cases_Bool}
 use Rattle.ot_model.specs.declared.op.Kind.{Kind}
 use Rattle.ot_model.specs.declared.op.TheConstants.{KINDS}
-use Rattle.ot_model.specs.Kinds.{kind_pairs}
 use Rattle.ot_model.proofs.KindRows.{Contains-kind, Contains-map}
 use Rattle.fn_rules.specs.declared.function.Head.{Head}
 use Rattle.fn_rules.specs.declared.function.ObName.{ObName}

@@ -1,16 +1,15 @@
 -- What a function within the limits knows of its cases.
-use Rattle.std.proofs.Common.{◌≡◌, ℕ, ◌<◌, Bool, true, false, ◌&&◌, ◌||◌, List, [], ◌∷◌, length, get_or, map, refl, subst, inl, inr, arith, eqb-true}
+use Rattle.std.proofs.Common.{◌≡◌, ℕ, ◌<◌, ◌≤◌, Bool, true, false, ◌&&◌, ◌||◌, List, [], ◌∷◌, length, get_or, map, refl, subst, inl, inr, arith, eqb-true}
 use Rattle.std.specs.List.{list_all, list_any}
 use Rattle.std.proofs.lemmas.List.Folds.{list_all_at, list_all-map}
 use Rattle.std.proofs.lemmas.Bool.{or_cases, cases_Bool, and_parts}
-use Rattle.std.specs.Prelude.{ℤ, pos, Some, nat_le, nat_eq}
+use Rattle.std.proofs.lemmas.Bool.Decides.{nat_tests}
+use Rattle.std.specs.Prelude.{ℤ, pos, nat_le, nat_eq}
 use Rattle.std.specs.Ordering.{int_eq}
 use Rattle.ot_model.specs.declared.op.Kind.{Kind}
 use Rattle.ot_model.specs.declared.op.TheConstants.{KINDS}
 use Rattle.ot_model.specs.declared.op.Op.{Op}
-use Rattle.ot_model.specs.declared.op.Op.TheVariants as ops
 use Rattle.ot_model.specs.Kinds.{each_pair}
-use Rattle.ot_model.specs.Operations.{kind_of}
 use Rattle.ot_model.proofs.KindRows.{Contains-kind}
 use Rattle.fn_rules.specs.declared.guard.Sort.{Sort}
 use Rattle.fn_rules.specs.declared.guard.Sort.TheVariants as sorts
@@ -99,13 +98,24 @@ may_compare chars (Or g h) valid here =
     ]
 may_compare chars (Not g) valid here = may_compare chars g valid here
 
+pub nat_le-true : (x y : ℕ) → nat_le x y ≡ true → x ≤ y
+nat_le-true x y e = grind (arith, nat_tests)
+
+-- what validity says of a case
+pub case_parts :
+    (chars : Bool) (c : GuardedCase) → is_valid_case chars c ≡ true
+    → (has_valid_atoms chars c.guard ≡ true) × (atoms_of c.guard ≤ 16) × (is_valid_res c.res ≡ true)
+case_parts chars c e =
+    let atoms = has_valid_atoms chars c.guard in
+    let few = nat_le (atoms_of c.guard) MAX_ATOMS in
+    let flat = nat_le (nesting_of Loose c.guard) MAX_NESTING in
+    let res = and_parts (atoms && few && flat) (is_valid_res c.res) e in
+    let both = and_parts atoms few (and_parts (atoms && few) flat res.0).0 in
+    (both.0, nat_le-true (atoms_of c.guard) 16 both.1, res.1)
+
 -- a valid case compares characters only where its block may
 pub may_compare-case : (chars : Bool) (c : GuardedCase) → is_valid_case chars c ≡ true → has_char_atoms c.guard ≡ true → chars ≡ true
-may_compare-case chars c valid =
-    may_compare chars c.guard
-    ((and_parts (has_valid_atoms chars c.guard) (nat_le (atoms_of c.guard) MAX_ATOMS)
-    ((and_parts (has_valid_atoms chars c.guard && nat_le (atoms_of c.guard) MAX_ATOMS) (nat_le (nesting_of Loose c.guard) MAX_NESTING)
-    ((and_parts (has_valid_atoms chars c.guard && nat_le (atoms_of c.guard) MAX_ATOMS && nat_le (nesting_of Loose c.guard) MAX_NESTING) (is_valid_res c.res) valid).0)).0)).0)
+may_compare-case chars c valid = may_compare chars c.guard (case_parts chars c valid).0
 
 -- the guard of a valid case may be judged at operations that have what it compares
 pub IsReadyFor-valid : (c : GuardedCase) (a b : Op) → is_valid_case (both_have_chars a b) c ≡ true → IsReadyFor c.guard a b

@@ -1,6 +1,7 @@
 pub mod Formulas
 pub mod Functions
 pub mod Validity
+pub mod Atoms
 pub mod Building
 pub mod Rules
 pub mod Transformation

@@ -11,7 +11,6 @@ use Rattle.fn_rules.specs.declared.guard.Tightness.{Tightness}
 use Rattle.fn_rules.specs.declared.guard.Tightness.TheVariants.{Loose, Joined, Tight}
 use Rattle.fn_rules.specs.declared.function.Res.{Res}
 use Rattle.fn_rules.specs.declared.function.Res.TheVariants as results
-use Rattle.fn_rules.specs.declared.function.Head.{Head}
 use Rattle.fn_rules.specs.declared.limits.TheConstants.{MAX_CASES, MAX_ATOMS, MAX_NESTING, MAX_OFFSET}
 use Rattle.fn_rules.specs.Formulas.{Formula, Always, Compare, And, Or, Not}
 use Rattle.fn_rules.specs.Functions.{Function, GuardedCase, cases_of, is_declared, is_declared_pair}

@@ -1,5 +1,5 @@
 //! Laws of functions, for the layers above. Each is the contract of a function that does nothing.
-ghost use Rattle.std.specs.Prelude.{◌≡◌, ◌↔◌, ℕ, ◌+◌, List, [], Some, false, true, IsTrue, Bool, ◌⊎◌, length};
+ghost use Rattle.std.specs.Prelude.{◌≡◌, ◌↔◌, ℕ, ◌+◌, ◌≤◌, List, [], Some, false, true, IsTrue, Bool, ◌⊎◌, length};
 ghost use Rattle.std.specs.List.{Contains, list_all};
 ghost use Rattle.ot_model.specs.declared.cell.Cell.{Cell};
 ghost use Rattle.ot_model.specs.declared.op.Kind.{Kind};
@@ -87,4 +87,9 @@ pub fn obligations_are_those_of_the_kinds()
         → Contains (pairs_of (declared_kinds head)) (Pair k l) ⊎ Contains (pairs_of (declared_kinds head)) (Pair l k) }
     ensures triples { (head : Head) (k l m : Kind) → is_declared head k ≡ true → is_declared head l ≡ true → is_declared head m ≡ true
         → Contains (triples_of (declared_kinds head)) (Triple k l m) ⊎ Contains (triples_of (declared_kinds head)) (Triple l k m) }
+{}
+
+/// A level has at most 24 obligations: three kinds have six pairs and eighteen triples.
+pub fn levels_have_few_obligations()
+    ensures { (head : Head) (level : Level) → length (obligations_of head level) ≤ 24 }
 {}

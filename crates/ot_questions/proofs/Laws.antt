@@ -1,12 +1,18 @@
 -- Every plan keeps the limits of plans.
-use Rattle.std.proofs.Common.{◌≡◌, ℕ, ◌≤◌, true, refl, arith, lit<}
+use Rattle.std.proofs.Common.{◌≡◌, ℕ, ◌+◌, ◌*◌, ◌^◌, ◌<◌, ◌≤◌, true, List, length, refl, arith, lit<, lit≤}
+use Rattle.std.proofs.Math.Nat.{pow-le-pow_right}
 use Rattle.std.proofs.lemmas.Bool.{and_from}
+use Rattle.diff_graph.specs.declared.lit.Lit.{Lit}
+use Rattle.ot_model.specs.declared.op.Kind.{Kind}
 use Rattle.fn_rules.specs.declared.function.ObName.{ObName}
 use Rattle.fn_rules.specs.declared.function.ObName.TheVariants.{Pair, Triple}
-use Rattle.fn_rules.specs.Functions.{Function}
+use Rattle.fn_rules.specs.Functions.{Function, cases_of}
 use Rattle.fn_rules.specs.Validity.{is_valid}
+use Rattle.fn_rules.specs.Atoms.{block_atoms, function_atoms}
+use Rattle.fn_rules.proofs.AtomCounts.{block_atoms-function, block_atoms-valid}
 use Rattle.ask_core.specs.Plans.{Plan, Ask, Holds, Fails}
 use Rattle.ask_core.specs.Askers.{has_fine_literals, longest_path, IsFine}
+use Rattle.ask_core.specs.Questions.{Questions, QuestionList}
 use Rattle.ot_questions.specs.declared.name.Who.TheVariants.{A, B, C}
 use Rattle.ot_questions.specs.declared.why.Why.{Why}
 use Rattle.ot_questions.specs.Names.{name_count}
@@ -21,19 +27,50 @@ fine_questions count (Ask lit on_yes on_no) h =
 fine_questions count Holds h = refl
 fine_questions count (Fails why) h = refl
 
--- what is kept of the plan of an obligation
-pub plan_kept : (f : Function) (ob : ObName) → is_valid f ≡ true → IsKept (name_count ob) 12309 (plan_of f ob)
-unfolding plan_of
-plan_kept f (Pair k l) valid =
-    let kept =
-    walk_pair 9 (lit< tt) f valid (sym_op k A) (sym_op l B)
-    (OpStands-sym_op 9 k A (lit< tt) (lit< tt) (lit< tt)) (OpStands-sym_op 9 l B (lit< tt) (lit< tt) (lit< tt)) in
-    let short = kept.short in
-    record { asked = kept.asked; short = omega arith }
-plan_kept f (Triple k l m) valid =
-    walk_triple 12 (lit< tt) f valid (sym_op k A) (sym_op l B) (sym_op m C)
+-- the most questions on a path of the obligation, where no block has more atoms than so many: a pair asks two
+-- transformations and a triple six, and each atom asks at most two literals
+most_asked : ObName → ℕ → ℕ
+most_asked (Pair k l) atoms = 4 * atoms + 25
+most_asked (Triple k l m) atoms = 12 * atoms + 21
+
+-- what is kept of the plan of an obligation, by the atoms of the blocks
+kept_by_atoms :
+    (f : Function) (ob : ObName) (atoms : ℕ) → is_valid f ≡ true → ((k l : Kind) → block_atoms (cases_of f k l) ≤ atoms)
+    → IsKept (name_count ob) (most_asked ob atoms) (plan_of f ob)
+unfolding plan_of most_asked
+kept_by_atoms f (Pair k l) atoms valid few =
+    walk_pair 9 (lit< tt) f valid atoms few (sym_op k A) (sym_op l B)
+    (OpStands-sym_op 9 k A (lit< tt) (lit< tt) (lit< tt)) (OpStands-sym_op 9 l B (lit< tt) (lit< tt) (lit< tt))
+kept_by_atoms f (Triple k l m) atoms valid few =
+    walk_triple 12 (lit< tt) f valid atoms few (sym_op k A) (sym_op l B) (sym_op m C)
     (OpStands-sym_op 12 k A (lit< tt) (lit< tt) (lit< tt)) (OpStands-sym_op 12 l B (lit< tt) (lit< tt) (lit< tt))
     (OpStands-sym_op 12 m C (lit< tt) (lit< tt) (lit< tt))
+
+most_within_limits : (ob : ObName) → most_asked ob 1024 ≤ 12309
+unfolding most_asked
+most_within_limits (Pair k l) = lit≤ tt
+most_within_limits (Triple k l m) = lit≤ tt
+
+most_by_atoms : (ob : ObName) (atoms : ℕ) → most_asked ob atoms ≤ 12 * atoms + 40
+unfolding most_asked
+most_by_atoms (Pair k l) atoms = omega arith
+most_by_atoms (Triple k l m) atoms = omega arith
+
+-- what is kept of it within the limits
+pub plan_kept : (f : Function) (ob : ObName) → is_valid f ≡ true → IsKept (name_count ob) 12309 (plan_of f ob)
+plan_kept f ob valid =
+    let kept = kept_by_atoms f ob 1024 valid (λ k l. block_atoms-valid f k l valid) in
+    let short = kept.short in
+    let most = most_within_limits ob in
+    record { asked = kept.asked; short = omega arith }
+
+pub short_by_atoms :
+    (f : Function) (ob : ObName) → is_valid f ≡ true → longest_path (plan_of f ob) ≤ 12 * function_atoms f + 40
+short_by_atoms f ob valid =
+    let kept = kept_by_atoms f ob (function_atoms f) valid (block_atoms-function f) in
+    let short = kept.short in
+    let most = most_by_atoms ob (function_atoms f) in
+    omega arith
 
 pub short_plans : (f : Function) (ob : ObName) → is_valid f ≡ true → longest_path (plan_of f ob) ≤ 12309
 short_plans f ob valid = (plan_kept f ob valid).short
@@ -43,3 +80,18 @@ plans_are_fine f ob valid =
     let kept = plan_kept f ob valid in
     let short = kept.short in
     record { literals = fine_questions (name_count ob) (plan_of f ob) kept.asked; paths = omega arith }
+
+-- question lists are shorter than two to the longest path
+abbrev pub ListsAreBounded : Type 0
+ListsAreBounded =
+    (p : Plan Why) (w : List Lit) (q : Questions Why) → QuestionList p w q → length q.asked < 2 ^ longest_path p
+
+pub few_questions :
+    (f : Function) (ob : ObName) (w : List Lit) (q : Questions Why) → ListsAreBounded → is_valid f ≡ true
+    → QuestionList (plan_of f ob) w q → length q.asked ≤ 2 ^ (12 * function_atoms f + 40)
+few_questions f ob w q bounded valid list =
+    let shorter = bounded (plan_of f ob) w q list in
+    let higher : 2 ^ longest_path (plan_of f ob) ≤ 2 ^ (12 * function_atoms f + 40) =
+    pow-le-pow_right {n = 2} (lit< tt) {i = longest_path (plan_of f ob)} {j = 12 * function_atoms f + 40}
+    (short_by_atoms f ob valid) in
+    omega arith

@@ -1,10 +1,10 @@
 -- One walk through the `ask_` functions: each question of a plan is a fine literal and compares names of
 -- one sort, and each function adds a few questions to the longest path of what follows.
-use Rattle.std.proofs.Common.{◌≡◌, ℕ, suc, ◌+◌, ◌*◌, ◌<◌, ◌≤◌, max, ℤ, pos, negsuc, ◌+ℤ◌, ◌-ℤ◌, ◌≤ℤ◌, Bool, true, false, not, ◌&&◌, if◌then◌else◌, nat_eq, nat_le, int_le, Option, Some, None, List, [], ◌∷◌, length, refl, ap, sym, ◌∙◌, inl, inr, arith, lit≤}
+use Rattle.std.proofs.Common.{◌≡◌, ℕ, suc, ◌+◌, ◌*◌, ◌<◌, ◌≤◌, max, ℤ, pos, negsuc, ◌+ℤ◌, ◌-ℤ◌, ◌≤ℤ◌, Bool, true, false, not, if◌then◌else◌, nat_eq, nat_le, int_le, Option, Some, None, List, [], ◌∷◌, length, refl, ap, sym, ◌∙◌, inl, inr, arith, lit≤}
 use Rattle.std.specs.Ordering.{int_eq}
 use Rattle.std.specs.List.{AllByRecursion, list_all}
 use Rattle.std.proofs.lemmas.Bool.{cases_Bool, and_parts, and_from}
-use Rattle.std.proofs.lemmas.Bool.Decides.{Decides-ltb, nat_tests}
+use Rattle.std.proofs.lemmas.Bool.Decides.{Decides-ltb}
 use Rattle.std.proofs.lemmas.Int.{ints}
 use Rattle.diff_graph.specs.declared.lit.Lit.{Lit}
 use Rattle.ot_model.specs.declared.op.Mode.{Mode}
@@ -18,12 +18,13 @@ use Rattle.fn_rules.specs.declared.guard.Sort.TheVariants.{Pos, Site, Char}
 use Rattle.fn_rules.specs.declared.guard.Cmp.{Cmp}
 use Rattle.fn_rules.specs.declared.guard.Cmp.TheVariants.{Lt, Le, Eq}
 use Rattle.fn_rules.specs.declared.guard.Atom.{Atom}
-use Rattle.fn_rules.specs.declared.guard.Tightness.TheVariants.{Loose}
-use Rattle.fn_rules.specs.declared.limits.TheConstants.{MAX_CASES, MAX_ATOMS, MAX_NESTING}
+use Rattle.fn_rules.specs.declared.limits.TheConstants.{MAX_CASES}
 use Rattle.fn_rules.specs.Formulas.{Formula, Always, Compare, And, Or, Not, of_side, other_side}
 use Rattle.fn_rules.specs.Functions.{Function, GuardedCase, cases_of}
-use Rattle.fn_rules.specs.Validity.{has_valid_atoms, atoms_of, nesting_of, is_valid_res, is_valid_case, is_valid, compares_chars}
-use Rattle.fn_rules.proofs.LimitsKept.{are_valid_cases-valid}
+use Rattle.fn_rules.specs.Validity.{has_valid_atoms, is_valid_case, is_valid, compares_chars}
+use Rattle.fn_rules.specs.Atoms.{guard_atoms, block_atoms}
+use Rattle.fn_rules.proofs.LimitsKept.{are_valid_cases-valid, case_parts}
+use Rattle.fn_rules.proofs.AtomCounts.{block_atoms-cons}
 use Rattle.ask_core.specs.Plans.{Plan, Ask, Holds, Fails}
 use Rattle.ask_core.specs.Askers.{is_fine_literal, longest_path}
 use Rattle.ot_questions.specs.declared.cell.Source.{Source}
@@ -64,9 +65,6 @@ near_difference j k h g = (omega (arith, ints), omega (arith, ints))
 int_le-from : (x y : ℤ) → x ≤ℤ y → int_le x y ≡ true
 int_le-from x y h = grind (arith, ints)
 
-nat_le-true : (x y : ℕ) → nat_le x y ≡ true → x ≤ y
-nat_le-true x y e = grind (arith, nat_tests)
-
 longer : (m x y : ℕ) → x ≤ m → y ≤ m → 1 + max x y ≤ m + 1
 longer m x y hx hy = omega arith
 
@@ -85,18 +83,6 @@ growth_near Plain (Upd p c s) = IsNear-zero 1
 growth_near Tomb (Upd p c s) = IsNear-zero 1
 growth_near Plain Nop = IsNear-zero 1
 growth_near Tomb Nop = IsNear-zero 1
-
--- what validity says of a case
-case_parts :
-    (chars : Bool) (c : GuardedCase) → is_valid_case chars c ≡ true
-    → (has_valid_atoms chars c.guard ≡ true) × (atoms_of c.guard ≤ 16) × (is_valid_res c.res ≡ true)
-case_parts chars c e =
-    let atoms = has_valid_atoms chars c.guard in
-    let few = nat_le (atoms_of c.guard) MAX_ATOMS in
-    let flat = nat_le (nesting_of Loose c.guard) MAX_NESTING in
-    let res = and_parts (atoms && few && flat) (is_valid_res c.res) e in
-    let both = and_parts atoms few (and_parts (atoms && few) flat res.0).0 in
-    (both.0, nat_le-true (atoms_of c.guard) 16 both.1, res.1)
 
 module _ (count : ℕ) (names : 2 < count) where
   abbrev Kept : ℕ → Plan Why → Type 0
@@ -207,21 +193,21 @@ module _ (count : ℕ) (names : 2 < count) where
 
     walk_guard :
         (m : ℕ) (g : Formula) (p q : Plan Why) → has_valid_atoms (compares_chars k l) g ≡ true → Kept m p → Kept m q
-        → Kept (m + 2 * atoms_of g) (ask_guard g a b p q)
+        → Kept (m + 2 * guard_atoms g) (ask_guard g a b p q)
     unfolding ask_guard ask_atom
-    walk_guard m Always p q h hp hq = kept_more m (m + 2) p (omega arith) hp
+    walk_guard m Always p q h hp hq = kept_more m (m + 2 * 0) p (omega arith) hp
     walk_guard m (Compare atom) p q h hp hq =
         let things = things_there atom.sort k l a b atom.k ea eb h in
         by_side m atom atom.left p q things.0 things.1 (IsNear-offset_for (compares_chars k l) atom.sort atom.k h) hp hq
     walk_guard m (And g i) p q h hp hq =
         let both = and_parts (has_valid_atoms (compares_chars k l) g) (has_valid_atoms (compares_chars k l) i) h in
-        kept_more (m + 2 * atoms_of i + 2 * atoms_of g) (m + 2 * (atoms_of g + atoms_of i)) _ (omega arith)
-        (walk_guard (m + 2 * atoms_of i) g (ask_guard i a b p q) q both.0 (walk_guard m i p q both.1 hp hq)
-        (kept_more m (m + 2 * atoms_of i) q (omega arith) hq))
+        kept_more (m + 2 * guard_atoms i + 2 * guard_atoms g) (m + 2 * (guard_atoms g + guard_atoms i)) _ (omega arith)
+        (walk_guard (m + 2 * guard_atoms i) g (ask_guard i a b p q) q both.0 (walk_guard m i p q both.1 hp hq)
+        (kept_more m (m + 2 * guard_atoms i) q (omega arith) hq))
     walk_guard m (Or g i) p q h hp hq =
         let both = and_parts (has_valid_atoms (compares_chars k l) g) (has_valid_atoms (compares_chars k l) i) h in
-        kept_more (m + 2 * atoms_of i + 2 * atoms_of g) (m + 2 * (atoms_of g + atoms_of i)) _ (omega arith)
-        (walk_guard (m + 2 * atoms_of i) g p (ask_guard i a b p q) both.0 (kept_more m (m + 2 * atoms_of i) p (omega arith) hp)
+        kept_more (m + 2 * guard_atoms i + 2 * guard_atoms g) (m + 2 * (guard_atoms g + guard_atoms i)) _ (omega arith)
+        (walk_guard (m + 2 * guard_atoms i) g p (ask_guard i a b p q) both.0 (kept_more m (m + 2 * guard_atoms i) p (omega arith) hp)
         (walk_guard m i p q both.1 hp hq))
     walk_guard m (Not g) p q h hp hq = walk_guard m g q p h hq hp
 
@@ -233,17 +219,17 @@ module _ (count : ℕ) (names : 2 < count) where
       (m n : ℕ) (k l : Kind) (cs : List GuardedCase) (a b : SymOp) (go : SymOp → Plan Why) → n ≤ 200 → sym_kind a ≡ Some k → sym_kind
       b ≡ Some l
       → list_all (is_valid_case (compares_chars k l)) cs ≡ true → OpStands count n a → OpStands count n b → GoesOn m (n + 99) go
-      → Kept (m + 32 * length cs) (ask_cases cs a b go)
+      → Kept (m + 2 * block_atoms cs) (ask_cases cs a b go)
   unfolding ask_cases
-  walk_cases m n k l [] a b go few ea eb h ha hb hg = kept_fails (m + 32 * 0) Undefined
+  walk_cases m n k l [] a b go few ea eb h ha hb hg = kept_fails (m + 2 * 0) Undefined
   walk_cases m n k l (c ∷ cs) a b go few ea eb h ha hb hg =
       let both = and_parts (is_valid_case (compares_chars k l) c) (list_all (is_valid_case (compares_chars k l)) cs) h in
       let parts = case_parts (compares_chars k l) c both.0 in
-      let bound = parts.1 in
-      kept_more (m + 32 * length cs + 2 * atoms_of c.guard) (m + 32 * suc (length cs)) _ (omega arith)
-      (walk_guard k l a b ea eb (OpStands-more count n 200 a few ha) (OpStands-more count n 200 b few hb) (m + 32 * length cs) c.guard
+      kept_more (m + 2 * block_atoms cs + 2 * guard_atoms c.guard) (m + 2 * block_atoms (c ∷ cs)) _
+      (omega (arith, block_atoms-cons c cs))
+      (walk_guard k l a b ea eb (OpStands-more count n 200 a few ha) (OpStands-more count n 200 b few hb) (m + 2 * block_atoms cs) c.guard
       (go (sym_result c.res a b)) (ask_cases cs a b go) parts.0
-      (kept_more m (m + 32 * length cs) _ (omega arith)
+      (kept_more m (m + 2 * block_atoms cs) _ (omega arith)
       (hg (sym_result c.res a b) (OpStands-result count n c.res a b (omega arith) parts.2 ha hb)))
       (walk_cases m n k l cs a b go few ea eb both.1 ha hb hg))
 
@@ -452,64 +438,71 @@ module _ (count : ℕ) (names : 2 < count) where
   unfolding ask_same_form
   walk_same_form a b ha hb = walk_one_place (sym_kind a) (sym_kind b) (sym_at a) (sym_at b) ha.at hb.at
 
-  -- of a valid function
-  module _ (f : Function) (valid : is_valid f ≡ true) where
+  -- of a valid function, none of whose blocks has more atoms than so many
+  module _ (f : Function) (valid : is_valid f ≡ true) (atoms : ℕ)
+      (few_atoms : (k l : Kind) → block_atoms (cases_of f k l) ≤ atoms) where
     walk_by_kinds :
         (m n : ℕ) (a b : SymOp) (j k : Option Kind) (go : SymOp → Plan Why) → n ≤ 200 → sym_kind a ≡ j → sym_kind b ≡ k
-        → OpStands count n a → OpStands count n b → GoesOn m (n + 99) go → Kept (m + 2048) (ask_by_kinds f a b j k go)
+        → OpStands count n a → OpStands count n b → GoesOn m (n + 99) go → Kept (m + 2 * atoms) (ask_by_kinds f a b j k go)
     unfolding ask_by_kinds
     walk_by_kinds m n a b None k go few ea eb ha hb hg =
-        kept_more m (m + 2048) _ (omega arith) (hg Nop (OpStands-nop count (n + 99) (omega arith)))
+        kept_more m (m + 2 * atoms) _ (omega arith) (hg Nop (OpStands-nop count (n + 99) (omega arith)))
     walk_by_kinds m n a b (Some j) None go few ea eb ha hb hg =
-        kept_more m (m + 2048) _ (omega arith) (hg a (OpStands-more count n (n + 99) a (omega arith) ha))
+        kept_more m (m + 2 * atoms) _ (omega arith) (hg a (OpStands-more count n (n + 99) a (omega arith) ha))
     walk_by_kinds m n a b (Some j) (Some k) go few ea eb ha hb hg =
         let both = and_parts (nat_le (length (cases_of f j k)) MAX_CASES)
         (list_all (is_valid_case (compares_chars j k)) (cases_of f j k)) (are_valid_cases-valid f j k valid) in
-        let most : length (cases_of f j k) ≤ 64 = nat_le-true (length (cases_of f j k)) 64 both.0 in
-        kept_more (m + 32 * length (cases_of f j k)) (m + 2048) _ (omega arith)
+        kept_more (m + 2 * block_atoms (cases_of f j k)) (m + 2 * atoms) _ (omega (arith, few_atoms j k))
         (walk_cases m n j k (cases_of f j k) a b go few ea eb both.1 ha hb hg)
 
     walk_transform :
         (m n : ℕ) (a b : SymOp) (go : SymOp → Plan Why) → n ≤ 200 → OpStands count n a → OpStands count n b → GoesOn m (n + 99) go
-        → Kept (m + 2048) (ask_transform f a b go)
+        → Kept (m + 2 * atoms) (ask_transform f a b go)
     unfolding ask_transform
     walk_transform m n a b go few ha hb hg = walk_by_kinds m n a b (sym_kind a) (sym_kind b) go few refl refl ha hb hg
 
-    walk_converge : (a b : SymOp) → OpStands count 0 a → OpStands count 0 b → Kept 4112 (ask_converge f a b)
+    walk_converge : (a b : SymOp) → OpStands count 0 a → OpStands count 0 b → Kept (4 * atoms + 16) (ask_converge f a b)
     unfolding ask_converge
     walk_converge a b ha hb =
-        walk_transform 2064 0 b a _ (lit≤ tt) hb ha
+        kept_more (16 + 2 * atoms + 2 * atoms) (4 * atoms + 16) _ (omega arith)
+        (walk_transform (16 + 2 * atoms) 0 b a _ (lit≤ tt) hb ha
         (λ p hp. walk_transform 16 0 a b _ (lit≤ tt) ha hb
         (λ q hq. walk_ways f.head.mode a p b q (OpStands-more count 0 400 a (lit≤ tt) ha) (OpStands-more count 99 400 p (lit≤ tt) hp)
-        (OpStands-more count 0 400 b (lit≤ tt) hb) (OpStands-more count 99 400 q (lit≤ tt) hq)))
+        (OpStands-more count 0 400 b (lit≤ tt) hb) (OpStands-more count 99 400 q (lit≤ tt) hq))))
 
-    pub walk_pair : (a b : SymOp) → OpStands count 0 a → OpStands count 0 b → Kept 4121 (ask_pair f a b)
+    pub walk_pair : (a b : SymOp) → OpStands count 0 a → OpStands count 0 b → Kept (4 * atoms + 25) (ask_pair f a b)
     unfolding ask_pair
     walk_pair a b ha hb =
-        walk_le 4120 Pos zero_place (length_and (pos 0)) _ Holds (zero_at 500) (length_at 500 (pos 0) (IsNear-zero 500))
-        (walk_all_enabled 4116 (a ∷ b ∷ []) _ (ha, (hb, tt)) (walk_allowed 4112 0 f.head a b _ ha hb (walk_converge a b ha hb)))
-        (kept_holds 4120)
+        let asked = 4 * atoms + 16 in
+        kept_more (asked + 4 + 4 + 1) (4 * atoms + 25) _ (omega arith)
+        (walk_le (asked + 4 + 4) Pos zero_place (length_and (pos 0)) _ Holds (zero_at 500) (length_at 500 (pos 0) (IsNear-zero 500))
+        (walk_all_enabled (asked + 4) (a ∷ b ∷ []) _ (ha, (hb, tt)) (walk_allowed asked 0 f.head a b _ ha hb (walk_converge a b ha hb)))
+        (kept_holds (asked + 4 + 4)))
 
     walk_behind :
         (m : ℕ) (a b c : SymOp) (go : SymOp → Plan Why) → OpStands count 0 a → OpStands count 0 b → OpStands count 0 c → GoesOn m 198 go
-        → Kept (m + 6144) (ask_behind f a b c go)
+        → Kept (m + 6 * atoms) (ask_behind f a b c go)
     unfolding ask_behind
     walk_behind m a b c go ha hb hc hg =
-        kept_more (m + 2048 + 2048 + 2048) (m + 6144) _ (omega arith)
-        (walk_transform (m + 2048 + 2048) 0 b a _ (lit≤ tt) hb ha
-        (λ p hp. walk_transform (m + 2048) 0 c a _ (lit≤ tt) hc ha
+        kept_more (m + 2 * atoms + 2 * atoms + 2 * atoms) (m + 6 * atoms) _ (omega arith)
+        (walk_transform (m + 2 * atoms + 2 * atoms) 0 b a _ (lit≤ tt) hb ha
+        (λ p hp. walk_transform (m + 2 * atoms) 0 c a _ (lit≤ tt) hc ha
         (λ q hq. walk_transform m 99 q p go (lit≤ tt) hq hp hg)))
 
-    pub walk_triple : (a b c : SymOp) → OpStands count 0 a → OpStands count 0 b → OpStands count 0 c → Kept 12309 (ask_triple f a b c)
+    pub walk_triple :
+        (a b c : SymOp) → OpStands count 0 a → OpStands count 0 b → OpStands count 0 c → Kept (12 * atoms + 21) (ask_triple f a b c)
     unfolding ask_triple ask_commute
     walk_triple a b c ha hb hc =
-        walk_le 12308 Pos zero_place (length_and (pos 0)) _ Holds (zero_at 500) (length_at 500 (pos 0) (IsNear-zero 500))
-        (walk_all_enabled 12302 (a ∷ b ∷ c ∷ []) _ (ha, (hb, (hc, tt)))
-        (walk_allowed 12298 0 f.head a b _ ha hb
-        (walk_allowed 12294 0 f.head a c _ ha hc
-        (walk_allowed 12290 0 f.head b c _ hb hc
-        (walk_behind 6146 a b c _ ha hb hc
+        let asked = 2 + 6 * atoms + 6 * atoms in
+        kept_more (asked + 4 + 4 + 4 + 6 + 1) (12 * atoms + 21) _ (omega arith)
+        (walk_le (asked + 4 + 4 + 4 + 6) Pos zero_place (length_and (pos 0)) _ Holds (zero_at 500)
+        (length_at 500 (pos 0) (IsNear-zero 500))
+        (walk_all_enabled (asked + 4 + 4 + 4) (a ∷ b ∷ c ∷ []) _ (ha, (hb, (hc, tt)))
+        (walk_allowed (asked + 4 + 4) 0 f.head a b _ ha hb
+        (walk_allowed (asked + 4) 0 f.head a c _ ha hc
+        (walk_allowed asked 0 f.head b c _ hb hc
+        (walk_behind (2 + 6 * atoms) a b c _ ha hb hc
         (λ left hl. walk_behind 2 b a c _ hb ha hc
         (λ right hr. walk_same_form left right (OpStands-more count 198 500 left (lit≤ tt) hl)
         (OpStands-more count 198 500 right (lit≤ tt) hr))))))))
-        (kept_holds 12308)
+        (kept_holds (asked + 4 + 4 + 4 + 6)))

@@ -24,7 +24,9 @@ mod valuation;
 mod why;
 
 pub use cell::{Finished, Flag, Source};
-pub use meaning::{pair_plans_mean_tp1, plans_keep_limits, triple_plans_mean_tp2};
+pub use meaning::{
+    atoms_bound_questions, pair_plans_mean_tp1, plans_keep_limits, triple_plans_mean_tp2,
+};
 pub use name::{INDEX, LENGTH, Who, ZERO, char_name, position_name, site_name};
 pub use next::Next;
 pub use obligation::next_question;

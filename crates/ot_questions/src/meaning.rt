@@ -1,5 +1,6 @@
 //! What the plans of obligations mean. These functions do nothing: their contracts are the laws.
-ghost use Rattle.std.specs.Prelude.{◌↔◌, ◌≤◌, ℕ, IsTrue};
+ghost use Rattle.std.specs.Prelude.{◌↔◌, ◌+◌, ◌*◌, ◌^◌, ◌≤◌, ℕ, List, length, IsTrue};
+ghost use Rattle.diff_graph.specs.declared.lit.Lit.{Lit};
 ghost use Rattle.ot_model.specs.declared.op.Kind.{Kind};
 ghost use Rattle.fn_rules.specs.declared.function.Level.TheVariants.{Tp1, Tp2};
 ghost use Rattle.fn_rules.specs.declared.function.ObName.{ObName};
@@ -8,10 +9,15 @@ ghost use Rattle.fn_rules.specs.Functions.{Function};
 ghost use Rattle.fn_rules.specs.Obligations.{declared_kinds, triples_of, obligations_of};
 ghost use Rattle.fn_rules.specs.Properties.{HasTp1, HasTp2};
 ghost use Rattle.fn_rules.specs.Validity.{is_valid};
+ghost use Rattle.fn_rules.specs.Atoms.{function_atoms};
 ghost use Rattle.ask_core.specs.Askers.{IsFine, longest_path};
+ghost use Rattle.ask_core.specs.Questions.{Questions, QuestionList};
 ghost use Rattle.ot_questions.specs.Names.{name_count};
 ghost use Rattle.ot_questions.specs.Obligation.{plan_of};
 ghost use Rattle.ot_questions.specs.Meaning.{HasPair, HasTriple, HoldsAtLength, AllHold};
+
+use crate::why::Why;
+use ask_core::paths_bound_question_lists;
 
 /// The plan of a pair holds at every valuation at which the document has `n` cells exactly where the
 /// first property holds for all operations of the two kinds on all documents of `n` cells. And the
@@ -44,3 +50,15 @@ pub fn plans_keep_limits()
     ensures fine { (f : Function) (ob : ObName) → IsTrue (is_valid f) → IsFine (name_count ob) (plan_of f ob) }
     ensures short { (f : Function) (ob : ObName) → IsTrue (is_valid f) → longest_path (plan_of f ob) ≤ 12309 }
 {}
+
+/// No path of a plan has more than twelve questions for each atom of the function and 40 others: a triple
+/// asks six transformations, and an atom at most two literals. So no question list of a plan has more than
+/// 2 to that number.
+pub fn atoms_bound_questions()
+    ensures paths { (f : Function) (ob : ObName) → IsTrue (is_valid f)
+        → longest_path (plan_of f ob) ≤ 12 * function_atoms f + 40 }
+    ensures lists { (f : Function) (ob : ObName) (w : List Lit) (q : Questions Why) → IsTrue (is_valid f)
+        → QuestionList (plan_of f ob) w q → length q.asked ≤ 2 ^ (12 * function_atoms f + 40) }
+{
+    paths_bound_question_lists::<Why>();
+}

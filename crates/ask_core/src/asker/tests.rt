@@ -3,7 +3,7 @@ ghost use Rattle.std.specs.Prelude.{IfOk};
 ghost use Rattle.ask_core.specs.Askers.{Begins};
 
 use super::*;
-use crate::{Picks, Tok, Tree, fitting_trees_hold};
+use crate::{Picks, Tok, Tree, fitting_trees_hold, paths_bound_question_lists};
 use diff_graph::Lit;
 use std::test::Fail;
 
@@ -88,6 +88,7 @@ fn first_turn<A: Asker>(asker: &mut A) -> Result<Turn<A::Node, A::Why>, NoMemory
 fn an_asker_begins_with_its_own_plan(rt: HostRuntime) -> Result<(), Fail> {
     let mut asker = TwoNames { strict: true };
     fitting_trees_hold::<u8>();
+    paths_bound_question_lists::<u8>();
     assert_eq!(rt; asker.names(), 2);
     let want = Turn::Ask {
         lit: Lit { x: 0, y: 1, k: 0 },
@@ -99,14 +100,10 @@ fn an_asker_begins_with_its_own_plan(rt: HostRuntime) -> Result<(), Fail> {
 }
 
 #[test]
-fn picks_and_trees_keep_what_was_pushed(rt: HostRuntime) -> Result<(), Fail> {
+fn picks_keep_what_was_pushed(rt: HostRuntime) -> Result<(), Fail> {
     let mut picks = Picks::new(rt.alloc());
     picks.push(3);
     picks.push(1);
     assert_eq!(rt; picks.as_slice(), [3, 1].as_slice());
-    let mut tree = Tree::new(rt.alloc());
-    tree.push(Tok::Ask)?;
-    tree.push(Tok::Cycle(picks))?;
-    assert_eq!(rt; tree.len(), 2);
     Ok(())
 }

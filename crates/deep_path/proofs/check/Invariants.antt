@@ -3,3 +3,6 @@ use Rattle.deep_path.proofs.check.Given as goal
 
 abbrev pub invariant-loop-tok : goal.invariant-loop-tok
 invariant-loop-tok l = 0 < length l.checker.places
+
+abbrev pub decreases-loop-tok : goal.decreases-loop-tok
+decreases-loop-tok l = length l.tokens

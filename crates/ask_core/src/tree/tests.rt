@@ -1,0 +1,27 @@
+//! Tokens of each kind, and two cycles one behind the other.
+use super::*;
+use std::test::Fail;
+
+fn is_cycle(tok: &Option<Tok>, numbers: &[u32]) -> bool {
+    match tok {
+        Some(Tok::Cycle(picks)) => picks.as_slice() == numbers,
+        _ => false,
+    }
+}
+
+#[test]
+fn tokens_come_back_in_their_order(rt: HostRuntime) -> Result<(), Fail> {
+    let alloc = rt.alloc();
+    let mut tree = Tree::new(alloc);
+    tree.push(Tok::Ask)?;
+    tree.push(Tok::Cycle(cycle_of(alloc, &[11, 14])))?;
+    tree.push(Tok::Cycle(cycle_of(alloc, &[7])))?;
+    tree.push(Tok::Holds)?;
+    let mut tokens = tree.tokens();
+    assert!(rt; matches!(tokens.next(alloc), Some(Tok::Ask)));
+    assert!(rt; is_cycle(&tokens.next(alloc), &[11, 14]));
+    assert!(rt; is_cycle(&tokens.next(alloc), &[7]));
+    assert!(rt; matches!(tokens.next(alloc), Some(Tok::Holds)));
+    assert!(rt; tokens.next(alloc).is_none());
+    Ok(())
+}
