@@ -13,7 +13,7 @@ use Rattle.std.specs.Char.{is_ascii_digit, digit_value}
 use Rattle.std.specs.Fmt.{decimal}
 use Rattle.std.specs.Str.Parse.{AllDigits, digits_value, digits_value_after}
 use Rattle.cert_text.specs.Numbers.{AreShort, IsBehindNumber, IsSpellableCycle, PICK_LIMIT, more_numbers_text, numbers_text}
-use Rattle.cert_text.specs.Cycles.{IsShortNumber, cycle_text, numbers_before, number_text}
+use Rattle.cert_text.specs.Cycles.{IsNoFront, IsShortNumber, cycle_text, numbers_before, number_text}
 use Rattle.ask_core.specs.declared.tree.Tok.{Tok}
 use Rattle.ask_core.specs.declared.tree.Tok.TheVariants as token
 use Rattle.cert_text.specs.Spelling.{IsSpellable, token_text}
@@ -198,11 +198,6 @@ no_digit_next picks qs more n b few short other h =
         → (b ≡ 59) ⊎ ((b ≡ 44) × (length picks + 1 < 12))
     last_or_more picks qs more b others q [] few count is text = inl cc
     last_or_more picks qs more b others q (r ∷ rs) few count is text = inr (cc, omega (arith, ap length is))
-
--- no cycle that can be spelled begins with the front and the byte
-abbrev pub IsNoFront : List ℕ → Option ℕ → ℕ → Type 0
-IsNoFront picks number b =
-    (qs more : List ℕ) → IsSpellableCycle qs → 120 ∷ numbers_text qs ++ 59 ∷ [] ≡ cycle_text picks number ++ b ∷ more → ⊥
 
 -- behind a comma or `x`, no digit
 pub digit_is_wanted :

@@ -4,9 +4,9 @@ mod Examples
 pub mod LineLemmas
 pub mod NumberLists
 pub mod PartLemmas
+pub mod PieceLemmas
 pub mod ReaderLemmas
 pub mod ReadingLemmas
 pub mod StepLemmas
-pub mod TokenLists
 pub mod WholeCertificates
 pub mod WriterLemmas

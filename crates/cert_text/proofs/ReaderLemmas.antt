@@ -13,6 +13,7 @@ use Rattle.cert_text.specs.declared.step.Step.{Step}
 use Rattle.cert_text.specs.declared.step.Step.TheVariants as step
 use Rattle.cert_text.specs.Places.{Place, Finish}
 use Rattle.cert_text.specs.Reading.{Progress, Reading, Refused, Gives, HasNoPart, Reads}
+use Rattle.cert_text.specs.Pieces.{IsUnderWay}
 use Rattle.cert_text.specs.Stages.{IsSound, PartStepsTo, begun_text, place_of, progress_at, refusal_of}
 use Rattle.cert_text.proofs.ReadingLemmas.{reads_truncated, reads_whole, wrong_byte}
 use Rattle.cert_text.proofs.StepLemmas.{sound_front}
@@ -32,6 +33,12 @@ not_finished tp1 tp2 stage.Over other is = other refl
 -- the fields of a reader that did not refuse
 reading : (refused : Option CertEnd) (place : Place) (offset : ℕ) (bytes : List ℕ) → refused ≡ None → progress_at refused place offset bytes ≡ Reading place offset bytes
 reading refused place offset bytes none = rw none refl
+
+-- what came is a front of a part, where no byte was refused
+pub under_way :
+    (tp1 tp2 : List ObName) (at : Stage) (offset : ℕ) (b : Begun) (refused : Option CertEnd) → refused ≡ None
+    → IsSound (place_of tp1 tp2 at) b → IsUnderWay (progress_at refused (place_of tp1 tp2 at) offset (begun_text b))
+under_way tp1 tp2 at offset b refused none sound = rw none (sound_front (place_of tp1 tp2 at) b sound)
 
 -- at the end of the file, behind the last line
 pub finish_over :

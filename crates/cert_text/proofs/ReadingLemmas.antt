@@ -2,15 +2,17 @@
 use Rattle.std.proofs.Common.{◌≡◌, ◌≢◌, ℕ, ◌+◌, ◌<◌, ◌⊎◌, ◌↔◌, inl, inr, ⊎_elim, Option, Some, None, Result, Ok, Err, List, [], ◌∷◌, ◌++◌, length, refl, sym, ap, ◌∙◌, arith, subst, append_assoc, length-append}
 use Rattle.std.proofs.lemmas.List.{append-nil}
 use Rattle.std.proofs.Math.Seq.{append_snoc}
+use Rattle.ask_core.specs.declared.tree.Tok.{Tok}
+use Rattle.ask_core.specs.declared.tree.Tok.TheVariants as token
 use Rattle.cert_text.specs.declared.item.Part.{Part}
 use Rattle.cert_text.specs.declared.item.Part.TheVariants as part
 use Rattle.cert_text.specs.declared.item.Item.{Item}
 use Rattle.cert_text.specs.declared.item.CertEnd.{CertEnd}
 use Rattle.cert_text.specs.declared.item.CertEnd.TheVariants as cert
+use Rattle.cert_text.specs.Spelling.{token_text}
 use Rattle.cert_text.specs.Places.{Place, Start, Line, Tree, Finish, Stands, part_text, place_after}
 use Rattle.cert_text.specs.Reading.{Progress, Reading, Refused, EndsThere, Gives, HasNoPart, IsFrontOfPart, Reads, ReadsFrom, ReadsOn}
 use Rattle.cert_text.proofs.PartLemmas.{end_part, no_front, ob_part, start_parts}
-use Rattle.cert_text.proofs.TokenLists.{some_bytes}
 
 -- of two fronts of the same bytes, one is a front of the other
 fronts :
@@ -65,7 +67,13 @@ no_part_inside place bytes rest q (inr h) stands some is =
     let same = no_front place h.0 q (rest ++ h.1) h.2 stands (h.4 ∙ ap (λ (l : List ℕ). l ++ h.1) is ∙ append_assoc (part_text place q) rest h.1) in
     omega (arith, h.3, ap length same.1, length-append rest h.1)
 
--- a part has some bytes
+-- a token has some bytes
+some_bytes : (t : Tok) → 0 < length (token_text t)
+some_bytes token.Ask = omega arith
+some_bytes token.Holds = omega arith
+some_bytes (token.Cycle picks) = omega arith
+
+-- so has a part
 pub some_text : (place : Place) (p : Part) → Stands place p → 0 < length (part_text place p)
 some_text (Start tp1 tp2) p stands = let one = start_parts tp1 tp2 p stands in rw one.1 (omega arith)
 some_text (Line came []) p stands = rw (end_part came p stands) (omega arith)

@@ -19,17 +19,9 @@ use Rattle.cert_text.specs.Cycles.{cycle_text}
 use Rattle.cert_text.specs.Places.{Place, Start, Line, Tree, Finish, Stands, names_of, part_text, place_after}
 use Rattle.cert_text.specs.Reading.{IsFrontOfPart}
 use Rattle.cert_text.specs.Steps.{FitsHeader}
-use Rattle.cert_text.specs.Stages.{IsLineSound, IsSound, KnowsLength, LineStepsTo, PartStepsTo, begun_text, branches_of, place_of}
+use Rattle.cert_text.specs.Stages.{IsLineSound, IsSound, LineStepsTo, PartStepsTo, begun_text, branches_of, place_of}
 use Rattle.cert_text.proofs.CycleLemmas.{front_of_cycle}
 use Rattle.cert_text.proofs.PartLemmas.{end_part, ob_part, start_parts}
-
--- what came knows its length
-pub sound_length : (place : Place) (b : Begun) → IsSound place b → KnowsLength b
-sound_length place (begun.Line bytes) sound = tt
-sound_length (Tree came names branches) (begun.Cycle c) sound = sound.0.3
-sound_length (Start tp1 tp2) (begun.Cycle c) sound = absurd sound
-sound_length (Line came names) (begun.Cycle c) sound = absurd sound
-sound_length Finish (begun.Cycle c) sound = absurd sound
 
 -- what came is a front of a part
 pub sound_front : (place : Place) (b : Begun) → IsSound place b → IsFrontOfPart place (begun_text b)

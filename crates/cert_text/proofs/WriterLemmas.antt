@@ -1,6 +1,6 @@
 -- Texts that are written piece by piece.
-use Rattle.std.proofs.Common.{◌≡◌, ℕ, suc, ◌<◌, List, ◌∷◌, ◌++◌, length, get_or, take, drop, sym, ap, ◌∙◌, subst, append_assoc, drop-cons, Result, Ok, Err, OnErr}
-use Rattle.std.proofs.lemmas.List.{take-append-drop}
+use Rattle.std.proofs.Common.{◌≡◌, ℕ, List, [], ◌∷◌, ◌++◌, sym, ap, ◌∙◌, subst, append_assoc, Result, Ok, Err, OnErr}
+use Rattle.std.proofs.lemmas.List.{append-nil}
 use Rattle.std.proofs.lemmas.Grind.{flat_map-append}
 use Rattle.ask_core.specs.declared.tree.Tok.{Tok}
 use Rattle.cert_text.specs.Spelling.{token_text, tokens_text}
@@ -53,18 +53,22 @@ pub error_behind :
 error_behind (Ok x) before between after text more is h = tt
 error_behind (Err e) before between after text more is h = next_front before between after text more is h
 
--- behind whole tokens, a front of the next one
+-- behind written tokens, a front of the next one
 pub tokens_front :
-    (tokens : List Tok) (i : ℕ) (tok : Tok) (before between after : List ℕ) → i < length tokens → tok ≡ get_or tokens i tok
-    → between ≡ before ++ tokens_text (take i tokens) → AppendsFront between (token_text tok) after
+    (tokens written rest : List Tok) (tok : Tok) (before between after : List ℕ) → tokens ≡ written ++ tok ∷ rest
+    → between ≡ before ++ tokens_text written → AppendsFront between (token_text tok) after
     → AppendsFront before (tokens_text tokens) after
-tokens_front tokens i tok before between after within is between_is h =
-    let rest : List Tok = drop (suc i) tokens in
-    let here : drop i tokens ≡ tok ∷ rest = drop-cons tokens i tok within ∙ ap (λ (t : Tok). t ∷ drop (suc i) tokens) (sym is) in
-    let whole : take i tokens ++ tok ∷ rest ≡ tokens =
-    ap (λ (l : List Tok). take i tokens ++ l) (sym here) ∙ take-append-drop i tokens in
-    let text : tokens_text (take i tokens) ++ (token_text tok ++ tokens_text rest) ≡ tokens_text tokens =
-    sym (flat_map-append token_text (take i tokens) (tok ∷ rest)) ∙ ap (λ (l : List Tok). tokens_text l) whole in
-    subst (λ (l : List ℕ). AppendsFront before l after) text
-    (next_front before between after (tokens_text (take i tokens)) (token_text tok ++ tokens_text rest) between_is
+tokens_front tokens written rest tok before between after are is h =
+    subst (λ (l : List ℕ). AppendsFront before l after)
+    (sym (flat_map-append token_text written (tok ∷ rest)) ∙ ap (λ (l : List Tok). tokens_text l) (sym are))
+    (next_front before between after (tokens_text written) (token_text tok ++ tokens_text rest) is
     (first_front between after (token_text tok) (tokens_text rest) h))
+
+-- one more token was written
+pub one_more_token :
+    (written : List Tok) (tok : Tok) (before between after : List ℕ) → between ≡ before ++ tokens_text written
+    → after ≡ between ++ token_text tok → after ≡ before ++ tokens_text (written ++ tok ∷ [])
+one_more_token written tok before between after is after_is =
+    both_pieces before between after (tokens_text written) (token_text tok) is after_is
+    ∙ ap (λ (l : List ℕ). before ++ l)
+    (sym (flat_map-append token_text written (tok ∷ []) ∙ ap (λ (l : List ℕ). tokens_text written ++ l) (append-nil (token_text tok))))

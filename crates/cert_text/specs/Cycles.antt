@@ -32,6 +32,11 @@ abbrev pub IsBegunCycle : Cycle → Type 0
 IsBegunCycle c =
     (length c.picks < 12) × AreShort c.picks × IsShortNumber c.number × (c.len ≡ length (cycle_text c.picks c.number))
 
+-- no cycle that can be spelled begins with the front and the byte
+abbrev pub IsNoFront : List ℕ → Option ℕ → ℕ → Type 0
+IsNoFront picks number b =
+    (qs more : List ℕ) → IsSpellableCycle qs → token_text (token.Cycle qs) ≡ cycle_text picks number ++ b ∷ more → ⊥
+
 -- what a byte makes of it: more of it, a whole cycle, or the front of none
 abbrev pub CycleStepsTo : Cycle → ℕ → CycleStep → Type 0
 CycleStepsTo c byte (step.More d) = IsBegunCycle d × (cycle_text d.picks d.number ≡ cycle_text c.picks c.number ++ byte ∷ [])

@@ -1,6 +1,7 @@
 //! Cycles, byte by byte.
-ghost use Rattle.std.specs.Prelude.{◌≡◌, ◌↔◌, ◌<◌, ◌≤◌, ◌+◌, ◌^◌, ◌∷◌, [], IsTrue};
-ghost use Rattle.cert_text.specs.Cycles.{CycleStepsTo, IsBegunCycle, cycle_text};
+ghost use Rattle.std.specs.Prelude.{◌≡◌, ◌↔◌, ℕ, ◌<◌, ◌≤◌, ◌+◌, ◌^◌, List, ◌∷◌, [], ◌++◌, Some, IfSome, IfNone, IsTrue};
+ghost use Rattle.cert_text.specs.Numbers.{AreShort, PICK_LIMIT};
+ghost use Rattle.cert_text.specs.Cycles.{CycleStepsTo, IsBegunCycle, IsNoFront, IsShortNumber, cycle_text};
 
 use ask_core::{MAX_PICKS, Picks};
 use std::alloc::Global;
@@ -68,17 +69,14 @@ impl Cycle {
         ensures { CycleStepsTo self digit result }
     {
         let Cycle { picks, number, len } = self;
-        let value = u32::from(digit - b'0');
-        let number = match number {
-            None => value,
-            Some(number) if takes_digit(number) => number * 10 + value,
-            Some(_) => return CycleStep::Wrong,
-        };
-        CycleStep::More(Cycle {
-            picks,
-            number: Some(number),
-            len: len + 1,
-        })
+        match number_with_digit(number, digit) {
+            Some(number) => CycleStep::More(Cycle {
+                picks,
+                number: Some(number),
+                len: len + 1,
+            }),
+            None => CycleStep::Wrong,
+        }
     }
 
     fn with_comma(self) -> CycleStep
@@ -119,6 +117,25 @@ impl Cycle {
         };
         picks.push(number);
         CycleStep::Whole(picks)
+    }
+}
+
+/// The number with a further digit, if it may have one: a leading zero has none, and a number has at most
+/// five.
+#[inline]
+pub(crate) fn number_with_digit(number: Option<u32>, digit: u8) -> Option<u32>
+    requires short { IsShortNumber number }
+    requires low { 48 ≤ digit }
+    requires high { digit ≤ 57 }
+    ensures grown { IfSome result (λ n. (n < PICK_LIMIT) × ((picks : List ℕ) →
+        cycle_text picks (Some n) ≡ cycle_text picks number ++ digit ∷ [])) }
+    ensures wrong { IfNone result ((picks : List ℕ) → AreShort picks → IsNoFront picks number digit) }
+{
+    let value = u32::from(digit - b'0');
+    match number {
+        None => Some(value),
+        Some(number) if takes_digit(number) => Some(number * 10 + value),
+        Some(_) => None,
     }
 }
 

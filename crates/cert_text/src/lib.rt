@@ -5,26 +5,22 @@
 //! between commas and a `;` a negative cycle. A number is decimal, without leading zeros and with at most
 //! five digits.
 //!
-//! The layers above rely on two clauses: what a `Reader` gives for a byte, and which parts the bytes that
-//! are still to come give it; and on the writers, which append the one spelling. `read_tree` gives the tokens
-//! that bytes spell, exactly where they spell some.
+//! The layers above rely on two clauses: what a `Reader` gives for a byte or for the bytes of a piece, and
+//! which parts the bytes that are still to come give it; and on the writers, which append the one spelling.
 #![tactic(auto)]
 
 mod cycle;
 mod item;
 mod laws;
 mod line;
-mod number;
+mod piece;
 mod reader;
 mod stage;
 mod step;
-mod token;
-mod tree;
 mod writer;
 
 pub use ask_core::{MAX_PICKS, NoMemory, Picks, Tok, Tree};
 pub use item::{CertEnd, Item, Part};
 pub use laws::{read_certificates_are_written, written_certificates_are_read};
 pub use reader::Reader;
-pub use tree::read_tree;
 pub use writer::{write_end, write_header, write_ob};

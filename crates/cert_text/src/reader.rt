@@ -1,15 +1,17 @@
 //! Certificates, byte by byte.
-ghost use Rattle.std.specs.Prelude.{◌≡◌, ◌↔◌, ℕ, ◌+◌, ◌^◌, ◌<◌, ◌≤◌, List, [], ◌∷◌, ◌++◌, Result, Ok, length};
+ghost use Rattle.std.specs.Prelude.{◌≡◌, ◌↔◌, ℕ, ◌+◌, ◌^◌, ◌<◌, ◌≤◌, List, [], ◌∷◌, ◌++◌, Option, Some, None, Result, Ok, length, take, IfSome, IfNone};
 ghost use Rattle.cert_text.specs.declared.item.Item.{Item};
 ghost use Rattle.cert_text.specs.declared.item.CertEnd.{CertEnd};
 ghost use Rattle.cert_text.specs.Places.{Start};
 ghost use Rattle.cert_text.specs.Stages.{refusal_of};
 ghost use Rattle.cert_text.specs.Reading.{Gives, Reading, Reads, ReadsOn, fed_to};
+ghost use Rattle.cert_text.specs.Pieces.{EndsWithin, GivesOf, IsUnderWay};
 
 use crate::line::LineBytes;
+use crate::piece::{branches_behind, whole_token};
 use crate::stage::Stage;
 use crate::step::{Begun, Step, part_step};
-use crate::{CertEnd, Item};
+use crate::{CertEnd, Item, Part};
 use fn_rules::ObName;
 use std::alloc::Global;
 use std::marker::Model;
@@ -67,6 +69,7 @@ impl Reader {
         requires { fed_to self.old < 2 ^ 63 }
         ensures gives { Gives self.old byte result self.new }
         ensures fed { fed_to self.new ≤ fed_to self.old + 1 }
+        ensures under_way { result ≡ Ok None → IsUnderWay self.new }
 
         // The byte and those behind it give what it gave and what they then give.
         ensures reads { (rest : List ℕ) (items : List Item) (end : Result (Unit {0}) CertEnd) →
@@ -94,6 +97,63 @@ impl Reader {
                 Err(refusal)
             }
         }
+    }
+
+    /// Feeds bytes of a piece one after another up to the end of the next part: how many of them it takes,
+    /// and what the last of these gives. Where no part ends within the piece it takes the whole piece and
+    /// gives nothing; a byte that is refused is taken.
+    pub fn feed_piece(&mut self, piece: &[u8]) -> (usize, Result<Option<Item>, CertEnd>)
+        requires { fed_to self.old + length piece.now ≤ 2 ^ 63 }
+        ensures gives { GivesOf self.old piece.now result.0 result.1 self.new }
+        ensures within { result.0 ≤ length piece.now }
+        ensures some { 0 < length piece.now → 0 < result.0 }
+        ensures fed { fed_to self.new ≤ fed_to self.old + result.0 }
+
+        // The bytes that it takes and those behind them give what it gave and what they then give.
+        ensures reads { (rest : List ℕ) (items : List Item) (end : Result (Unit {0}) CertEnd) →
+            Reads self.old (take result.0 piece.now ++ rest) items end ↔ ReadsOn result.1 self.new rest items end }
+    {
+        match self.take_token(piece) {
+            Some((taken, item)) => (taken, Ok(Some(item))),
+            None => self.feed_each(piece),
+        }
+    }
+
+    // The whole token of a tree at the front of a piece, where nothing of it came before.
+    #[inline]
+    fn take_token(&mut self, piece: &[u8]) -> Option<(usize, Item)>
+        requires { fed_to self.old + length piece.now ≤ 2 ^ 63 }
+        ensures some { IfSome result (λ x. EndsWithin self.old piece.now x.0 (Ok (Some x.1)) self.new) }
+        ensures fed { IfSome result (λ x. fed_to self.new ≤ fed_to self.old + x.0) }
+        ensures none { IfNone result (self.new ≡ self.old) }
+    {
+        match (self.refused, self.stage, &self.begun) {
+            (None, Stage::Tree(level, came, branches), Begun::Line(_)) if branches > 0 => {
+                let (tok, taken) = whole_token(self.alloc, piece)?;
+                let offset = self.offset;
+                self.offset = offset + taken as u64;
+                self.stage = Stage::Tree(level, came, branches_behind(branches, &tok));
+                let part = Part::Tok(tok);
+                Some((taken, Item { offset, part }))
+            }
+            _ => None,
+        }
+    }
+
+    // The same as `feed_piece`, byte by byte.
+    fn feed_each(&mut self, piece: &[u8]) -> (usize, Result<Option<Item>, CertEnd>)
+        requires { fed_to self.old + length piece.now ≤ 2 ^ 63 }
+        ensures gives { GivesOf self.old piece.now result.0 result.1 self.new }
+        ensures fed { fed_to self.new ≤ fed_to self.old + result.0 }
+    {
+        for (i, byte) in piece.iter().enumerate() {
+            match self.feed(*byte) {
+                Ok(None) => {}
+                Ok(Some(item)) => return (i + 1, Ok(Some(item))),
+                Err(refusal) => return (i + 1, Err(refusal)),
+            }
+        }
+        (piece.len(), Ok(None))
     }
 
     /// Whether the file may end here: Ok behind the last line, and otherwise `Truncated`, or the refusal

@@ -30,7 +30,7 @@ pub fn write_ob(name: ObName, tree: &Tree, out: &mut Vec<u8>) -> Result<(), NoMe
 {
     let line = ob_line(*out.allocator(), name);
     append(line.as_slice(), out)?;
-    write_tokens(tree.as_slice(), out)?;
+    write_tokens(tree, out)?;
     append(b"\n", out)
 }
 
@@ -95,12 +95,22 @@ fn write_token(tok: &Tok, out: &mut Vec<u8>) -> Result<(), NoMemory>
     }
 }
 
-fn write_tokens(tokens: &[Tok], out: &mut Vec<u8>) -> Result<(), NoMemory>
-    ensures ok { OnOk result (out.new.items ≡ out.old.items ++ tokens_text tokens.now) }
-    ensures err { OnErr result (AppendsFront out.old.items (tokens_text tokens.now) out.new.items) }
+// Writes a token that was taken out of a tree.
+fn write_taken(tok: Tok, out: &mut Vec<u8>) -> Result<(), NoMemory>
+    ensures ok { OnOk result (out.new.items ≡ out.old.items ++ token_text tok) }
+    ensures err { OnErr result (AppendsFront out.old.items (token_text tok) out.new.items) }
 {
-    for tok in tokens {
-        write_token(tok, out)?;
+    write_token(&tok, out)
+}
+
+fn write_tokens(tree: &Tree, out: &mut Vec<u8>) -> Result<(), NoMemory>
+    ensures ok { OnOk result (out.new.items ≡ out.old.items ++ tokens_text tree.now) }
+    ensures err { OnErr result (AppendsFront out.old.items (tokens_text tree.now) out.new.items) }
+{
+    let alloc = *out.allocator();
+    let mut tokens = tree.tokens();
+    while let Some(tok) = tokens.next(alloc) {
+        write_taken(tok, out)?;
     }
     Ok(())
 }

@@ -1,5 +1,5 @@
 -- What a feed of a shelf's file keeps over calls.
-use Rattle.std.proofs.Common.{◌≡◌, ◌∙◌, arith}
+use Rattle.std.proofs.Common.{◌≡◌, ℕ, List, Option, refl, ◌∙◌, arith}
 use Rattle.ot_outside.specs.declared.shelf.Shelf.{Ghosts}
 use Rattle.ot_outside.specs.declared.shelf_feed.ShelfFeed.{ShelfFeed}
 use Rattle.ot_outside.specs.Unchanged.{Unchanged}
@@ -21,3 +21,10 @@ kept_on before old new kept unchanged beyond =
       };
       beyond = beyond ∙ kept.beyond;
     }
+
+-- a shelf that no call was made of
+pub unchanged_shelf :
+    {S : Type 0} (holds : S → List ℕ → Option (List ℕ)) (offered : S → List ℕ → Type 0) (faults : S → ℕ) (s : S)
+    → Unchanged holds offered faults s s
+unchanged_shelf holds offered faults s =
+    record { same_files = λ n. refl; same_offer = λ n. (λ h. h, λ h. h); more_faults = omega arith }

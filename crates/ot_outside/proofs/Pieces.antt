@@ -1,6 +1,6 @@
 -- What is left of a file that is read in pieces.
-use Rattle.std.proofs.Common.{◌≡◌, ℕ, ◌+◌, ◌-◌, ◌≤◌, ◌<◌, zero, suc, List, [], ◌∷◌, ◌++◌, take, drop, length, get_or, Bool, true, false, ◌↔◌, IsTrue, Option, Some, None, Result, Ok, Err, IfOk, refl, ap, ◌∙◌, arith, subst, drop-cons, add-one}
-use Rattle.std.proofs.lemmas.List.{length-take-le, get_or-take}
+use Rattle.std.proofs.Common.{◌≡◌, ℕ, ◌+◌, ◌-◌, ◌≤◌, ◌<◌, zero, suc, List, [], ◌∷◌, ◌++◌, take, drop, length, get_or, Bool, true, false, ◌↔◌, IsTrue, Option, Some, None, Result, Ok, Err, IfOk, refl, sym, ap, ◌∙◌, arith, subst, drop-cons, add-one}
+use Rattle.std.proofs.lemmas.List.{drop-drop, drop-take, length-drop, length-take, length-take-le, get_or-take, take_all}
 use Rattle.std.specs.Prelude.{option_map}
 use Rattle.std.specs.Option.{ForSome}
 use Rattle.std.specs.Io.KnownBytes.{IsAtEnd, prepend_known}
@@ -97,3 +97,95 @@ told_by_piece room at filled piece left file (Ok more) none is within there end 
     told room more bytes none (λ t. some_left at filled piece left bytes (there t) within (is ∙ file_is))
     (λ e. subst IsAtEnd file_is (end e))
 told_by_piece room at filled piece left file (Err e) none is within there end = tt
+
+-- the first bytes of two lists
+take-over : (room : ℕ) (a b : List ℕ) → take room (a ++ b) ≡ take room a ++ take (room - length a) b
+take-over zero a b = let none : zero - length a ≡ 0 = omega arith in rw none refl
+take-over (suc n) [] b = let all : suc n - length {A = ℕ} [] ≡ suc n = omega arith in rw all refl
+take-over (suc n) (x ∷ a) b =
+    let one : suc n - length (x ∷ a) ≡ n - length a = omega arith in
+    rw one (ap (λ (l : List ℕ). x ∷ l) (take-over n a b))
+
+-- the first bytes are taken in two steps
+taken_in_two :
+    (room count : ℕ) (a b : List ℕ) → count ≤ length (take room a)
+    → take room (a ++ b) ≡ take count (take room a) ++ take (room - count) (drop count a ++ b)
+taken_in_two room zero a b within = let all : room - zero ≡ room = omega arith in rw all refl
+taken_in_two zero (suc n) a b within = absurd (omega arith)
+taken_in_two (suc r) (suc n) [] b within = absurd (omega arith)
+taken_in_two (suc r) (suc n) (x ∷ a) b within =
+    let one : suc r - suc n ≡ r - n = omega arith in
+    rw one (ap (λ (l : List ℕ). x ∷ l) (taken_in_two r n a b (omega arith)))
+
+dropped_in_two :
+    (room count : ℕ) (a b : List ℕ) → count ≤ length (take room a)
+    → drop (room - count) (drop count a ++ b) ≡ drop room (a ++ b)
+dropped_in_two room zero a b within = let all : room - zero ≡ room = omega arith in rw all refl
+dropped_in_two zero (suc n) a b within = absurd (omega arith)
+dropped_in_two (suc r) (suc n) [] b within = absurd (omega arith)
+dropped_in_two (suc r) (suc n) (x ∷ a) b within =
+    let one : suc r - suc n ≡ r - n = omega arith in rw one (dropped_in_two r n a b (omega arith))
+
+-- the bytes at hand are the next ones
+pub hand_first :
+    (room : ℕ) (hand : List ℕ) (left : Option (List ℕ))
+    → (rest : Option (List ℕ)) × (option_map (take room) (prepend_known hand left) ≡ prepend_known (take room hand) rest)
+hand_first room hand None = (None, refl)
+hand_first room hand (Some more) = (Some (take (room - length hand) more), ap Some (take-over room hand more))
+
+-- where some of them are taken, the others and those behind them are left
+pub hand_taken :
+    (room count at filled : ℕ) (piece : List ℕ) (left : Option (List ℕ)) → count ≤ length (take room (drop at (take filled piece)))
+    → option_map (take room) (prepend_known (drop at (take filled piece)) left)
+    ≡ prepend_known (take count (take room (drop at (take filled piece))))
+    (option_map (take (room - count)) (prepend_known (drop (at + count) (take filled piece)) left))
+hand_taken room count at filled piece None within = refl
+hand_taken room count at filled piece (Some more) within =
+    rw (← drop-drop count at (take filled piece)) (ap Some (taken_in_two room count (drop at (take filled piece)) more within))
+
+-- and none of them was beyond the limit
+pub beyond_taken :
+    (room count at filled : ℕ) (piece : List ℕ) (left : Option (List ℕ)) → count ≤ length (take room (drop at (take filled piece)))
+    → option_map (drop (room - count)) (prepend_known (drop (at + count) (take filled piece)) left)
+    ≡ option_map (drop room) (prepend_known (drop at (take filled piece)) left)
+beyond_taken room count at filled piece None within = refl
+beyond_taken room count at filled piece (Some more) within =
+    rw (← drop-drop count at (take filled piece)) (ap Some (dropped_in_two room count (drop at (take filled piece)) more within))
+
+-- the part of the piece that was read and not given yet
+pub hand_is_part :
+    (at filled : ℕ) (piece : List ℕ) → at ≤ filled → take (filled - at) (drop at piece) ≡ drop at (take filled piece)
+hand_is_part at filled piece ordered =
+    let e : at + (filled - at) ≡ filled = omega arith in
+    sym (drop-take at (filled - at) piece) ∙ ap (λ n. drop at (take n piece)) e
+
+-- within the limit it is all at hand
+pub hand_is_all :
+    (room at filled : ℕ) (piece : List ℕ) → at ≤ filled → filled ≤ length piece → filled - at ≤ room
+    → take (filled - at) (drop at piece) ≡ take room (drop at (take filled piece))
+hand_is_all room at filled piece ordered within below =
+    hand_is_part at filled piece ordered
+    ∙ sym (take_all room (drop at (take filled piece)) (omega (arith, length-drop at (take filled piece), length-take-le filled piece within)))
+
+-- beyond it a front of it is
+pub hand_is_front :
+    (room at filled : ℕ) (piece : List ℕ) → at ≤ filled
+    → take room (take (filled - at) (drop at piece)) ≡ take room (drop at (take filled piece))
+hand_is_front room at filled piece ordered = ap (take room) (hand_is_part at filled piece ordered)
+
+-- bytes that are those at hand are the next ones
+pub front_of_hand :
+    (room : ℕ) (bytes hand : List ℕ) (left : Option (List ℕ)) → bytes ≡ take room hand
+    → (rest : Option (List ℕ)) × (option_map (take room) (prepend_known hand left) ≡ prepend_known bytes rest)
+front_of_hand room bytes hand left is = rw is (hand_first room hand left)
+
+-- the bytes at hand once some were taken
+pub hand_behind :
+    (room count at filled : ℕ) (piece : List ℕ) → count ≤ length (take room (drop at (take filled piece)))
+    → take (room - count) (drop (at + count) (take filled piece)) ≡ drop count (take room (drop at (take filled piece)))
+hand_behind room count at filled piece within =
+    let few : count ≤ room = omega (arith, length-take room (drop at (take filled piece))) in
+    let e : count + (room - count) ≡ room = omega arith in
+    ap (take (room - count)) (sym (drop-drop count at (take filled piece)))
+    ∙ sym (drop-take count (room - count) (drop at (take filled piece)))
+    ∙ ap (λ n. drop count (take n (drop at (take filled piece)))) e

@@ -25,7 +25,11 @@ file_left {shelf = shelf} feed = prepend_known (drop feed.at (take feed.filled f
 abbrev pub feed_left : {S : Type 0} {shelf : Ghosts S} → ShelfFeed S shelf → Option (List ℕ)
 feed_left feed = option_map (take feed.room) (file_left feed)
 
--- and what stands behind that: the bytes of the file beyond the limit
+-- those of them that were read: the bytes at hand
+abbrev pub hand_of : {S : Type 0} {shelf : Ghosts S} → ShelfFeed S shelf → List ℕ
+hand_of feed = take feed.room (drop feed.at (take feed.filled feed.piece))
+
+-- and what stands behind what it gives: the bytes of the file beyond the limit
 abbrev pub beyond_limit : {S : Type 0} {shelf : Ghosts S} → ShelfFeed S shelf → Option (List ℕ)
 beyond_limit feed = option_map (drop feed.room) (file_left feed)
 

@@ -1,14 +1,17 @@
-//! Bytes one at a time: of a slice, and of a shelf's open file.
-ghost use Rattle.std.specs.Prelude.{◌≡◌, ℕ, ◌+◌, ◌≤◌, List, Option, None, [], ◌∷◌, IfOk, OnErr, MatchOption};
+//! Bytes one at a time or in pieces: of a slice, and of a shelf's open file.
+ghost use Rattle.std.specs.Prelude.{◌≡◌, ℕ, ◌+◌, ◌<◌, ◌≤◌, List, Option, None, [], ◌∷◌, length, take, drop, true, false, IfOk, OnErr, MatchOption};
 ghost use Rattle.std.specs.Io.KnownBytes.{IsAtEnd, prepend_known};
 ghost use Rattle.ot_outside.specs.Faults.{Rose};
 
 use crate::Failed;
 
-/// What gives bytes one at a time.
+/// What gives bytes, one at a time, or as many as stand at hand.
 pub trait Feed {
     /// The bytes that are left, where the feed tells them.
     ghost left: { Self → Option (List ℕ) };
+
+    /// The bytes at hand: those that it gives next without a further read.
+    ghost hand: { Self → List ℕ };
 
     /// How many bytes it can still give, at most. It is always told.
     ghost bound: { Self → ℕ };
@@ -36,6 +39,36 @@ pub trait Feed {
 
         ensures faults { faults self.old ≤ faults self.new }
         ensures failed { OnErr result (Rose (faults self.old) (faults self.new)) }
+        ensures held { held self.new ≡ held self.old }
+        ensures keeps { (before : Self) → keeps before self.old → keeps before self.new };
+
+    /// Whether a byte is left. Where one is, the next bytes stand at hand, at least one. After `Failed`
+    /// nothing was taken.
+    fn more(&mut self) -> Result<bool, Failed>
+        ensures there { IfOk result (λ more. more ≡ true → 0 < length (hand self.new)) }
+        ensures end { IfOk result (λ more. more ≡ false → IsAtEnd (left self.old)) }
+        ensures left { left self.new ≡ left self.old }
+        ensures bound { bound self.new ≡ bound self.old }
+
+        ensures faults { faults self.old ≤ faults self.new }
+        ensures failed { OnErr result (Rose (faults self.old) (faults self.new)) }
+        ensures held { held self.new ≡ held self.old }
+        ensures keeps { (before : Self) → keeps before self.old → keeps before self.new };
+
+    /// The bytes at hand. They are the next ones of those that are left.
+    fn at_hand(&self) -> &[u8]
+        ensures hand { result.now ≡ hand self.now }
+        ensures front { (rest : Option (List ℕ)) × (left self.now ≡ prepend_known result.now rest) }
+        ensures bound { length result.now ≤ bound self.now };
+
+    /// Takes so many of the bytes at hand.
+    fn consume(&mut self, count: usize)
+        requires { count ≤ length (hand self.old) }
+        ensures hand { hand self.new ≡ drop count (hand self.old) }
+        ensures left { left self.old ≡ prepend_known (take count (hand self.old)) (left self.new) }
+        ensures bound { bound self.old ≡ bound self.new + count }
+
+        ensures faults { faults self.new ≡ faults self.old }
         ensures held { held self.new ≡ held self.old }
         ensures keeps { (before : Self) → keeps before self.old → keeps before self.new };
 }

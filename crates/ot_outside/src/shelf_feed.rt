@@ -1,4 +1,4 @@
-//! The bytes of a shelf's open file, one at a time and up to a limit.
+//! The bytes of a shelf's open file, up to a limit.
 ghost use Rattle.std.specs.Prelude.{◌≡◌, ◌≤◌, ◌<◌, length};
 
 use crate::shelf::PIECE;
@@ -89,9 +89,11 @@ impl<'a, H: Shelf> ShelfFeed<'a, H> {
 }
 
 impl<H: Shelf> Feed for ShelfFeed<'_, H> {
-    ghost use Rattle.ot_outside.specs.ShelfFeed.{KeepsShelf, feed_left, held_by, room_of, shelf_of};
+    ghost use Rattle.ot_outside.specs.ShelfFeed.{KeepsShelf, feed_left, hand_of, held_by, room_of, shelf_of};
 
     ghost left = { feed_left };
+
+    ghost hand = { hand_of };
 
     ghost bound = { room_of };
 
@@ -109,6 +111,27 @@ impl<H: Shelf> Feed for ShelfFeed<'_, H> {
         self.at += 1;
         self.room -= 1;
         Ok(Some(byte))
+    }
+
+    fn more(&mut self) -> Result<bool, Failed> {
+        match self.room {
+            0 => Ok(false),
+            _ => self.fill(),
+        }
+    }
+
+    fn at_hand(&self) -> &[u8] {
+        let bytes = &self.piece[self.at..self.filled];
+        if self.room < bytes.len() as u64 {
+            &bytes[..self.room as usize]
+        } else {
+            bytes
+        }
+    }
+
+    fn consume(&mut self, count: usize) {
+        self.at += count;
+        self.room -= count as u64;
     }
 }
 

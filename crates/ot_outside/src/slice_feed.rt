@@ -1,4 +1,4 @@
-//! The bytes of a slice, one at a time.
+//! The bytes of a slice.
 ghost use Rattle.std.specs.Prelude.{◌≡◌, None, Some, length};
 
 use crate::{Failed, Feed};
@@ -22,6 +22,8 @@ impl<'a> SliceFeed<'a> {
 impl Feed for SliceFeed<'_> {
     ghost left = { λ feed. Some feed.bytes.now };
 
+    ghost hand = { λ feed. feed.bytes.now };
+
     ghost bound = { λ feed. length feed.bytes.now };
 
     ghost faults = { λ _. 0 };
@@ -36,6 +38,18 @@ impl Feed for SliceFeed<'_> {
         };
         self.bytes = rest;
         Ok(Some(*byte))
+    }
+
+    fn more(&mut self) -> Result<bool, Failed> {
+        Ok(!self.bytes.is_empty())
+    }
+
+    fn at_hand(&self) -> &[u8] {
+        self.bytes
+    }
+
+    fn consume(&mut self, count: usize) {
+        self.bytes = &self.bytes[count..];
     }
 }
 

@@ -51,6 +51,34 @@ fn a_failed_read_takes_nothing(rt: HostRuntime) -> Result<(), Fail> {
     Ok(())
 }
 
+// Takes at most so many of the bytes at hand, and says which.
+fn take_some<F: Feed>(alloc: Global, feed: &mut F, most: usize) -> Result<Vec<u8>, NoMemory> {
+    let bytes = feed.at_hand();
+    let count = usize::min(most, bytes.len());
+    let taken = Vec::from_slice(alloc, &bytes[..count])?;
+    feed.consume(count);
+    Ok(taken)
+}
+
+#[test]
+fn the_bytes_at_hand_stay_within_the_limit(rt: HostRuntime) -> Result<(), Fail> {
+    let mut shelf = opened(rt.alloc(), b"abcdef", 2)?;
+    let mut feed = ShelfFeed::new(&mut shelf, 5);
+    assert_eq!(rt; feed.more(), Err(Failed));
+    for (more, most, taken) in [
+        (true, 2, "ab"),
+        (true, 0, ""),
+        (true, 9, "cde"),
+        (false, 9, ""),
+    ] {
+        assert_eq!(rt; feed.more(), Ok(more), "before {taken}");
+        let bytes = take_some(rt.alloc(), &mut feed, most)?;
+        assert_eq!(rt; bytes.as_slice(), taken.as_bytes());
+    }
+    assert_eq!(rt; feed.too_long(), Ok(true));
+    Ok(())
+}
+
 // Takes all bytes of a feed.
 fn drain<F: Feed>(feed: &mut F) -> Result<(), Failed>
     ensures failed { OnErr result (Rose (F.faults feed.old) (F.faults feed.new)) }

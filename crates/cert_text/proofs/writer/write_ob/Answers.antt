@@ -17,7 +17,7 @@ returns-in_err-write_tokens-clause-err c =
     let line : c.as_slice.result.now ≡ ob_text c.args.name = c.as_slice.ensures.value ∙ c.ob_line-line.ensures in
     let first : c.append.new.out.items ≡ c.args.out.now.items ++ ob_text c.args.name = rw line at c.in_ok-append.ensures.ok in
     let h : AppendsFront c.append.new.out.items (tokens_text c.args.tree.now) c.write_tokens.new.out.items =
-    rw c.as_slice-2.ensures at c.in_err-write_tokens.ensures.err in
+    c.in_err-write_tokens.ensures.err in
     on_error c.from_residual-in_err-write_tokens.result
     (first_front c.args.out.now.items c.write_tokens.new.out.items (ob_text c.args.name ++ tokens_text c.args.tree.now) (10 ∷ [])
     (next_front c.args.out.now.items c.append.new.out.items c.write_tokens.new.out.items (ob_text c.args.name) (tokens_text c.args.tree.now) first h))
@@ -27,7 +27,7 @@ returns-clause-err c =
     let line : c.as_slice.result.now ≡ ob_text c.args.name = c.as_slice.ensures.value ∙ c.ob_line-line.ensures in
     let first : c.append.new.out.items ≡ c.args.out.now.items ++ ob_text c.args.name = rw line at c.in_ok-append.ensures.ok in
     let second : c.write_tokens.new.out.items ≡ c.append.new.out.items ++ tokens_text c.args.tree.now =
-    rw c.as_slice-2.ensures at c.in_ok-write_tokens.ensures.ok in
+    c.in_ok-write_tokens.ensures.ok in
     error_behind c.append-2.result c.args.out.now.items c.write_tokens.new.out.items c.append-2.new.out.items
     (ob_text c.args.name ++ tokens_text c.args.tree.now) (10 ∷ [])
     (both_pieces c.args.out.now.items c.append.new.out.items c.write_tokens.new.out.items (ob_text c.args.name) (tokens_text c.args.tree.now) first second)

@@ -2,8 +2,14 @@ use Rattle.std.proofs.Common.{◌≡◌, [], ap, ◌∙◌}
 use Rattle.cert_text.specs.declared.step.Step.TheVariants as step
 use Rattle.cert_text.specs.Stages.{begun_text}
 use Rattle.cert_text.proofs.ReadingLemmas.{reads_on}
-use Rattle.cert_text.proofs.ReaderLemmas.{gives_part, gives_refusal, steps_for}
+use Rattle.cert_text.proofs.ReaderLemmas.{gives_part, gives_refusal, steps_for, under_way}
 use Rattle.cert_text.proofs.reader.Reader.feed.Goals as goal
+
+pub returns-in-More-clause-under_way : goal.returns-in-More-clause-under_way
+returns-in-More-clause-under_way c =
+    let steps = steps_for c.self.inside.tp1.items c.self.inside.tp2.items _ _ c.self.inside.stage c.self.inside.begun c.replace-begun.result c.args.byte
+    (step.More c.in-More.begun) c.deref.ensures.value c.deref-2.ensures.value c.replace-begun.ensures.value c.in-More.ensures in
+    λ none. under_way _ _ c.self.inside.stage c.self.inside.offset c.in-More.begun c.self.inside.refused c.in_default.is steps.0
 
 pub returns-in-Whole-clause-reads : goal.returns-in-Whole-clause-reads
 returns-in-Whole-clause-reads c =
