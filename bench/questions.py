@@ -1,11 +1,12 @@
 #!/usr/bin/env python3
-"""Measures the terms of obligations: questions a second, and bytes of arenas a question.
+"""Measures the askers of obligations: questions a second, and bytes of arenas a question.
 
 usage: questions.py      (after `rt run` in crates/question_rate, or `rt ci`)
 
-The obligations of a function like examples/functions/ttf.ot, or like ttfu.ot, are walked through their terms, yes before
+The obligations of a function like examples/functions/ttf.ot, or like ttfu.ot, are walked through what their askers ask, yes before
 no and without a solver, up to so many turns each; a turn is a question or an end. Two insertions have so many more cases,
 each of which a later one implies. The time is that of the processor, less that of a run without turns; of five runs the fastest counts.
+The first two functions have so few questions that their rate is no more than a lower bound.
 """
 import os
 import re
@@ -14,7 +15,7 @@ from measure import measure_processor
 
 TOP = os.path.dirname(os.path.dirname(os.path.abspath(__file__)))
 PROGRAM = os.path.join(TOP, "crates/question_rate/out/question_rate")
-TURNS = 2_000_000
+TURNS = 100_000_000
 
 
 def fastest(more, turns, updates):

@@ -1,1 +1,3 @@
+mod LaidForms
+mod LaidGoals
 mod Questions

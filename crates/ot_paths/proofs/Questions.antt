@@ -1,9 +1,9 @@
 -- A goal with a question at its front: how its plan begins, and that its parts are nodes where it is one.
-use Rattle.std.proofs.Common.{◌≡◌, ℕ, ℤ, ◌≤◌, max, nat_eq, Bool, not, true, false, IsTrue, refl, sym, subst, ap, ◌∙◌, arith}
+use Rattle.std.proofs.Common.{◌≡◌, ℕ, ℤ, nat_eq, Bool, not, true, false, IsTrue, refl, sym, subst, ap, ◌∙◌, arith}
 use Rattle.std.proofs.lemmas.Int.{ints}
 use Rattle.fn_rules.specs.declared.function.ObName.{ObName}
 use Rattle.fn_rules.specs.Functions.{Function}
-use Rattle.ask_core.specs.Askers.{IsFine, has_fine_literals, longest_path}
+use Rattle.ask_core.specs.Askers.{IsFine}
 use Rattle.ask_core.specs.Plans as plans
 use Rattle.ask_core.specs.Plans.{Plan}
 use Rattle.diff_graph.specs.declared.lit.Lit.{Lit}
@@ -18,7 +18,7 @@ use Rattle.ot_terms.specs.Forms.{FormTree, Le, form_tree}
 use Rattle.ot_terms.specs.Goals as goals
 use Rattle.ot_terms.specs.Goals.{GoalTree, If}
 use Rattle.ot_terms.specs.Standing.{ask_form, ask_goal}
-use Rattle.ot_terms.specs.Belonging.{IsGoalOf, HasPlaces}
+use Rattle.ot_terms.specs.Belonging.{IsGoalOf}
 use Rattle.ot_rewrite.specs.Fronts.{is_question}
 use Rattle.ot_paths.specs.Nodes.{IsNode, literal}
 

@@ -1,3 +1,4 @@
 pub mod Nodes
+pub mod Sharing
 pub use Rattle.ot_terms.specs.Belonging
 pub use Rattle.ot_terms.specs.Standing

@@ -12,6 +12,7 @@ ghost use Rattle.ot_questions.specs.Nears.{IsNear};
 ghost use Rattle.ot_paths.specs.Nodes as nodes;
 ghost use Rattle.ot_paths.specs.Nodes.{IsNode};
 
+use crate::laying::laid_out;
 use ask_core::{Asker, NoMemory, Turn};
 use bumpalo::Bump;
 use diff_graph::Lit;
@@ -20,7 +21,24 @@ use ot_questions::plans_keep_limits;
 use ot_rewrite::{Front, front_of};
 use ot_terms::{Form, Goal, Place, Why, start_goal};
 
+// Whether nothing is left to be rewritten at the goal's front, as where its questions are laid out.
+#[inline]
+fn is_settled(goal: &Goal<'_>) -> bool
+    ensures { IsTrue result → IsTrue (is_at_front (goal_tree goal.now)) }
+{
+    match *goal {
+        Goal::Holds => true,
+        Goal::Fails(_) => true,
+        Goal::If { form, .. } => match *form {
+            Form::Le(x, y) => x.var != y.var,
+            _ => false,
+        },
+        _ => false,
+    }
+}
+
 // The literal of the question whether the first place is at most the second.
+#[inline]
 fn literal(x: Place, y: Place) -> Lit
     requires x_near { IsNear 1000 x.off }
     requires y_near { IsNear 1000 y.off }
@@ -33,8 +51,9 @@ fn literal(x: Place, y: Place) -> Lit
     }
 }
 
-/// What an obligation of a function asks. Its nodes are goals in an arena that stands outside; a node is
-/// rewritten when its turn is asked for.
+/// What an obligation of a function asks. Its nodes are goals in an arena that stands outside. `start` lays the
+/// questions out there, and what is asked after equal results is there once: a turn looks at its goal. What there
+/// was no room for is rewritten when its turn is asked for.
 #[derive(Drop)]
 pub struct PathAsker<'a> {
     bump: &'a Bump,
@@ -54,6 +73,7 @@ impl<'a> PathAsker<'a> {
     }
 
     // How the plan of a question begins, with a goal for each answer.
+    #[inline]
     fn asked(&self, form: Form<'a>, yes: &'a Goal<'a>, no: &'a Goal<'a>) -> Turn<&'a Goal<'a>, Why>
         requires node { IsNode (function_of self.now.rules.now) self.now.ob (If (form_tree form) (goal_tree yes.now) (goal_tree no.now)) }
         requires question { IsTrue (is_question (form_tree form)) }
@@ -78,6 +98,7 @@ impl<'a> PathAsker<'a> {
 
     // How the plan of a goal begins at whose front nothing is left to be rewritten.
     #[tactic(auto, using(crate::proofs::Questions::ask_goal_holds, crate::proofs::Questions::ask_goal_fails))]
+    #[inline]
     fn turn_at(&self, front: Front<'a>) -> Turn<&'a Goal<'a>, Why>
         requires node { IsNode (function_of self.now.rules.now) self.now.ob (front_tree front) }
         requires at_front { IsTrue (is_at_front (front_tree front)) }
@@ -126,10 +147,16 @@ impl<'a> Asker for PathAsker<'a> {
     fn start(&mut self) -> Result<&'a Goal<'a>, NoMemory> {
         plans_keep_limits();
         let _head = self.rules.head();
-        Ok(start_goal(self.bump, self.rules, self.ob)?)
+        let start = start_goal(self.bump, self.rules, self.ob)?;
+        let mut known = Vec::new(self.bump);
+        Ok(laid_out(self.bump, self.rules, &mut known, start)?)
     }
 
+    #[inline]
     fn turn(&mut self, node: &'a Goal<'a>) -> Result<Turn<&'a Goal<'a>, Why>, NoMemory> {
+        if is_settled(node) {
+            return Ok(self.turn_at(Front::of(node)));
+        }
         let front = front_of(self.bump, self.rules, node)?;
         Ok(self.turn_at(front))
     }

@@ -1,9 +1,10 @@
--- Goals that a walk comes to.
-use Rattle.fn_rules.specs.declared.function.ObName.{ObName}
-use Rattle.fn_rules.specs.Functions.{Function}
-use Rattle.ot_terms.specs.Goals.{GoalTree}
-use Rattle.ot_terms.specs.Belonging.{IsGoalOf}
+-- The nodes that a walk goes on with.
+use Rattle.std.specs.Prelude.{◌≡◌, List, [], ◌∷◌, ◌++◌, Option, Some, option_to_list}
+use Rattle.ask_core.specs.declared.turn.Turn.{Turn}
+use Rattle.ask_core.specs.declared.turn.Turn.TheVariants as turn
 
--- the goal is of the function and some obligation
-abbrev pub IsPart : Function → GoalTree → Type 0
-IsPart f g = (ob : ObName) × IsGoalOf f ob g
+-- the node for yes is next, and the one for no waits; behind an end it is one that waited
+abbrev pub GoesOn : {N W : Type 0} → Turn N W → List N → List N → Option N → Type 0
+GoesOn (turn.Ask lit on_yes on_no) before after next = (after ≡ before ++ on_no ∷ []) × (next ≡ Some on_yes)
+GoesOn turn.Holds before after next = before ≡ after ++ option_to_list next
+GoesOn (turn.Fails why) before after next = before ≡ after ++ option_to_list next

@@ -1,5 +1,5 @@
-//! A measure, and no part of the product: walks the obligations of a function through the terms, without a
-//! solver, and says how many questions were met and how many bytes of arenas they took. `bench/questions.py`
+//! A measure, and no part of the product: walks the obligations of a function through what their askers ask, without
+//! a solver, and says how many questions were met and how many bytes of arenas the terms took. `bench/questions.py`
 //! reports questions a second.
 #![tactic(auto)]
 

@@ -1,17 +1,13 @@
-//! Obligations, walked through their terms.
-ghost use Rattle.std.specs.Prelude.{◌≡◌, IsTrue, IfOk, IfSome};
-ghost use Rattle.std.specs.List.{All};
-ghost use Rattle.fn_rules.specs.Functions.{Function};
-ghost use Rattle.ot_rewrite.specs.Steps.{front_tree};
+//! Obligations, walked through what their askers ask.
+ghost use Rattle.std.specs.Prelude.{◌≡◌, IsTrue, IfOk};
 ghost use Rattle.fn_rules.specs.Obligations.{is_obligation};
 ghost use Rattle.fn_rules.specs.Rules.{function_of};
-ghost use Rattle.ot_terms.specs.Goals.{goal_tree};
-ghost use Rattle.question_rate.specs.Walks.{IsPart};
+ghost use Rattle.question_rate.specs.Walks.{GoesOn};
 
+use ask_core::{Asker, Turn};
 use bumpalo::Bump;
 use fn_rules::{Head, Level, NoMemory, ObName, Rules, obligations};
-use ot_rewrite::{Front, front_of};
-use ot_terms::{Goal, start_goal};
+use ot_paths::PathAsker;
 use std::alloc::Global;
 
 /// How many questions were met, and how many bytes of arenas the terms took.
@@ -22,28 +18,27 @@ pub struct Met {
 }
 
 #[inline]
-fn same_goal<'a>(goal: &'a Goal<'a>) -> &'a Goal<'a>
-    ensures { result ≡ goal.entry }
+fn same_node<N: Copy>(node: N) -> N
+    ensures { result ≡ node }
 {
-    goal
+    node
 }
 
 #[inline]
-fn is_question(front: &Front<'_>) -> bool {
-    matches!(front, Front::If { .. })
+fn is_question<N: Copy, W: Copy>(turn: &Turn<N, W>) -> bool {
+    matches!(turn, Turn::Ask { .. })
 }
 
-// The part for yes, where the one for no waits, or behind an end a part that waits.
+// The node for yes, where the one for no waits, or behind an end a node that waits.
 #[inline]
-fn next_goal<'a>(
-    front: Front<'a>,
-    waiting: &mut Vec<&'a Goal<'a>>,
-) -> Result<Option<&'a Goal<'a>>, NoMemory>
-    ensures { (f : Function) → IsPart f (front_tree front.entry) → All (λ g. IsPart f (goal_tree g.now)) waiting.old.items
-        → IfOk result (λ r. All (λ g. IsPart f (goal_tree g.now)) waiting.new.items × IfSome r (λ g. IsPart f (goal_tree g.now))) }
+fn next_node<N: Copy, W: Copy>(
+    turn: Turn<N, W>,
+    waiting: &mut Vec<N>,
+) -> Result<Option<N>, NoMemory>
+    ensures { IfOk result (λ r. GoesOn turn waiting.old.items waiting.new.items r) }
 {
-    match front {
-        Front::If { yes, no, .. } => {
+    match turn {
+        Turn::Ask { yes, no, .. } => {
             waiting.push(no)?;
             Ok(Some(yes))
         }
@@ -51,25 +46,24 @@ fn next_goal<'a>(
     }
 }
 
-// Walks from a goal on, yes before no, as far as so many turns lead. A turn is a question or an end.
-fn walk_from<'a>(
-    bump: &'a Bump,
+// Walks from a node on, yes before no, as far as so many turns lead. A turn is a question or an end.
+fn walk_from<A: Asker>(
+    asker: &mut A,
     alloc: Global,
-    rules: &Rules,
-    start: &'a Goal<'a>,
+    start: A::Node,
     turns: u32,
 ) -> Result<u64, NoMemory>
-    requires { IsPart (function_of rules.now) (goal_tree start.now) }
+    requires { A.is_own asker.old start }
 {
-    let mut waiting: Vec<&'a Goal<'a>> = Vec::new(alloc);
+    let mut waiting: Vec<A::Node> = Vec::new(alloc);
     let mut questions = 0_u64;
-    let mut goal = start;
+    let mut node = start;
     for _turn in 0..turns {
-        let front = front_of(bump, rules, goal)?;
-        questions = questions.wrapping_add(u64::from(is_question(&front)));
-        match next_goal(front, &mut waiting)? {
+        let turn = asker.turn(node)?;
+        questions = questions.wrapping_add(u64::from(is_question(&turn)));
+        match next_node(turn, &mut waiting)? {
             Some(next) => {
-                goal = same_goal(next);
+                node = same_node(next);
             }
             None => return Ok(questions),
         }
@@ -80,14 +74,15 @@ fn walk_from<'a>(
 fn walk_goal<'a>(
     bump: &'a Bump,
     alloc: Global,
-    rules: &Rules,
+    rules: &'a Rules,
     ob: ObName,
     turns: u32,
 ) -> Result<u64, NoMemory>
     requires { IsTrue (is_obligation (function_of rules.now).head ob) }
 {
-    let start = start_goal(bump, rules, ob)?;
-    Ok(walk_from(bump, alloc, rules, start, turns)?)
+    let mut asker = PathAsker::new(bump, rules, ob);
+    let start = asker.start()?;
+    Ok(walk_from(&mut asker, alloc, start, turns)?)
 }
 
 // The terms of an obligation are given back when it is done.
