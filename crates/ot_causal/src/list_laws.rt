@@ -1,5 +1,5 @@
 //! Laws of closed lists and their members. Each is the contract of a function that does nothing.
-ghost use Rattle.std.specs.Prelude.{◌≡◌, ◌≢◌, ◌↔◌, ℕ, ◌+◌, ◌<◌, true, false, List, Some, None};
+ghost use Rattle.std.specs.Prelude.{◌≡◌, ◌≢◌, ◌↔◌, ℕ, ◌+◌, ◌<◌, ◌≤◌, true, false, List, length, Some, None};
 ghost use Rattle.ot_model.specs.declared.cell.Cell.{Cell};
 ghost use Rattle.fn_rules.specs.Functions.{Function};
 ghost use Rattle.ot_causal.specs.Members.{has, without, have_one_set, HaveOneSet, IsSublist};
@@ -8,9 +8,10 @@ ghost use Rattle.ot_causal.specs.Forms.{newest_open};
 ghost use Rattle.ot_causal.specs.Counting.{from_site};
 ghost use Rattle.ot_causal.specs.Sessions.{IsSoundPast};
 
-/// The members of a closed list were made.
+/// The members of a closed list were made, so there are no more of them than were made.
 pub fn members_were_made()
-    ensures { (past : Past) (l : List ℕ) → IsClosed past l → AreMade past l }
+    ensures made { (past : Past) (l : List ℕ) → IsClosed past l → AreMade past l }
+    ensures few { (past : Past) (l : List ℕ) → IsClosed past l → length l ≤ past.count }
 {}
 
 /// The newest open member is a member that is not before the operation, and there is none exactly where all

@@ -1,8 +1,17 @@
 pub mod Beginning
 pub mod Clocks
+pub mod Courses
+pub mod Examples
+pub mod Extending
+pub mod Integrating
 pub mod Lists
 pub mod Making
 pub mod Marks
 pub mod Reaches
+pub mod Seeking
+pub mod Sought
 pub mod Tables
+pub mod Taken
+pub mod Turns
+pub mod Usable
 pub mod Views

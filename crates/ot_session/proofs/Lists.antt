@@ -1,5 +1,5 @@
 -- Lists of which each item has a fact.
-use Rattle.std.proofs.Common.{◌≡◌, ◌≢◌, ◌<◌, ◌++◌, ◌∷◌, [], ℕ, zero, suc, List, length, map, Option, Some, None, refl, sym, ap, ◌∙◌, subst, arith}
+use Rattle.std.proofs.Common.{◌≡◌, ◌≢◌, ◌<◌, ◌++◌, ◌∷◌, [], ℕ, zero, suc, List, length, map, Some, refl, ap, subst, arith}
 use Rattle.std.specs.Prelude.{slice_get, slice_set}
 use Rattle.std.specs.List.{AllByRecursion}
 
@@ -43,3 +43,7 @@ pub slice_get-push_other : {X : Type 0} (xs : List X) (y : X) (i : ℕ) → i < 
 slice_get-push_other [] y i inside = absurd (omega arith)
 slice_get-push_other (x ∷ xs) y zero inside = refl
 slice_get-push_other (x ∷ xs) y (suc i) inside = slice_get-push_other xs y i (omega arith)
+
+pub AllByRecursion-from : {X : Type 0} (P : X → Type 0) (xs : List X) → ((i : ℕ) (x : X) → slice_get xs i ≡ Some x → P x) → AllByRecursion P xs
+AllByRecursion-from P [] each = tt
+AllByRecursion-from P (x ∷ xs) each = (each zero x refl, AllByRecursion-from P xs (λ i y is. each (suc i) y is))

@@ -1,6 +1,7 @@
 -- Making an operation, as a step of what the definitions of sessions speak of.
-use Rattle.std.proofs.Common.{◌≡◌, ◌≢◌, ◌<◌, ◌≤◌, ◌+◌, ◌-◌, ◌++◌, ◌∷◌, [], ℕ, List, length, map, Option, Some, None, refl, sym, ap, ◌∙◌, subst, reverse, length-append, arith}
-use Rattle.std.specs.Prelude.{slice_get, slice_set}
+use Rattle.std.proofs.Common.{◌≡◌, ◌≢◌, ◌<◌, ◌≤◌, ◌+◌, ◌-◌, ◌++◌, ◌∷◌, [], ℕ, Bool, true, List, length, map, inl, inr, Option, Some, refl, sym, ap, ◌∙◌, subst, reverse, length-append, arith}
+use Rattle.std.specs.Prelude.{slice_get, nat_eq}
+use Rattle.std.proofs.lemmas.Bool.{cases_eq, ne_eqb, or_from}
 use Rattle.std.specs.Option.{option_map}
 use Rattle.std.specs.List.{AllByRecursion}
 use Rattle.std.proofs.Math.Seq.{map-set_same}
@@ -8,22 +9,31 @@ use Rattle.std.proofs.lemmas.List.{length-set, length-map, map-set, reverse-appe
 use Rattle.std.proofs.lemmas.Option.{slice_get-map, slice_get_within, get_or_from_slice_get}
 use Rattle.ot_model.specs.declared.cell.Cell.{Cell}
 use Rattle.ot_model.specs.declared.op.Op.{Op}
-use Rattle.ot_model.specs.declared.op.Mode.{Mode}
 use Rattle.ot_model.specs.Effect.{document_after}
 use Rattle.fn_rules.specs.Functions.{Function}
-use Rattle.ot_causal.specs.Members.{has}
-use Rattle.ot_causal.specs.Past.{Extends}
-use Rattle.ot_causal.specs.Sessions.{SessionData, IsSite, IsSound, Makes, MayMake}
+use Rattle.ot_causal.specs.Members.{has, IsSublist, skip}
+use Rattle.ot_causal.specs.Past.{IsClosed, AreMade, Extends}
+use Rattle.ot_causal.specs.Forms.{form}
+use Rattle.ot_causal.specs.Counting.{counted, AreCounted}
+use Rattle.ot_causal.specs.Sessions.{SessionData, IsSite, IsSound, Makes, MayMake, all_counted}
 use Rattle.ot_model.specs.Operations.{kind_of, site_of}
 use Rattle.ot_model.specs.Effect.{IsEnabled}
 use Rattle.fn_rules.specs.Functions.{HasDeclaredKind}
 use Rattle.ot_session.specs.declared.limits.TheConstants.{MAX_MADE}
 use Rattle.ot_session.specs.declared.made.Made.{Made}
 use Rattle.ot_session.specs.declared.site.Site.{Site}
+use Rattle.ot_session.specs.declared.table.Key.{Key}
 use Rattle.ot_session.specs.Past.{is_marked, known_in, operation_in, past_of}
-use Rattle.ot_session.specs.Sites.{SiteView, IsMarked, IsKept, view_site, document_in, seen_in, data_of, Executes, ExecutesAt}
+use Rattle.ot_session.specs.Entries.{HasForms}
+use Rattle.ot_session.specs.Sites.{SiteView, IsMarked, IsSorted, KeepsForms, IsKept, view_site, document_in, seen_in, data_of, ExecutesAt}
+use Rattle.ot_session.proofs.Extending.{HasForms-extended}
 use Rattle.ot_session.proofs.Marks.{IsMarked-executed}
-use Rattle.ot_session.proofs.Lists.{AllByRecursion-set, AllByRecursion-at, slice_get-set_same, slice_get-set_other, slice_get-push_same, slice_get-push_other}
+use Rattle.ot_session.proofs.Views.{closed-viewed}
+use Rattle.ot_session.proofs.Lists.{AllByRecursion-set, AllByRecursion-at, AllByRecursion-from, slice_get-set_same, slice_get-set_other, slice_get-push_same, slice_get-push_other}
+
+pub all-marked : (count : ℕ) (ss : List Site) → AllByRecursion (IsSorted count) ss → AllByRecursion IsMarked ss
+all-marked count [] all = tt
+all-marked count (s ∷ ss) all = (all.0.marked, all-marked count ss all.1)
 
 -- what was made stays as it was when one more is made
 Extends-push : (made : List Made) (one : Made) → Extends (past_of made) (past_of (made ++ one ∷ []))
@@ -63,6 +73,10 @@ module _ (f : Function) (first : List Cell) (t : ℕ) (o : Op) (made new_made : 
       ∙ slice_get-set_other sites (t - 1) (u - 1) step.after (λ same. differ (omega (arith, same, is_site.low, site.low))))
       ∙ sym (slice_get-map view_site sites (u - 1))
 
+  pub extends-executed : Extends (past_of made) (past_of new_made)
+  extends-executed = subst (λ (ms : List Made). Extends (past_of made) (past_of ms)) (sym step.made)
+      (Extends-push made (record { op = o; known = step.before.integrated }))
+
   pub Makes-executed : ((x : ℕ) → is_marked step.before.integrated x ≡ has (reverse step.before.seen.items) x) → Makes f old new t o
   Makes-executed marks = record {
     keeps = record {
@@ -71,8 +85,7 @@ module _ (f : Function) (first : List Cell) (t : ℕ) (o : Op) (made new_made : 
       seen = λ u is_site differ. ap seen_in (other_site u is_site differ);
       documents = λ u is_site differ. ap document_in (other_site u is_site differ);
     };
-    extends = subst (λ (ms : List Made). Extends (past_of made) (past_of ms)) (sym step.made)
-        (Extends-push made (record { op = o; known = step.before.integrated }));
+    extends = extends-executed;
     count = ap length step.made ∙ length-append made (record { op = o; known = step.before.integrated } ∷ []);
     operation = ap operation_in (ap (λ (ms : List Made). slice_get ms (length made)) step.made
         ∙ slice_get-push_same made (record { op = o; known = step.before.integrated }));
@@ -95,21 +108,114 @@ module _ (f : Function) (first : List Cell) (t : ℕ) (o : Op) (made new_made : 
       (step.executes.held ∙ ap (λ (s : SiteView). s.held)
       (sym (get_or_from_slice_get (map view_site sites) (t - 1) (view_site step.before) (view_site step.before) was_site)))
 
-  -- what is kept in a session is kept
-  pub IsKept-executed : ((s s' : SessionData) → IsSound f s → MayMake f s t o → Makes f s s' t o → IsSound f s')
-      → site_of o ≡ Some t → HasDeclaredKind f.head (kind_of o) → length made < MAX_MADE
-      → IsKept f first made sites → IsKept f first new_made new_sites
-  IsKept-executed law own declared few kept = record {
-    sound = law old new kept.sound
-        (record {
-          site = subst (λ (n : ℕ). IsSite n t) (sym (length-map sites view_site)) site;
-          own = own;
-          declared = declared;
-          enabled = subst (λ (d : List Cell). IsEnabled o (length d)) (sym (ap document_in was_site)) step.executes.enabled;
-        })
-        (Makes-executed (AllByRecursion-at IsMarked sites (t - 1) step.before kept.marked step.was).marks);
-    marked = subst (λ (ss : List Site). AllByRecursion IsMarked ss) (sym step.is)
-        (AllByRecursion-set IsMarked sites (t - 1) step.after kept.marked
-        (IsMarked-executed f.head.mode (length made) o step.before step.after few step.executes
-        (AllByRecursion-at IsMarked sites (t - 1) step.before kept.marked step.was)));
+  longer : length new_made ≡ length made + 1
+  longer = ap length step.made ∙ length-append made (record { op = o; known = step.before.integrated } ∷ [])
+
+  seen_after : reverse step.after.seen.items ≡ length made ∷ reverse step.before.seen.items
+  seen_after = ap (λ (l : List ℕ). reverse l) step.executes.seen ∙ reverse-append step.before.seen.items (length made ∷ [])
+
+  -- the marks are as they are to be, where one more is made
+  sorted-more : (count more : ℕ) (s : Site) → count ≤ more → IsSorted count s → IsSorted more s
+  sorted-more count more s most sorted = record {
+    marked = sorted.marked;
+    apart = record { made = λ x is. omega (arith, most, sorted.apart.made x is); other = sorted.apart.other };
   }
+
+  all-sorted-more : (count more : ℕ) (ss : List Site) → count ≤ more → AllByRecursion (IsSorted count) ss → AllByRecursion (IsSorted more) ss
+  all-sorted-more count more [] most all = tt
+  all-sorted-more count more (s ∷ ss) most all = (sorted-more count more s most all.0, all-sorted-more count more ss most all.1)
+
+  sorted-executed : length made < MAX_MADE → IsSorted (length made) step.before → IsSorted (length new_made) step.after
+  sorted-executed few sorted = record {
+    marked = IsMarked-executed f.head.mode (length made) o step.before step.after few step.executes sorted.marked;
+    apart = record {
+      made = λ x is. (let before : x < length made =
+          sorted.apart.made x (ap (λ (marks : List Bool). is_marked marks x) (sym step.executes.held) ∙ is) in
+          omega (arith, before, longer));
+      other = λ x is. (let held : is_marked step.before.held x ≡ true =
+          ap (λ (marks : List Bool). is_marked marks x) (sym step.executes.held) ∙ is in
+          let before : x < length made = sorted.apart.made x held in
+          let differ : x ≢ length made = λ same. omega (arith, before, same) in
+          ap (λ (l : List ℕ). has l x) seen_after
+          ∙ or_from (nat_eq x (length made)) (has (reverse step.before.seen.items) x) (ne_eqb x (length made) differ) (sorted.apart.other x held));
+    };
+  }
+
+  pub may_make : site_of o ≡ Some t → HasDeclaredKind f.head (kind_of o) → MayMake f old t o
+  may_make own declared = record {
+    site = subst (λ (n : ℕ). IsSite n t) (sym (length-map sites view_site)) site;
+    own = own;
+    declared = declared;
+    enabled = subst (λ (d : List Cell). IsEnabled o (length d)) (sym (ap document_in was_site)) step.executes.enabled;
+  }
+
+  module _ (few : length made < MAX_MADE) (own : site_of o ≡ Some t) (declared : HasDeclaredKind f.head (kind_of o))
+      (kept : IsKept f first made sites)
+      (law : (s s' : SessionData) → IsSound f s → MayMake f s t o → Makes f s s' t o → IsSound f s') where
+    pub makes : Makes f old new t o
+    makes = Makes-executed (AllByRecursion-at (IsSorted (length made)) sites (t - 1) step.before kept.sorted step.was).marked.marks
+
+    sound_new : IsSound f new
+    sound_new = law old new kept.sound (may_make own declared) makes
+
+    -- what is kept in a session is kept
+    pub IsKept-executed : IsKept f first new_made new_sites
+    IsKept-executed = record {
+      sound = sound_new;
+      sorted = subst (λ (ss : List Site). AllByRecursion (IsSorted (length new_made)) ss) (sym step.is)
+          (AllByRecursion-set (IsSorted (length new_made)) sites (t - 1) step.after
+          (all-sorted-more (length made) (length new_made) sites (omega (arith, longer)) kept.sorted)
+          (sorted-executed few (AllByRecursion-at (IsSorted (length made)) sites (t - 1) step.before kept.sorted step.was)));
+    }
+
+    -- what was counted is what its sites count
+    pub counts-executed : ((s s' : SessionData) → IsSound f s → MayMake f s t o → Makes f s s' t o → all_counted s' ≡ all_counted s)
+        → (total : ℕ) → total ≡ all_counted old → total ≡ all_counted new
+    counts-executed all_made total same = same ∙ sym (all_made old new kept.sound (may_make own declared) makes)
+
+    module _ (made_law : (l : List ℕ) → IsClosed (past_of made) l → AreMade (past_of made) l)
+        (closed_law : (l : List ℕ) → IsClosed (past_of made) l → IsClosed (past_of new_made) l)
+        (forms_law : (n : ℕ) (l : List ℕ) → n < length made → AreMade (past_of made) l → form f (past_of new_made) n l ≡ form f (past_of made) n l)
+        (counted_law : (l : List ℕ) → IsClosed (past_of new_made) l → AreCounted (past_of new_made) l (counted (past_of new_made) l))
+        (own_law : counted (past_of new_made) (new.seen t) ≡ counted (past_of made) (old.seen t))
+        (same_law : (l : List ℕ) → AreMade (past_of made) l → counted (past_of new_made) l ≡ counted (past_of made) l)
+        (forms : AllByRecursion (KeepsForms f (past_of made)) sites) where
+      -- the site itself keeps its forms
+      forms_itself : KeepsForms f (past_of new_made) step.after
+      forms_itself = record {
+        has = subst (λ (es : List (Key × Op)). HasForms f (past_of new_made) (reverse step.after.seen.items)
+            (counted (past_of new_made) (reverse step.after.seen.items)) es) (sym step.executes.table)
+            (HasForms-extended f (past_of made) (past_of new_made) extends-executed made_law closed_law forms_law
+            (reverse step.before.seen.items) (reverse step.after.seen.items)
+            (λ l part. subst (λ (m : List ℕ). IsSublist l m) (sym seen_after) (skip (length made) l (reverse step.before.seen.items) part))
+            (ap (λ (l : List ℕ). counted (past_of new_made) l) (sym (ap seen_in at_site)) ∙ own_law
+            ∙ ap (λ (l : List ℕ). counted (past_of made) l) (ap seen_in was_site))
+            (counted_law (reverse step.after.seen.items) (closed-viewed f first new_made new_sites sound_new (t - 1) step.after
+            (ap (λ (ss : List Site). slice_get ss (t - 1)) step.is ∙ slice_get-set_same sites (t - 1) step.after inside)))
+            step.before.table
+            (AllByRecursion-at (KeepsForms f (past_of made)) sites (t - 1) step.before forms step.was).has);
+      }
+
+      -- so do the others
+      forms_other : (i : ℕ) (s : Site) → i ≢ t - 1 → slice_get new_sites i ≡ Some s → KeepsForms f (past_of new_made) s
+      forms_other i s differ is =
+          let was : slice_get sites i ≡ Some s =
+          sym (slice_get-set_other sites (t - 1) i step.after differ) ∙ ap (λ (ss : List Site). slice_get ss i) (sym step.is) ∙ is in
+          record {
+            has = HasForms-extended f (past_of made) (past_of new_made) extends-executed made_law closed_law forms_law
+                (reverse s.seen.items) (reverse s.seen.items) (λ l part. part)
+                (same_law (reverse s.seen.items) (made_law (reverse s.seen.items) (closed-viewed f first made sites kept.sound i s was)))
+                (counted_law (reverse s.seen.items) (closed-viewed f first new_made new_sites sound_new i s is)) s.table
+                (AllByRecursion-at (KeepsForms f (past_of made)) sites i s forms was).has;
+          }
+
+      pub KeepsForms-executed : AllByRecursion (KeepsForms f (past_of new_made)) new_sites
+      KeepsForms-executed = AllByRecursion-from (KeepsForms f (past_of new_made)) new_sites (λ i s is.
+          elim (cases_eq i (t - 1)) [
+            | inl same ↦ (let here : Some s ≡ Some step.after =
+                sym is ∙ ap (λ (j : ℕ). slice_get new_sites j) same
+                ∙ ap (λ (ss : List Site). slice_get ss (t - 1)) step.is ∙ slice_get-set_same sites (t - 1) step.after inside in
+                let one : s ≡ step.after = cc in
+                subst (λ (x : Site). KeepsForms f (past_of new_made) x) (sym one) forms_itself)
+            | inr differ ↦ forms_other i s differ is
+          ])

@@ -1,8 +1,8 @@
 -- Marks of numbers.
-use Rattle.std.proofs.Common.{◌≡◌, ◌<◌, ◌≤◌, ◌⊎◌, ◌++◌, ◌∷◌, [], ◌||◌, ℕ, Bool, true, false, List, length, refl, sym, ap, ◌∙◌, inl, inr, arith, replicate, reverse}
-use Rattle.std.specs.Prelude.{nat_eq, slice_set}
+use Rattle.std.proofs.Common.{◌≡◌, ◌<◌, ◌∷◌, [], ◌||◌, ℕ, Bool, true, false, List, length, sym, ap, ◌∙◌, inl, inr, replicate, reverse}
+use Rattle.std.specs.Prelude.{slice_set}
 use Rattle.std.proofs.Common.{get_or-set_other}
-use Rattle.std.proofs.lemmas.Bool.{false≢true, cases_lt, cases_eq, eq-eqb, ne_eqb}
+use Rattle.std.proofs.lemmas.Bool.{cases_lt, cases_eq, eq-eqb, ne_eqb}
 use Rattle.std.proofs.lemmas.Grind.{get_or-set_at}
 use Rattle.std.proofs.lemmas.List.{get_or_past, get_or-replicate, length-replicate, length-set, reverse-append}
 use Rattle.ot_causal.specs.Members.{has}

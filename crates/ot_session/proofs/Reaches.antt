@@ -2,7 +2,6 @@
 use Rattle.std.proofs.Common.{◌≡◌, ◌<◌, ◌≤◌, ◌+◌, ◌*◌, ℕ, List, length, Option, Some, refl, sym, subst, inl, inr, arith}
 use Rattle.std.proofs.lemmas.Int.{ints}
 use Rattle.ot_model.specs.declared.op.Op.{Op}
-use Rattle.ot_model.specs.declared.op.Op.TheVariants.{Nop}
 use Rattle.ot_model.specs.declared.op.Kind.{Kind}
 use Rattle.ot_model.specs.Operations.{kind_of}
 use Rattle.fn_rules.specs.declared.function.Head.{Head}
@@ -16,7 +15,7 @@ pub IsWithin-more : (m n : ℕ) (o : Op) → m ≤ n → IsWithin m o → IsWith
 IsWithin-more m n o more within = (omega (arith, ints), omega (arith, ints))
 
 -- a form is of a kind that the function is for, or nop
-IsForKind-form : (head : Head) (o p : Op) → IsFormOf o p → IsForKind head (kind_of o) → IsForKind head (kind_of p)
+pub IsForKind-form : (head : Head) (o p : Op) → IsFormOf o p → IsForKind head (kind_of o) → IsForKind head (kind_of p)
 IsForKind-form head o p is declared = elim is [
   | inl nop ↦ subst (λ (q : Op). IsForKind head (kind_of q)) (sym nop) refl
   | inr moved ↦ subst (λ (k : Option Kind). IsForKind head k) (sym moved.kind) declared

@@ -1,5 +1,5 @@
 -- Sites and sessions, seen as plain data.
-use Rattle.std.specs.Prelude.{◌≡◌, ◌<◌, ◌≤◌, ◌+◌, ◌-◌, ◌++◌, ℕ, Bool, true, false, List, [], ◌∷◌, length, map, reverse, Option, Some, None, slice_get, slice_set}
+use Rattle.std.specs.Prelude.{◌≡◌, ◌<◌, ◌-◌, ◌++◌, ℕ, Bool, true, false, List, [], ◌∷◌, length, map, reverse, Option, Some, None, slice_get, slice_set}
 use Rattle.std.specs.List.{AllByRecursion}
 use Rattle.ot_model.specs.declared.cell.Cell.{Cell}
 use Rattle.ot_model.specs.declared.op.Op.{Op}
@@ -7,11 +7,14 @@ use Rattle.ot_model.specs.declared.op.Mode.{Mode}
 use Rattle.ot_model.specs.Effect.{IsEnabled, document_after}
 use Rattle.fn_rules.specs.Functions.{Function}
 use Rattle.ot_causal.specs.Members.{has}
+use Rattle.ot_causal.specs.Past.{Past, IsClosed, IsOrderly}
+use Rattle.ot_causal.specs.Counting.{counted}
 use Rattle.ot_causal.specs.Sessions.{SessionData, IsSound}
 use Rattle.ot_session.specs.declared.limits.TheConstants.{MAX_MADE}
 use Rattle.ot_session.specs.declared.made.Made.{Made}
 use Rattle.ot_session.specs.declared.site.Site.{Site}
-use Rattle.ot_session.specs.Past.{is_marked, past_of}
+use Rattle.ot_session.specs.Past.{is_marked, past_of, AreUsable}
+use Rattle.ot_session.specs.Entries.{HasForms}
 
 -- a site: its document, what it has integrated, newest first, and which numbers it holds
 pub record SiteView : Type 0 where
@@ -48,12 +51,35 @@ pub record IsMarked (site : Site) : Type 0 where
   pub integrated : length site.integrated ≡ MAX_MADE
   pub held : length site.held ≡ MAX_MADE
 
+-- what a site holds was made, and is not integrated
+pub record IsApart (count : ℕ) (site : Site) : Type 0 where
+  pub made : (x : ℕ) → is_marked site.held x ≡ true → x < count
+  pub other : (x : ℕ) → is_marked site.held x ≡ true → has (reverse site.seen.items) x ≡ false
+
+-- the marks of a site are as they are to be
+pub record IsSorted (count : ℕ) (site : Site) : Type 0 where
+  pub marked : IsMarked site
+  pub apart : IsApart count site
+
+-- a site's table has the forms that it has counted
+pub record KeepsForms (f : Function) (past : Past) (site : Site) : Type 0 where
+  pub has : HasForms f past (reverse site.seen.items) (counted past (reverse site.seen.items)) site.table
+
+-- what is asked of a site that takes an operation, and of what was made
+pub record CanTake (f : Function) (past : Past) (site : Site) : Type 0 where
+  pub orderly : IsOrderly past
+  pub usable : AreUsable f past
+  pub closed : IsClosed past (reverse site.seen.items)
+  pub sorted : IsSorted past.count site
+  pub forms : KeepsForms f past site
+
 -- a site that holds the document, where nothing is integrated or held
 pub record IsFresh (d : List Cell) (site : Site) : Type 0 where
   pub document : site.doc ≡ d
   pub seen : site.seen.items ≡ []
   pub held : (x : ℕ) → is_marked site.held x ≡ false
   pub marked : IsMarked site
+  pub table : site.table ≡ []
 
 -- an operation was executed at a site, and is integrated
 pub record Executes (mode : Mode) (number : ℕ) (o : Op) (old new : Site) : Type 0 where
@@ -64,13 +90,12 @@ pub record Executes (mode : Mode) (number : ℕ) (o : Op) (old new : Site) : Typ
   pub held : new.held ≡ old.held
   pub table : new.table ≡ old.table
 
--- nothing that can be seen changed
+-- nothing changed but the forms
 pub record IsSameSite (old new : Site) : Type 0 where
   pub document : new.doc ≡ old.doc
   pub seen : new.seen.items ≡ old.seen.items
   pub integrated : new.integrated ≡ old.integrated
   pub held : new.held ≡ old.held
-  pub table : new.table ≡ old.table
 
 -- an operation was executed at one of the sites, and is among those that were made
 pub record ExecutesAt (mode : Mode) (o : Op) (i : ℕ) (old_made new_made : List Made) (old new : List Site) : Type 0 where
@@ -84,4 +109,4 @@ pub record ExecutesAt (mode : Mode) (o : Op) (i : ℕ) (old_made new_made : List
 -- what is kept in a session
 pub record IsKept (f : Function) (first : List Cell) (made : List Made) (sites : List Site) : Type 0 where
   pub sound : IsSound f (data_of first made (map view_site sites))
-  pub marked : AllByRecursion IsMarked sites
+  pub sorted : AllByRecursion (IsSorted (length made)) sites

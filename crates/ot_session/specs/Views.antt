@@ -1,15 +1,19 @@
 -- A session, seen as plain data: the function, the first document, what was made, and each site.
-use Rattle.std.specs.Prelude.{◌≡◌, ◌<◌, ℕ, Bool, true, false, List, [], length, map}
+use Rattle.std.specs.Prelude.{◌≡◌, ◌<◌, ◌≤◌, ◌-◌, ℕ, Bool, true, false, List, [], length, map, Some, slice_get, slice_set, Result, Ok, Err, is_ok}
 use Rattle.std.specs.List.{AllByRecursion}
 use Rattle.ot_model.specs.declared.cell.Cell.{Cell}
 use Rattle.ot_model.specs.declared.op.Op.{Op}
 use Rattle.fn_rules.specs.Functions.{Function}
 use Rattle.fn_rules.specs.Rules.{function_of}
-use Rattle.ot_causal.specs.Sessions.{SessionData, Makes}
+use Rattle.ot_causal.specs.Sessions.{SessionData, IsSite, Makes}
+use Rattle.ot_session.specs.declared.answer.Took.{Took}
+use Rattle.ot_session.specs.declared.answer.Take.{Take}
+use Rattle.ot_session.specs.declared.answer.Take.TheVariants.{NoSite, NoOp, Stuck, Spent, NoMemory}
 use Rattle.ot_session.specs.declared.made.Made.{Made}
 use Rattle.ot_session.specs.declared.session.Session.{Session}
-use Rattle.ot_session.specs.Past.{is_marked}
+use Rattle.ot_session.specs.Past.{is_marked, past_of}
 use Rattle.ot_session.specs.Sites.{SiteView, view_site, data_of}
+use Rattle.ot_session.specs.Taking.{Standing, Takes}
 
 pub record View : Type 0 where
   pub function : Function
@@ -61,3 +65,23 @@ pub record HasMade (old new : View) (t : ℕ) (o : Op) (n : ℕ) : Type 0 where
   pub held : map (λ (s : SiteView). s.held) new.sites ≡ map (λ (s : SiteView). s.held) old.sites
   pub counted : new.counted ≡ old.counted
   pub is_open : new.is_open ≡ old.is_open
+
+-- a site took an operation, and this is the answer: nothing but this site, the count of forms and, behind a refusal,
+-- that the session is open has changed
+pub record TakesAt (old new : View) (t n : ℕ) (answer : Result Took Take) : Type 0 where
+  pub there : IsSite (length old.sites) t
+  pub made : n < length old.made
+  pub before : SiteView
+  pub after : Standing
+  pub site : slice_get old.sites (t - 1) ≡ Some before
+  pub takes : Takes old.function (past_of old.made) n (record { site = before; counted = old.counted }) after answer
+  pub is : new ≡ record old { sites = slice_set old.sites (t - 1) after.site; counted = after.counted; is_open = is_ok answer }
+
+-- a site was asked to take an operation, and this is the answer
+abbrev pub HasTaken : View → View → ℕ → ℕ → Result Took Take → Type 0
+HasTaken old new t n (Ok took) = TakesAt old new t n (Ok took)
+HasTaken old new t n (Err NoSite) = (¬ (IsSite (length old.sites) t)) × (new ≡ old)
+HasTaken old new t n (Err NoOp) = IsSite (length old.sites) t × (length old.made ≤ n) × (new ≡ old)
+HasTaken old new t n (Err (Stuck o)) = TakesAt old new t n (Err (Stuck o))
+HasTaken old new t n (Err Spent) = TakesAt old new t n (Err Spent)
+HasTaken old new t n (Err NoMemory) = TakesAt old new t n (Err NoMemory)

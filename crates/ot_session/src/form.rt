@@ -1,13 +1,13 @@
 //! The form of an operation behind a list of others, newest first.
-ghost use Rattle.std.specs.Prelude.{◌≡◌, ◌≤◌, ◌<◌, ◌+◌, ◌-◌, ℕ, Some, None, Err, IfOk, OnOk, IfErr, length, slice_index, slice_set, filter, not, nat_eq};
+ghost use Rattle.std.specs.Prelude.{◌≡◌, ◌≤◌, ◌<◌, ◌+◌, ◌-◌, ℕ, List, Some, None, Err, IfOk, OnOk, IfErr, length, slice_index, slice_set, filter, not, nat_eq};
 ghost use Rattle.fn_rules.specs.Rules.{function_of};
 ghost use Rattle.ot_causal.specs.Members.{without};
-ghost use Rattle.ot_causal.specs.Past.{maker, IsOrderly, IsClosed};
+ghost use Rattle.ot_causal.specs.Past.{maker, IsClosed};
 ghost use Rattle.ot_causal.specs.Forms.{form, newest_open};
-ghost use Rattle.ot_causal.specs.Counting.{from_site};
-ghost use Rattle.ot_session.specs.Past.{past_of, AreUsable};
-ghost use Rattle.ot_session.specs.Lists.{clock, IsSought};
-ghost use Rattle.ot_session.specs.Entries.{AreForms};
+ghost use Rattle.ot_causal.specs.Counting.{FormName, from_site};
+ghost use Rattle.ot_session.specs.Past.{past_of};
+ghost use Rattle.ot_session.specs.Lists.{clock};
+ghost use Rattle.ot_session.specs.Entries.{HasForms, IsTable, MaySeek, HasSought};
 ghost use Rattle.ot_session.specs.declared.form.Refusal.TheVariants.{NoForm, Spent, NoMemory};
 
 use crate::limits::{MAX_FORMS, MAX_MADE, MAX_SITES};
@@ -15,7 +15,8 @@ use crate::made::{Made, is_before, maker, operation};
 use crate::table::{Key, Table};
 use fn_rules::{Rules, transform};
 use ot_causal::{
-    closed_lists_are_told_by_their_counts, forms_are_made_from_shorter_ones,
+    closed_lists_are_told_by_their_counts, counted_forms_need_not_be_sought,
+    forms_are_made_from_shorter_ones, forms_are_sought_before_they_are_made,
     forms_keep_all_but_the_position, members_were_made, open_members_may_be_taken_out,
     sublists_are_told_by_their_sets,
 };
@@ -64,20 +65,22 @@ pub(crate) fn form_behind(
     list: &[u32],
     counts: [u32; MAX_SITES],
 ) -> Result<Op, Refusal>
-    requires orderly { IsOrderly (past_of seeking.made.now) }
-    requires seen { IsClosed (past_of seeking.made.now) seeking.seen.now }
-    requires usable { AreUsable (function_of seeking.rules.now) (past_of seeking.made.now) }
-    requires sought { IsSought (past_of seeking.made.now) seeking.seen.now number list.now }
+    requires may { ∥ MaySeek (function_of seeking.rules.now) (past_of seeking.made.now) seeking.seen.now number list.now ∥₁ }
     requires counts { counts ≡ clock (past_of seeking.made.now) list.now }
     requires few { length list.now ≤ MAX_MADE }
-    requires table { AreForms (function_of seeking.rules.now) (past_of seeking.made.now) seeking.seen.now table.old }
+    requires table { ∥ IsTable (function_of seeking.rules.now) (past_of seeking.made.now) seeking.seen.now table.old counted.old ∥₁ }
     requires counted { counted.old ≤ MAX_FORMS }
     ensures ok { IfOk result (λ p. form (function_of seeking.entry.rules.now) (past_of seeking.entry.made.now) number list.now ≡ Some p) }
     ensures no_form { result ≡ Err NoForm → form (function_of seeking.entry.rules.now) (past_of seeking.entry.made.now) number list.now ≡ None }
-    ensures spent { result ≡ Err Spent → counted.new ≡ MAX_FORMS }
-    ensures table { AreForms (function_of seeking.entry.rules.now) (past_of seeking.entry.made.now) seeking.entry.seen.now table.new }
+    ensures sought { (names : List FormName) (others : ℕ)
+        → ∥ HasForms (function_of seeking.entry.rules.now) (past_of seeking.entry.made.now) seeking.entry.seen.now names table.old ∥₁
+        → counted.old ≡ others + length names
+        → HasSought (function_of seeking.entry.rules.now) (past_of seeking.entry.made.now) seeking.entry.seen.now names others number list.now
+        table.new counted.new result }
     ensures counted { counted.new ≤ MAX_FORMS }
 {
+    forms_are_sought_before_they_are_made();
+    counted_forms_need_not_be_sought();
     open_members_may_be_taken_out();
     forms_are_made_from_shorter_ones();
     closed_lists_are_told_by_their_counts();
@@ -127,7 +130,7 @@ fn newest_open(made: &[Made], number: u32, list: &[u32]) -> Option<u32>
 
 /// A closed list without a member.
 fn without(alloc: Global, made: &[Made], list: &[u32], member: u32) -> Result<Vec<u32>, AllocError>
-    requires { IsClosed (past_of made.now) list.now }
+    requires { ∥ IsClosed (past_of made.now) list.now ∥₁ }
     ensures { IfOk result (λ rest. rest.items ≡ without member list.now) }
 {
     others(alloc, list, member)

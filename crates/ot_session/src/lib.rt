@@ -1,11 +1,13 @@
-//! Causal sessions: sites that make operations, each on what it has integrated.
+//! Causal sessions: sites that make operations, each on what it has integrated, and take those of other sites.
 //!
 //! An operation is *before* another one if the site of the other had integrated it when the other was made.
 //! What a site executes of an operation is its *form* behind the list of what the site has integrated:
-//! transformed against those that are not before it, as they were executed.
+//! transformed against those that are not before it, as they were executed. A site holds an operation as long as
+//! something before it is missing there.
 //!
-//! The layers above rely on these clauses: `make` answers exactly as its tests say, in their order, and what
-//! each site has integrated is a closed list that leads from the first document to the site's own.
+//! The layers above rely on these clauses: `make` answers exactly as its tests say, in their order; `take` does what
+//! `HasTaken` says of its answer; what each site has integrated is a closed list that leads from the first document to
+//! the site's own; and where the function has both properties no operation is stuck.
 #![tactic(auto)]
 
 mod answer;
@@ -16,7 +18,8 @@ mod session;
 mod site;
 mod steps;
 mod table;
+mod taking;
 
-pub use answer::Make;
+pub use answer::{Make, Take, Took};
 pub use limits::{MAX_FORMS, MAX_MADE, MAX_SITES};
 pub use session::Session;

@@ -1,17 +1,26 @@
 //! The session.
-ghost use Rattle.std.specs.Prelude.{◌≡◌, ◌≤◌, ◌<◌, ◌↔◌, ◌≢◌, length, IfOk, IfErr, OnOk, IsTrue, Some, Err, reverse, true};
+ghost use Rattle.std.specs.Prelude.{◌≡◌, ◌≤◌, ◌<◌, ◌↔◌, ◌≢◌, length, IfOk, IfErr, OnOk, IsTrue, Some, Err, reverse, map, true, false, ℕ};
+ghost use Rattle.std.specs.List.{AllByRecursion};
 ghost use Rattle.ot_model.specs.declared.limits.TheConstants.{MAX_CELLS};
 ghost use Rattle.fn_rules.specs.Rules.{function_of};
-ghost use Rattle.ot_session.specs.Sites.{IsKept};
-ghost use Rattle.ot_session.specs.declared.limits.TheConstants.{MAX_MADE};
+ghost use Rattle.ot_causal.specs.Sessions.{all_counted};
+ghost use Rattle.ot_session.specs.Past.{past_of};
+ghost use Rattle.ot_session.specs.Sites.{view_site, data_of, KeepsForms, IsKept};
+ghost use Rattle.ot_session.specs.declared.limits.TheConstants.{MAX_MADE, MAX_SITES, MAX_FORMS};
 
-use crate::answer::Make;
-use crate::limits::{MAX_MADE, MAX_SITES};
+use crate::answer::{Make, Take, Took};
+use crate::limits::{MAX_FORMS, MAX_MADE, MAX_SITES};
 use crate::made::{Made, is_before};
 use crate::site::Site;
 use crate::steps::{execute_at, fresh_sites, has_declared_kind, is_made_at};
-use fn_rules::Rules;
-use ot_causal::steps_keep_sessions_sound;
+use crate::taking::take_at;
+use fn_rules::{Rules, tests_decide_their_facts};
+use ot_causal::{
+    both_properties_give_one_document, counted_forms_need_not_be_sought,
+    forms_are_sought_before_they_are_made, forms_keep_all_but_the_position,
+    making_more_changes_nothing, members_were_made, open_members_may_be_taken_out,
+    steps_count_what_they_seek, steps_keep_sessions_sound,
+};
 use ot_model::{Doc, NoMemory, Op, enabled};
 use std::alloc::Global;
 
@@ -25,7 +34,12 @@ pub struct Session {
     counted: u64,
     is_open: bool,
     ghost few: { length made.items ≤ MAX_MADE },
+    ghost small: { length first ≤ MAX_CELLS },
+    ghost most: { length sites.items ≤ MAX_SITES },
+    ghost within: { counted ≤ MAX_FORMS },
     ghost kept: { ∥ IsKept (function_of rules) first made.items sites.items ∥₁ },
+    ghost forms: { is_open ≡ true → ∥ AllByRecursion (KeepsForms (function_of rules) (past_of made.items)) sites.items ∥₁ },
+    ghost counts: { is_open ≡ true → counted ≡ all_counted (data_of first made.items (map view_site sites.items)) },
 }
 
 impl Session {
@@ -33,9 +47,12 @@ impl Session {
     ghost use Rattle.ot_model.specs.Effect.{IsEnabled, document_after};
     ghost use Rattle.fn_rules.specs.Functions.{HasDeclaredKind};
     ghost use Rattle.ot_causal.specs.Sessions.{IsSite, MayMake};
+    ghost use Rattle.ot_causal.specs.Members.{HaveOneSet};
     ghost use Rattle.ot_causal.specs.Past.{IsClosed};
     ghost use Rattle.ot_causal.specs.Forms.{state};
-    ghost use Rattle.ot_session.specs.Views.{view_of, data_in, closed, IsBegun, HasMade};
+    ghost use Rattle.fn_rules.specs.Properties.{HasTp1, HasTp2};
+    ghost use Rattle.ot_session.specs.Views.{view_of, data_in, closed, IsBegun, HasMade, HasTaken};
+    ghost use Rattle.ot_session.specs.declared.answer.Take.TheVariants as takes;
     ghost use Rattle.ot_session.specs.declared.answer.Make.TheVariants as makes;
 
     /// A new session with this function, in which each site holds the document. Sites are numbered from 1.
@@ -45,6 +62,7 @@ impl Session {
         ensures { IfOk result (λ session. IsBegun (function_of rules.now) doc.now sites (view_of session)) }
     {
         steps_keep_sessions_sound();
+        forms_are_sought_before_they_are_made();
         Ok(Session {
             rules: rules.try_clone()?,
             first: doc.try_clone()?,
@@ -91,7 +109,8 @@ impl Session {
 
     /// How many forms were counted.
     pub fn forms(&self) -> u64
-        ensures { result ≡ (view_of self.now).counted }
+        ensures counted { result ≡ (view_of self.now).counted }
+        ensures all { (view_of self.now).is_open ≡ true → result ≡ all_counted (data_in (view_of self.now)) }
     {
         self.counted
     }
@@ -118,6 +137,11 @@ impl Session {
         ensures closed { result ≡ Err makes.NoMemory → view_of self.new ≡ closed (view_of self.old) }
     {
         steps_keep_sessions_sound();
+        steps_count_what_they_seek();
+        making_more_changes_nothing();
+        counted_forms_need_not_be_sought();
+        open_members_may_be_taken_out();
+        members_were_made();
         if !self.has_site(site) {
             return Err(Make::NoSite);
         }
@@ -143,12 +167,62 @@ impl Session {
         }
     }
 
+    /// Takes an operation at a site. If all that are before it are integrated there, it is integrated: its form behind
+    /// what the site has integrated is executed. Then, again and again, so is the least of the held operations before
+    /// which nothing is missing any more. Otherwise it is held.
+    pub fn take(&mut self, site: u32, number: u32) -> Result<Took, Take>
+        requires { (view_of self.old).is_open ≡ true }
+        ensures taken { HasTaken (view_of self.old) (view_of self.new) site number result }
+
+        // Where the function has both properties and characters need not differ, no operation is stuck.
+        ensures never_stuck { HasTp1 (view_of self.old).function → HasTp2 (view_of self.old).function
+            → (view_of self.old).function.head.chars_differ ≡ false → (o : ℕ) → result ≢ Err (takes.Stuck o) }
+    {
+        steps_keep_sessions_sound();
+        steps_count_what_they_seek();
+        open_members_may_be_taken_out();
+        members_were_made();
+        both_properties_give_one_document();
+        tests_decide_their_facts();
+        forms_keep_all_but_the_position();
+        if !self.has_site(site) {
+            return Err(Take::NoSite);
+        }
+        if number as usize >= self.made.len() {
+            return Err(Take::NoOp);
+        }
+        let alloc = *self.made.allocator();
+        let taken = take_at(
+            alloc,
+            &self.rules,
+            &self.made,
+            &mut self.sites,
+            &mut self.counted,
+            site as usize - 1,
+            number,
+        );
+        self.is_open = taken.is_ok();
+        taken
+    }
+
     /// Whether the operation is enabled on a site's document.
     fn can_execute(&self, site: u32, op: &Op) -> bool
         requires { IsSite (data_in (view_of self.now)).sites site }
         ensures { IsTrue result ↔ IsEnabled op.now (length ((data_in (view_of self.now)).document site)) }
     {
         enabled(op, self.doc(site).len())
+    }
+
+    /// A law: where the function has both properties and characters need not differ, sites that have integrated the same
+    /// operations hold one document.
+    pub fn sites_agree(&self)
+        ensures { HasTp1 (view_of self.now).function → HasTp2 (view_of self.now).function
+            → (view_of self.now).function.head.chars_differ ≡ false → (s t : ℕ)
+            → IsSite (data_in (view_of self.now)).sites s → IsSite (data_in (view_of self.now)).sites t
+            → HaveOneSet ((data_in (view_of self.now)).seen s) ((data_in (view_of self.now)).seen t)
+            → (data_in (view_of self.now)).document s ≡ (data_in (view_of self.now)).document t }
+    {
+        both_properties_give_one_document();
     }
 
     /// Whether there is such a site.

@@ -1,11 +1,11 @@
 //! What is done to the parts of a session.
-ghost use Rattle.std.specs.Prelude.{◌≡◌, ◌↔◌, ◌<◌, Some, IsTrue, length, IfOk, IfSome, OnOk, OnErr, slice_get, map};
+ghost use Rattle.std.specs.Prelude.{◌≡◌, ◌↔◌, ◌<◌, ℕ, Some, IsTrue, length, IfOk, IfSome, OnOk, OnErr, slice_get, map};
 ghost use Rattle.std.specs.List.{AllByRecursion};
 ghost use Rattle.ot_model.specs.Effect.{IsEnabled};
 ghost use Rattle.ot_model.specs.Operations.{kind_of, site_of};
 ghost use Rattle.fn_rules.specs.Functions.{HasDeclaredKind};
 ghost use Rattle.fn_rules.specs.Rules.{function_of};
-ghost use Rattle.ot_session.specs.Sites.{view_site, IsFresh, IsMarked, ExecutesAt};
+ghost use Rattle.ot_session.specs.Sites.{view_site, IsFresh, IsMarked, IsSorted, ExecutesAt};
 ghost use Rattle.ot_session.specs.declared.limits.TheConstants.{MAX_MADE};
 
 use crate::made::Made;
@@ -42,7 +42,7 @@ pub(crate) fn execute_at(
     ensures ok { OnOk result (ExecutesAt mode op place made.old.items made.new.items sites.old sites.new) }
     ensures made { OnErr result (made.new.items ≡ made.old.items) }
     ensures sites { OnErr result (map view_site sites.new ≡ map view_site sites.old) }
-    ensures marked { OnErr result (AllByRecursion IsMarked sites.old → AllByRecursion IsMarked sites.new) }
+    ensures sorted { OnErr result ((n : ℕ) → AllByRecursion (IsSorted n) sites.old → AllByRecursion (IsSorted n) sites.new) }
 {
     let number = made.len() as u32;
     made.reserve(1)?;

@@ -215,3 +215,128 @@ fn so_many_operations_can_be_made_and_no_more(rt: HostRuntime) -> Result<(), Fai
     assert_eq!(rt; session.doc(16).len(), 1_026);
     Ok(())
 }
+
+/// A take at a site, of an operation, and what it answers: the numbers of those that are integrated, or none where it
+/// is held or known already.
+fn takes(rt: &impl Abort, session: &mut Session, site: u32, number: u32, want: &[u32]) {
+    assert!(rt; session.is_open());
+    match session.take(site, number) {
+        Ok(Took::Done(done)) => assert_eq!(rt; done.as_slice(), want, "{site} {number}"),
+        Ok(_) => assert!(rt; want.is_empty(), "{site} {number}"),
+        Err(refusal) => panic!(rt; "{site} {number} {refusal:?}"),
+    }
+}
+
+fn makes(rt: &impl Abort, session: &mut Session, site: u32, op: Op, want: u32) {
+    assert!(rt; session.is_open());
+    let made = session.make(site, op);
+    assert!(rt; made == Ok(want), "{site} {op:?} {made:?}");
+}
+
+#[test]
+fn an_operation_is_held_until_nothing_is_missing(rt: HostRuntime) -> Result<(), Fail> {
+    let alloc = rt.alloc();
+    let mut session = session_of(&rt, alloc, Mode::Tomb, "", 3)?;
+    makes(&rt, &mut session, 1, ins(0, 'a', 1), 0);
+    makes(&rt, &mut session, 2, ins(0, 'b', 2), 1);
+    takes(&rt, &mut session, 2, 0, &[0]);
+    makes(&rt, &mut session, 2, Op::Del { at: 1, site: 2 }, 2);
+    assert!(rt; session.is_open());
+    assert!(rt; matches!(session.take(3, 2), Ok(Took::Held)));
+    assert!(rt; session.is_open());
+    assert!(rt; matches!(session.take(3, 2), Ok(Took::Repeat)));
+    takes(&rt, &mut session, 3, 1, &[1]);
+    takes(&rt, &mut session, 3, 0, &[0, 2]);
+    takes(&rt, &mut session, 1, 1, &[1]);
+    assert!(rt; session.is_open());
+    assert!(rt; matches!(session.take(1, 1), Ok(Took::Repeat)));
+    takes(&rt, &mut session, 1, 2, &[2]);
+    for site in 1..=3 {
+        assert_eq!(rt; text_at(&rt, alloc, &session, site)?.as_str(), "a~b");
+    }
+    assert_eq!(rt; session.forms(), 3);
+    Ok(())
+}
+
+#[test]
+fn sites_differ_where_the_function_lacks_the_second_property(rt: HostRuntime) -> Result<(), Fail> {
+    let alloc = rt.alloc();
+    let mut session = session_of(&rt, alloc, Mode::Plain, "y", 3)?;
+    makes(&rt, &mut session, 1, ins(1, 'a', 1), 0);
+    makes(&rt, &mut session, 2, Op::Del { at: 0, site: 2 }, 1);
+    makes(&rt, &mut session, 3, ins(0, 'c', 3), 2);
+    for (site, number) in [(1, 1), (1, 2), (2, 0), (2, 2)] {
+        takes(&rt, &mut session, site, number, &[number]);
+    }
+    for (site, want) in [(1, "ca"), (2, "ac"), (3, "cy")] {
+        assert_eq!(rt; text_at(&rt, alloc, &session, site)?.as_str(), want);
+    }
+    Ok(())
+}
+
+#[test]
+fn each_form_is_counted_once(rt: HostRuntime) -> Result<(), Fail> {
+    let mut session = session_of(&rt, rt.alloc(), Mode::Tomb, "", 2)?;
+    for number in 0..4 {
+        makes(&rt, &mut session, 1, ins(0, 'a', 1), number);
+    }
+    for number in 4..8 {
+        makes(&rt, &mut session, 2, ins(0, 'b', 2), number);
+    }
+    // Of each operation that is taken as many forms as the site made, and from the second on of those as many again.
+    for (number, want) in [(4, 4), (5, 12), (6, 20)] {
+        takes(&rt, &mut session, 1, number, &[number]);
+        assert_eq!(rt; session.forms(), want);
+    }
+    Ok(())
+}
+
+#[test]
+fn a_take_is_refused_by_its_cause(rt: HostRuntime) -> Result<(), Fail> {
+    let alloc = rt.alloc();
+    let mut session = session_of(&rt, alloc, Mode::Tomb, "", 2)?;
+    for (site, number, want) in [
+        (3, 0, Take::NoSite),
+        (0, 0, Take::NoSite),
+        (1, 0, Take::NoOp),
+    ] {
+        assert!(rt; session.is_open());
+        match session.take(site, number) {
+            Ok(took) => panic!(rt; "{site} {number} {took:?}"),
+            Err(refusal) => assert!(rt; refusal == want, "{site} {number} {refusal:?}"),
+        }
+    }
+    assert!(rt; session.is_open());
+    Ok(())
+}
+
+/// Insertions at one place have no result.
+#[test]
+fn a_site_is_stuck_where_a_form_does_not_exist(rt: HostRuntime) -> Result<(), Fail> {
+    let alloc = rt.alloc();
+    let head = Head {
+        mode: Mode::Plain,
+        ins: true,
+        del: false,
+        upd: false,
+        sites_differ: false,
+        chars_differ: false,
+    };
+    let cases = Vec::from_array(alloc, [case(atom(Sort::Pos, Side::First, Cmp::Lt), 0)])?;
+    let block = Block {
+        first: Kind::Ins,
+        second: Kind::Ins,
+        cases,
+    };
+    let blocks = Vec::from_array(alloc, [block])?;
+    assert!(rt; is_within_limits(&head, &blocks));
+    let rules = Rules::build(head, blocks);
+    let mut session = Session::new(alloc, &rules, &Doc::new(alloc), 2)?;
+    makes(&rt, &mut session, 1, ins(0, 'a', 1), 0);
+    makes(&rt, &mut session, 2, ins(0, 'b', 2), 1);
+    assert!(rt; session.is_open());
+    assert!(rt; matches!(session.take(1, 1), Err(Take::Stuck(1))));
+    assert!(rt; !session.is_open() && session.has_site(1));
+    assert_eq!(rt; session.seen(1), [0].as_slice());
+    Ok(())
+}

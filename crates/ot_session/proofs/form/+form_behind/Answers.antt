@@ -1,150 +1,387 @@
-use Rattle.std.proofs.Common.{rules, ◌≡◌, ◌<◌, ◌≤◌, ◌+◌, ◌-◌, ℕ, List, length, Option, Some, None, Ok, refl, sym, ap, ◌∙◌, subst, get_or, arith}
-use Rattle.std.specs.Prelude.{filter, not, nat_eq, slice_set}
+use Rattle.std.proofs.Common.{rules, ◌≡◌, ◌≢◌, ◌<◌, ◌≤◌, ◌+◌, ◌-◌, ◌++◌, ◌∷◌, [], ℕ, false, List, length, Some, None, Err, Result, refl, sym, ap, ◌∙◌, subst, get_or, arith}
+use Rattle.std.specs.Coded.{Coded-set, coded_list, coded_ℕ, coded_bool, le_prop}
+use Rattle.std.proofs.Math.Logic.{∥∥₁_elim, ∥∥₁_map, ∥∥₁_map₂, ∥∥₁_prop}
+use Rattle.std.proofs.Props.{props}
 use Rattle.ot_model.specs.declared.op.Op.{Op}
-use Rattle.ot_model.specs.Operations.{kind_of}
 use Rattle.fn_rules.specs.Rules.{function_of}
-use Rattle.fn_rules.specs.Functions.{Function, IsForKind}
-use Rattle.fn_rules.specs.Conditions.{IsInRange}
-use Rattle.ot_causal.specs.Members.{has, without, IsSublist}
-use Rattle.ot_causal.specs.Past.{Past, maker, IsReady, IsOpening}
-use Rattle.ot_causal.specs.Forms.{form, newest_open}
-use Rattle.ot_causal.specs.Counting.{from_site}
+use Rattle.fn_rules.specs.Functions.{Function}
+use Rattle.ot_causal.specs.Members.{without}
+use Rattle.ot_causal.specs.Past.{Past, maker, IsOpening}
+use Rattle.ot_causal.specs.Forms.{form}
+use Rattle.ot_causal.specs.Counting.{FormName, name_of, is_among, sought, count_sought, from_site, AreCounted}
+use Rattle.ot_session.specs.declared.form.Refusal.{Refusal}
+use Rattle.ot_session.specs.declared.limits.TheConstants.{MAX_FORMS}
 use Rattle.ot_session.specs.Past.{past_of, most_cells}
-use Rattle.ot_session.specs.Lists.{clock, IsSought}
-use Rattle.ot_session.specs.Entries.{is_same_key, AreForms, IsFormEntry}
+use Rattle.ot_session.specs.Lists.{clock}
+use Rattle.ot_session.specs.Seeking.{Missing, Exhausted}
+use Rattle.ot_session.specs.Entries.{form_under, HasForms, IsTable, MaySeek, Seeks, HasSought}
 use Rattle.ot_session.proofs.Clocks.{get_or-clock, clock-without}
-use Rattle.ot_session.proofs.Tables.{form_under-form, AreForms-insert}
+use Rattle.ot_session.proofs.Seeking.{obstacle_code, first_obstacle-counted, first_obstacle-exhausted, first_obstacle-missing, first_obstacle-there}
+use Rattle.ot_session.proofs.Tables.{form_under-form, unstored-new, HasForms-insert}
 use Rattle.ot_session.proofs.Reaches.{form-usable}
+use Rattle.ot_session.proofs.Sought.{form_code, MaySeek-own, MaySeek-member, HasSought-own, HasSought-by, first_obstacle-itself, count_sought-itself}
 use Rattle.ot_session.proofs.form.+form_behind.Goals as goal
 
 pub returns-in-Some-find-clause-ok : goal.returns-in-Some-find-clause-ok
 returns-in-Some-find-clause-ok t c =
+    let f : Function = function_of c.args.seeking.rules.now in
     let past : Past = past_of c.args.seeking.made.now in
     let seen : List ℕ = c.args.seeking.seen.now in
-    form_under-form (function_of c.args.seeking.rules.now) past seen c.requires.usable
-    (λ l m. c.closed_lists_are_told_by_their_counts.ensures.told past l m c.requires.orderly)
-    (λ l m. c.sublists_are_told_by_their_sets.ensures.told past seen l m c.requires.seen)
+    ∥∥₁_elim (∥∥₁_map₂ c.requires.may c.requires.table (λ m table.
+    (form_under-form f past seen table.names m.usable
+    (λ k n. c.closed_lists_are_told_by_their_counts.ensures.told past k n m.orderly)
+    (λ k n. c.sublists_are_told_by_their_sets.ensures.told past seen k n m.closed)
     (record { number = c.args.number; counts = c.args.counts }) c.args.list.now c.in-Some-find.form c.args.table.now
-    c.requires.table (sym c.find.ensures ∙ c.in-Some-find.is) c.requires.sought c.requires.counts
+    table.has.forms (sym c.find.ensures ∙ c.in-Some-find.is) m.sought c.requires.counts).0))
+    (Coded-set form_code _ _) (λ is. is)
+
+pub returns-in-Some-find-clause-sought : goal.returns-in-Some-find-clause-sought
+returns-in-Some-find-clause-sought t c = λ names others has total.
+    let f : Function = function_of c.args.seeking.rules.now in
+    let past : Past = past_of c.args.seeking.made.now in
+    let seen : List ℕ = c.args.seeking.seen.now in
+    let o : ℕ = c.args.number in
+    let l : List ℕ = c.args.list.now in
+    let same : ∥ HasForms f past seen names c.args.table.now × (count_sought names (sought past o l) ≡ names) ∥₁ =
+    ∥∥₁_map₂ c.requires.may has (λ m table. (
+      table,
+      c.counted_forms_need_not_be_sought.ensures.again past seen names o l m.closed m.sought.sublist table.counted
+          (form_under-form f past seen names m.usable
+          (λ k n. c.closed_lists_are_told_by_their_counts.ensures.told past k n m.orderly)
+          (λ k n. c.sublists_are_told_by_their_sets.ensures.told past seen k n m.closed)
+          (record { number = o; counts = c.args.counts }) l c.in-Some-find.form c.args.table.now
+          table.forms (sym c.find.ensures ∙ c.in-Some-find.is) m.sought c.requires.counts).1,
+    )) in
+    record {
+      free = ∥∥₁_elim same (Coded-set obstacle_code _ _) (λ s. first_obstacle-counted f past (others + length names) names (sought past o l) s.1);
+      table = ∥∥₁_map same (λ s. subst (λ (more : List FormName). HasForms f past seen more c.args.table.now) (sym s.1) s.0);
+      count = ∥∥₁_elim same (Coded-set coded_ℕ _ _) (λ s. total ∙ ap (λ (more : List FormName). others + length more) (sym s.1));
+    }
+
+pub without-requires : goal.without-requires
+without-requires t c = ∥∥₁_map c.requires.may (λ m. m.sought.ready.1)
 
 pub with_one_less-fewer-requires-clause-site : goal.with_one_less-fewer-requires-clause-site
 with_one_less-fewer-requires-clause-site t c =
     let past : Past = past_of c.args.seeking.made.now in
-    let open_at : IsOpening past c.args.number c.args.list.now c.in-Some.other =
-    c.open_members_may_be_taken_out.ensures.opening past c.args.number c.args.list.now c.in-Some.other
-    c.requires.orderly c.requires.sought.ready (sym c.in-Some.ensures) in
-    rw c.maker.ensures (c.requires.usable.makers c.in-Some.other open_at.made)
+    let x : ℕ = c.in-Some.other in
+    let site : ∥ (1 ≤ maker past x) × (maker past x ≤ 16) ∥₁ =
+    ∥∥₁_map c.requires.may (λ m.
+    m.usable.makers x (c.open_members_may_be_taken_out.ensures.opening past c.args.number c.args.list.now x m.orderly m.sought.ready
+    (sym c.in-Some.ensures)).made) in
+    rw c.maker.ensures (∥∥₁_elim site le_prop (λ s. s.0), ∥∥₁_elim site le_prop (λ s. s.1))
 
 pub with_one_less-fewer-requires-clause-some : goal.with_one_less-fewer-requires-clause-some
 with_one_less-fewer-requires-clause-some t c =
     let past : Past = past_of c.args.seeking.made.now in
     let l : List ℕ = c.args.list.now in
     let x : ℕ = c.in-Some.other in
-    let open_at : IsOpening past c.args.number l x =
-    c.open_members_may_be_taken_out.ensures.opening past c.args.number l x c.requires.orderly c.requires.sought.ready
-    (sym c.in-Some.ensures) in
-    let site = c.requires.usable.makers x open_at.made in
+    ∥∥₁_elim c.requires.may le_prop (λ m.
+    let opening : IsOpening past c.args.number l x =
+    c.open_members_may_be_taken_out.ensures.opening past c.args.number l x m.orderly m.sought.ready (sym c.in-Some.ensures) in
+    let site = m.usable.makers x opening.made in
     let count : get_or c.args.counts (c.maker.result - 1) 0 ≡ from_site past (maker past x) l =
     ap (λ (cs : List ℕ). get_or cs (c.maker.result - 1) 0) c.requires.counts
     ∙ ap (λ (s : ℕ). get_or (clock past l) (s - 1) 0) c.maker.ensures
     ∙ get_or-clock past l (maker past x) site.0 site.1 in
-    omega (arith, count, c.closed_lists_are_told_by_their_counts.ensures.taken_out past (maker past x) x l open_at.member refl)
+    omega (arith, count, c.closed_lists_are_told_by_their_counts.ensures.taken_out past (maker past x) x l opening.member refl))
 
 pub form_behind-requires : goal.form_behind-requires
 form_behind-requires t c =
-    let past : Past = past_of c.args.seeking.made.now in
-    let l : List ℕ = c.args.list.now in
-    let x : ℕ = c.in-Some.other in
-    let open_at : IsOpening past c.args.number l x =
-    c.open_members_may_be_taken_out.ensures.opening past c.args.number l x c.requires.orderly c.requires.sought.ready
-    (sym c.in-Some.ensures) in
-    let older : c.deref.result.now ≡ without x l =
-    c.deref.ensures.value ∙ c.in_ok-older.ensures in
-    let shorter : length c.deref.result.now < length l = omega (arith, ap length older, open_at.shorter) in
-    let site = c.requires.usable.makers x open_at.made in
-    let fewer : c.with_one_less-fewer.result ≡ clock past c.deref.result.now =
-    c.with_one_less-fewer.ensures
-    ∙ rw (c.maker.ensures, c.requires.counts, older) (clock-without past x l
-    (λ s y m. c.closed_lists_are_told_by_their_counts.ensures.taken_out past s y m)
-    (λ s y m. c.closed_lists_are_told_by_their_counts.ensures.others past s y m)
-    open_at.member site.0 site.1) in
-    let sought : IsSought past c.args.seeking.seen.now c.args.number c.deref.result.now =
-    rw older (record {
-      ready = (open_at.next, open_at.closed);
-      sublist = c.sublists_are_told_by_their_sets.ensures.without x l c.args.seeking.seen.now c.requires.sought.sublist;
-    }) in
-    (search (rules, shorter), (c.requires.orderly, (c.requires.seen, (c.requires.usable, (sought, (fewer, (omega (arith, shorter, c.requires.few), (c.requires.table, c.requires.counted))))))))
-
-pub form_behind-requires-2 : goal.form_behind-requires-2
-form_behind-requires-2 t c =
-    let past : Past = past_of c.args.seeking.made.now in
-    let l : List ℕ = c.args.list.now in
-    let x : ℕ = c.in-Some.other in
-    let open_at : IsOpening past c.args.number l x =
-    c.open_members_may_be_taken_out.ensures.opening past c.args.number l x c.requires.orderly c.requires.sought.ready
-    (sym c.in-Some.ensures) in
-    let older : c.deref-2.result.now ≡ without x l =
-    c.deref-2.ensures.value ∙ c.in_ok-older.ensures in
-    let shorter : length c.deref-2.result.now < length l = omega (arith, ap length older, open_at.shorter) in
-    let site = c.requires.usable.makers x open_at.made in
-    let fewer : c.with_one_less-fewer.result ≡ clock past c.deref-2.result.now =
-    c.with_one_less-fewer.ensures
-    ∙ rw (c.maker.ensures, c.requires.counts, older) (clock-without past x l
-    (λ s y m. c.closed_lists_are_told_by_their_counts.ensures.taken_out past s y m)
-    (λ s y m. c.closed_lists_are_told_by_their_counts.ensures.others past s y m)
-    open_at.member site.0 site.1) in
-    let sought : IsSought past c.args.seeking.seen.now x c.deref-2.result.now =
-    rw older (record {
-      ready = (open_at.next_member, open_at.closed);
-      sublist = c.sublists_are_told_by_their_sets.ensures.without x l c.args.seeking.seen.now c.requires.sought.sublist;
-    }) in
-    (search (rules, shorter), (c.requires.orderly, (c.requires.seen, (c.requires.usable, (sought, (fewer, (omega (arith, shorter, c.requires.few), (c.in_ok-own.ensures.table, c.in_ok-own.ensures.counted))))))))
-
--- the forms of the two parts are usable
-pub transform-requires : goal.transform-requires
-transform-requires t c =
-    let f : Function = function_of c.args.seeking.rules.now in
-    let past : Past = past_of c.args.seeking.made.now in
-    let l : List ℕ = c.args.list.now in
-    let x : ℕ = c.in-Some.other in
-    let open_at : IsOpening past c.args.number l x =
-    c.open_members_may_be_taken_out.ensures.opening past c.args.number l x c.requires.orderly c.requires.sought.ready
-    (sym c.in-Some.ensures) in
-    let made = c.members_were_made.ensures past (without x l) open_at.closed in
-    let few : length (without x l) ≤ 1024 = omega (arith, open_at.shorter, c.requires.few) in
-    let own_is : form f past c.args.number (without x l) ≡ Some c.in_ok-own.own =
-    subst (λ (m : List ℕ). form f past c.args.number m ≡ Some c.in_ok-own.own)
-    (c.deref.ensures.value ∙ c.in_ok-older.ensures) c.in_ok-own.ensures.ok in
-    let by_is : form f past x (without x l) ≡ Some c.in_ok-by.by =
-    subst (λ (m : List ℕ). form f past x m ≡ Some c.in_ok-by.by)
-    (c.deref-2.ensures.value ∙ c.in_ok-older.ensures) c.in_ok-by.ensures.ok in
-    let own = form-usable f past c.args.number (without x l) c.in_ok-own.own c.requires.usable open_at.next.made few own_is
-    (c.forms_keep_all_but_the_position.ensures.kept f past c.args.number (without x l) c.in_ok-own.own own_is)
-    (c.forms_keep_all_but_the_position.ensures.near f past most_cells c.args.number (without x l) c.in_ok-own.own
-    c.head-head.ensures.valid (λ y _. c.requires.usable.near y) open_at.next.made made own_is) in
-    let by = form-usable f past x (without x l) c.in_ok-by.by c.requires.usable open_at.made few by_is
-    (c.forms_keep_all_but_the_position.ensures.kept f past x (without x l) c.in_ok-by.by by_is)
-    (c.forms_keep_all_but_the_position.ensures.near f past most_cells x (without x l) c.in_ok-by.by
-    c.head-head.ensures.valid (λ y _. c.requires.usable.near y) open_at.made made by_is) in
-    record { a_declared = own.0; b_declared = by.0; a_in_range = own.1; b_in_range = by.1 }
-
-pub returns-clause-table : goal.returns-clause-table
-returns-clause-table t c =
     let f : Function = function_of c.args.seeking.rules.now in
     let past : Past = past_of c.args.seeking.made.now in
     let seen : List ℕ = c.args.seeking.seen.now in
+    let o : ℕ = c.args.number in
     let l : List ℕ = c.args.list.now in
     let x : ℕ = c.in-Some.other in
-    let own_is : form f past c.args.number (without x l) ≡ Some c.in_ok-own.own =
-    subst (λ (m : List ℕ). form f past c.args.number m ≡ Some c.in_ok-own.own)
-    (c.deref.ensures.value ∙ c.in_ok-older.ensures) c.in_ok-own.ensures.ok in
+    let both : ∥ MaySeek f past seen o l × IsOpening past o l x ∥₁ =
+    ∥∥₁_map c.requires.may (λ m.
+    (m, c.open_members_may_be_taken_out.ensures.opening past o l x m.orderly m.sought.ready (sym c.in-Some.ensures))) in
+    let older : c.deref.result.now ≡ without x l = c.deref.ensures.value ∙ c.in_ok-older.ensures in
+    let shorter : length c.deref.result.now < length l =
+    ∥∥₁_elim both le_prop (λ b. omega (arith, ap length older, b.1.shorter)) in
+    let fewer : c.with_one_less-fewer.result ≡ clock past c.deref.result.now =
+    ∥∥₁_elim both (Coded-set (coded_list coded_ℕ) _ _) (λ b.
+    let site = b.0.usable.makers x b.1.made in
+    c.with_one_less-fewer.ensures
+    ∙ rw (c.maker.ensures, c.requires.counts, older) (clock-without past x l
+    (λ s y m. c.closed_lists_are_told_by_their_counts.ensures.taken_out past s y m)
+    (λ s y m. c.closed_lists_are_told_by_their_counts.ensures.others past s y m)
+    b.1.member site.0 site.1)) in
+    let may : ∥ MaySeek f past seen o c.deref.result.now ∥₁ =
+    ∥∥₁_map both (λ b. subst (λ (m : List ℕ). MaySeek f past seen o m) (sym older)
+    (MaySeek-own f past seen o x l (λ k m. c.sublists_are_told_by_their_sets.ensures.without x k m) b.0 b.1)) in
+    (search (rules, shorter), (may, (fewer, (omega (arith, shorter, c.requires.few), (c.requires.table, c.requires.counted)))))
+
+pub returns-in_err-own-clause-sought : goal.returns-in_err-own-clause-sought
+returns-in_err-own-clause-sought t c = λ names others has total.
+    let f : Function = function_of c.args.seeking.rules.now in
+    let past : Past = past_of c.args.seeking.made.now in
+    let seen : List ℕ = c.args.seeking.seen.now in
+    let o : ℕ = c.args.number in
+    let l : List ℕ = c.args.list.now in
+    let x : ℕ = c.in-Some.other in
+    let split : sought past o l ≡ sought past o (without x l) ++ sought past x (without x l) ++ name_of o l ∷ [] =
+    c.forms_are_sought_before_they_are_made.ensures.some past o l x (sym c.in-Some.ensures) in
+    let e : Refusal = c.in_err-own.field-0.0 in
+    let same : c.from_residual-in_err-own.result ≡ Err e = search rules in
+    let stopped : HasSought f past seen names others o (without x l) c.form_behind.new.table c.form_behind.new.counted (Err e) =
+    subst (λ (m : List ℕ). HasSought f past seen names others o m c.form_behind.new.table c.form_behind.new.counted (Err e))
+    (c.deref.ensures.value ∙ c.in_ok-older.ensures) (c.in_err-own.ensures.sought names others has total) in
+    subst (λ (r : Result Op Refusal). HasSought f past seen names others o l c.form_behind.new.table c.form_behind.new.counted r) (sym same)
+    (HasSought-own f past seen o x l split names others c.form_behind.new.table c.form_behind.new.table c.form_behind.new.counted
+    c.form_behind.new.counted e stopped)
+
+pub form_behind-requires-2 : goal.form_behind-requires-2
+form_behind-requires-2 t c =
+    let f : Function = function_of c.args.seeking.rules.now in
+    let past : Past = past_of c.args.seeking.made.now in
+    let seen : List ℕ = c.args.seeking.seen.now in
+    let o : ℕ = c.args.number in
+    let l : List ℕ = c.args.list.now in
+    let x : ℕ = c.in-Some.other in
+    let both : ∥ MaySeek f past seen o l × IsOpening past o l x ∥₁ =
+    ∥∥₁_map c.requires.may (λ m.
+    (m, c.open_members_may_be_taken_out.ensures.opening past o l x m.orderly m.sought.ready (sym c.in-Some.ensures))) in
+    let older : c.deref-2.result.now ≡ without x l = c.deref-2.ensures.value ∙ c.in_ok-older.ensures in
+    let shorter : length c.deref-2.result.now < length l =
+    ∥∥₁_elim both le_prop (λ b. omega (arith, ap length older, b.1.shorter)) in
+    let fewer : c.with_one_less-fewer.result ≡ clock past c.deref-2.result.now =
+    ∥∥₁_elim both (Coded-set (coded_list coded_ℕ) _ _) (λ b.
+    let site = b.0.usable.makers x b.1.made in
+    c.with_one_less-fewer.ensures
+    ∙ rw (c.maker.ensures, c.requires.counts, older) (clock-without past x l
+    (λ s y m. c.closed_lists_are_told_by_their_counts.ensures.taken_out past s y m)
+    (λ s y m. c.closed_lists_are_told_by_their_counts.ensures.others past s y m)
+    b.1.member site.0 site.1)) in
+    let may : ∥ MaySeek f past seen x c.deref-2.result.now ∥₁ =
+    ∥∥₁_map both (λ b. subst (λ (m : List ℕ). MaySeek f past seen x m) (sym older)
+    (MaySeek-member f past seen o x l (λ k m. c.sublists_are_told_by_their_sets.ensures.without x k m) b.0 b.1)) in
+    let table : ∥ IsTable f past seen c.form_behind.new.table c.form_behind.new.counted ∥₁ =
+    ∥∥₁_elim c.requires.table ∥∥₁_prop (λ old.
+    let own : Seeks f past seen old.names old.others o c.deref.result.now c.form_behind.new.table c.form_behind.new.counted =
+    c.in_ok-own.ensures.sought old.names old.others ∣ old.has ∣₁ old.count in
+    ∥∥₁_map own.table (λ h. record {
+      names = count_sought old.names (sought past o c.deref.result.now);
+      others = old.others;
+      has = h;
+      count = own.count;
+    })) in
+    (search (rules, shorter), (may, (fewer, (omega (arith, shorter, c.requires.few), (table, c.in_ok-own.ensures.counted)))))
+
+pub transform-requires-clause-a_declared : goal.transform-requires-clause-a_declared
+transform-requires-clause-a_declared t c =
+    let f : Function = function_of c.args.seeking.rules.now in
+    let past : Past = past_of c.args.seeking.made.now in
+    let o : ℕ = c.args.number in
+    let l : List ℕ = c.args.list.now in
+    let x : ℕ = c.in-Some.other in
+    let is : form f past o (without x l) ≡ Some c.in_ok-own.own =
+    subst (λ (m : List ℕ). form f past o m ≡ Some c.in_ok-own.own) (c.deref.ensures.value ∙ c.in_ok-older.ensures) c.in_ok-own.ensures.ok in
+    ∥∥₁_elim c.requires.may (hlevel props) (λ m.
+    let opening : IsOpening past o l x =
+    c.open_members_may_be_taken_out.ensures.opening past o l x m.orderly m.sought.ready (sym c.in-Some.ensures) in
+    (form-usable f past o (without x l) c.in_ok-own.own m.usable opening.next.made (omega (arith, opening.shorter, c.requires.few)) is
+    (c.forms_keep_all_but_the_position.ensures.kept f past o (without x l) c.in_ok-own.own is)
+    (c.forms_keep_all_but_the_position.ensures.near f past most_cells o (without x l) c.in_ok-own.own c.head-head.ensures.valid
+    (λ y _. m.usable.near y) opening.next.made (c.members_were_made.ensures.made past (without x l) opening.closed) is)).0)
+
+pub transform-requires-clause-a_in_range : goal.transform-requires-clause-a_in_range
+transform-requires-clause-a_in_range t c =
+    let f : Function = function_of c.args.seeking.rules.now in
+    let past : Past = past_of c.args.seeking.made.now in
+    let o : ℕ = c.args.number in
+    let l : List ℕ = c.args.list.now in
+    let x : ℕ = c.in-Some.other in
+    let is : form f past o (without x l) ≡ Some c.in_ok-own.own =
+    subst (λ (m : List ℕ). form f past o m ≡ Some c.in_ok-own.own) (c.deref.ensures.value ∙ c.in_ok-older.ensures) c.in_ok-own.ensures.ok in
+    ∥∥₁_elim c.requires.may (hlevel props) (λ m.
+    let opening : IsOpening past o l x =
+    c.open_members_may_be_taken_out.ensures.opening past o l x m.orderly m.sought.ready (sym c.in-Some.ensures) in
+    (form-usable f past o (without x l) c.in_ok-own.own m.usable opening.next.made (omega (arith, opening.shorter, c.requires.few)) is
+    (c.forms_keep_all_but_the_position.ensures.kept f past o (without x l) c.in_ok-own.own is)
+    (c.forms_keep_all_but_the_position.ensures.near f past most_cells o (without x l) c.in_ok-own.own c.head-head.ensures.valid
+    (λ y _. m.usable.near y) opening.next.made (c.members_were_made.ensures.made past (without x l) opening.closed) is)).1)
+
+pub transform-requires-clause-b_declared : goal.transform-requires-clause-b_declared
+transform-requires-clause-b_declared t c =
+    let f : Function = function_of c.args.seeking.rules.now in
+    let past : Past = past_of c.args.seeking.made.now in
+    let l : List ℕ = c.args.list.now in
+    let x : ℕ = c.in-Some.other in
+    let is : form f past x (without x l) ≡ Some c.in_ok-by.by =
+    subst (λ (m : List ℕ). form f past x m ≡ Some c.in_ok-by.by) (c.deref-2.ensures.value ∙ c.in_ok-older.ensures) c.in_ok-by.ensures.ok in
+    ∥∥₁_elim c.requires.may (hlevel props) (λ m.
+    let opening : IsOpening past c.args.number l x =
+    c.open_members_may_be_taken_out.ensures.opening past c.args.number l x m.orderly m.sought.ready (sym c.in-Some.ensures) in
+    (form-usable f past x (without x l) c.in_ok-by.by m.usable opening.made (omega (arith, opening.shorter, c.requires.few)) is
+    (c.forms_keep_all_but_the_position.ensures.kept f past x (without x l) c.in_ok-by.by is)
+    (c.forms_keep_all_but_the_position.ensures.near f past most_cells x (without x l) c.in_ok-by.by c.head-head.ensures.valid
+    (λ y _. m.usable.near y) opening.made (c.members_were_made.ensures.made past (without x l) opening.closed) is)).0)
+
+pub transform-requires-clause-b_in_range : goal.transform-requires-clause-b_in_range
+transform-requires-clause-b_in_range t c =
+    let f : Function = function_of c.args.seeking.rules.now in
+    let past : Past = past_of c.args.seeking.made.now in
+    let l : List ℕ = c.args.list.now in
+    let x : ℕ = c.in-Some.other in
+    let is : form f past x (without x l) ≡ Some c.in_ok-by.by =
+    subst (λ (m : List ℕ). form f past x m ≡ Some c.in_ok-by.by) (c.deref-2.ensures.value ∙ c.in_ok-older.ensures) c.in_ok-by.ensures.ok in
+    ∥∥₁_elim c.requires.may (hlevel props) (λ m.
+    let opening : IsOpening past c.args.number l x =
+    c.open_members_may_be_taken_out.ensures.opening past c.args.number l x m.orderly m.sought.ready (sym c.in-Some.ensures) in
+    (form-usable f past x (without x l) c.in_ok-by.by m.usable opening.made (omega (arith, opening.shorter, c.requires.few)) is
+    (c.forms_keep_all_but_the_position.ensures.kept f past x (without x l) c.in_ok-by.by is)
+    (c.forms_keep_all_but_the_position.ensures.near f past most_cells x (without x l) c.in_ok-by.by c.head-head.ensures.valid
+    (λ y _. m.usable.near y) opening.made (c.members_were_made.ensures.made past (without x l) opening.closed) is)).1)
+
+pub returns-in_err-by-clause-sought : goal.returns-in_err-by-clause-sought
+returns-in_err-by-clause-sought t c = λ names others has total.
+    let f : Function = function_of c.args.seeking.rules.now in
+    let past : Past = past_of c.args.seeking.made.now in
+    let seen : List ℕ = c.args.seeking.seen.now in
+    let o : ℕ = c.args.number in
+    let l : List ℕ = c.args.list.now in
+    let x : ℕ = c.in-Some.other in
+    let split : sought past o l ≡ sought past o (without x l) ++ sought past x (without x l) ++ name_of o l ∷ [] =
+    c.forms_are_sought_before_they_are_made.ensures.some past o l x (sym c.in-Some.ensures) in
+    let own : Seeks f past seen names others o (without x l) c.form_behind.new.table c.form_behind.new.counted =
+    subst (λ (m : List ℕ). Seeks f past seen names others o m c.form_behind.new.table c.form_behind.new.counted)
+    (c.deref.ensures.value ∙ c.in_ok-older.ensures) (c.in_ok-own.ensures.sought names others has total) in
+    let first : List FormName = count_sought names (sought past o (without x l)) in
+    let e : Refusal = c.in_err-by.field-0.0 in
+    let same : c.from_residual-in_err-by.result ≡ Err e = search rules in
+    let stopped : HasSought f past seen first others x (without x l) c.form_behind-2.new.table c.form_behind-2.new.counted (Err e) =
+    subst (λ (m : List ℕ). HasSought f past seen first others x m c.form_behind-2.new.table c.form_behind-2.new.counted (Err e))
+    (c.deref-2.ensures.value ∙ c.in_ok-older.ensures) (c.in_err-by.ensures.sought first others own.table own.count) in
+    subst (λ (r : Result Op Refusal). HasSought f past seen names others o l c.form_behind-2.new.table c.form_behind-2.new.counted r) (sym same)
+    (HasSought-by f past seen o x l split names others own.free c.form_behind-2.new.table c.form_behind-2.new.table
+    c.form_behind-2.new.counted c.form_behind-2.new.counted e stopped)
+
+pub returns-in_err-count_one-clause-sought : goal.returns-in_err-count_one-clause-sought
+returns-in_err-count_one-clause-sought t c = λ names others has total.
+    let f : Function = function_of c.args.seeking.rules.now in
+    let past : Past = past_of c.args.seeking.made.now in
+    let seen : List ℕ = c.args.seeking.seen.now in
+    let o : ℕ = c.args.number in
+    let l : List ℕ = c.args.list.now in
+    let x : ℕ = c.in-Some.other in
+    let split : sought past o l ≡ sought past o (without x l) ++ sought past x (without x l) ++ name_of o l ∷ [] =
+    c.forms_are_sought_before_they_are_made.ensures.some past o l x (sym c.in-Some.ensures) in
+    let own : Seeks f past seen names others o (without x l) c.form_behind.new.table c.form_behind.new.counted =
+    subst (λ (m : List ℕ). Seeks f past seen names others o m c.form_behind.new.table c.form_behind.new.counted)
+    (c.deref.ensures.value ∙ c.in_ok-older.ensures) (c.in_ok-own.ensures.sought names others has total) in
+    let first : List FormName = count_sought names (sought past o (without x l)) in
+    let second : List FormName = count_sought first (sought past x (without x l)) in
+    let part : Seeks f past seen first others x (without x l) c.form_behind-2.new.table c.form_behind-2.new.counted =
+    subst (λ (m : List ℕ). Seeks f past seen first others x m c.form_behind-2.new.table c.form_behind-2.new.counted)
+    (c.deref-2.ensures.value ∙ c.in_ok-older.ensures) (c.in_ok-by.ensures.sought first others own.table own.count) in
+    let joined : (a b : List FormName) → count_sought names (a ++ b) ≡ count_sought (count_sought names a) b =
+    λ a b. c.counted_forms_need_not_be_sought.ensures.joined names a b in
+    let new : is_among second (name_of o l) ≡ false =
+    ∥∥₁_elim (∥∥₁_map₂ c.requires.may has (λ m h.
+    subst (λ (more : List FormName). is_among more (name_of o l) ≡ false) (joined (sought past o (without x l)) (sought past x (without x l)))
+    (c.counted_forms_need_not_be_sought.ensures.last past names o l x m.orderly m.sought.ready (sym c.in-Some.ensures)
+    (unstored-new past seen (λ s k n. c.closed_lists_are_told_by_their_counts.ensures.counts past s k n)
+    c.closed_lists_are_told_by_their_counts.ensures.tested names c.args.table.now o l m.sought.ready.1 h.counted h.stored
+    (subst (λ (cs : List ℕ). form_under (record { number = o; counts = cs }) c.args.table.now ≡ None) c.requires.counts
+    (sym c.find.ensures ∙ c.in_default-find.is)))))) (Coded-set coded_bool _ _) (λ same. same) in
+    let full = c.in_err-count_one.ensures.err in
+    let same : c.from_residual-in_err-count_one.result ≡ Err c.in_err-count_one.field-0.0 = search rules in
+    subst (λ (r : Result Op Refusal). HasSought f past seen names others o l c.form_behind-2.new.table c.count_one.new.counted r)
+    (ap (λ (e : Refusal). Err e) (sym full.0) ∙ sym same)
+    (first_obstacle-itself f past seen o x l split names others own.free joined part.free (Some Exhausted)
+    (first_obstacle-exhausted f past (others + length second) second (name_of o l) new (sym part.count ∙ full.1)))
+
+pub returns-in_default-transform-clause-sought : goal.returns-in_default-transform-clause-sought
+returns-in_default-transform-clause-sought t c = λ names others has total.
+    let f : Function = function_of c.args.seeking.rules.now in
+    let past : Past = past_of c.args.seeking.made.now in
+    let seen : List ℕ = c.args.seeking.seen.now in
+    let o : ℕ = c.args.number in
+    let l : List ℕ = c.args.list.now in
+    let x : ℕ = c.in-Some.other in
+    let split : sought past o l ≡ sought past o (without x l) ++ sought past x (without x l) ++ name_of o l ∷ [] =
+    c.forms_are_sought_before_they_are_made.ensures.some past o l x (sym c.in-Some.ensures) in
+    let own : Seeks f past seen names others o (without x l) c.form_behind.new.table c.form_behind.new.counted =
+    subst (λ (m : List ℕ). Seeks f past seen names others o m c.form_behind.new.table c.form_behind.new.counted)
+    (c.deref.ensures.value ∙ c.in_ok-older.ensures) (c.in_ok-own.ensures.sought names others has total) in
+    let first : List FormName = count_sought names (sought past o (without x l)) in
+    let second : List FormName = count_sought first (sought past x (without x l)) in
+    let part : Seeks f past seen first others x (without x l) c.form_behind-2.new.table c.form_behind-2.new.counted =
+    subst (λ (m : List ℕ). Seeks f past seen first others x m c.form_behind-2.new.table c.form_behind-2.new.counted)
+    (c.deref-2.ensures.value ∙ c.in_ok-older.ensures) (c.in_ok-by.ensures.sought first others own.table own.count) in
+    let joined : (a b : List FormName) → count_sought names (a ++ b) ≡ count_sought (count_sought names a) b =
+    λ a b. c.counted_forms_need_not_be_sought.ensures.joined names a b in
+    let new : is_among second (name_of o l) ≡ false =
+    ∥∥₁_elim (∥∥₁_map₂ c.requires.may has (λ m h.
+    subst (λ (more : List FormName). is_among more (name_of o l) ≡ false) (joined (sought past o (without x l)) (sought past x (without x l)))
+    (c.counted_forms_need_not_be_sought.ensures.last past names o l x m.orderly m.sought.ready (sym c.in-Some.ensures)
+    (unstored-new past seen (λ s k n. c.closed_lists_are_told_by_their_counts.ensures.counts past s k n)
+    c.closed_lists_are_told_by_their_counts.ensures.tested names c.args.table.now o l m.sought.ready.1 h.counted h.stored
+    (subst (λ (cs : List ℕ). form_under (record { number = o; counts = cs }) c.args.table.now ≡ None) c.requires.counts
+    (sym c.find.ensures ∙ c.in_default-find.is)))))) (Coded-set coded_bool _ _) (λ same. same) in
+    let own_is : form f past o (without x l) ≡ Some c.in_ok-own.own =
+    subst (λ (m : List ℕ). form f past o m ≡ Some c.in_ok-own.own) (c.deref.ensures.value ∙ c.in_ok-older.ensures) c.in_ok-own.ensures.ok in
     let by_is : form f past x (without x l) ≡ Some c.in_ok-by.by =
-    subst (λ (m : List ℕ). form f past x m ≡ Some c.in_ok-by.by)
-    (c.deref-2.ensures.value ∙ c.in_ok-older.ensures) c.in_ok-by.ensures.ok in
-    let is : form f past c.args.number l ≡ Some c.in-Some-transform.form =
-    c.forms_are_made_from_shorter_ones.ensures.moved f past c.args.number l x (sym c.in-Some.ensures)
+    subst (λ (m : List ℕ). form f past x m ≡ Some c.in_ok-by.by) (c.deref-2.ensures.value ∙ c.in_ok-older.ensures) c.in_ok-by.ensures.ok in
+    let unspent : others + length second ≢ MAX_FORMS =
+    λ same. omega (arith, same, part.count, c.in_ok-count_one.ensures.ok, c.count_one.ensures.within) in
+    let none : form f past o l ≡ None =
+    c.forms_are_made_from_shorter_ones.ensures.moved f past o l x (sym c.in-Some.ensures)
+    ∙ rw (own_is, by_is) (sym c.transform.ensures ∙ c.in_default-transform.is) in
+    first_obstacle-itself f past seen o x l split names others own.free joined part.free (Some Missing)
+    (first_obstacle-missing f past (others + length second) second (name_of o l) new unspent none)
+
+pub returns-clause-sought : goal.returns-clause-sought
+returns-clause-sought t c = λ names others has total.
+    let f : Function = function_of c.args.seeking.rules.now in
+    let past : Past = past_of c.args.seeking.made.now in
+    let seen : List ℕ = c.args.seeking.seen.now in
+    let o : ℕ = c.args.number in
+    let l : List ℕ = c.args.list.now in
+    let x : ℕ = c.in-Some.other in
+    let split : sought past o l ≡ sought past o (without x l) ++ sought past x (without x l) ++ name_of o l ∷ [] =
+    c.forms_are_sought_before_they_are_made.ensures.some past o l x (sym c.in-Some.ensures) in
+    let own : Seeks f past seen names others o (without x l) c.form_behind.new.table c.form_behind.new.counted =
+    subst (λ (m : List ℕ). Seeks f past seen names others o m c.form_behind.new.table c.form_behind.new.counted)
+    (c.deref.ensures.value ∙ c.in_ok-older.ensures) (c.in_ok-own.ensures.sought names others has total) in
+    let first : List FormName = count_sought names (sought past o (without x l)) in
+    let second : List FormName = count_sought first (sought past x (without x l)) in
+    let part : Seeks f past seen first others x (without x l) c.form_behind-2.new.table c.form_behind-2.new.counted =
+    subst (λ (m : List ℕ). Seeks f past seen first others x m c.form_behind-2.new.table c.form_behind-2.new.counted)
+    (c.deref-2.ensures.value ∙ c.in_ok-older.ensures) (c.in_ok-by.ensures.sought first others own.table own.count) in
+    let joined : (a b : List FormName) → count_sought names (a ++ b) ≡ count_sought (count_sought names a) b =
+    λ a b. c.counted_forms_need_not_be_sought.ensures.joined names a b in
+    let new : is_among second (name_of o l) ≡ false =
+    ∥∥₁_elim (∥∥₁_map₂ c.requires.may has (λ m h.
+    subst (λ (more : List FormName). is_among more (name_of o l) ≡ false) (joined (sought past o (without x l)) (sought past x (without x l)))
+    (c.counted_forms_need_not_be_sought.ensures.last past names o l x m.orderly m.sought.ready (sym c.in-Some.ensures)
+    (unstored-new past seen (λ s k n. c.closed_lists_are_told_by_their_counts.ensures.counts past s k n)
+    c.closed_lists_are_told_by_their_counts.ensures.tested names c.args.table.now o l m.sought.ready.1 h.counted h.stored
+    (subst (λ (cs : List ℕ). form_under (record { number = o; counts = cs }) c.args.table.now ≡ None) c.requires.counts
+    (sym c.find.ensures ∙ c.in_default-find.is)))))) (Coded-set coded_bool _ _) (λ same. same) in
+    let own_is : form f past o (without x l) ≡ Some c.in_ok-own.own =
+    subst (λ (m : List ℕ). form f past o m ≡ Some c.in_ok-own.own) (c.deref.ensures.value ∙ c.in_ok-older.ensures) c.in_ok-own.ensures.ok in
+    let by_is : form f past x (without x l) ≡ Some c.in_ok-by.by =
+    subst (λ (m : List ℕ). form f past x m ≡ Some c.in_ok-by.by) (c.deref-2.ensures.value ∙ c.in_ok-older.ensures) c.in_ok-by.ensures.ok in
+    let unspent : others + length second ≢ MAX_FORMS =
+    λ same. omega (arith, same, part.count, c.in_ok-count_one.ensures.ok, c.count_one.ensures.within) in
+    let is : form f past o l ≡ Some c.in-Some-transform.form =
+    c.forms_are_made_from_shorter_ones.ensures.moved f past o l x (sym c.in-Some.ensures)
     ∙ rw (own_is, by_is) (sym c.in-Some-transform.ensures) in
-    rw c.in_ok-store.ensures.ok
-    (AreForms-insert f past seen (record { number = c.args.number; counts = c.args.counts }) c.in-Some-transform.form
-    c.form_behind-2.new.table c.in_ok-by.ensures.table
-    (record { list = l; sought = c.requires.sought; counts = c.requires.counts; is = is }))
+    let last : count_sought names (sought past o l) ≡ name_of o l ∷ second =
+    count_sought-itself f past seen o x l split names others own.free joined part.free new in
+    let both : ∥ MaySeek f past seen o l × HasForms f past seen names c.args.table.now ∥₁ = ∥∥₁_map₂ c.requires.may has (λ m h. (m, h)) in
+    record {
+      free = first_obstacle-itself f past seen o x l split names others own.free joined part.free None
+          (first_obstacle-there f past (others + length second) second (name_of o l) c.in-Some-transform.form new unspent is);
+      table = rw (last, c.in_ok-store.ensures.ok, c.requires.counts)
+          (∥∥₁_elim both ∥∥₁_prop (λ b. ∥∥₁_map part.table (λ h.
+          HasForms-insert f past seen second o l c.in-Some-transform.form c.form_behind-2.new.table
+          c.closed_lists_are_told_by_their_counts.ensures.tested h b.0.sought is
+          (subst (λ (more : List FormName). AreCounted past seen more) last
+          (c.counted_forms_need_not_be_sought.ensures.kept past seen names o l b.0.orderly b.0.sought.ready b.0.sought.sublist
+          b.1.counted)))));
+      count = rw last (omega (arith, part.count, c.in_ok-count_one.ensures.ok));
+    }

@@ -1,4 +1,5 @@
-use Rattle.std.proofs.Common.{◌≡◌, ◌<◌, ◌-◌, ◌++◌, ◌∷◌, [], ℕ, Bool, List, length, map, Some, refl, sym, ap, ◌∙◌, get_or, subst, arith}
+use Rattle.std.proofs.Common.{◌≡◌, ◌++◌, ◌∷◌, [], ℕ, Bool, List, length, Some, refl, sym, ap, ◌∙◌, get_or, subst, arith}
+use Rattle.std.specs.Prelude.{slice_get}
 use Rattle.std.specs.Coded.{le_prop}
 use Rattle.std.proofs.Math.Logic.{∥∥₁_elim}
 use Rattle.std.proofs.Math.Seq.{map-set_same}
@@ -6,8 +7,9 @@ use Rattle.std.proofs.lemmas.Option.{slice_get_read}
 use Rattle.ot_session.specs.declared.limits.TheConstants.{MAX_MADE}
 use Rattle.ot_session.specs.declared.made.Made.{Made}
 use Rattle.ot_session.specs.declared.site.Site.{Site}
-use Rattle.ot_session.specs.Sites.{view_site, IsMarked, Executes, ExecutesAt}
-use Rattle.ot_session.proofs.Lists.{AllByRecursion-at}
+use Rattle.ot_session.specs.Sites.{view_site, IsMarked, IsSorted, IsSameSite, Executes}
+use Rattle.ot_session.proofs.Lists.{AllByRecursion-at, AllByRecursion-set}
+use Rattle.ot_session.proofs.Turns.{IsSorted-same}
 use Rattle.ot_session.proofs.Views.{view_site-same}
 use Rattle.ot_session.proofs.steps.execute_at.Goals as goal
 
@@ -47,3 +49,14 @@ returns-in-Err-clause-sites c =
     let site = c.index-sites-place.result in
     map-set_same view_site sites c.args.place c.execute.new.self site
     (view_site-same (get_or sites c.args.place site) c.execute.new.self c.in-Err.ensures.err)
+
+pub returns-in-Err-clause-sorted : goal.returns-in-Err-clause-sorted
+returns-in-Err-clause-sorted c = λ n all.
+    let sites : List Site = c.args.sites.now in
+    let site : Site = c.index-sites-place.result in
+    let was : slice_get sites c.args.place ≡ Some site =
+    slice_get_read sites (length sites) c.args.place site refl c.requires.place c.index-sites-place.is in
+    let same : IsSameSite site c.execute.new.self =
+    subst (λ (old : Site). IsSameSite old c.execute.new.self) (sym c.index-sites-place.is) c.in-Err.ensures.err in
+    AllByRecursion-set (IsSorted n) sites c.args.place c.execute.new.self all
+    (IsSorted-same n site c.execute.new.self same (AllByRecursion-at (IsSorted n) sites c.args.place site all was))

@@ -1,4 +1,4 @@
-use Rattle.std.proofs.Common.{◌≡◌, ◌≤◌, ◌-◌, length}
+use Rattle.std.proofs.Common.{◌≤◌, ◌-◌, length}
 use Rattle.std.specs.List.{AllByRecursion}
 use Rattle.ot_session.specs.Sites.{IsFresh}
 use Rattle.ot_session.proofs.steps.fresh_sites.Given as goal

@@ -1,4 +1,4 @@
-use Rattle.std.proofs.Common.{◌≡◌, ◌<◌, ◌-◌, ℕ, List, length, map, Some, sym, ap, ◌∙◌, arith}
+use Rattle.std.proofs.Common.{◌<◌, ◌-◌, ℕ, List, length, Some, sym, ap, ◌∙◌, arith}
 use Rattle.std.specs.Coded.{Coded-set}
 use Rattle.std.proofs.Math.Logic.{∥∥₁_elim}
 use Rattle.std.proofs.lemmas.List.{length-map}
@@ -16,3 +16,10 @@ returns-clause-state c =
     (λ k.
     k.sound.documents t c.requires
     ∙ ap (λ (d : List Cell). Some d) (ap document_in (viewed s.sites.items (t - 1) c.index.result.now inside c.index.ensures)))
+
+pub returns-clause-held : goal.returns-clause-held
+returns-clause-held c =
+    let s = c.args.self.now in
+    let t : ℕ = c.args.site in
+    let inside : t - 1 < length s.sites.items = omega (arith, c.requires.low, c.requires.high, length-map s.sites.items view_site) in
+    sym (ap document_in (viewed s.sites.items (t - 1) c.index.result.now inside c.index.ensures))

@@ -1,9 +1,10 @@
-use Rattle.std.proofs.Common.{◌≡◌, ◌<◌, ◌≤◌, ◌+◌, ◌-◌, ◌∷◌, [], ℕ, List, length, length-append, map, Option, Some, None, true, false, refl, sym, ap, ◌∙◌, subst, reverse, arith}
+use Rattle.std.proofs.Common.{◌≡◌, ◌<◌, ◌-◌, ◌∷◌, [], ℕ, List, length, length-append, map, Option, Some, None, refl, sym, ap, ◌∙◌, subst, arith}
 use Rattle.std.specs.Prelude.{slice_get, IfSome}
 use Rattle.std.specs.Option.{option_map}
-use Rattle.std.specs.Coded.{Coded-set, coded_bool}
+use Rattle.std.specs.Coded.{Coded-set, coded_bool, coded_ℕ}
 use Rattle.std.specs.Vec.{with_items}
-use Rattle.std.proofs.Math.Logic.{∥∥₁_elim, ∥∥₁_map}
+use Rattle.std.proofs.lemmas.Bool.{false≢true}
+use Rattle.std.proofs.Math.Logic.{∥∥₁_elim, ∥∥₁_map, ∥∥₁_map₂}
 use Rattle.std.proofs.lemmas.List.{length-map, length-set, with_items_is}
 use Rattle.std.proofs.lemmas.Option.{slice_get-map}
 use Rattle.ot_model.specs.declared.cell.Cell.{Cell}
@@ -13,14 +14,16 @@ use Rattle.ot_model.specs.Effect.{IsEnabled}
 use Rattle.fn_rules.specs.declared.function.Head.{Head}
 use Rattle.fn_rules.specs.Functions.{Function, HasDeclaredKind}
 use Rattle.fn_rules.specs.Rules.{function_of}
-use Rattle.ot_causal.specs.Sessions.{IsSite}
+use Rattle.ot_causal.specs.Past.{Past, Extends}
+use Rattle.ot_causal.specs.Sessions.{SessionData, IsSite, IsSound, Makes, MayMake, all_counted}
 use Rattle.ot_session.specs.declared.made.Made.{Made}
 use Rattle.ot_session.specs.declared.site.Site.{Site}
 use Rattle.ot_session.specs.declared.limits.TheConstants.{MAX_MADE}
-use Rattle.ot_session.specs.Sites.{view_site, document_in, ExecutesAt, IsMarked, IsKept}
+use Rattle.ot_session.specs.Sites.{view_site, document_in, data_of, ExecutesAt, IsSorted}
+use Rattle.ot_session.specs.Past.{past_of}
 use Rattle.ot_session.specs.Views.{View, HasMade}
 use Rattle.ot_session.proofs.Lists.{AllByRecursion-at}
-use Rattle.ot_session.proofs.Making.{Makes-executed, held-executed, IsKept-executed}
+use Rattle.ot_session.proofs.Making.{all-marked, extends-executed, Makes-executed, held-executed, may_make, makes, IsKept-executed, counts-executed, KeepsForms-executed}
 use Rattle.ot_session.proofs.session.Session.make.Goals as goal
 
 -- a fact of what is found, if something is
@@ -31,7 +34,7 @@ IfSome-from P (Some site) all = all site refl
 pub execute_at-requires-clause-room : goal.execute_at-requires-clause-room
 execute_at-requires-clause-room c =
     let s = c.args.self.now in
-    ∥∥₁_map s.kept (λ k. rw c.deref_mut.ensures.value k.marked)
+    ∥∥₁_map s.kept (λ k. rw c.deref_mut.ensures.value (all-marked (length s.made.items) s.sites.items k.sorted))
 
 pub execute_at-requires-clause-enabled : goal.execute_at-requires-clause-enabled
 execute_at-requires-clause-enabled c =
@@ -58,10 +61,15 @@ invariant_of-self-in-Err c =
     let items : (with_items s.sites new_sites).items ≡ new_sites = with_items_is s.sites new_sites (len ∙ sym s.sites.ok.0) in
     record {
       few = rw c.in-Err.ensures.made s.few;
+      small = s.small;
+      most = rw items (omega (arith, len, s.most));
+      within = s.within;
       kept = ∥∥₁_map s.kept (λ k. record {
         sound = rw (items, same_views, c.in-Err.ensures.made) k.sound;
-        marked = rw items (c.in-Err.ensures.marked (rw c.deref_mut.ensures.value k.marked));
+        sorted = rw (items, c.in-Err.ensures.made) (c.in-Err.ensures.sorted (length s.made.items) (rw c.deref_mut.ensures.value k.sorted));
       });
+      forms = λ is. absurd (false≢true is);
+      counts = λ is. absurd (false≢true is);
     }
 
 pub invariant_of-self-in-Ok-1 : goal.invariant_of-self-in-Ok-1
@@ -84,11 +92,35 @@ invariant_of-self-in-Ok-1 c =
     let few : length made < MAX_MADE = omega (arith, s.few, c.if-len-eq-MAX_MADE.false, c.len.ensures, s.made.ok.0) in
     let own : site_of o ≡ Some t = c.if-not-is_made_at.ensures.0 refl in
     let declared : HasDeclaredKind f.head (kind_of o) = c.if-not-has_declared_kind.ensures.0 refl in
+    let past : Past = past_of made in
+    let new_past : Past = past_of new_made in
+    let extends : Extends past new_past = extends-executed f s.first t o made new_made sites new_sites at step in
+    let law : (old new : SessionData) → IsSound f old → MayMake f old t o → Makes f old new t o → IsSound f new =
+    λ old new. c.steps_keep_sessions_sound.ensures.made f old new t o in
     record {
       few = omega (arith, few, ap length step.made ∙ length-append made (record { op = o; known = step.before.integrated } ∷ []));
+      small = s.small;
+      most = rw items (omega (arith, len, s.most));
+      within = s.within;
       kept = ∥∥₁_map s.kept (λ k. rw items
-          (IsKept-executed f s.first t o made new_made sites new_sites at step
-          (λ old new. c.steps_keep_sessions_sound.ensures.made f old new t o) own declared few k));
+          (IsKept-executed f s.first t o made new_made sites new_sites at step few own declared k law));
+      forms = λ is. ∥∥₁_map₂ s.kept (s.forms is) (λ k forms. rw items
+          (KeepsForms-executed f s.first t o made new_made sites new_sites at step few own declared k law
+          (c.members_were_made.ensures.made past)
+          (λ l. c.making_more_changes_nothing.ensures.closed past new_past l extends)
+          (λ n l. c.making_more_changes_nothing.ensures.forms f past new_past n l extends)
+          (λ l. c.counted_forms_need_not_be_sought.ensures.counted new_past l
+          (c.open_members_may_be_taken_out.ensures.order f new_past s.first
+          (IsKept-executed f s.first t o made new_made sites new_sites at step few own declared k law).sound.past))
+          (c.steps_count_what_they_seek.ensures.made f (data_of s.first made (map view_site sites)) (data_of s.first new_made (map view_site new_sites)) t o
+          k.sound (may_make f s.first t o made new_made sites new_sites at step own declared)
+          (makes f s.first t o made new_made sites new_sites at step few own declared k law))
+          (λ l. c.making_more_changes_nothing.ensures.counted past new_past l extends)
+          forms));
+      counts = λ is. subst (λ (ss : List Site). s.counted ≡ all_counted (data_of s.first new_made (map view_site ss))) (sym items)
+          (∥∥₁_elim s.kept (Coded-set coded_ℕ _ _) (λ k.
+          counts-executed f s.first t o made new_made sites new_sites at step few own declared k law
+          (λ old new. c.steps_count_what_they_seek.ensures.all_made f old new t o) s.counted (s.counts is)));
     }
 
 pub returns-in-Ok-clause-made : goal.returns-in-Ok-clause-made
@@ -116,7 +148,7 @@ returns-in-Ok-clause-made c =
       number = c.in-Ok.ensures.number;
       makes = Makes-executed f s.first t o made new_made sites new_sites at step
           (λ x. ∥∥₁_elim s.kept (Coded-set coded_bool _ _)
-          (λ k. (AllByRecursion-at IsMarked sites (t - 1) step.before k.marked step.was).marks x));
+          (λ k. (AllByRecursion-at (IsSorted (length made)) sites (t - 1) step.before k.sorted step.was).marked.marks x));
       function = refl;
       held = held-executed f s.first t o made new_made sites new_sites at step;
       counted = refl;

@@ -1,4 +1,4 @@
-use Rattle.std.proofs.Common.{◌≡◌, ◌∙◌, ℕ, List, Bool, false, sym, ap, length, replicate, reverse, refl}
+use Rattle.std.proofs.Common.{false}
 use Rattle.std.proofs.lemmas.List.{length-replicate}
 use Rattle.ot_session.specs.declared.limits.TheConstants.{MAX_MADE}
 use Rattle.ot_session.proofs.Marks.{unmarked}
@@ -17,4 +17,5 @@ returns c =
         integrated = rw integrated (length-replicate MAX_MADE false);
         held = rw held (length-replicate MAX_MADE false);
       };
+      table = c.new-2.ensures;
     }

@@ -1,5 +1,4 @@
-use Rattle.std.proofs.Common.{◌∙◌, ap, sym}
-use Rattle.ot_session.specs.Entries.{form_under}
+use Rattle.std.proofs.Common.{◌∙◌}
 use Rattle.ot_session.proofs.table.Table.find.Goals as goal
 
 pub returns : goal.returns

@@ -1,0 +1,19 @@
+-- What is in the way of forms, on small lists.
+use Rattle.std.proofs.Common.{◌≡◌, [], ◌∷◌, Some, None, refl}
+use Rattle.fn_rules.specs.Functions.{Function}
+use Rattle.ot_causal.specs.Past.{Past}
+use Rattle.ot_causal.specs.Counting.{name_of}
+use Rattle.ot_session.specs.Seeking.{Exhausted, first_obstacle}
+
+module _ (f : Function) (past : Past) where
+  -- nothing is sought
+  nothing_is_in_the_way : first_obstacle f past 7 [] [] ≡ None
+  nothing_is_in_the_way = refl
+
+  -- form 500,001 is wanted
+  one_form_too_many : first_obstacle f past 500000 [] (name_of 1 (0 ∷ []) ∷ []) ≡ Some Exhausted
+  one_form_too_many = refl
+
+  -- a form that was counted, behind its list in another order, is not counted again
+  a_form_that_was_counted : first_obstacle f past 500000 (name_of 2 (0 ∷ 1 ∷ []) ∷ []) (name_of 2 (1 ∷ 0 ∷ []) ∷ []) ≡ None
+  a_form_that_was_counted = refl

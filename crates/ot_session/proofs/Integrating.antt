@@ -1,0 +1,178 @@
+-- A site at which an operation was integrated.
+use Rattle.std.proofs.Common.{◌≡◌, ◌≢◌, ◌<◌, ◌≤◌, ◌+◌, ◌-◌, ◌++◌, ◌∷◌, [], ℕ, Bool, true, false, List, length, Option, Some, None, Result, sym, ap, ◌∙◌, subst, inl, inr, arith, reverse}
+use Rattle.std.specs.Prelude.{nat_eq, slice_set}
+use Rattle.std.specs.List.{AllByRecursion}
+use Rattle.std.proofs.Common.{get_or-set_other}
+use Rattle.std.proofs.lemmas.Bool.{false≢true, cases_eq, ne_eqb, or_from}
+use Rattle.std.proofs.lemmas.Grind.{get_or-set_at}
+use Rattle.std.proofs.lemmas.List.{length-set, reverse-append}
+use Rattle.ot_model.specs.declared.op.Op.{Op}
+use Rattle.ot_model.specs.Effect.{is_enabled, document_after}
+use Rattle.fn_rules.specs.Functions.{Function}
+use Rattle.ot_causal.specs.Members.{has, IsSublist, skip}
+use Rattle.ot_causal.specs.Past.{Past, IsNext, IsClosed}
+use Rattle.ot_causal.specs.Forms.{form}
+use Rattle.ot_causal.specs.Counting.{FormName, sought, counted, count_sought, AreCounted}
+use Rattle.ot_session.specs.declared.limits.TheConstants.{MAX_MADE}
+use Rattle.ot_session.specs.declared.site.Site.{Site}
+use Rattle.ot_session.specs.declared.table.Key.{Key}
+use Rattle.ot_session.specs.Past.{is_marked}
+use Rattle.ot_session.specs.declared.form.Refusal.{Refusal}
+use Rattle.ot_session.specs.Entries.{IsFormEntry, HasForms, IsTable, MaySeek, Seeks, HasSought}
+use Rattle.ot_session.specs.Seeking.{Obstacle, Missing, Exhausted, first_obstacle, IsSpent}
+use Rattle.ot_session.specs.Sites.{IsMarked, IsApart, CanTake}
+use Rattle.ot_session.specs.Taking.{standing, HasIntegrated}
+use Rattle.ot_session.proofs.Marks.{marked-set}
+
+module _ (f : Function) (past : Past) (seen : List ℕ) (n : ℕ) where
+  entries-longer : (names : List FormName) (es : List (Key × Op)) → AllByRecursion (IsFormEntry f past seen names) es
+      → AllByRecursion (IsFormEntry f past (n ∷ seen) names) es
+  entries-longer names [] all = tt
+  entries-longer names (e ∷ es) all = (
+    record {
+      list = all.0.list;
+      sought = record { ready = all.0.sought.ready; sublist = skip n all.0.list seen all.0.sought.sublist };
+      counts = all.0.counts;
+      is = all.0.is;
+      counted = all.0.counted;
+    },
+    entries-longer names es all.1,
+  )
+
+  -- the forms of a site are those of the site when it has integrated more
+  pub HasForms-longer : (names : List FormName) (es : List (Key × Op)) → (AreCounted past seen names → AreCounted past (n ∷ seen) names)
+      → HasForms f past seen names es → HasForms f past (n ∷ seen) names es
+  HasForms-longer names es longer has = record {
+    counted = longer has.counted;
+    forms = entries-longer names es has.forms;
+    stored = has.stored;
+  }
+
+  -- what is in the way, where so many were counted in all
+  pub first_obstacle-total : (others total : ℕ) (found : Option Obstacle) → total ≡ others + length (counted past seen)
+      → first_obstacle f past (others + length (counted past seen)) (counted past seen) (sought past n seen) ≡ found
+      → first_obstacle f past total (counted past seen) (sought past n seen) ≡ found
+  first_obstacle-total others total found same is =
+      subst (λ (m : ℕ). first_obstacle f past m (counted past seen) (sought past n seen) ≡ found) (sym same) is
+
+  -- nothing in the way: the count is not spent
+  pub unspent-none : (total : ℕ) → first_obstacle f past total (counted past seen) (sought past n seen) ≡ None → ¬ (IsSpent f past total seen n)
+  unspent-none total none spent = let two : None ≡ Some Exhausted = sym none ∙ spent in cc
+
+  pub unspent-missing : (total : ℕ) → first_obstacle f past total (counted past seen) (sought past n seen) ≡ Some Missing
+      → ¬ (IsSpent f past total seen n)
+  unspent-missing total missing spent = let two : Some Missing ≡ Some Exhausted = sym missing ∙ spent in cc
+
+-- an operation with this form was executed at a site, whose table is this one now
+pub record Changes (f : Function) (n : ℕ) (p : Op) (table : List (Key × Op)) (old new : Site) : Type 0 where
+  pub document : new.doc ≡ document_after f.head.mode p old.doc
+  pub seen : new.seen.items ≡ old.seen.items ++ n ∷ []
+  pub integrated : new.integrated ≡ slice_set old.integrated n true
+  pub held : new.held ≡ slice_set old.held n false
+  pub stored : new.table ≡ table
+
+module _ (f : Function) (past : Past) (n : ℕ) (p : Op) (table : List (Key × Op)) (old new : Site) (change : Changes f n p table old new)
+    (next : IsNext past (reverse old.seen.items) n)
+    (counted_next : (o : ℕ) (l : List ℕ) → counted past (o ∷ l) ≡ count_sought (counted past l) (sought past o l)) where
+  seen_now : reverse new.seen.items ≡ n ∷ reverse old.seen.items
+  seen_now = ap (λ (l : List ℕ). reverse l) change.seen ∙ reverse-append old.seen.items (n ∷ [])
+
+  pub HasIntegrated-changed : (others total more : ℕ) → total ≡ others + length (counted past (reverse old.seen.items))
+      → Seeks f past (reverse old.seen.items) (counted past (reverse old.seen.items)) others n (reverse old.seen.items) table more
+      → form f past n (reverse old.seen.items) ≡ Some p → is_enabled p (length old.doc) ≡ true
+      → HasIntegrated f past n (standing old total) (standing new more)
+  HasIntegrated-changed others total more same seeks is enabled = record {
+    next = next;
+    unspent = unspent-none f past (reverse old.seen.items) n total
+        (first_obstacle-total f past (reverse old.seen.items) n others total None same seeks.free);
+    counted = omega (
+      arith,
+      same,
+      seeks.count,
+      ap (λ (l : List ℕ). length (counted past l)) seen_now,
+      ap (λ (names : List FormName). length names) (counted_next n (reverse old.seen.items)),
+    );
+    document = rw (is, enabled) (ap Some (sym change.document));
+    seen = seen_now;
+    held = change.held;
+  }
+
+  apart_now : IsApart past.count old → n < length old.held → IsApart past.count new
+  apart_now apart inside = record {
+    made = λ x is. apart.made x (elim (cases_eq x n) [
+      | inl same ↦ absurd (false≢true (sym (here x same) ∙ is))
+      | inr differ ↦ sym (other x differ) ∙ is
+    ]);
+    other = λ x is. elim (cases_eq x n) [
+      | inl same ↦ absurd (false≢true (sym (here x same) ∙ is))
+      | inr differ ↦ ap (λ (l : List ℕ). has l x) seen_now
+          ∙ or_from (nat_eq x n) (has (reverse old.seen.items) x) (ne_eqb x n differ) (apart.other x (sym (other x differ) ∙ is))
+    ];
+  }
+    where
+      here : (x : ℕ) → x ≡ n → is_marked new.held x ≡ false
+      here x same = ap (λ (marks : List Bool). is_marked marks x) change.held ∙ get_or-set_at old.held n x false false same inside
+
+      other : (x : ℕ) → x ≢ n → is_marked new.held x ≡ is_marked old.held x
+      other x differ = ap (λ (marks : List Bool). is_marked marks x) change.held ∙ get_or-set_other old.held n x false false differ
+
+  marked_now : IsMarked old → n < length old.integrated → IsMarked new
+  marked_now marked inside = record {
+    marks = λ x. rw (change.integrated, seen_now) (marked-set old.integrated (reverse old.seen.items) n inside marked.marks x);
+    integrated = ap (λ (marks : List Bool). length marks) change.integrated ∙ length-set old.integrated n true ∙ marked.integrated;
+    held = ap (λ (marks : List Bool). length marks) change.held ∙ length-set old.held n false ∙ marked.held;
+  }
+
+  -- the site can take more
+  pub CanTake-changed : past.count ≤ MAX_MADE
+      → ((names : List FormName) → AreCounted past (reverse old.seen.items) names → AreCounted past (n ∷ reverse old.seen.items) names)
+      → CanTake f past old
+      → HasForms f past (reverse old.seen.items) (count_sought (counted past (reverse old.seen.items)) (sought past n (reverse old.seen.items))) table
+      → CanTake f past new
+  CanTake-changed few longer can forms = record {
+    orderly = can.orderly;
+    usable = can.usable;
+    closed = subst (λ (l : List ℕ). IsClosed past l) (sym seen_now) (next, can.closed);
+    sorted = record {
+      marked = marked_now can.sorted.marked (omega (arith, few, next.made, can.sorted.marked.integrated));
+      apart = apart_now can.sorted.apart (omega (arith, few, next.made, can.sorted.marked.held));
+    };
+    forms = record {
+      has = rw (seen_now, counted_next n (reverse old.seen.items), change.stored)
+          (HasForms-longer f past (reverse old.seen.items) n
+          (count_sought (counted past (reverse old.seen.items)) (sought past n (reverse old.seen.items))) table
+          (longer (count_sought (counted past (reverse old.seen.items)) (sought past n (reverse old.seen.items)))) forms);
+    };
+  }
+
+-- the form of what is next can be sought
+pub MaySeek-next : (f : Function) (past : Past) (site : Site) (n : ℕ) → ((l : List ℕ) → IsSublist l l) → CanTake f past site
+    → IsNext past (reverse site.seen.items) n → MaySeek f past (reverse site.seen.items) n (reverse site.seen.items)
+MaySeek-next f past site n whole can next = record {
+  orderly = can.orderly;
+  closed = can.closed;
+  usable = can.usable;
+  sought = record { ready = (next, can.closed); sublist = whole (reverse site.seen.items) };
+}
+
+-- the table of a site, where so many forms were counted in all
+pub IsTable-kept : (f : Function) (past : Past) (site : Site) (total : ℕ) → length (counted past (reverse site.seen.items)) ≤ total
+    → CanTake f past site → IsTable f past (reverse site.seen.items) site.table total
+IsTable-kept f past site total some can = record {
+  names = counted past (reverse site.seen.items);
+  others = total - length (counted past (reverse site.seen.items));
+  has = can.forms.has;
+  count = omega (arith, some);
+}
+
+-- what seeking a form answers at a site, with the lists by another name
+pub HasSought-at : (f : Function) (past : Past) (seen first second : List ℕ) (n total others more : ℕ) (old new : List (Key × Op)) (r : Result Op Refusal)
+    → first ≡ seen → second ≡ seen → total ≡ others + length (counted past seen) → ∥ HasForms f past seen (counted past seen) old ∥₁
+    → ((names : List FormName) (m : ℕ) → ∥ HasForms f past first names old ∥₁ → total ≡ m + length names
+    → HasSought f past first names m n second new more r)
+    → HasSought f past seen (counted past seen) others n seen new more r
+HasSought-at f past seen first second n total others more old new r first_is second_is count has clause =
+    subst (λ (l : List ℕ). HasSought f past l (counted past seen) others n seen new more r) first_is
+    (subst (λ (l : List ℕ). HasSought f past first (counted past seen) others n l new more r) second_is
+    (clause (counted past seen) others
+    (subst (λ (l : List ℕ). ∥ HasForms f past l (counted past seen) old ∥₁) (sym first_is) has) count))
