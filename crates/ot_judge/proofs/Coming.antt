@@ -1,55 +1,116 @@
--- What comes of a reader that is fed byte by byte.
+-- What comes of a reader that is fed pieces of bytes.
 use Rattle.std.specs.Prelude.{◌↔◌}
+use Rattle.std.specs.Option.{ForSome}
 use Rattle.std.specs.Io.KnownBytes.{prepend_known, IsAtEnd}
-use Rattle.std.proofs.Common.{◌≡◌, ℕ, ◌+◌, List, [], ◌∷◌, ◌++◌, length, Option, Some, None, Result, Ok, Err, arith, refl, sym, ap, subst, ◌∙◌, append_assoc, length-append}
+use Rattle.std.proofs.lemmas.List.{append-nil, length-take-le}
+use Rattle.std.proofs.Math.Seq.{take-length}
+use Rattle.std.proofs.Common.{◌≡◌, ℕ, ◌+◌, ◌≤◌, List, [], ◌∷◌, ◌++◌, length, take, Option, Some, None, Result, Ok, Err, arith, refl, sym, ap, subst, ◌∙◌, append_assoc, length-append}
 use Rattle.cert_text.specs.declared.item.Item.{Item}
 use Rattle.cert_text.specs.declared.item.CertEnd.{CertEnd}
 use Rattle.cert_text.specs.declared.item.CertEnd.TheVariants as cert
 use Rattle.cert_text.specs.Places.{Place, Finish, Stands, part_text, place_after}
-use Rattle.cert_text.specs.Reading.{Progress, Reading, Refused, EndsThere, Gives, Reads, ReadsOn, fed_to}
+use Rattle.cert_text.specs.Reading.{Progress, Reading, Refused, EndsThere, Gives, Reads, ReadsOn}
+use Rattle.cert_text.specs.Pieces.{EndsWithin, GivesOf, GoesOn}
 use Rattle.ot_judge.specs.declared.refusal.JudgeEnd.{JudgeEnd}
 use Rattle.ot_judge.specs.Parts.{end_of_spelling}
-use Rattle.ot_judge.specs.Feeding.{Comes, IsMisspeltBehind, IsTruncated, place_of, offset_of, begun_of}
+use Rattle.ot_judge.specs.Feeding.{Comes, IsMisspeltBehind, IsTruncated, MayGive, place_of, offset_of, begun_of}
 
-pub prepend-more :
-    (begun : List ℕ) (byte : ℕ) (known : Option (List ℕ))
-    → prepend_known begun (prepend_known (byte ∷ []) known) ≡ prepend_known (begun ++ byte ∷ []) known
-prepend-more begun byte None = refl
-prepend-more begun byte (Some bytes) = ap Some (sym (append_assoc begun (byte ∷ []) bytes))
+-- told bytes begin with those that are given
+told_behind :
+    (given rest : List ℕ) (told left : Option (List ℕ)) → told ≡ prepend_known given left
+    → ForSome left (λ known. rest ≡ known) → ForSome told (λ known. given ++ rest ≡ known)
+told_behind given rest told None took are known is = absurd (cc)
+told_behind given rest told (Some bytes) took are known is =
+    let whole : given ++ bytes ≡ known = cc in ap (λ (l : List ℕ). given ++ l) (are bytes refl) ∙ whole
 
--- where the bytes are told, those behind a front are
-pub rest_told :
-    (front bytes : List ℕ) (known : Option (List ℕ)) → Some bytes ≡ prepend_known front known
-    → (rest : List ℕ) × (known ≡ Some rest) × (bytes ≡ front ++ rest)
-rest_told front bytes None is = absurd (cc)
-rest_told front bytes (Some rest) is = (rest, refl, cc)
+untold_behind : (given : List ℕ) (told left : Option (List ℕ)) → told ≡ prepend_known given left → told ≡ None → left ≡ None
+untold_behind given told None took is = refl
+untold_behind given told (Some bytes) took is = absurd (cc)
+
+-- at the end none are told
+none_told : (told : Option (List ℕ)) → IsAtEnd told → ForSome told (λ known. [] ≡ known)
+none_told None over known is = absurd (cc)
+none_told (Some bytes) over known is = let same : bytes ≡ known = cc in sym over ∙ same
+
+module _ {F : Type 0} (left : F → Option (List ℕ)) (bound : F → ℕ) where
+  -- a feed of which so many bytes at hand were taken gives these and then those that it may give behind them
+  pub given :
+      (old new : F) (hand : List ℕ) (count : ℕ) → count ≤ length hand → left old ≡ prepend_known (take count hand) (left new)
+      → bound old ≡ bound new + count
+      → (rest : List ℕ) → MayGive left bound new rest → MayGive left bound old (take count hand ++ rest)
+  unfolding MayGive
+  given old new hand count within took fewer rest may = (
+    told_behind (take count hand) rest (left old) (left new) took may.0,
+    λ none.
+        let few = may.1 (untold_behind (take count hand) (left old) (left new) took none) in
+        omega (arith, fewer, few, length-append (take count hand) rest, length-take-le count hand within),
+  )
+
+  -- one that is at its end may give none
+  pub none_given : (feed : F) → IsAtEnd (left feed) → MayGive left bound feed []
+  unfolding MayGive
+  none_given feed over = (none_told (left feed) over, λ none. omega arith)
+
+  -- each feed may give some bytes: those that it tells, or no more
+  some_given_of : (feed : F) (told : Option (List ℕ)) → left feed ≡ told → (bytes : List ℕ) × MayGive left bound feed bytes
+  unfolding MayGive
+  some_given_of feed None is = ([], (λ known told. absurd (cc), λ none. omega arith))
+  some_given_of feed (Some bytes) is = (bytes, (λ known told. cc, λ none. absurd (cc)))
+
+  pub some_given : (feed : F) → (bytes : List ℕ) × MayGive left bound feed bytes
+  some_given feed = some_given_of feed (left feed) refl
 
 -- a reader that reads a part, behind an earlier one, and the bytes that are still to come
-pub record ReadsAt (was now : Progress) (told left : Option (List ℕ)) : Type 0 where
+pub record ReadsAt (was now : Progress) (Before After : List ℕ → Type 0) : Type 0 where
   pub at : now ≡ Reading (place_of was) (offset_of was) (begun_of now)
-  pub bytes : told ≡ prepend_known (begun_of now) left
+  pub bytes : (rest : List ℕ) → After rest → Before (begun_of now ++ rest)
 
 -- it goes on
-goes_on :
+goes_on_by :
     (old now : Progress) (place : Place) (offset byte : ℕ) → old ≡ Reading place offset (begun_of old)
     → Gives old byte (Ok None) now → now ≡ Reading place offset (begun_of old ++ byte ∷ [])
-goes_on (Reading p o begun) now place offset byte at gives =
+goes_on_by (Reading p o begun) now place offset byte at gives =
     let same_place : p ≡ place = cc in let same_offset : o ≡ offset = cc in
     gives ∙ (cc)
-goes_on (Refused e) now place offset byte at gives = absurd (cc)
+goes_on_by (Refused e) now place offset byte at gives = absurd (cc)
 
-pub reads_more :
-    (was old now : Progress) (byte : ℕ) (told between left : Option (List ℕ)) → ReadsAt was old told between
-    → between ≡ prepend_known (byte ∷ []) left → Gives old byte (Ok None) now → ReadsAt was now told left
-reads_more was old now byte told between left h took gives =
-    let is = goes_on old now (place_of was) (offset_of was) byte h.at gives in
-    let begun : begun_of now ≡ begun_of old ++ byte ∷ [] = ap begun_of is in
+goes_on :
+    (old now : Progress) (place : Place) (offset : ℕ) (bytes : List ℕ) → old ≡ Reading place offset (begun_of old)
+    → GoesOn old bytes now → now ≡ Reading place offset (begun_of old ++ bytes)
+goes_on old now place offset [] at goes =
+    goes ∙ at ∙ ap (λ (l : List ℕ). Reading place offset l) (sym (append-nil (begun_of old)))
+goes_on old now place offset (byte ∷ bytes) at (between, gives, way, goes) =
+    let is = goes_on_by old between place offset byte at gives in
+    let begun : begun_of between ≡ begun_of old ++ byte ∷ [] = ap begun_of is in
+    let there : between ≡ Reading place offset (begun_of between) = is ∙ ap (λ (l : List ℕ). Reading place offset l) (sym begun) in
+    goes_on between now place offset bytes there goes
+    ∙ ap (λ (l : List ℕ). Reading place offset l)
+    (ap (λ (l : List ℕ). l ++ bytes) begun ∙ append_assoc (begun_of old) (byte ∷ []) bytes)
+
+reads_further :
+    (was old now : Progress) (bytes : List ℕ) (Before Between After : List ℕ → Type 0) → ReadsAt was old Before Between
+    → ((rest : List ℕ) → After rest → Between (bytes ++ rest)) → GoesOn old bytes now → ReadsAt was now Before After
+reads_further was old now bytes Before Between After h took goes =
+    let is = goes_on old now (place_of was) (offset_of was) bytes h.at goes in
+    let begun : begun_of now ≡ begun_of old ++ bytes = ap begun_of is in
     record {
       at = is ∙ ap (λ (l : List ℕ). Reading (place_of was) (offset_of was) l) (sym begun);
       bytes =
-          h.bytes ∙ ap (λ (k : Option (List ℕ)). prepend_known (begun_of old) k) took ∙ prepend-more (begun_of old) byte left
-          ∙ ap (λ (l : List ℕ). prepend_known l left) (sym begun);
+          λ rest may.
+          subst Before
+          (sym (append_assoc (begun_of old) bytes rest) ∙ ap (λ (l : List ℕ). l ++ rest) (sym begun))
+          (h.bytes (bytes ++ rest) (took rest may));
     }
+
+-- a piece in which no part ends
+pub reads_more :
+    (was old now : Progress) (piece : List ℕ) (taken : ℕ) (Before Between After : List ℕ → Type 0)
+    → ReadsAt was old Before Between → ((rest : List ℕ) → After rest → Between (take taken piece ++ rest))
+    → GivesOf old piece taken (Ok None) now → ReadsAt was now Before After
+reads_more was old now piece taken Before Between After h took gives =
+    let all : take taken piece ≡ piece = rw gives.0 (take-length piece) in
+    reads_further was old now piece Before Between After h
+    (λ rest may. subst (λ (l : List ℕ). Between (l ++ rest)) all (took rest may)) gives.1
 
 part_given :
     (old now : Progress) (place : Place) (offset byte : ℕ) (item : Item) → old ≡ Reading place offset (begun_of old)
@@ -64,6 +125,41 @@ part_given (Reading p o begun) now place offset byte item at gives =
     × (now ≡ Reading (place_after p item.part) (n + length begun + 1) [])) same_offset gives)
 part_given (Refused e) now place offset byte item at gives = absurd (cc)
 
+-- a byte that ends a part
+part_comes_by :
+    (was old now : Progress) (byte : ℕ) (item : Item) (Before Between After : List ℕ → Type 0) → ReadsAt was old Before Between
+    → ((rest : List ℕ) → After rest → Between (byte ∷ rest)) → (rest : List ℕ) × After rest → Gives old byte (Ok (Some item)) now
+    → Comes was Before item now After
+part_comes_by was old now byte item Before Between After h took some gives =
+    let given = part_given old now (place_of was) (offset_of was) byte item h.at gives in
+    let count : length (part_text (place_of was) item.part) ≡ length (begun_of old) + 1 =
+    sym (ap length given.2) ∙ length-append (begun_of old) (byte ∷ []) in
+    let here : offset_of was + length (begun_of old) + 1 ≡ offset_of was + length (part_text (place_of was) item.part) =
+    omega (arith, count) in
+    record {
+      offset = given.0;
+      stands = given.1;
+      bytes =
+          λ rest may.
+          subst Before
+          (sym (append_assoc (begun_of old) (byte ∷ []) rest) ∙ ap (λ (l : List ℕ). l ++ rest) given.2)
+          (h.bytes (byte ∷ rest) (took rest may));
+      some = some;
+      behind = given.3 ∙ ap (λ (n : ℕ). Reading (place_after (place_of was) item.part) n []) here;
+    }
+
+-- bytes of which the last one ends a part
+pub part_comes :
+    (was old now : Progress) (piece : List ℕ) (taken : ℕ) (item : Item) (Before Between After : List ℕ → Type 0)
+    → ReadsAt was old Before Between → ((rest : List ℕ) → After rest → Between (take taken piece ++ rest))
+    → (rest : List ℕ) × After rest → EndsWithin old piece taken (Ok (Some item)) now → Comes was Before item now After
+part_comes was old now piece taken item Before Between After h took some (within, (front, byte, between, text, goes, gives)) =
+    let Further : List ℕ → Type 0 = λ rest. Between (front ++ rest) in
+    part_comes_by was between now byte item Before Further After
+    (reads_further was old between front Before Between Further h (λ rest may. may) goes)
+    (λ rest may. subst Between (ap (λ (l : List ℕ). l ++ rest) text ∙ append_assoc front (byte ∷ []) rest) (took rest may)) some
+    gives
+
 -- the bytes that are still to come end there
 ends_there :
     (old : Progress) (place : Place) (offset : ℕ) (bytes : List ℕ) (end : Result (Unit {0}) CertEnd)
@@ -74,50 +170,61 @@ ends_there (Reading p o begun) place offset bytes end at reads =
     (subst (λ (n : ℕ). EndsThere p n (begun ++ bytes) end) same_offset reads)
 ends_there (Refused e) place offset bytes end at reads = absurd (cc)
 
--- what a reader says of the bytes that are still to come where a byte is refused
-abbrev pub RefusesByte : Progress → ℕ → CertEnd → Progress → Type 0
-RefusesByte old byte e now =
+-- what a reader says of the bytes that are still to come where it refuses one of these
+abbrev pub RefusesBytes : Progress → List ℕ → CertEnd → Progress → Type 0
+RefusesBytes old bytes e now =
     (rest : List ℕ) (items : List Item) (end : Result (Unit {0}) CertEnd)
-    → Reads old (byte ∷ rest) items end ↔ ReadsOn (Err e) now rest items end
+    → Reads old (bytes ++ rest) items end ↔ ReadsOn (Err e) now rest items end
 
-module _ (was old now : Progress) (byte : ℕ) (e : CertEnd) (end : JudgeEnd) (told between left : Option (List ℕ))
-    (h : ReadsAt was old told between) (refuses : RefusesByte old byte e now) where
-  refused_there : (rest : List ℕ) → EndsThere (place_of was) (offset_of was) (begun_of old ++ byte ∷ rest) (Err e)
+-- bytes do not end too early whatever follows them
+not_truncated :
+    (place : Place) (offset : ℕ) (begun bytes : List ℕ) (e : CertEnd) (end : JudgeEnd)
+    → ((rest : List ℕ) → EndsThere place offset (begun ++ (bytes ++ rest)) (Err e)) → end ≡ end_of_spelling e
+    → IsTruncated end → ⊥
+not_truncated place offset begun bytes (cert.BadToken n) end there named (at, is) = cc
+not_truncated place offset begun bytes (cert.Trailing n) end there named (at, is) = cc
+not_truncated place offset begun bytes (cert.Truncated n) end there named truncated =
+    omega (
+      arith,
+      (there []).0,
+      (there (0 ∷ [])).0,
+      length-append begun (bytes ++ []),
+      length-append begun (bytes ++ 0 ∷ []),
+      length-append bytes [],
+      length-append bytes (0 ∷ []),
+    )
+
+module _ (was old now : Progress) (bytes : List ℕ) (e : CertEnd) (end : JudgeEnd) (Before Between After : List ℕ → Type 0)
+    (h : ReadsAt was old Before Between) (refuses : RefusesBytes old bytes e now) where
+  refused_there : (rest : List ℕ) → EndsThere (place_of was) (offset_of was) (begun_of old ++ (bytes ++ rest)) (Err e)
   refused_there rest =
-      ends_there old (place_of was) (offset_of was) (byte ∷ rest) (Err e) h.at ((refuses rest [] (Err e)).1 (refl, refl))
+      ends_there old (place_of was) (offset_of was) (bytes ++ rest) (Err e) h.at ((refuses rest [] (Err e)).1 (refl, refl))
 
-  pub byte_misspelt : between ≡ prepend_known (byte ∷ []) left → end ≡ end_of_spelling e → IsMisspeltBehind was told end
-  byte_misspelt took named refused bytes is =
-      let one = rest_told (begun_of old) bytes between (sym is ∙ h.bytes) in
-      let two = rest_told (byte ∷ []) one.0 left (sym one.1 ∙ took) in
-      let whole : begun_of old ++ byte ∷ two.0 ≡ bytes =
-      sym (one.2 ∙ ap (λ (l : List ℕ). begun_of old ++ l) two.2) in
-      (e, subst (λ (l : List ℕ). EndsThere (place_of was) (offset_of was) l (Err e)) whole (refused_there two.0), named)
+  pub bytes_misspelt :
+      ((rest : List ℕ) → After rest → Between (bytes ++ rest)) → (rest : List ℕ) × After rest → end ≡ end_of_spelling e
+      → IsMisspeltBehind was Before end
+  bytes_misspelt took some named refused =
+      (begun_of old ++ (bytes ++ some.0), h.bytes (bytes ++ some.0) (took some.0 some.1), (e, refused_there some.0, named))
+
+  pub refused_early : end ≡ end_of_spelling e → IsTruncated end → ⊥
+  refused_early = not_truncated (place_of was) (offset_of was) (begun_of old) bytes e end refused_there
 
 -- at the end of the bytes
 abbrev pub Finishes : Progress → Result (Unit {0}) CertEnd → Type 0
 Finishes old result =
     (items : List Item) (end : Result (Unit {0}) CertEnd) → Reads old [] items end ↔ ((items ≡ []) × (end ≡ result))
 
-module _ (was old : Progress) (result : Result (Unit {0}) CertEnd) (told left : Option (List ℕ)) (h : ReadsAt was old told left)
-    (finishes : Finishes old result) where
+module _ (was old : Progress) (result : Result (Unit {0}) CertEnd) (Before After : List ℕ → Type 0)
+    (h : ReadsAt was old Before After) (over : After []) (finishes : Finishes old result) where
   finished : EndsThere (place_of was) (offset_of was) (begun_of old ++ []) result
   finished = ends_there old (place_of was) (offset_of was) [] result h.at ((finishes [] result).1 (refl, refl))
 
-  nothing_more : (bytes : List ℕ) → IsAtEnd left → told ≡ Some bytes → begun_of old ++ [] ≡ bytes
-  nothing_more bytes over is =
-      let one = rest_told (begun_of old) bytes left (sym is ∙ h.bytes) in
-      let nothing : one.0 ≡ [] = subst (λ (k : Option (List ℕ)). IsAtEnd k) one.1 over in
-      ap (λ (l : List ℕ). begun_of old ++ l) (sym nothing) ∙ sym one.2
-
-  pub finished_whole :
-      IsAtEnd left → result ≡ Ok tt → (place_of was ≡ Finish) × ((bytes : List ℕ) → told ≡ Some bytes → bytes ≡ [])
-  finished_whole over ok =
+  pub finished_whole : result ≡ Ok tt → (place_of was ≡ Finish) × Before []
+  finished_whole ok =
       let end = subst (λ (r : Result (Unit {0}) CertEnd). EndsThere (place_of was) (offset_of was) (begun_of old ++ []) r) ok finished in
-      (end.0, λ bytes is. sym (nothing_more bytes over is) ∙ end.1)
+      (end.0, subst Before end.1 (h.bytes [] over))
 
-  pub end_misspelt :
-      (e : CertEnd) (end : JudgeEnd) → IsAtEnd left → result ≡ Err e → end ≡ end_of_spelling e → IsMisspeltBehind was told end
-  end_misspelt e end over err named refused bytes is =
+  pub end_misspelt : (e : CertEnd) (end : JudgeEnd) → result ≡ Err e → end ≡ end_of_spelling e → IsMisspeltBehind was Before end
+  end_misspelt e end err named refused =
       let stops = subst (λ (r : Result (Unit {0}) CertEnd). EndsThere (place_of was) (offset_of was) (begun_of old ++ []) r) err finished in
-      (e, subst (λ (l : List ℕ). EndsThere (place_of was) (offset_of was) l (Err e)) (nothing_more bytes over is) stops, named)
+      (begun_of old ++ [], h.bytes [] over, (e, stops, named))

@@ -1,5 +1,5 @@
--- A certificate that is refused, part by part.
-use Rattle.std.proofs.Common.{ℕ, List, [], ◌∷◌, ◌++◌, inr, arith, refl}
+-- A certificate that is refused, part by part, and the bytes that a feed may give.
+use Rattle.std.proofs.Common.{◌≡◌, ℕ, List, [], ◌∷◌, ◌++◌, Some, None, inr, arith, refl}
 use Rattle.std.specs.Prelude.{codes}
 use Rattle.ask_core.specs.declared.tree.Tok.TheVariants as token
 use Rattle.cert_check.specs.declared.verdict.CheckEnd.TheVariants as check
@@ -10,6 +10,7 @@ use Rattle.fn_rules.specs.Shipped.{marks}
 use Rattle.ot_questions.specs.Obligation.{plan_of, ask_pair, ask_all_enabled, ask_converge, ask_ways, ask_lengths, ask_documents}
 use Rattle.ot_questions.specs.Questions.{ask_le, ask_lt, ask_eq, ask_compared, ask_atom, ask_guard, ask_cases, ask_by_kinds, ask_transform, ask_enabled, ask_differ, ask_allowed}
 use Rattle.ot_judge.specs.declared.refusal.Refusal.TheVariants as why
+use Rattle.ot_judge.specs.Feeding.{MayGive}
 use Rattle.ot_judge.specs.Refusals.{IsRefusal}
 
 -- deletions without a case
@@ -92,3 +93,13 @@ fails_at_29 = (
     ),
   ),
 )
+
+-- a feed that tells no bytes may give any that are no more than its bound
+untold_bytes : MayGive {F = Unit {0}} (λ feed. None) (λ feed. 2) tt (7 ∷ 9 ∷ [])
+unfolding MayGive
+untold_bytes = (λ told is. absurd (cc), λ none. omega arith)
+
+-- one that tells them gives those alone
+told_bytes : (bytes : List ℕ) → MayGive {F = Unit {0}} (λ feed. Some (7 ∷ [])) (λ feed. 2) tt bytes → bytes ≡ 7 ∷ []
+unfolding MayGive
+told_bytes bytes may = may.0 (7 ∷ []) refl

@@ -1,5 +1,5 @@
 -- How what is judged behind a part is judged of it and what is behind it.
-use Rattle.std.proofs.Common.{◌≡◌, ℕ, List, [], length, Option, Ok, Err, inl, inr, refl, sym, ap, subst, ◌∙◌}
+use Rattle.std.proofs.Common.{◌≡◌, ℕ, List, [], ◌++◌, length, Ok, Err, inl, inr, refl, sym, ap, subst, ◌∙◌}
 use Rattle.fn_rules.specs.declared.function.ObName.{ObName}
 use Rattle.ask_core.specs.declared.tree.Tok.{Tok}
 use Rattle.ask_core.specs.Plans.{Plan}
@@ -15,49 +15,50 @@ use Rattle.cert_text.specs.Reading.{Progress, Reading}
 use Rattle.ot_judge.specs.declared.refusal.JudgeEnd.{JudgeEnd}
 use Rattle.ot_judge.specs.Parts.{Point, IsJudged, branches_behind, end_of_token, point_behind}
 use Rattle.ot_judge.specs.Feeding.{Comes, IsBetween, IsMisspeltBehind, IsRefused, IsRefusedBehind, IsTreeOf, Leads, place_of, offset_of, point_of, tree_with}
-use Rattle.ot_judge.proofs.Coming.{rest_told}
 use Rattle.ot_judge.proofs.Fitting.{judged_behind}
 use Rattle.ot_judge.proofs.Tokens.{open_as_counted}
 
 module _ {W : Type 0} (plan : ObName → Plan W) where
-  pub leads_same : (was : Point W) (told : Option (List ℕ)) → Leads plan was told was told
-  leads_same was told bytes is = (bytes, is, λ end judged. judged)
+  pub leads_same : (was : Point W) (Before : List ℕ → Type 0) → Leads plan was Before was Before
+  leads_same was Before bytes may = (bytes, may, λ end judged. judged)
 
   pub leads_on :
-      (one two three : Point W) (told between left : Option (List ℕ)) → Leads plan one told two between
-      → Leads plan two between three left → Leads plan one told three left
-  leads_on one two three told between left first second bytes is =
-      let here = first bytes is in
-      let there = second here.0 here.1 in
-      (there.0, there.1, λ end judged. here.2 end (there.2 end judged))
+      (one two three : Point W) (Before Between After : List ℕ → Type 0) → Leads plan one Before two Between
+      → Leads plan two Between three After → Leads plan one Before three After
+  leads_on one two three Before Between After first second rest may =
+      let there = second rest may in
+      let here = first there.0 there.1 in
+      (here.0, here.1, λ end judged. here.2 end (there.2 end judged))
 
   -- a part that comes leads behind it
   pub part_leads :
-      (was now : Progress) (told left : Option (List ℕ)) (item : Item) (branches next : List (Branch W))
-      → Comes was told item now left → branches_behind plan (point_of was branches) item.part ≡ Ok next
-      → Leads plan (point_of was branches) told (point_of now next) left
-  part_leads was now told left item branches next comes opens bytes is =
-      let behind = rest_told (part_text (place_of was) item.part) bytes left (sym is ∙ comes.bytes) in
+      (was now : Progress) (Before After : List ℕ → Type 0) (item : Item) (branches next : List (Branch W))
+      → Comes was Before item now After → branches_behind plan (point_of was branches) item.part ≡ Ok next
+      → Leads plan (point_of was branches) Before (point_of now next) After
+  part_leads was now Before After item branches next comes opens rest may =
       let there : point_of now next ≡ point_behind (point_of was branches) item.part next =
       ap (λ (r : Progress). point_of r next) comes.behind in (
-        behind.0,
-        behind.1,
+        part_text (place_of was) item.part ++ rest,
+        comes.bytes rest may,
         λ end judged.
-            judged_behind plan end (point_of was branches) item.part bytes behind.0 next comes.stands behind.2 opens
-            (subst (λ (p : Point W). IsJudged plan end p behind.0) there judged),
+            judged_behind plan end (point_of was branches) item.part (part_text (place_of was) item.part ++ rest) rest next
+            comes.stands refl opens
+            (subst (λ (p : Point W). IsJudged plan end p rest) there judged),
       )
 
   pub refused_through :
-      (one two : Point W) (told left : Option (List ℕ)) (e : JudgeEnd) → Leads plan one told two left
-      → IsRefusedBehind plan two left e → IsRefusedBehind plan one told e
-  refused_through one two told left e leads behind refused bytes is =
-      let there = leads bytes is in there.2 (Err e) (behind refused there.0 there.1)
+      (one two : Point W) (Before After : List ℕ → Type 0) (e : JudgeEnd) → Leads plan one Before two After
+      → IsRefusedBehind plan two After e → IsRefusedBehind plan one Before e
+  refused_through one two Before After e leads behind refused =
+      let later = behind refused in
+      let there = leads later.0 later.1 in (there.0, there.1, there.2 (Err e) later.2)
 
   -- bytes that are refused by their spelling are refused
   pub misspelt_refused :
-      (was : Progress) (branches : List (Branch W)) (told : Option (List ℕ)) (e : JudgeEnd)
-      → IsMisspeltBehind was told e → IsRefusedBehind plan (point_of was branches) told e
-  misspelt_refused was branches told e misspelt refused bytes is = ([], inl (misspelt refused bytes is))
+      (was : Progress) (branches : List (Branch W)) (Before : List ℕ → Type 0) (e : JudgeEnd)
+      → IsMisspeltBehind was Before e → IsRefusedBehind plan (point_of was branches) Before e
+  misspelt_refused was branches Before e misspelt refused =
+      let ends = misspelt refused in (ends.0, ends.1, ([], inl ends.2))
 
   want_is_no_refusal : (offset : ℕ) (why : CheckEnd) → why ≡ check.NoMemory → IsRefused (end_of_token offset why) → ⊥
   want_is_no_refusal offset why memory refused =
@@ -65,14 +66,17 @@ module _ {W : Type 0} (plan : ObName → Plan W) where
 
   -- so are bytes that begin with a token that is refused
   pub token_refused :
-      (was now : Progress) (told left : Option (List ℕ)) (offset : ℕ) (t : Tok) (branches : List (Branch W)) (why : CheckEnd)
-      → Comes was told (record { offset = offset; part = part.Tok t }) now left → IsCauseOf why t branches
-      → IsRefusedBehind plan (point_of was branches) told (end_of_token offset why)
-  token_refused was now told left offset t branches why comes (inl memory) refused bytes is =
+      (was now : Progress) (Before After : List ℕ → Type 0) (offset : ℕ) (t : Tok) (branches : List (Branch W)) (why : CheckEnd)
+      → Comes was Before (record { offset = offset; part = part.Tok t }) now After → IsCauseOf why t branches
+      → IsRefusedBehind plan (point_of was branches) Before (end_of_token offset why)
+  token_refused was now Before After offset t branches why comes (inl memory) refused =
       absurd (want_is_no_refusal offset why memory refused)
-  token_refused was now told left offset t branches why comes (inr cause) refused bytes is =
-      let behind = rest_told (part_text (place_of was) (part.Tok t)) bytes left (sym is ∙ comes.bytes) in
-      ([], inr (t, behind.0, why, comes.stands, behind.2, cause, ap (λ (n : ℕ). end_of_token n why) comes.offset))
+  token_refused was now Before After offset t branches why comes (inr cause) refused =
+      let rest = comes.some in (
+        part_text (place_of was) (part.Tok t) ++ rest.0,
+        comes.bytes rest.0 rest.1,
+        ([], inr (t, rest.0, why, comes.stands, refl, cause, ap (λ (n : ℕ). end_of_token n why) comes.offset)),
+      )
 
 -- the place behind a token of a tree
 token_place :
@@ -86,18 +90,18 @@ token_place Finish t count is = absurd is
 
 -- a reader behind a part is between two parts
 pub between_parts :
-    (was now : Progress) (told left : Option (List ℕ)) (item : Item) → Comes was told item now left → IsBetween now
-between_parts was now told left item comes =
+    (was now : Progress) (Before After : List ℕ → Type 0) (item : Item) → Comes was Before item now After → IsBetween now
+between_parts was now Before After item comes =
     comes.behind
     ∙ ap (λ (r : Progress). Reading (place_of r) (offset_of r) []) (sym comes.behind)
 
 -- it is where the token leaves it, and in the same tree
 pub behind_token :
-    {W : Type 0} (was now : Progress) (told left : Option (List ℕ)) (offset : ℕ) (t : Tok) (branches next : List (Branch W)) (count more : ℕ)
-    → Comes was told (record { offset = offset; part = part.Tok t }) now left → IsTreeOf count (place_of was)
+    {W : Type 0} (was now : Progress) (Before After : List ℕ → Type 0) (offset : ℕ) (t : Tok) (branches next : List (Branch W)) (count more : ℕ)
+    → Comes was Before (record { offset = offset; part = part.Tok t }) now After → IsTreeOf count (place_of was)
     → count ≡ length branches → more ≡ length next → after t branches ≡ Ok next
     → IsTreeOf more (place_of now) × (tree_with 0 (place_of now) ≡ tree_with 0 (place_of was))
-behind_token was now told left offset t branches next count more comes is counted counts taken =
+behind_token was now Before After offset t branches next count more comes is counted counts taken =
     let place = token_place (place_of was) t count is in
     let here : place_of now ≡ place_after (place_of was) (part.Tok t) = ap place_of comes.behind in
     let number : open_after count t ≡ more =

@@ -1,9 +1,8 @@
 -- The obligations of a list, one after another.
 use Rattle.std.specs.List.{list_all}
 use Rattle.std.specs.Prelude.{◌&&◌}
-use Rattle.std.proofs.Common.{◌≡◌, ℕ, zero, suc, ◌+◌, ◌<◌, ◌≤◌, Bool, true, false, List, [], ◌∷◌, length, drop, get_or, add-one, arith, refl, subst}
+use Rattle.std.proofs.Common.{◌≡◌, ℕ, zero, suc, ◌+◌, ◌<◌, Bool, true, false, List, [], ◌∷◌, length, drop, get_or, add-one, arith, refl, subst}
 use Rattle.std.proofs.Math.Seq.{drop-cons}
-use Rattle.std.proofs.lemmas.List.{drop_all}
 use Rattle.fn_rules.specs.declared.function.ObName.{ObName}
 use Rattle.cert_text.specs.Places.{Place}
 use Rattle.ot_judge.specs.Sections.{IsLineWith}
@@ -20,6 +19,13 @@ all_at p [] i d all within = absurd (omega arith)
 all_at p (name ∷ names) zero d all within = (both_true (p name) (list_all p names) all).0
 all_at p (name ∷ names) (suc i) d all within =
     all_at p names i d (both_true (p name) (list_all p names) all).1 (omega arith)
+
+-- the first does, and so do all others
+pub all_split :
+    (p : ObName → Bool) (names : List ObName) (name : ObName) (others : List ObName) → names ≡ name ∷ others
+    → list_all p names ≡ true → (p name ≡ true) × (list_all p others ≡ true)
+all_split p names name others are all =
+    both_true (p name) (list_all p others) (subst (λ (n : List ObName). list_all p n ≡ true) are all)
 
 cons_at : (names : List ObName) (i : ℕ) (d : ObName) → i < length names → drop i names ≡ get_or names i d ∷ drop (i + 1) names
 cons_at names i d within = rw (add-one, drop-cons names i d)

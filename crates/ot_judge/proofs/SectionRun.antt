@@ -1,15 +1,17 @@
 -- The lines around a tree, and what they lead to.
-use Rattle.std.proofs.Common.{◌≡◌, ℕ, List, [], ◌∷◌, Option, Ok, arith, refl, sym, ap, subst}
+use Rattle.std.proofs.Common.{◌≡◌, ℕ, List, [], ◌∷◌, Ok, arith, refl, sym, ap, subst, ◌∙◌}
+use Rattle.std.proofs.lemmas.List.{append-nil}
 use Rattle.fn_rules.specs.declared.function.ObName.{ObName}
 use Rattle.ask_core.specs.Plans.{Plan}
 use Rattle.cert_text.specs.declared.item.Item.{Item}
 use Rattle.cert_text.specs.declared.item.Part.{Part}
 use Rattle.cert_text.specs.declared.item.Part.TheVariants as part
-use Rattle.cert_text.specs.Places.{Place, Start, Line, Tree, Finish, Stands, place_after}
+use Rattle.cert_text.specs.Spelling.{end_text}
+use Rattle.cert_text.specs.Places.{Place, Start, Line, Tree, Finish, Stands, part_text, place_after}
 use Rattle.cert_text.specs.Reading.{Progress}
 use Rattle.ot_judge.specs.declared.refusal.JudgeEnd.{JudgeEnd}
 use Rattle.ot_judge.specs.Parts.{branches_behind}
-use Rattle.ot_judge.specs.Feeding.{Comes, IsTreeOf, Leads, LeadsAnyway, IsRefusedAnyway, IsRefusedBehind, IsMisspeltBehind, opened, place_of, offset_of, point_of, tree_with}
+use Rattle.ot_judge.specs.Feeding.{Comes, Leads, LeadsAnyway, IsRefusedAnyway, IsRefusedBehind, IsMisspeltBehind, opened, place_of, offset_of, point_of, tree_with}
 use Rattle.ot_judge.specs.Sections.{IsLineWith}
 use Rattle.ot_judge.proofs.Leading.{leads_on, part_leads, refused_through, misspelt_refused}
 
@@ -70,56 +72,73 @@ module _ {W : Type 0} (plan : ObName → Plan W) where
   newline_branches others (Line came names) offset p tree stands = absurd tree
   newline_branches others Finish offset p tree stands = absurd tree
 
-  module _ (was first second now : Progress) (told before after left : Option (List ℕ)) (line newline : Item) (ob : ObName)
-      (others : List ObName) (at : IsLineWith (ob ∷ others) (place_of was)) (came : Comes was told line first before) where
+  module _ (was first second now : Progress) (Before Open Closed After : List ℕ → Type 0) (line newline : Item) (ob : ObName)
+      (others : List ObName) (at : IsLineWith (ob ∷ others) (place_of was)) (came : Comes was Before line first Open) where
     -- behind the line
     pub tree_begins : IsTreeWith others 1 (place_of first)
     tree_begins =
         subst (λ (p : Place). IsTreeWith others 1 p) (sym (ap place_of came.behind))
         (line_opens_tree ob others (place_of was) line.part at came.stands)
 
-    pub line_leads : Leads plan (point_of was []) told (point_of first (opened (plan ob))) before
+    pub line_leads : Leads plan (point_of was []) Before (point_of first (opened (plan ob))) Open
     line_leads =
-        part_leads plan was first told before line [] (opened (plan ob)) came
+        part_leads plan was first Before Open line [] (opened (plan ob)) came
         (line_branches ob others (place_of was) (offset_of was) line.part at came.stands)
 
     pub tree_refused :
-        (e : JudgeEnd) → IsRefusedAnyway (point_of first (opened (plan ob))) before e
-        → IsRefusedBehind plan (point_of was []) told e
+        (e : JudgeEnd) → IsRefusedAnyway (point_of first (opened (plan ob))) Open e
+        → IsRefusedBehind plan (point_of was []) Before e
     tree_refused e refused =
-        refused_through plan (point_of was []) (point_of first (opened (plan ob))) told before e line_leads (refused plan)
+        refused_through plan (point_of was []) (point_of first (opened (plan ob))) Before Open e line_leads (refused plan)
 
-    module _ (judged : LeadsAnyway (point_of first (opened (plan ob))) before (point_of second []) after)
+    module _ (judged : LeadsAnyway (point_of first (opened (plan ob))) Open (point_of second []) Closed)
         (closed : place_of second ≡ tree_with 0 (place_of first)) where
       pub tree_ends : IsTreeWith others 0 (place_of second)
       tree_ends =
           subst (λ (p : Place). IsTreeWith others 0 p) (sym closed) (closed_tree others 1 (place_of first) tree_begins)
 
-      pub tree_leads : Leads plan (point_of was []) told (point_of second []) after
+      pub tree_leads : Leads plan (point_of was []) Before (point_of second []) Closed
       tree_leads =
-          leads_on plan (point_of was []) (point_of first (opened (plan ob))) (point_of second []) told before after line_leads
+          leads_on plan (point_of was []) (point_of first (opened (plan ob))) (point_of second []) Before Open Closed line_leads
           (judged plan)
 
-      pub newline_refused : (e : JudgeEnd) → IsMisspeltBehind second after e → IsRefusedBehind plan (point_of was []) told e
+      pub newline_refused : (e : JudgeEnd) → IsMisspeltBehind second Closed e → IsRefusedBehind plan (point_of was []) Before e
       newline_refused e misspelt =
-          refused_through plan (point_of was []) (point_of second []) told after e tree_leads
-          (misspelt_refused plan second [] after e misspelt)
+          refused_through plan (point_of was []) (point_of second []) Before Closed e tree_leads
+          (misspelt_refused plan second [] Closed e misspelt)
 
-      module _ (ended : Comes second after newline now left) where
+      module _ (ended : Comes second Closed newline now After) where
         pub section_behind : IsLineWith others (place_of now)
         section_behind =
             subst (λ (p : Place). IsLineWith others p) (sym (ap place_of ended.behind))
             (newline_closes others (place_of second) newline.part tree_ends ended.stands)
 
-        pub section_leads : Leads plan (point_of was []) told (point_of now []) left
+        pub section_leads : Leads plan (point_of was []) Before (point_of now []) After
         section_leads =
-            leads_on plan (point_of was []) (point_of second []) (point_of now []) told after left tree_leads
-            (part_leads plan second now after left newline [] [] ended
+            leads_on plan (point_of was []) (point_of second []) (point_of now []) Before Closed After tree_leads
+            (part_leads plan second now Closed After newline [] [] ended
             (newline_branches others (place_of second) (offset_of second) newline.part tree_ends ended.stands))
 
+-- the text of the last line
+end_is : (place : Place) (p : Part) → IsLineWith [] place → Stands place p → part_text place p ≡ end_text
+end_is (Line came []) part.End line stands = refl
+end_is (Line came []) p line stands = absurd stands
+end_is (Line came (name ∷ names)) p line stands = absurd (cc)
+end_is (Start tp1 tp2) p line stands = absurd line
+end_is (Tree came names branches) p line stands = absurd line
+end_is Finish p line stands = absurd line
+
+-- where nothing stands behind it, the last line is all
+pub last_line_given :
+    (was now : Progress) (Before After : List ℕ → Type 0) (item : Item) → IsLineWith [] (place_of was)
+    → Comes was Before item now After → After [] → Before end_text
+last_line_given was now Before After item at came over =
+    subst Before (append-nil (part_text (place_of was) item.part) ∙ end_is (place_of was) item.part at came.stands)
+    (came.bytes [] over)
+
 -- the last line, and what is refused behind it
-module _ {W : Type 0} (was now : Progress) (told left : Option (List ℕ)) (item : Item) (at : IsLineWith [] (place_of was))
-    (came : Comes was told item now left) where
+module _ {W : Type 0} (was now : Progress) (Before After : List ℕ → Type 0) (item : Item) (at : IsLineWith [] (place_of was))
+    (came : Comes was Before item now After) where
   end_branches :
       (plan : ObName → Plan W) (place : Place) (offset : ℕ) (p : Part) → IsLineWith [] place → Stands place p
       → branches_behind plan (record { place = place; offset = offset; branches = [] }) p ≡ Ok []
@@ -130,9 +149,9 @@ module _ {W : Type 0} (was now : Progress) (told left : Option (List ℕ)) (item
   end_branches plan (Tree came names branches) offset p line stands = absurd line
   end_branches plan Finish offset p line stands = absurd line
 
-  pub trailing_refused : (e : JudgeEnd) → IsMisspeltBehind now left e → IsRefusedAnyway {W = W} (point_of was []) told e
+  pub trailing_refused : (e : JudgeEnd) → IsMisspeltBehind now After e → IsRefusedAnyway {W = W} (point_of was []) Before e
   trailing_refused e misspelt plan =
-      refused_through plan (point_of was []) (point_of now []) told left e
-      (part_leads plan was now told left item [] [] came
+      refused_through plan (point_of was []) (point_of now []) Before After e
+      (part_leads plan was now Before After item [] [] came
       (end_branches plan (place_of was) (offset_of was) item.part at came.stands))
-      (misspelt_refused plan now [] left e misspelt)
+      (misspelt_refused plan now [] After e misspelt)

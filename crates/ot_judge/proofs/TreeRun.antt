@@ -58,33 +58,33 @@ tree_is Finish count is = refl
 
 module _ {W : Type 0} where
   pub leads_first :
-      (r : Progress) (told : Option (List ℕ)) (branches first : List (Branch W)) → branches ≡ first
-      → LeadsAnyway (point_of r first) told (point_of r branches) told
-  leads_first r told branches first is plan =
-      subst (λ (b : List (Branch W)). Leads plan (point_of r first) told (point_of r b) told) (sym is)
-      (leads_same plan (point_of r first) told)
+      (r : Progress) (Before : List ℕ → Type 0) (branches first : List (Branch W)) → branches ≡ first
+      → LeadsAnyway (point_of r first) Before (point_of r branches) Before
+  leads_first r Before branches first is plan =
+      subst (λ (b : List (Branch W)). Leads plan (point_of r first) Before (point_of r b) Before) (sym is)
+      (leads_same plan (point_of r first) Before)
 
-  module _ (first : Point W) (was now : Progress) (told between left : Option (List ℕ)) (branches : List (Branch W))
-      (leads : LeadsAnyway first told (point_of was branches) between) where
+  module _ (first : Point W) (was now : Progress) (Before Between After : List ℕ → Type 0) (branches : List (Branch W))
+      (leads : LeadsAnyway first Before (point_of was branches) Between) where
     -- a token that is taken leads behind it
     pub leads_token :
         (offset : ℕ) (t : Tok) (next : List (Branch W))
-        → Comes was between (record { offset = offset; part = part.Tok t }) now left → after t branches ≡ Ok next
-        → LeadsAnyway first told (point_of now next) left
+        → Comes was Between (record { offset = offset; part = part.Tok t }) now After → after t branches ≡ Ok next
+        → LeadsAnyway first Before (point_of now next) After
     leads_token offset t next comes taken plan =
-        leads_on plan first (point_of was branches) (point_of now next) told between left (leads plan)
-        (part_leads plan was now between left (record { offset = offset; part = part.Tok t }) branches next comes taken)
+        leads_on plan first (point_of was branches) (point_of now next) Before Between After (leads plan)
+        (part_leads plan was now Between After (record { offset = offset; part = part.Tok t }) branches next comes taken)
 
     -- one that is refused, and bytes that are no token, are refused
     pub refused_token :
         (offset : ℕ) (t : Tok) (why : CheckEnd)
-        → Comes was between (record { offset = offset; part = part.Tok t }) now left → IsCauseOf why t branches
-        → IsRefusedAnyway first told (end_of_token offset why)
+        → Comes was Between (record { offset = offset; part = part.Tok t }) now After → IsCauseOf why t branches
+        → IsRefusedAnyway first Before (end_of_token offset why)
     refused_token offset t why comes cause plan =
-        refused_through plan first (point_of was branches) told between (end_of_token offset why) (leads plan)
-        (token_refused plan was now between left offset t branches why comes cause)
+        refused_through plan first (point_of was branches) Before Between (end_of_token offset why) (leads plan)
+        (token_refused plan was now Between After offset t branches why comes cause)
 
-    pub refused_bytes : (e : JudgeEnd) → IsMisspeltBehind was between e → IsRefusedAnyway first told e
+    pub refused_bytes : (e : JudgeEnd) → IsMisspeltBehind was Between e → IsRefusedAnyway first Before e
     refused_bytes e misspelt plan =
-        refused_through plan first (point_of was branches) told between e (leads plan)
-        (misspelt_refused plan was branches between e misspelt)
+        refused_through plan first (point_of was branches) Before Between e (leads plan)
+        (misspelt_refused plan was branches Between e misspelt)

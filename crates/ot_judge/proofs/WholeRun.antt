@@ -1,5 +1,5 @@
 -- A whole certificate, from its header to its last line.
-use Rattle.std.proofs.Common.{◌≡◌, ℕ, IsTrue, List, [], Option, Some, Result, Ok, Err, ◌⊎◌, inl, inr, refl, sym, ap, subst, ◌∙◌}
+use Rattle.std.proofs.Common.{◌≡◌, ℕ, IsTrue, List, [], ◌++◌, Option, Some, Result, Ok, Err, ◌⊎◌, inl, inr, refl, sym, ap, subst, ◌∙◌}
 use Rattle.fn_rules.specs.declared.function.Head.{Head}
 use Rattle.fn_rules.specs.declared.function.Level.{Level}
 use Rattle.fn_rules.specs.declared.function.Level.TheVariants.{Tp1, Tp2}
@@ -18,9 +18,8 @@ use Rattle.ot_judge.specs.declared.refusal.JudgeEnd.{JudgeEnd}
 use Rattle.ot_judge.specs.declared.refusal.JudgeEnd.TheVariants as judge
 use Rattle.ot_judge.specs.Parts.{Point, IsJudged, point_behind}
 use Rattle.ot_judge.specs.Refusals.{IsJudgement, IsWant, IsWhole, start_of}
-use Rattle.ot_judge.specs.Feeding.{Comes, IsMisspeltBehind, IsRefusedBehind, Leads, offset_of, place_of, point_of}
-use Rattle.ot_judge.specs.Sections.{IsLastLine, IsLineWith}
-use Rattle.ot_judge.proofs.Coming.{rest_told}
+use Rattle.ot_judge.specs.Feeding.{Comes, IsMisspeltBehind, IsRefusedBehind, Leads, MayGive, offset_of, place_of, point_of}
+use Rattle.ot_judge.specs.Sections.{IsLineWith}
 use Rattle.ot_judge.proofs.Fitting.{last_line_fits}
 use Rattle.ot_judge.proofs.Leading.{leads_on, misspelt_refused, part_leads, refused_through}
 
@@ -42,7 +41,7 @@ line_of_level :
 line_of_level f Tp1 = refl
 line_of_level f Tp2 = refl
 
-module _ (f : Function) (told : Option (List ℕ)) where
+module _ (f : Function) (Before : List ℕ → Type 0) where
   abbrev pub reader_at_start : Progress
   reader_at_start = Reading (Start (obligations_of f.head Tp1) (obligations_of f.head Tp2)) 0 []
 
@@ -55,51 +54,54 @@ module _ (f : Function) (told : Option (List ℕ)) where
 
   -- an answer that is no certificate
   pub answered :
-      (e : JudgeEnd) → IsRefusedBehind (plan_of f) (start_of f) told e
-      → (bytes : List ℕ) → told ≡ Some bytes → IsWant (Err e) ⊎ IsJudgement f bytes (Err e)
-  answered (judge.Refused offset why) refused bytes is = inr (refused tt bytes is)
-  answered judge.Failed refused bytes is = inl (inl refl)
-  answered judge.NoMemory refused bytes is = inl (inr refl)
+      (e : JudgeEnd) → IsRefusedBehind (plan_of f) (start_of f) Before e
+      → IsWant (Err e) ⊎ ((bytes : List ℕ) × Before bytes × IsJudgement f bytes (Err e))
+  answered (judge.Refused offset why) refused = inr (refused tt)
+  answered judge.Failed refused = inl (inl refl)
+  answered judge.NoMemory refused = inl (inr refl)
 
-  pub header_refused : (e : JudgeEnd) → IsMisspeltBehind reader_at_start told e → IsRefusedBehind (plan_of f) (start_of f) told e
-  header_refused e misspelt = misspelt_refused (plan_of f) reader_at_start [] told e misspelt
+  pub header_refused : (e : JudgeEnd) → IsMisspeltBehind reader_at_start Before e → IsRefusedBehind (plan_of f) (start_of f) Before e
+  header_refused e misspelt = misspelt_refused (plan_of f) reader_at_start [] Before e misspelt
 
-  module _ (level : Level) (first : Progress) (one : Option (List ℕ))
-      (header : Comes reader_at_start told (record { offset = 0; part = part.Header level }) first one) where
+  module _ (level : Level) (first : Progress) (Between : List ℕ → Type 0)
+      (header : Comes reader_at_start Before (record { offset = 0; part = part.Header level }) first Between) where
     pub first_line : IsLineWith (obligations_of f.head level) (place_of first)
     first_line =
         subst (λ (p : Place). IsLineWith (obligations_of f.head level) p) (sym (ap place_of header.behind)) (line_of_level f level)
 
-    header_leads : Leads (plan_of f) (start_of f) told (point_of first []) one
+    header_leads : Leads (plan_of f) (start_of f) Before (point_of first []) Between
     header_leads =
-        part_leads (plan_of f) reader_at_start first told one (record { offset = 0; part = part.Header level }) [] [] header refl
+        part_leads (plan_of f) reader_at_start first Before Between (record { offset = 0; part = part.Header level }) [] [] header refl
 
-    pub sections_refused : (e : JudgeEnd) → IsRefusedBehind (plan_of f) (point_of first []) one e → IsRefusedBehind (plan_of f) (start_of f) told e
-    sections_refused e refused = refused_through (plan_of f) (start_of f) (point_of first []) told one e header_leads refused
+    pub sections_refused : (e : JudgeEnd) → IsRefusedBehind (plan_of f) (point_of first []) Between e → IsRefusedBehind (plan_of f) (start_of f) Before e
+    sections_refused e refused = refused_through (plan_of f) (start_of f) (point_of first []) Before Between e header_leads refused
 
-    module _ (last : Progress) (two : Option (List ℕ)) (sections : Leads (plan_of f) (point_of first []) one (point_of last []) two) where
-      pub end_refused : (e : JudgeEnd) → IsRefusedBehind (plan_of f) (point_of last []) two e → IsRefusedBehind (plan_of f) (start_of f) told e
+    module _ (last : Progress) (AtEnd : List ℕ → Type 0) (sections : Leads (plan_of f) (point_of first []) Between (point_of last []) AtEnd) where
+      pub end_refused : (e : JudgeEnd) → IsRefusedBehind (plan_of f) (point_of last []) AtEnd e → IsRefusedBehind (plan_of f) (start_of f) Before e
       end_refused e refused =
-          refused_through (plan_of f) (start_of f) (point_of last []) told two e
-          (leads_on (plan_of f) (start_of f) (point_of first []) (point_of last []) told one two header_leads sections) refused
+          refused_through (plan_of f) (start_of f) (point_of last []) Before AtEnd e
+          (leads_on (plan_of f) (start_of f) (point_of first []) (point_of last []) Before Between AtEnd header_leads sections) refused
 
-      pub whole : IsLineWith [] (place_of last) → IsLastLine two → (bytes : List ℕ) → told ≡ Some bytes → IsWhole f level bytes
-      whole line ends bytes is =
-          let behind = rest_told (part_text (place_of reader_at_start) (part.Header level)) bytes one (sym is ∙ header.bytes) in
-          let there = sections behind.0 behind.1 in
-          let end : IsJudged (plan_of f) (Ok tt) (point_of last []) there.0 =
-          subst (λ (l : List ℕ). IsJudged (plan_of f) (Ok tt) (point_of last []) l) (sym (ends there.0 there.1))
-          (last_judged (plan_of f) (place_of last) (offset_of last) line) in
-          let judged : IsJudged (plan_of f) (Ok tt) (point_behind (start_of f) (part.Header level) []) behind.0 =
-          subst (λ (p : Point Why). IsJudged (plan_of f) (Ok tt) p behind.0) (ap (λ (r : Progress). point_of r []) header.behind)
-          (there.2 (Ok tt) end) in
-          (judged.0, (header.stands, (behind.0, [], behind.2, refl, judged.1)))
+      pub whole : IsLineWith [] (place_of last) → AtEnd end_text → (bytes : List ℕ) × Before bytes × IsWhole f level bytes
+      whole line ends =
+          let there = sections end_text ends in
+          let judged : IsJudged (plan_of f) (Ok tt) (point_behind (start_of f) (part.Header level) []) there.0 =
+          subst (λ (p : Point Why). IsJudged (plan_of f) (Ok tt) p there.0) (ap (λ (r : Progress). point_of r []) header.behind)
+          (there.2 (Ok tt) (last_judged (plan_of f) (place_of last) (offset_of last) line)) in (
+            part_text (place_of reader_at_start) (part.Header level) ++ there.0,
+            header.bytes there.0 there.1,
+            (judged.0, (header.stands, (there.0, [], refl, refl, judged.1))),
+          )
 
--- no other answer is the judgement
-pub no_other :
-    ((f : Function) (bytes : List ℕ) (one other : Result Level JudgeEnd) → IsTrue (is_valid f)
-    → IsJudgement f bytes one → IsJudgement f bytes other → one ≡ other)
-    → (f : Function) (bytes : List ℕ) (one other : Result Level JudgeEnd) → IsTrue (is_valid f)
-    → IsWant one ⊎ IsJudgement f bytes one → IsJudgement f bytes other → IsWant one ⊎ (one ≡ other)
-no_other law f bytes one other valid (inl want) judged = inl want
-no_other law f bytes one other valid (inr here) judged = inr (law f bytes one other valid here judged)
+-- no other answer is the judgement of bytes that are told
+module _ {F : Type 0} (left : F → Option (List ℕ)) (bound : F → ℕ) where
+  pub no_other :
+      ((f : Function) (bytes : List ℕ) (one other : Result Level JudgeEnd) → IsTrue (is_valid f)
+      → IsJudgement f bytes one → IsJudgement f bytes other → one ≡ other)
+      → (f : Function) (feed : F) (bytes : List ℕ) (one other : Result Level JudgeEnd) → IsTrue (is_valid f) → left feed ≡ Some bytes
+      → IsWant one ⊎ ((some : List ℕ) × MayGive left bound feed some × IsJudgement f some one)
+      → IsJudgement f bytes other → IsWant one ⊎ (one ≡ other)
+  unfolding MayGive
+  no_other law f feed bytes one other valid is (inl want) judged = inl want
+  no_other law f feed bytes one other valid is (inr (some, may, here)) judged =
+      inr (law f bytes one other valid (subst (λ (b : List ℕ). IsJudgement f b one) (may.0 bytes is) here) judged)

@@ -1,6 +1,6 @@
 -- What a judge gets of a feed through a reader, and what no call does to a feed.
-use Rattle.std.specs.Prelude.{◌≡◌, ℕ, ◌+◌, ◌≤◌, List, [], ◌∷◌, length, Option, Some, Result, Err}
-use Rattle.std.specs.Io.KnownBytes.{prepend_known}
+use Rattle.std.specs.Prelude.{◌≡◌, ℕ, ◌+◌, ◌≤◌, List, [], ◌∷◌, ◌++◌, length, Option, Result, Err}
+use Rattle.std.specs.Option.{ForSome, ForNone}
 use Rattle.fn_rules.specs.declared.function.ObName.{ObName}
 use Rattle.ask_core.specs.Plans.{Plan}
 use Rattle.ask_core.specs.Trees.{Branch}
@@ -60,11 +60,21 @@ tree_with count Finish = Finish
 abbrev pub opened : {W : Type 0} → Plan W → List (Branch W)
 opened p = record { plan = p; answers = [] } ∷ []
 
--- a part comes of a reader between two parts: it stands there, its bytes are taken, and the reader is behind it
-pub record Comes (was : Progress) (told : Option (List ℕ)) (item : Item) (now : Progress) (left : Option (List ℕ)) : Type 0 where
+-- a feed may give these bytes and then end: they are those that it tells, where it tells them, and otherwise no more
+-- than it can give
+unfoldable pub MayGive : {F : Type 0} → (F → Option (List ℕ)) → (F → ℕ) → F → List ℕ → Type 0
+MayGive left bound feed bytes =
+    ForSome (left feed) (λ told. bytes ≡ told) × ForNone (left feed) (length bytes ≤ bound feed)
+
+-- In what follows `Before` and `After` say which bytes a feed may give, at an earlier and at a later state.
+
+-- a part comes of a reader between two parts: it stands there, its bytes are taken, some bytes may still be given, and the
+-- reader is behind it
+pub record Comes (was : Progress) (Before : List ℕ → Type 0) (item : Item) (now : Progress) (After : List ℕ → Type 0) : Type 0 where
   pub offset : item.offset ≡ offset_of was
   pub stands : Stands (place_of was) item.part
-  pub bytes : told ≡ prepend_known (part_text (place_of was) item.part) left
+  pub bytes : (rest : List ℕ) → After rest → Before (part_text (place_of was) item.part ++ rest)
+  pub some : (rest : List ℕ) × After rest
   pub behind :
       now ≡ Reading (place_after (place_of was) item.part) (offset_of was + length (part_text (place_of was) item.part)) []
 
@@ -78,28 +88,28 @@ IsRefused judge.NoMemory = ⊥
 abbrev pub IsTruncated : JudgeEnd → Type 0
 IsTruncated e = (offset : ℕ) × (e ≡ judge.Refused offset why.Truncated)
 
--- the bytes behind a reader between two parts, where they are told, are refused by their spelling
-abbrev pub IsMisspeltBehind : Progress → Option (List ℕ) → JudgeEnd → Type 0
-IsMisspeltBehind was told e =
-    IsRefused e → (bytes : List ℕ) → told ≡ Some bytes
-    → (c : CertEnd) × EndsThere (place_of was) (offset_of was) bytes (Err c) × (e ≡ end_of_spelling c)
+-- some bytes that the feed may give behind a reader between two parts are refused by their spelling
+abbrev pub IsMisspeltBehind : Progress → (List ℕ → Type 0) → JudgeEnd → Type 0
+IsMisspeltBehind was Before e =
+    IsRefused e → (bytes : List ℕ) × Before bytes
+    × ((c : CertEnd) × EndsThere (place_of was) (offset_of was) bytes (Err c) × (e ≡ end_of_spelling c))
 
--- what is judged of the bytes that are left at a later point is judged of those at the earlier point, where they are
--- told
-abbrev pub Leads : {W : Type 0} → (ObName → Plan W) → Point W → Option (List ℕ) → Point W → Option (List ℕ) → Type 0
-Leads plan was told now left =
-    (bytes : List ℕ) → told ≡ Some bytes
-    → (rest : List ℕ) × (left ≡ Some rest)
+-- what is judged at a later point of bytes that the feed may give there is judged at the earlier point of bytes that it
+-- may have given
+abbrev pub Leads : {W : Type 0} → (ObName → Plan W) → Point W → (List ℕ → Type 0) → Point W → (List ℕ → Type 0) → Type 0
+Leads plan was Before now After =
+    (rest : List ℕ) → After rest
+    → (bytes : List ℕ) × Before bytes
     × ((end : Result (Unit {0}) JudgeEnd) → IsJudged plan end now rest → IsJudged plan end was bytes)
 
--- the bytes behind a point, where they are told, are refused so
-abbrev pub IsRefusedBehind : {W : Type 0} → (ObName → Plan W) → Point W → Option (List ℕ) → JudgeEnd → Type 0
-IsRefusedBehind plan was told e =
-    IsRefused e → (bytes : List ℕ) → told ≡ Some bytes → IsJudged plan (Err e) was bytes
+-- some bytes that the feed may give behind a point are refused so
+abbrev pub IsRefusedBehind : {W : Type 0} → (ObName → Plan W) → Point W → (List ℕ → Type 0) → JudgeEnd → Type 0
+IsRefusedBehind plan was Before e =
+    IsRefused e → (bytes : List ℕ) × Before bytes × IsJudged plan (Err e) was bytes
 
 -- the same of a part of a certificate in which no obligation's line stands, whatever the plans of the obligations are
-abbrev pub LeadsAnyway : {W : Type 0} → Point W → Option (List ℕ) → Point W → Option (List ℕ) → Type 0
-LeadsAnyway {W = W} was told now left = (plan : ObName → Plan W) → Leads plan was told now left
+abbrev pub LeadsAnyway : {W : Type 0} → Point W → (List ℕ → Type 0) → Point W → (List ℕ → Type 0) → Type 0
+LeadsAnyway {W = W} was Before now After = (plan : ObName → Plan W) → Leads plan was Before now After
 
-abbrev pub IsRefusedAnyway : {W : Type 0} → Point W → Option (List ℕ) → JudgeEnd → Type 0
-IsRefusedAnyway {W = W} was told e = (plan : ObName → Plan W) → IsRefusedBehind plan was told e
+abbrev pub IsRefusedAnyway : {W : Type 0} → Point W → (List ℕ → Type 0) → JudgeEnd → Type 0
+IsRefusedAnyway {W = W} was Before e = (plan : ObName → Plan W) → IsRefusedBehind plan was Before e

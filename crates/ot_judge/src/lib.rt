@@ -1,16 +1,24 @@
-//! The judge of certificates: whether bytes are a certificate of a function, and where and why they are none.
+//! Certificates: whether bytes are one of a function, and where and why not; and the search that finds one.
 #![tactic(auto)]
 
+mod bound;
 mod check;
 mod judge;
 mod laws;
 mod part;
+mod proving;
 mod refusal;
 mod soundness;
 mod tree;
+mod verdict;
+mod verdicts;
 
 pub use ask_core::NoMemory;
+pub use bound::atoms_bound_the_budget;
 pub use check::check_all;
 pub use laws::{bytes_have_one_judgement, certificates_are_parts_that_fit};
+pub use proving::prove_all;
 pub use refusal::{JudgeEnd, Refusal};
 pub use soundness::certificates_show_the_properties;
+pub use verdict::Verdict;
+pub use verdicts::{obligations_have_one_question_list, proofs_are_certificates};

@@ -4,7 +4,7 @@ ghost use Rattle.std.specs.Io.KnownBytes.{IsAtEnd};
 ghost use Rattle.cert_text.specs.Places.{Finish};
 ghost use Rattle.cert_text.specs.Reading.{fed_to};
 ghost use Rattle.ot_outside.specs.Faults.{Rose};
-ghost use Rattle.ot_judge.specs.Feeding.{Comes, IsBetween, IsKept, IsMisspeltBehind, IsTruncated, place_of};
+ghost use Rattle.ot_judge.specs.Feeding.{Comes, IsBetween, IsKept, IsMisspeltBehind, IsTruncated, MayGive, place_of};
 
 use crate::refusal::JudgeEnd;
 use cert_text::{Item, Reader};
@@ -19,22 +19,25 @@ pub(crate) fn next_part<F: Feed>(
     requires room { fed_to reader.old + F.bound feed.old < 2 ^ 63 }
 
     // A part that may stand there, and one with which the feed gives fewer bytes.
-    ensures part { IfOk result (λ o. IfSome o (λ item. Comes reader.old (F.left feed.old) item reader.new (F.left feed.new))) }
+    ensures part { IfOk result (λ o. IfSome o (λ item.
+        Comes reader.old (MayGive F.left F.bound feed.old) item reader.new (MayGive F.left F.bound feed.new))) }
     ensures room { IfOk result (λ o. IfSome o (λ _. fed_to reader.new + F.bound feed.new ≤ fed_to reader.old + F.bound feed.old)) }
     ensures fewer { IfOk result (λ o. IfSome o (λ _. F.bound feed.new < F.bound feed.old)) }
 
     // None behind the last part, where nothing is left.
     ensures finish { IfOk result (λ o. IfNone o (place_of reader.old ≡ Finish)) }
-    ensures end { IfOk result (λ o. IfNone o ((bytes : List ℕ) → F.left feed.old ≡ Some bytes → bytes ≡ [])) }
+    ensures end { IfOk result (λ o. IfNone o (MayGive F.left F.bound feed.old [])) }
     ensures nothing_left { IfOk result (λ o. IfNone o (IsAtEnd (F.left feed.new))) }
 
-    ensures misspelt { IfErr result (IsMisspeltBehind reader.old (F.left feed.old)) }
+    ensures misspelt { IfErr result (IsMisspeltBehind reader.old (MayGive F.left F.bound feed.old)) }
     ensures spent { IfErr result (λ e. IsTruncated e → IsAtEnd (F.left feed.new)) }
     ensures failed { IfErr result (λ e. e ≡ JudgeEnd.Failed → Rose (F.faults feed.old) (F.faults feed.new)) }
     ensures kept { IsKept F.faults F.bound F.held F.keeps feed.old feed.new }
 {
-    while let Some(byte) = feed.next()? {
-        if let Some(item) = reader.feed(byte)? {
+    while feed.more()? {
+        let (taken, given) = reader.feed_piece(feed.at_hand());
+        feed.consume(taken);
+        if let Some(item) = given? {
             return Ok(Some(item));
         }
     }
@@ -47,10 +50,11 @@ pub(crate) fn expect_part<F: Feed>(reader: &mut Reader, feed: &mut F) -> Result<
     requires between { IsBetween reader.old }
     requires unfinished { place_of reader.old ≡ Finish → ⊥ }
     requires room { fed_to reader.old + F.bound feed.old < 2 ^ 63 }
-    ensures part { IfOk result (λ item. Comes reader.old (F.left feed.old) item reader.new (F.left feed.new)) }
+    ensures part { IfOk result (λ item.
+        Comes reader.old (MayGive F.left F.bound feed.old) item reader.new (MayGive F.left F.bound feed.new)) }
     ensures room { IfOk result (λ _. fed_to reader.new + F.bound feed.new ≤ fed_to reader.old + F.bound feed.old) }
     ensures fewer { IfOk result (λ _. F.bound feed.new < F.bound feed.old) }
-    ensures misspelt { IfErr result (IsMisspeltBehind reader.old (F.left feed.old)) }
+    ensures misspelt { IfErr result (IsMisspeltBehind reader.old (MayGive F.left F.bound feed.old)) }
     ensures spent { IfErr result (λ e. IsTruncated e → IsAtEnd (F.left feed.new)) }
     ensures failed { IfErr result (λ e. e ≡ JudgeEnd.Failed → Rose (F.faults feed.old) (F.faults feed.new)) }
     ensures kept { IsKept F.faults F.bound F.held F.keeps feed.old feed.new }

@@ -6,5 +6,5 @@ use Rattle.ot_judge.proofs.check.check_all.Goals as goal
 pub returns-clause-only : goal.returns-clause-only
 returns-clause-only g c =
     λ bytes other is judged.
-    no_other c.bytes_have_one_judgement.ensures (function_of c.args.rules.now) bytes c.judge_all.result other c.head-head.ensures.valid
-    (c.judge_all.ensures.judged bytes is) judged
+    no_other g.F.Feed.left g.F.Feed.bound c.bytes_have_one_judgement.ensures (function_of c.args.rules.now) c.args.feed.now bytes
+    c.judge_all.result other c.head-head.ensures.valid is c.judge_all.ensures.judged judged

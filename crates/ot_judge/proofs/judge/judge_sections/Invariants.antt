@@ -1,7 +1,8 @@
 use Rattle.std.proofs.Common.{◌+◌, ◌≤◌, [], drop}
+use Rattle.fn_rules.specs.Rules.{function_of}
 use Rattle.cert_text.specs.Reading.{fed_to}
 use Rattle.ot_questions.specs.Obligation.{plan_of}
-use Rattle.ot_judge.specs.Feeding.{IsBetween, IsKept, Leads, place_of, point_of}
+use Rattle.ot_judge.specs.Feeding.{IsBetween, IsKept, Leads, MayGive, place_of, point_of}
 use Rattle.ot_judge.specs.Sections.{IsLineWith}
 use Rattle.ot_judge.proofs.judge.judge_sections.Given as goal
 
@@ -11,8 +12,8 @@ invariant-loop-ob g l = record {
   between : IsBetween l.reader;
   lines : IsLineWith (drop l.ob-index l.names) (place_of l.reader);
   leads :
-      Leads (plan_of (g.T.Trees.function l.trees)) (point_of l.fn.reader []) (g.F.Feed.left l.fn.feed) (point_of l.reader [])
-      (g.F.Feed.left l.feed);
+      Leads (plan_of (function_of l.rules)) (point_of l.fn.reader []) (MayGive g.F.Feed.left g.F.Feed.bound l.fn.feed) (point_of l.reader [])
+      (MayGive g.F.Feed.left g.F.Feed.bound l.feed);
   room : fed_to l.reader + g.F.Feed.bound l.feed ≤ fed_to l.fn.reader + g.F.Feed.bound l.fn.feed;
   kept : IsKept g.F.Feed.faults g.F.Feed.bound g.F.Feed.held g.F.Feed.keeps l.fn.feed l.feed;
 }

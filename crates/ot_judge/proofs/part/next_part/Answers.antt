@@ -1,34 +1,98 @@
 -- What ends a part, or the bytes.
+use Rattle.std.proofs.Common.{arith, take, sym, ◌∙◌}
 use Rattle.std.proofs.lemmas.Result.{err_from_is_err_and}
-use Rattle.ot_judge.proofs.Coming.{byte_misspelt, end_misspelt, finished_whole}
+use Rattle.ot_judge.specs.Feeding.{MayGive}
+use Rattle.ot_judge.proofs.Coming.{bytes_misspelt, end_misspelt, finished_whole, given, none_given, part_comes, reads_more, refused_early, some_given}
+use Rattle.ot_judge.proofs.TreeRun.{kept_on}
 use Rattle.ot_judge.proofs.part.next_part.Goals as goal
+
+pub loop-reader-preserved : goal.loop-reader-preserved
+loop-reader-preserved g c =
+    let took = sym c.more.ensures.left ∙ (rw (← c.at_hand.ensures.hand) at c.consume.ensures.left) in
+    let fewer = sym c.more.ensures.bound ∙ c.consume.ensures.bound in
+    let gives = rw (c.in_ok-item.was, c.in_default.is) at c.feed_piece-taken.ensures.gives in
+    record {
+      reads =
+          reads_more c.args.reader.now c.loop-reader.reader c.feed_piece-taken.new.self c.at_hand.result.now
+          c.feed_piece-taken.result.0 (MayGive g.F.Feed.left g.F.Feed.bound c.args.feed.now)
+          (MayGive g.F.Feed.left g.F.Feed.bound c.loop-reader.feed) (MayGive g.F.Feed.left g.F.Feed.bound c.consume.new.self)
+          c.loop-reader.invariant.reads
+          (given g.F.Feed.left g.F.Feed.bound c.loop-reader.feed c.consume.new.self c.at_hand.result.now
+          c.feed_piece-taken.result.0 c.feed_piece-taken.ensures.within took fewer) gives;
+      room = omega (arith, c.loop-reader.invariant.room, c.feed_piece-taken.ensures.fed, fewer);
+      kept =
+          kept_on g.F.Feed.faults g.F.Feed.bound g.F.Feed.held g.F.Feed.keeps c.args.feed.now c.loop-reader.feed
+          c.consume.new.self c.loop-reader.invariant.kept
+          (record {
+            more_faults = omega (arith, c.more.ensures.faults, c.consume.ensures.faults);
+            no_more_bytes = omega (arith, fewer);
+            same_object = c.consume.ensures.held ∙ c.more.ensures.held;
+            still_keeps = λ before h. c.consume.ensures.keeps before (c.more.ensures.keeps before h);
+          });
+    }
+
+pub returns-in-Some-clause-part : goal.returns-in-Some-clause-part
+returns-in-Some-clause-part g c =
+    let took = sym c.more.ensures.left ∙ (rw (← c.at_hand.ensures.hand) at c.consume.ensures.left) in
+    let fewer = sym c.more.ensures.bound ∙ c.consume.ensures.bound in
+    let gives = rw (c.in_ok-item.was, c.in-Some.is) at c.feed_piece-taken.ensures.gives in
+    part_comes c.args.reader.now c.loop-reader.reader c.feed_piece-taken.new.self c.at_hand.result.now
+    c.feed_piece-taken.result.0 c.in-Some.item (MayGive g.F.Feed.left g.F.Feed.bound c.args.feed.now)
+    (MayGive g.F.Feed.left g.F.Feed.bound c.loop-reader.feed) (MayGive g.F.Feed.left g.F.Feed.bound c.consume.new.self)
+    c.loop-reader.invariant.reads
+    (given g.F.Feed.left g.F.Feed.bound c.loop-reader.feed c.consume.new.self c.at_hand.result.now c.feed_piece-taken.result.0
+    c.feed_piece-taken.ensures.within took fewer)
+    (some_given g.F.Feed.left g.F.Feed.bound c.consume.new.self) gives
 
 pub returns-in_err-item-clause-misspelt : goal.returns-in_err-item-clause-misspelt
 returns-in_err-item-clause-misspelt g c =
     let p = err_from_is_err_and c.from_residual-in_err-item.result c.from_residual-in_err-item.ensures.1 in
-    let given = rw c.in-Some.is at c.in_ok-byte.ensures.ok in
+    let took = sym c.more.ensures.left ∙ (rw (← c.at_hand.ensures.hand) at c.consume.ensures.left) in
+    let fewer = sym c.more.ensures.bound ∙ c.consume.ensures.bound in
     rw p.1
-    (byte_misspelt c.args.reader.now c.loop-byte.reader c.feed.new.self c.in-Some.byte c.in_err-item.field-0.0 p.0
-    (g.F.Feed.left c.args.feed.now) (g.F.Feed.left c.loop-byte.feed) (g.F.Feed.left c.next.new.self) c.loop-byte.invariant.reads
-    c.in_err-item.ensures.reads given p.2)
+    (bytes_misspelt c.args.reader.now c.loop-reader.reader c.feed_piece-taken.new.self
+    (take c.feed_piece-taken.result.0 c.at_hand.result.now) c.in_err-item.field-0.0 p.0
+    (MayGive g.F.Feed.left g.F.Feed.bound c.args.feed.now) (MayGive g.F.Feed.left g.F.Feed.bound c.loop-reader.feed)
+    (MayGive g.F.Feed.left g.F.Feed.bound c.consume.new.self) c.loop-reader.invariant.reads
+    (rw c.in_err-item.was at c.feed_piece-taken.ensures.reads)
+    (given g.F.Feed.left g.F.Feed.bound c.loop-reader.feed c.consume.new.self c.at_hand.result.now c.feed_piece-taken.result.0
+    c.feed_piece-taken.ensures.within took fewer)
+    (some_given g.F.Feed.left g.F.Feed.bound c.consume.new.self) p.2)
+
+pub returns-in_err-item-clause-spent : goal.returns-in_err-item-clause-spent
+returns-in_err-item-clause-spent g c =
+    let p = err_from_is_err_and c.from_residual-in_err-item.result c.from_residual-in_err-item.ensures.1 in
+    rw p.1
+    (λ truncated.
+    absurd
+    (refused_early c.args.reader.now c.loop-reader.reader c.feed_piece-taken.new.self
+    (take c.feed_piece-taken.result.0 c.at_hand.result.now) c.in_err-item.field-0.0 p.0
+    (MayGive g.F.Feed.left g.F.Feed.bound c.args.feed.now) (MayGive g.F.Feed.left g.F.Feed.bound c.loop-reader.feed)
+    (MayGive g.F.Feed.left g.F.Feed.bound c.consume.new.self) c.loop-reader.invariant.reads
+    (rw c.in_err-item.was at c.feed_piece-taken.ensures.reads) p.2 truncated))
 
 pub returns-in_err-finish-clause-misspelt : goal.returns-in_err-finish-clause-misspelt
 returns-in_err-finish-clause-misspelt g c =
     let p = err_from_is_err_and c.from_residual-in_err-finish.result c.from_residual-in_err-finish.ensures.1 in
-    let over = rw c.in_default.is at c.in_ok-byte.ensures.ok in
+    let over = c.in_ok-more.ensures.end c.if-branch.false in
     rw p.1
-    (end_misspelt c.args.reader.now c.loop-byte.reader c.finish.result (g.F.Feed.left c.args.feed.now)
-    (g.F.Feed.left c.loop-byte.feed) c.loop-byte.invariant.reads c.finish.ensures.reads c.in_err-finish.field-0.0 p.0 over.0
-    c.in_err-finish.was p.2)
+    (end_misspelt c.args.reader.now c.loop-reader.reader c.finish.result
+    (MayGive g.F.Feed.left g.F.Feed.bound c.args.feed.now) (MayGive g.F.Feed.left g.F.Feed.bound c.loop-reader.feed)
+    c.loop-reader.invariant.reads (none_given g.F.Feed.left g.F.Feed.bound c.loop-reader.feed over) c.finish.ensures.reads
+    c.in_err-finish.field-0.0 p.0 c.in_err-finish.was p.2)
 
 pub returns-clause-finish : goal.returns-clause-finish
 returns-clause-finish g c =
-    let over = rw c.in_default.is at c.in_ok-byte.ensures.ok in
-    (finished_whole c.args.reader.now c.loop-byte.reader c.finish.result (g.F.Feed.left c.args.feed.now)
-    (g.F.Feed.left c.loop-byte.feed) c.loop-byte.invariant.reads c.finish.ensures.reads over.0 c.in_ok-finish.was).0
+    let over = c.in_ok-more.ensures.end c.if-branch.false in
+    (finished_whole c.args.reader.now c.loop-reader.reader c.finish.result
+    (MayGive g.F.Feed.left g.F.Feed.bound c.args.feed.now) (MayGive g.F.Feed.left g.F.Feed.bound c.loop-reader.feed)
+    c.loop-reader.invariant.reads (none_given g.F.Feed.left g.F.Feed.bound c.loop-reader.feed over) c.finish.ensures.reads
+    c.in_ok-finish.was).0
 
 pub returns-clause-end : goal.returns-clause-end
 returns-clause-end g c =
-    let over = rw c.in_default.is at c.in_ok-byte.ensures.ok in
-    (finished_whole c.args.reader.now c.loop-byte.reader c.finish.result (g.F.Feed.left c.args.feed.now)
-    (g.F.Feed.left c.loop-byte.feed) c.loop-byte.invariant.reads c.finish.ensures.reads over.0 c.in_ok-finish.was).1
+    let over = c.in_ok-more.ensures.end c.if-branch.false in
+    (finished_whole c.args.reader.now c.loop-reader.reader c.finish.result
+    (MayGive g.F.Feed.left g.F.Feed.bound c.args.feed.now) (MayGive g.F.Feed.left g.F.Feed.bound c.loop-reader.feed)
+    c.loop-reader.invariant.reads (none_given g.F.Feed.left g.F.Feed.bound c.loop-reader.feed over) c.finish.ensures.reads
+    c.in_ok-finish.was).1

@@ -3,7 +3,7 @@ use Rattle.std.proofs.Common.{◌≡◌, [], length, Ok, arith, sym, ap, subst, 
 use Rattle.std.proofs.lemmas.Result.{err_from_is_err_and}
 use Rattle.cert_check.specs.Judging.{open_branches}
 use Rattle.ot_judge.specs.declared.refusal.JudgeEnd.{JudgeEnd}
-use Rattle.ot_judge.specs.Feeding.{IsRefusedAnyway, opened, place_of, point_of}
+use Rattle.ot_judge.specs.Feeding.{IsRefusedAnyway, MayGive, opened, place_of, point_of}
 use Rattle.ot_judge.proofs.Leading.{behind_token, between_parts}
 use Rattle.ot_judge.proofs.TreeRun.{counted, kept_on, leads_token, no_branch, refused_bytes, refused_token, tree_is}
 use Rattle.ot_judge.proofs.tree.judge_tree.Goals as goal
@@ -13,7 +13,7 @@ returns-in_err-offset-clause-refused g c =
     let p = err_from_is_err_and c.from_residual-in_err-offset.result c.from_residual-in_err-offset.ensures.1 in
     rw (p.1, p.2)
     (refused_bytes (point_of c.args.reader.now (opened (g.A.Asker.root c.args.asker))) c.loop-checker.reader c.next_token.new.reader
-    (g.F.Feed.left c.args.feed.now) (g.F.Feed.left c.loop-checker.feed) (g.F.Feed.left c.next_token.new.feed)
+    (MayGive g.F.Feed.left g.F.Feed.bound c.args.feed.now) (MayGive g.F.Feed.left g.F.Feed.bound c.loop-checker.feed) (MayGive g.F.Feed.left g.F.Feed.bound c.next_token.new.feed)
     (open_branches g.A.Asker.plan c.loop-checker.checker) c.loop-checker.invariant.leads c.in_err-offset.field-0.0
     c.in_err-offset.ensures.misspelt)
 
@@ -21,7 +21,7 @@ pub loop-checker-preserved : goal.loop-checker-preserved
 loop-checker-preserved g c =
     let now = c.next_token.new in
     let comes = c.in_ok-offset.ensures.token in
-    let behind = behind_token c.loop-checker.reader now.reader (g.F.Feed.left c.loop-checker.feed) (g.F.Feed.left now.feed)
+    let behind = behind_token c.loop-checker.reader now.reader (MayGive g.F.Feed.left g.F.Feed.bound c.loop-checker.feed) (MayGive g.F.Feed.left g.F.Feed.bound now.feed)
     c.in_ok-offset.offset c.in_ok-offset.tok (open_branches g.A.Asker.plan c.loop-checker.checker)
     (open_branches g.A.Asker.plan c.feed.new.self) (length c.loop-checker.checker.places) (length c.feed.new.self.places) comes
     c.loop-checker.invariant.tree (sym (counted (g.A.Asker.plan c.loop-checker.checker.asker) c.loop-checker.checker.places))
@@ -34,7 +34,7 @@ loop-checker-preserved g c =
       unrefused = c.in-Ok-More.ensures.none_before.1;
       leads =
           leads_token (point_of c.args.reader.now (opened (g.A.Asker.root c.args.asker))) c.loop-checker.reader now.reader
-          (g.F.Feed.left c.args.feed.now) (g.F.Feed.left c.loop-checker.feed) (g.F.Feed.left now.feed)
+          (MayGive g.F.Feed.left g.F.Feed.bound c.args.feed.now) (MayGive g.F.Feed.left g.F.Feed.bound c.loop-checker.feed) (MayGive g.F.Feed.left g.F.Feed.bound now.feed)
           (open_branches g.A.Asker.plan c.loop-checker.checker) c.loop-checker.invariant.leads c.in_ok-offset.offset
           c.in_ok-offset.tok (open_branches g.A.Asker.plan c.feed.new.self) comes c.in-Ok-More.ensures.step;
       room = omega (arith, c.in_ok-offset.ensures.room, c.loop-checker.invariant.room);
@@ -49,7 +49,7 @@ returns-in-Ok-Done-clause-closed g c =
     let comes = c.in_ok-offset.ensures.token in
     let closed : c.feed.new.self.places ≡ [] = c.in-Ok-Done.ensures.closed (cc) in
     let none = no_branch (g.A.Asker.plan c.feed.new.self.asker) c.feed.new.self.places closed in
-    let behind = behind_token c.loop-checker.reader now.reader (g.F.Feed.left c.loop-checker.feed) (g.F.Feed.left now.feed)
+    let behind = behind_token c.loop-checker.reader now.reader (MayGive g.F.Feed.left g.F.Feed.bound c.loop-checker.feed) (MayGive g.F.Feed.left g.F.Feed.bound now.feed)
     c.in_ok-offset.offset c.in_ok-offset.tok (open_branches g.A.Asker.plan c.loop-checker.checker)
     (open_branches g.A.Asker.plan c.feed.new.self) (length c.loop-checker.checker.places) 0 comes
     c.loop-checker.invariant.tree (sym (counted (g.A.Asker.plan c.loop-checker.checker.asker) c.loop-checker.checker.places))
@@ -64,7 +64,7 @@ returns-in-Ok-Done-clause-leads g c =
     let closed : c.feed.new.self.places ≡ [] = c.in-Ok-Done.ensures.closed (cc) in
     let none = no_branch (g.A.Asker.plan c.feed.new.self.asker) c.feed.new.self.places closed in
     leads_token (point_of c.args.reader.now (opened (g.A.Asker.root c.args.asker))) c.loop-checker.reader now.reader
-    (g.F.Feed.left c.args.feed.now) (g.F.Feed.left c.loop-checker.feed) (g.F.Feed.left now.feed)
+    (MayGive g.F.Feed.left g.F.Feed.bound c.args.feed.now) (MayGive g.F.Feed.left g.F.Feed.bound c.loop-checker.feed) (MayGive g.F.Feed.left g.F.Feed.bound now.feed)
     (open_branches g.A.Asker.plan c.loop-checker.checker) c.loop-checker.invariant.leads c.in_ok-offset.offset c.in_ok-offset.tok
     [] c.in_ok-offset.ensures.token (c.in-Ok-Done.ensures.step ∙ ap Ok none)
 
@@ -72,8 +72,8 @@ pub returns-in-Err-clause-refused : goal.returns-in-Err-clause-refused
 returns-in-Err-clause-refused g c =
     let now = c.next_token.new in
     let refused = refused_token (point_of c.args.reader.now (opened (g.A.Asker.root c.args.asker))) c.loop-checker.reader now.reader
-    (g.F.Feed.left c.args.feed.now) (g.F.Feed.left c.loop-checker.feed) (g.F.Feed.left now.feed)
+    (MayGive g.F.Feed.left g.F.Feed.bound c.args.feed.now) (MayGive g.F.Feed.left g.F.Feed.bound c.loop-checker.feed) (MayGive g.F.Feed.left g.F.Feed.bound now.feed)
     (open_branches g.A.Asker.plan c.loop-checker.checker) c.loop-checker.invariant.leads c.in_ok-offset.offset c.in_ok-offset.tok
     c.in-Err.end c.in_ok-offset.ensures.token (c.in-Err.ensures.why c.loop-checker.invariant.unrefused) in
-    subst (λ (e : JudgeEnd). IsRefusedAnyway (point_of c.args.reader.now (opened (g.A.Asker.root c.args.asker))) (g.F.Feed.left c.args.feed.now) e)
+    subst (λ (e : JudgeEnd). IsRefusedAnyway (point_of c.args.reader.now (opened (g.A.Asker.root c.args.asker))) (MayGive g.F.Feed.left g.F.Feed.bound c.args.feed.now) e)
     (sym c.end_at.ensures) refused

@@ -1,0 +1,240 @@
+-- The verdict of an obligation and those behind it, by the search of the first.
+use Rattle.std.specs.Prelude.{IsTrue}
+use Rattle.std.specs.Option.{option_or}
+use Rattle.std.specs.declared.alloc.Global.{Global}
+use Rattle.std.proofs.Common.{◌≡◌, ℕ, ◌+◌, ◌-◌, ◌*◌, ◌≤◌, List, [], ◌∷◌, ◌++◌, length, Option, Some, None, MatchOption, option_map, Vec, arith, refl, sym, ap, subst, ◌∙◌, append_assoc}
+use Rattle.std.proofs.lemmas.List.{append-nil}
+use Rattle.std.proofs.Math.ListN.{length-append}
+use Rattle.diff_graph.specs.Literals.{IsPossible}
+use Rattle.fn_rules.specs.declared.function.Level.{Level}
+use Rattle.fn_rules.specs.declared.function.ObName.{ObName}
+use Rattle.fn_rules.specs.Functions.{Function}
+use Rattle.fn_rules.specs.Obligations.{is_obligation, obligations_of}
+use Rattle.ask_core.specs.declared.tree.Tok.{Tok}
+use Rattle.ask_core.specs.Trees.{AnswerTree, Fits, tokens_of}
+use Rattle.ask_core.specs.Questions.{FailingEnd}
+use Rattle.cert_text.specs.Spelling.{AreSpellable, end_text, header_text, ob_text, tokens_text}
+use Rattle.cert_text.specs.Writing.{section_text}
+use Rattle.ot_prove.specs.declared.outcome.Answer.{Answer}
+use Rattle.ot_prove.specs.declared.outcome.Outcome.TheVariants as outcome
+use Rattle.ot_prove.specs.Outcomes.{asked_along}
+use Rattle.ot_questions.specs.declared.why.Why.{Why}
+use Rattle.ot_questions.specs.Obligation.{plan_of}
+use Rattle.ot_judge.specs.declared.verdict.Verdict.{Verdict}
+use Rattle.ot_judge.specs.declared.verdict.Verdict.TheVariants as verdict
+use Rattle.ot_judge.specs.Certificates.{AreAnswers, sections_text}
+use Rattle.ot_judge.specs.Verdicts.{ObQuestions, FailingOb, AreAsked, IsDecidedAs, IsWithin, failing_in}
+use Rattle.ot_judge.specs.Proving.{IsOtherVerdict, IsSearched, AreProved, Settles, AreSettled}
+use Rattle.ot_judge.proofs.Lines.{header_text_few, ob_text_few, obligations_few}
+use Rattle.ot_judge.proofs.Lists.{Joins, asked_of, begins_with}
+use Rattle.ot_judge.proofs.Spelled.{tree_text_few, whole_spelled}
+
+-- the failing end of an obligation, or else of the later ones
+abbrev first_failing : ObName → Option (FailingEnd Why) → Option (FailingOb Why) → Option (FailingOb Why)
+first_failing ob failing later = option_or (option_map (λ (e : FailingEnd Why). record { ob = ob; end = e }) failing) later
+
+section_joined :
+    (line text more : List ℕ) → (line ++ text ++ 10 ∷ []) ++ more ≡ line ++ text ++ 10 ∷ more
+section_joined line text more = simp append_assoc
+
+module _ (f : Function) where
+  -- a searched obligation's tree can be spelled
+  pub searched_spellable :
+      (ob : ObName) (budget asked : ℕ) (tree : List Tok) → IsSearched f ob budget (outcome.Yes tree asked)
+      → AreSpellable tree
+  searched_spellable ob budget asked tree searched =
+      let proof = searched.decided.3 in
+      subst (λ (x : List Tok). AreSpellable x) (sym proof.spelled)
+      (whole_spelled proof.tree (plan_of f ob) searched.short proof.fits)
+
+  -- where no obligations are left, all of them hold
+  pub none_left : (budget : ℕ) (before : List ℕ) → AreSettled f [] budget before before None
+  none_left budget before = (
+    [],
+    refl,
+    record {
+      within = omega arith;
+      none_fails = refl;
+      trees = [];
+      fit = tt;
+      ask = tt;
+      written = sym (append-nil before);
+      few_bytes = omega arith;
+    },
+  )
+
+  section_few :
+      (ob : ObName) (t : AnswerTree) (asked : ℕ) (more : List ℕ) → Fits t (plan_of f ob) [] → AreSpellable (tokens_of t)
+      → asked ≡ length (asked_along t (plan_of f ob) [])
+      → length (ob_text ob ++ tokens_text (tokens_of t) ++ 10 ∷ more) ≤ 74 * asked + 89 + length more
+  section_few ob t asked more fits spellable are =
+      let line = ob_text_few ob in
+      let tree = tree_text_few t (plan_of f ob) [] fits spellable in
+      let inner : length (ob_text ob ++ tokens_text (tokens_of t)) ≡ length (ob_text ob) + length (tokens_text (tokens_of t)) =
+      length-append (ob_text ob) (tokens_text (tokens_of t)) in
+      let whole :
+      length (ob_text ob ++ tokens_text (tokens_of t) ++ 10 ∷ more)
+      ≡ length (ob_text ob ++ tokens_text (tokens_of t)) + length (10 ∷ more) =
+      length-append (ob_text ob ++ tokens_text (tokens_of t)) (10 ∷ more) in
+      omega arith
+
+  module _ (ob : ObName) (obs : List ObName) (budget asked : ℕ) (tree : List Tok)
+      (searched : IsSearched f ob budget (outcome.Yes tree asked)) where
+    abbrev behind : List (ObQuestions Why) → List (ObQuestions Why)
+    behind later = asked_of ob searched.questions ∷ later
+
+    behind_asked :
+        (later : List (ObQuestions Why)) → AreAsked (plan_of f) obs later → AreAsked (plan_of f) (ob ∷ obs) (behind later)
+    behind_asked later asked_later = (
+      searched.questions,
+      searched.listed,
+      subst (λ (o : Option (FailingEnd Why)). Joins (plan_of f) ob obs searched.questions o (behind later))
+          (sym searched.decided.1) (later, asked_later, refl),
+    )
+
+    behind_failing : (later : List (ObQuestions Why)) → failing_in (behind later) ≡ failing_in later
+    behind_failing later = ap (λ (o : Option (FailingEnd Why)). first_failing ob o (failing_in later)) searched.decided.1
+
+    behind_proved :
+        (later : List (ObQuestions Why)) (before middle after : List ℕ) → middle ≡ before ++ section_text ob tree
+        → AreProved f obs (budget - asked) later middle after → AreProved f (ob ∷ obs) budget (behind later) before after
+    behind_proved later before middle after wrote proved =
+        let proof = searched.decided.3 in
+        let spellable = whole_spelled proof.tree (plan_of f ob) searched.short proof.fits in
+        let more = sections_text obs proved.trees in
+        let text = ob_text ob ++ tokens_text (tokens_of proof.tree) ++ 10 ∷ [] in
+        let first : middle ≡ before ++ text =
+        wrote ∙ ap (λ (x : List Tok). before ++ section_text ob x) proof.spelled in
+        let few =
+        section_few ob proof.tree (length searched.questions.asked) more proof.fits spellable (ap length proof.questions) in
+        record {
+          within = omega (arith, proved.within, searched.decided.0, searched.decided.2);
+          none_fails = behind_failing later ∙ proved.none_fails;
+          trees = proof.tree ∷ proved.trees;
+          fit = (proof.fits, spellable, proved.fit);
+          ask = (proof.questions, proved.ask);
+          written =
+              proved.written ∙ ap (λ (x : List ℕ). x ++ more) first ∙ append_assoc before text more
+              ∙ ap (λ (x : List ℕ). before ++ x) (section_joined (ob_text ob) (tokens_text (tokens_of proof.tree)) more);
+          few_bytes = omega (arith, proved.few_bytes, few);
+        }
+
+    behind_settles :
+        (later : List (ObQuestions Why)) (before middle after : List ℕ) (v : Option Verdict)
+        → middle ≡ before ++ section_text ob tree
+        → Settles f obs (budget - asked) later middle after v → Settles f (ob ∷ obs) budget (behind later) before after v
+    behind_settles later before middle after None wrote settles = behind_proved later before middle after wrote settles
+    behind_settles later before middle after (Some (verdict.Yes bytes)) wrote settles = absurd settles
+    behind_settles later before middle after (Some (verdict.No other answers why)) wrote settles = (
+      omega (arith, settles.0, searched.decided.0, searched.decided.2),
+      record {
+        first = behind_failing later ∙ settles.1.first;
+        listed = settles.1.listed;
+        way = settles.1.way;
+        possible = settles.1.possible;
+      },
+    )
+    behind_settles later before middle after (Some verdict.Spent) wrote settles =
+        omega (arith, settles, searched.decided.0, searched.decided.2)
+
+    -- an obligation that holds, its tree written, and those behind it by what is left of the budget
+    pub settled_behind :
+        (before middle after : List ℕ) (v : Option Verdict) → middle ≡ before ++ section_text ob tree
+        → AreSettled f obs (budget - asked) middle after v → AreSettled f (ob ∷ obs) budget before after v
+    settled_behind before middle after v wrote (later, asked_later, settles) =
+        (behind later, behind_asked later asked_later, behind_settles later before middle after v wrote settles)
+
+  -- an obligation that fails somewhere is the last that is searched
+  pub settled_refuted :
+      (ob : ObName) (obs : List ObName) (budget : ℕ) (answers : Vec Answer Global) (why : Why) (before after : List ℕ)
+      → IsTrue (is_obligation f.head ob) → IsSearched f ob budget (outcome.No answers why)
+      → AreSettled f (ob ∷ obs) budget before after (Some (verdict.No ob answers why))
+  settled_refuted ob obs budget answers why before after listed searched =
+      let q = searched.questions in
+      let lists = asked_of ob q ∷ [] in (
+        lists,
+        (
+          q,
+          searched.listed,
+          subst (λ (o : Option (FailingEnd Why)). Joins (plan_of f) ob obs q o lists) (sym searched.decided.1) refl,
+        ),
+        (
+          omega (arith, searched.decided.0),
+          record {
+            first = ap (λ (o : Option (FailingEnd Why)). first_failing ob o None) searched.decided.1;
+            listed = listed;
+            way = searched.decided.2;
+            possible =
+                subst (λ (o : Option (FailingEnd Why)). MatchOption o (Unit {0}) (λ e. IsPossible e.answers))
+                searched.decided.1 searched.possible.1;
+          },
+        ),
+      )
+
+  -- where one has more questions than are left, so have all
+  pub settled_spent :
+      (ob : ObName) (obs : List ObName) (budget : ℕ) (before after : List ℕ)
+      → (lists : List (ObQuestions Why)) × AreAsked (plan_of f) obs lists → IsSearched f ob budget outcome.Spent
+      → AreSettled f (ob ∷ obs) budget before after (Some verdict.Spent)
+  settled_spent ob obs budget before after later searched =
+      let begins = begins_with (plan_of f) ob obs searched.questions searched.listed later in
+      (begins.0, begins.1, omega (arith, begins.2, searched.decided))
+
+-- Where the obligations are those of a level, this is the verdict of the level.
+module _ (f : Function) (level : Level) (budget : ℕ) (obs : List ObName) (are : obs ≡ obligations_of f.head level) where
+  decided_by :
+      (lists : List (ObQuestions Why)) (v : Verdict) → AreAsked (plan_of f) obs lists → IsOtherVerdict f budget lists v
+      → IsDecidedAs f level budget v
+  decided_by lists (verdict.Yes bytes) asked decided = absurd decided
+  decided_by lists (verdict.No ob answers why) asked decided =
+      (lists, subst (λ (n : List ObName). AreAsked (plan_of f) n lists) are asked, decided)
+  decided_by lists verdict.Spent asked decided =
+      (lists, subst (λ (n : List ObName). AreAsked (plan_of f) n lists) are asked, decided)
+
+  pub decided_otherwise :
+      (before after : List ℕ) (v : Verdict) → AreSettled f obs budget before after (Some v) → IsDecidedAs f level budget v
+  decided_otherwise before after v (lists, asked, decided) = decided_by lists v asked decided
+
+  few_otherwise_by :
+      (lists : List (ObQuestions Why)) (limit : ℕ) (v : Verdict) → IsOtherVerdict f budget lists v → IsWithin limit v
+  few_otherwise_by lists limit (verdict.Yes bytes) decided = absurd decided
+  few_otherwise_by lists limit (verdict.No ob answers why) decided = tt
+  few_otherwise_by lists limit verdict.Spent decided = tt
+
+  pub few_otherwise :
+      (before after : List ℕ) (limit : ℕ) (v : Verdict) → AreSettled f obs budget before after (Some v) → IsWithin limit v
+  few_otherwise before after limit v (lists, asked, decided) = few_otherwise_by lists limit v decided
+
+  module _ (first middle : List ℕ) (bytes : Vec ℕ Global) (begun : first ≡ header_text obs level)
+      (ended : bytes.items ≡ middle ++ end_text) (settled : AreSettled f obs budget first middle None) where
+    pub decided_yes : IsDecidedAs f level budget (verdict.Yes bytes)
+    decided_yes =
+        let lists = settled.0 in
+        let proved = settled.2 in
+        let text : bytes.items ≡ header_text obs level ++ sections_text obs proved.trees ++ end_text =
+        ended ∙ ap (λ (x : List ℕ). x ++ end_text) (proved.written ∙ ap (λ (x : List ℕ). x ++ sections_text obs proved.trees) begun) in (
+          lists,
+          subst (λ (n : List ObName). AreAsked (plan_of f) n lists) are settled.1,
+          (
+            proved.within,
+            proved.none_fails,
+            record {
+              trees = proved.trees;
+              fit = subst (λ (n : List ObName). AreAnswers (plan_of f) n proved.trees) are proved.fit;
+              ask = proved.ask;
+              text =
+                  subst (λ (n : List ObName). bytes.items ≡ header_text n level ++ sections_text n proved.trees ++ end_text) are text;
+            },
+          ),
+        )
+
+    -- 1,000,000 questions, 24 obligations, and the first and the last line
+    pub few_yes : budget ≤ 1000000 → length bytes.items ≤ 83886080
+    few_yes limit =
+        let proved = settled.2 in
+        let header : length first ≤ 13 = subst (λ (x : List ℕ). length x ≤ 13) (sym begun) (header_text_few obs level) in
+        let count : length obs ≤ 24 = subst (λ (n : List ObName). length n ≤ 24) (sym are) (obligations_few f.head level) in
+        let lines : length middle ≡ length first + length (sections_text obs proved.trees) =
+        ap length proved.written ∙ length-append first (sections_text obs proved.trees) in
+        let whole : length bytes.items ≡ length middle + length end_text = ap length ended ∙ length-append middle end_text in
+        omega (arith, proved.few_bytes, proved.within)

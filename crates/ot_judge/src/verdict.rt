@@ -1,0 +1,26 @@
+//! What the search of a function comes to.
+use fn_rules::ObName;
+use ot_prove::Answer;
+use ot_questions::Why;
+
+/// What the obligations of a function at a level come to.
+#[derive(Debug, Drop)]
+pub enum Verdict {
+    /// All hold: the bytes of a certificate.
+    Yes(Vec<u8>),
+
+    /// One of them fails, after answers that some integers meet.
+    No {
+        /// The first obligation that fails.
+        ob: ObName,
+
+        /// The answers that lead to its first failing end.
+        answers: Vec<Answer>,
+
+        /// How it fails there.
+        why: Why,
+    },
+
+    /// There are more questions than the budget allows.
+    Spent,
+}
