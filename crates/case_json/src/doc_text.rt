@@ -50,10 +50,10 @@ fn write_cell(cell: Cell, out: &mut Vec<u8>) -> Result<(), NoMemory>
     ensures err { OnErr result (AppendsFront out.old.items out.new.items (encode_utf8_all (cell_text cell))) }
 {
     if cell.live {
-        return write_char(cell.ch, out);
+        return char_write(cell.ch, out);
     }
     out.push(b'~')?;
-    write_char(cell.ch, out)?;
+    char_write(cell.ch, out)?;
     Ok(())
 }
 
@@ -123,8 +123,9 @@ pub(crate) fn split_char(text: &str) -> Option<(char, &str)>
     }
 }
 
-/// Writes a character, escaped where it has a meaning of its own.
-fn write_char(ch: char, out: &mut Vec<u8>) -> Result<(), NoMemory>
+/// Writes a character as the text of a document has it, behind what is there: escaped where it has a meaning of its
+/// own. Where memory is wanting, a front of it.
+pub fn char_write(ch: char, out: &mut Vec<u8>) -> Result<(), NoMemory>
     ensures ok { OnOk result (out.new.items ≡ out.old.items ++ encode_utf8_all (char_text ch)) }
     ensures err { OnErr result (AppendsFront out.old.items out.new.items (encode_utf8_all (char_text ch))) }
 {

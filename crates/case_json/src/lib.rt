@@ -20,7 +20,7 @@ mod session;
 mod trial;
 
 pub use case::trial_read;
-pub use doc_text::{doc_read, doc_write};
+pub use doc_text::{char_write, doc_read, doc_write};
 pub use fault::{CaseFault, Name};
 pub use laws::read_trials_are_ready;
 pub use limits::{MAX_EVENTS, MAX_NUMBER, MAX_ORDERS, MAX_POSITION, MAX_SITES};

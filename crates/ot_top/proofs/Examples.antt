@@ -1,8 +1,16 @@
--- The words of commands, read by clap.
-use Rattle.std.proofs.Common.{◌≡◌, [], ◌∷◌, Some, None, codes, refl}
+-- The words of commands, read by clap, and the lines of a counterexample.
+use Rattle.std.proofs.Common.{◌≡◌, [], ◌∷◌, ◌++◌, Some, None, codes, refl, pos}
+use lib.Utf8.{encode}
+use Rattle.std.specs.Fmt.{digits}
 use Rattle.clap.proofs.OnLiterals.{clap_on_literals}
-use Rattle.ot_top.specs.Commands.{Check, Integrate}
-use Rattle.ot_top.specs.Words.{asked_by, names_by, found_by}
+use Rattle.ot_model.specs.Cells.{live_cell}
+use Rattle.ot_model.specs.declared.op.Op.TheVariants.{Ins, Del}
+use Rattle.fn_rules.specs.declared.function.Level.TheVariants.{Tp1, Tp2}
+use Rattle.ot_questions.specs.declared.why.Why.TheVariants.{Operations}
+use Rattle.ot_counter.specs.declared.counter.Side.TheVariants.{Op}
+use Rattle.ot_top.specs.Commands.{Prove, Check, Integrate}
+use Rattle.ot_top.specs.CounterTexts.{counter_text, line_of}
+use Rattle.ot_top.specs.Words.{asked_by, names_by, prove_in, found_by}
 
 -- two file names, of which the empty word and `-` are such
 two_names : asked_by (codes "check" ∷ codes "a" ∷ codes "b" ∷ []) ≡ Some (Check (codes "a") (codes "b"))
@@ -53,3 +61,51 @@ no_version = refl
 no_command : asked_by (codes "--version" ∷ []) ≡ None
 unfolding clap_on_literals names_by found_by
 no_command = refl
+
+-- the options of `prove` stand before the name or behind it
+no_options : asked_by (codes "prove" ∷ codes "a" ∷ []) ≡ Some (Prove Tp2 1000000 (codes "a"))
+unfolding clap_on_literals prove_in found_by
+no_options = refl
+
+options_before : asked_by (codes "prove" ∷ codes "--budget" ∷ codes "+07" ∷ codes "--tp1" ∷ codes "a" ∷ []) ≡ Some (Prove Tp1 7 (codes "a"))
+unfolding clap_on_literals prove_in found_by
+options_before = refl
+
+option_behind : asked_by (codes "prove" ∷ codes "a" ∷ codes "--budget=1000000" ∷ []) ≡ Some (Prove Tp2 1000000 (codes "a"))
+unfolding clap_on_literals prove_in found_by
+option_behind = refl
+
+option_as_name : asked_by (codes "prove" ∷ codes "--" ∷ codes "--tp1" ∷ []) ≡ Some (Prove Tp2 1000000 (codes "--tp1"))
+unfolding clap_on_literals prove_in found_by
+option_as_name = refl
+
+no_question : asked_by (codes "prove" ∷ codes "--budget" ∷ codes "0" ∷ codes "a" ∷ []) ≡ None
+unfolding clap_on_literals prove_in found_by
+no_question = refl
+
+too_many_questions : asked_by (codes "prove" ∷ codes "--budget=1000001" ∷ codes "a" ∷ []) ≡ None
+unfolding clap_on_literals prove_in found_by
+too_many_questions = refl
+
+flag_twice : asked_by (codes "prove" ∷ codes "--tp1" ∷ codes "--tp1" ∷ codes "a" ∷ []) ≡ None
+unfolding clap_on_literals prove_in found_by
+flag_twice = refl
+
+no_such_flag : asked_by (codes "prove" ∷ codes "--tp" ∷ codes "a" ∷ []) ≡ None
+unfolding clap_on_literals prove_in found_by
+no_such_flag = refl
+
+-- two insertions and a deletion, whose third has two forms
+counterexample :
+    counter_text (record {
+      level = Tp2;
+      doc = live_cell 121 ∷ [];
+      ops = Ins (pos 1) 97 1 ∷ Del (pos 0) 2 ∷ Ins (pos 0) 99 3 ∷ [];
+      why = Operations;
+      left = Op (Ins (pos 0) 99 3);
+      right = Op (Ins (pos 1) 99 3);
+    })
+    ≡ line_of (codes "no tp2 operations") ++ line_of (codes "doc [y]") ++ line_of (codes "op 1 ins 1 a 1") ++ line_of (codes "op 2 del 0 2")
+    ++ line_of (codes "op 3 ins 0 c 3") ++ line_of (codes "left ins 0 c 3") ++ line_of (codes "right ins 1 c 3")
+unfolding encode digits
+counterexample = refl

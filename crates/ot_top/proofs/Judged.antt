@@ -1,15 +1,19 @@
 -- The reply to a certificate, from the judgement of a feed and what is left of its file.
 use Rattle.std.proofs.Common.{◌≡◌, ℕ, ◌-◌, ◌≤◌, ◌<◌, zero, suc, Bool, true, false, List, [], ◌∷◌, take, drop, length, length-drop, Option, Some, None, Result, Ok, Err, IfOk, IsTrue, ◌↔◌, ◌⊎◌, inl, inr, refl, sym, ap, ◌∙◌, subst, arith}
 use Rattle.std.specs.Prelude.{IfErr, option_map}
-use Rattle.std.specs.Option.{ForSome}
+use Rattle.std.specs.Option.{ForSome, ForNone}
+use Rattle.std.proofs.lemmas.List.{take_all}
 use Rattle.std.specs.Io.KnownBytes.{IsAtEnd}
 use Rattle.fn_rules.specs.declared.function.Level.{Level}
 use Rattle.fn_rules.specs.Functions.{Function}
+use Rattle.ot_outside.specs.declared.shelf.Shelf.{Ghosts}
+use Rattle.ot_outside.specs.declared.shelf_feed.ShelfFeed.{ShelfFeed}
+use Rattle.ot_outside.specs.ShelfFeed.{feed_left, file_left, room_of}
 use Rattle.ot_judge.specs.declared.refusal.JudgeEnd.{JudgeEnd}
 use Rattle.ot_judge.specs.declared.refusal.JudgeEnd.TheVariants as judge
 use Rattle.ot_judge.specs.declared.refusal.Refusal.{Refusal}
 use Rattle.ot_judge.specs.declared.refusal.Refusal.TheVariants as why
-use Rattle.ot_judge.specs.Feeding.{IsTruncated}
+use Rattle.ot_judge.specs.Feeding.{IsTruncated, MayGive}
 use Rattle.ot_judge.specs.Refusals.{IsJudgement, IsWant}
 use Rattle.ot_top.specs.declared.reply.FileKind.TheVariants as files
 use Rattle.ot_top.specs.declared.reply.Reply.{Reply}
@@ -78,47 +82,90 @@ goes_on room limit (Some bytes) file more none same told =
     let behind : drop room bytes ≡ drop limit contents = cc in
     goes_on_behind room limit bytes contents more none behind (told bytes refl)
 
-module _ (f : Function) (told : Option (List ℕ)) (room : ℕ) (judgement : Result Level JudgeEnd)
-    (whole : room ≡ limit_of files.Certificate)
-    (judged : (bytes : List ℕ) → option_map (take room) told ≡ Some bytes → IsWant judgement ⊎ IsJudgement f bytes judgement) where
+-- contents of a file: those that are told, where they are, and otherwise no more than the limit
+abbrev pub MayHold : Option (List ℕ) → ℕ → List ℕ → Type 0
+MayHold told room contents = ForSome told (λ known. contents ≡ known) × ForNone told (length contents ≤ room)
+
+-- what a feed may give is the front of what its file may hold
+held_of :
+    (told : Option (List ℕ)) (room : ℕ) (bytes : List ℕ) → ForSome (option_map (take room) told) (λ known. bytes ≡ known)
+    → ForNone (option_map (take room) told) (length bytes ≤ room)
+    → (contents : List ℕ) × MayHold told room contents × (take room contents ≡ bytes)
+held_of None room bytes are within = (bytes, (λ known is. absurd (cc), λ none. within refl), take_all room bytes (within refl))
+held_of (Some known) room bytes are within =
+    (known, (λ other is. let same : known ≡ other = cc in same, λ none. absurd (cc)), sym (are (take room known) refl))
+
+-- contents that are not told to go on behind the limit are within it
+within_limit :
+    (told : Option (List ℕ)) (room : ℕ) (contents : List ℕ) → MayHold told room contents
+    → ForSome told (λ known. ¬ (room < length known)) → length contents ≤ room
+within_limit None room contents may shorter = may.1 refl
+within_limit (Some known) room contents may shorter =
+    let not_longer = shorter known refl in omega (arith, not_longer, ap length (may.0 known refl))
+
+module _ {S : Type 0} {shelf : Ghosts S} (f : Function) (feed : ShelfFeed S shelf) (judgement : Result Level JudgeEnd)
+    (whole : room_of feed ≡ limit_of files.Certificate)
+    (judged : IsWant judgement ⊎ ((bytes : List ℕ) × MayGive feed_left room_of feed bytes × IsJudgement f bytes judgement)) where
   -- the judgement is that of the bytes within the limit
-  judged_within : (IsWant judgement → ⊥) → ForSome told (λ contents. IsJudgement f (take (limit_of files.Certificate) contents) judgement)
-  judged_within no_want contents is =
-      elim (judged (take room contents) (ap (λ (o : Option (List ℕ)). option_map (take room) o) is)) [
+  judged_within :
+      (IsWant judgement → ⊥)
+      → (contents : List ℕ) × MayHold (file_left feed) (room_of feed) contents
+      × IsJudgement f (take (limit_of files.Certificate) contents) judgement
+  unfolding MayGive
+  judged_within no_want =
+      elim judged [
         | inl want ↦ absurd (no_want want)
-        | inr h ↦ subst (λ (n : ℕ). IsJudgement f (take n contents) judgement) whole h
+        | inr h ↦
+            let contents = held_of (file_left feed) (room_of feed) h.0 h.1.0 h.1.1 in (
+              contents.0,
+              contents.1,
+              subst (λ (n : ℕ). IsJudgement f (take n contents.0) judgement) whole
+                  (subst (λ (bytes : List ℕ). IsJudgement f bytes judgement) (sym contents.2) h.2),
+            )
       ]
 
   -- the file goes on
   pub too_long_reply :
-      rests_on_the_end judgement ≡ true → (more : Bool) → more ≡ true → ForSome told (λ contents. IsTrue more ↔ (room < length contents))
-      → IsReplyToCertificate f told (TooLong files.Certificate)
-  too_long_reply rests more follows goes = (
-    judgement,
-    judged_within (sure judgement rests),
-    inl (rests, (λ contents is. subst (λ (n : ℕ). n < length contents) whole ((goes contents is).0 follows), refl)),
-  )
+      rests_on_the_end judgement ≡ true → (more : Bool) → more ≡ true → ForSome (file_left feed) (λ contents. IsTrue more ↔ (room_of feed < length contents))
+      → IsReplyToCertificate f (file_left feed) (TooLong files.Certificate)
+  too_long_reply rests more follows goes =
+      let here = judged_within (sure judgement rests) in (
+        here.0,
+        here.1.0,
+        (
+          judgement,
+          here.2,
+          inl (rests, (λ contents is. subst (λ (n : ℕ). n < length contents) whole ((goes contents is).0 follows), refl)),
+        ),
+      )
 
   -- the judgement does not rest on the end, or the file does not go on
   told_reply :
       (r : Reply) → Tells judgement r
-      → (rests_on_the_end judgement ≡ true → (more : Bool) × (more ≡ false) × ForSome told (λ contents. IsTrue more ↔ (room < length contents)))
-      → IsReplyToCertificate f told r
-  told_reply r tells ends = (
-    judgement,
-    judged_within (not_want judgement r tells),
-    inr (
-      λ rests contents is.
-          let end = ends rests in
-          let shorter : ¬ (room < length contents) = λ longer. let follows : end.0 ≡ true = (end.2 contents is).1 longer in let ends_there : end.0 ≡ false = end.1 in cc in
-          subst (λ (n : ℕ). length contents ≤ n) whole (omega (arith, shorter)),
-      tells,
-    ),
-  )
+      → (rests_on_the_end judgement ≡ true → (more : Bool) × (more ≡ false) × ForSome (file_left feed) (λ contents. IsTrue more ↔ (room_of feed < length contents)))
+      → IsReplyToCertificate f (file_left feed) r
+  told_reply r tells ends =
+      let here = judged_within (not_want judgement r tells) in (
+        here.0,
+        here.1.0,
+        (
+          judgement,
+          here.2,
+          inr (
+            λ rests.
+                let end = ends rests in
+                subst (λ (n : ℕ). length here.0 ≤ n) whole
+                (within_limit (file_left feed) (room_of feed) here.0 here.1
+                (λ known is longer.
+                let follows : end.0 ≡ true = (end.2 known is).1 longer in let ends_there : end.0 ≡ false = end.1 in cc)),
+            tells,
+          ),
+        ),
+      )
 
   pub told_replies :
       {E : Type 0} (answer : Result Reply E) → IfOk answer (λ r. Tells judgement r)
-      → (rests_on_the_end judgement ≡ true → (more : Bool) × (more ≡ false) × ForSome told (λ contents. IsTrue more ↔ (room < length contents)))
-      → IfOk answer (λ r. IsReplyToCertificate f told r)
+      → (rests_on_the_end judgement ≡ true → (more : Bool) × (more ≡ false) × ForSome (file_left feed) (λ contents. IsTrue more ↔ (room_of feed < length contents)))
+      → IfOk answer (λ r. IsReplyToCertificate f (file_left feed) r)
   told_replies (Ok r) tells ends = told_reply r tells ends
   told_replies (Err e) tells ends = tt

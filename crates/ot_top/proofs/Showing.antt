@@ -18,9 +18,10 @@ use Rattle.ot_top.specs.declared.reply.FileKind.TheVariants as files
 use Rattle.ot_top.specs.declared.reply.Reply.{Reply}
 use Rattle.ot_top.specs.declared.reply.Reply.TheVariants.{Accepted, Refused, FunctionRefused, Usage, TooLong}
 use Rattle.ot_top.specs.Commands.{Asked, Check}
-use Rattle.ot_top.specs.Judgements.{IsReplyToCertificate, Tells, rests_on_the_end}
+use Rattle.ot_top.specs.Judgements.{IsReplyToCertificate, IsReplyToContents, Tells, rests_on_the_end}
 use Rattle.ot_top.specs.Limits.{limit_of, IsTooLong}
-use Rattle.ot_top.specs.Replies.{HasLevel, IsFunctionRefusal, IsReadAs, IsReply, IsReplyTo, IsShown}
+use Rattle.ot_top.specs.Replies.{IsFunctionRefusal, IsReadAs, IsReply, IsReplyTo}
+use Rattle.ot_top.specs.Shown.{HasLevel, IsShown}
 use Rattle.ot_top.specs.Texts.{status_of, text_of}
 
 -- a reply of another status than 0
@@ -49,12 +50,18 @@ module _ (r : Reply) (is_zero : 0 ≡ status_of r) where
   accepted_bytes f contents (Err judge.Failed) is within tells = absurd tells
   accepted_bytes f contents (Err judge.NoMemory) is within tells = absurd tells
 
+  contents_accepted :
+      (f : Function) (told : Option (List ℕ)) (contents : List ℕ) → IsReplyToContents f told contents r
+      → (level : Level) × IsCertificate contents f level × (r ≡ Accepted level)
+  contents_accepted f told contents (judgement, judged, inl h) = absurd (not_too_long files.Certificate told h.1)
+  contents_accepted f told contents (judgement, judged, inr h) = accepted_bytes f contents judgement judged h.0 h.1
+
   file_accepted :
       (f : Function) (told : Option (List ℕ)) (contents : List ℕ) → told ≡ Some contents → IsReplyToCertificate f told r
       → (level : Level) × IsCertificate contents f level × (r ≡ Accepted level)
-  file_accepted f told contents is (judgement, judged, inl h) = absurd (not_too_long files.Certificate told h.1)
-  file_accepted f told contents is (judgement, judged, inr h) =
-      accepted_bytes f contents judgement (judged contents is) (λ rests. h.0 rests contents is) h.1
+  file_accepted f told contents is (some, are, h) =
+      contents_accepted f told contents
+      (subst (λ (b : List ℕ). IsReplyToContents f told b r) (are contents is) h)
 
   -- the function is read, and the certificate is one of it
   accepted :
@@ -68,7 +75,7 @@ module _ (tp1 : (bytes : List ℕ) (f : Function) → IsCertificate bytes f Tp1 
     (tp2 : (bytes : List ℕ) (f : Function) → IsCertificate bytes f Tp2 → HasTp1 f × HasTp2 f)
     (one_outcome : (bytes : List ℕ) (f : Function) → IsCertificate bytes f Tp2 → HasOneOutcome f)
     (is_text : (bytes : List ℕ) (f : Function) → function_in bytes ≡ Ok f → IsTextOf bytes f) where
-  has_level : (bytes : List ℕ) (f : Function) (level : Level) → IsCertificate bytes f level → HasLevel f level
+  pub has_level : (bytes : List ℕ) (f : Function) (level : Level) → IsCertificate bytes f level → HasLevel f level
   has_level bytes f Tp1 h = tp1 bytes f h
   has_level bytes f Tp2 h = let both = tp2 bytes f h in (both.0, both.1, one_outcome bytes f h)
 

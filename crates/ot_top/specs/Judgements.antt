@@ -31,17 +31,24 @@ Tells (Err (judge.Refused offset why)) r = r ≡ Refused offset why
 Tells (Err judge.Failed) r = ⊥
 Tells (Err judge.NoMemory) r = ⊥
 
--- the reply to a judgement of the bytes within the limit: the limit, where the file goes on behind it and that could
--- change the judgement, and otherwise the judgement
-abbrev pub IsReplyToJudgement : Option (List ℕ) → Result Level JudgeEnd → Reply → Type 0
-IsReplyToJudgement told judgement r =
-    (IsTrue (rests_on_the_end judgement) × IsTooLong files.Certificate told r)
-    ⊎ ((IsTrue (rests_on_the_end judgement) → ForSome told (λ contents. length contents ≤ limit_of files.Certificate))
-    × Tells judgement r)
+-- In what follows `told` is what the certificate's file holds, where the shelf tells it, and `contents` are some bytes
+-- that it may hold: those that are told, where they are.
 
--- the reply to a certificate's file; `told` is what it holds, where the shelf tells it
+-- the reply to a judgement of the contents within the limit: the limit, where the file goes on behind it and that could
+-- change the judgement, and otherwise the judgement
+abbrev pub IsReplyToJudgement : Option (List ℕ) → List ℕ → Result Level JudgeEnd → Reply → Type 0
+IsReplyToJudgement told contents judgement r =
+    (IsTrue (rests_on_the_end judgement) × IsTooLong files.Certificate told r)
+    ⊎ ((IsTrue (rests_on_the_end judgement) → length contents ≤ limit_of files.Certificate) × Tells judgement r)
+
+-- the reply to contents
+abbrev pub IsReplyToContents : Function → Option (List ℕ) → List ℕ → Reply → Type 0
+IsReplyToContents f told contents r =
+    (judgement : Result Level JudgeEnd)
+    × IsJudgement f (take (limit_of files.Certificate) contents) judgement
+    × IsReplyToJudgement told contents judgement r
+
+-- the reply to a certificate's file
 abbrev pub IsReplyToCertificate : Function → Option (List ℕ) → Reply → Type 0
 IsReplyToCertificate f told r =
-    (judgement : Result Level JudgeEnd)
-    × ForSome told (λ contents. IsJudgement f (take (limit_of files.Certificate) contents) judgement)
-    × IsReplyToJudgement told judgement r
+    (contents : List ℕ) × ForSome told (λ known. contents ≡ known) × IsReplyToContents f told contents r

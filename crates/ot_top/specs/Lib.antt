@@ -1,8 +1,15 @@
 pub mod Commands
 pub mod Words
 pub mod FaultTexts
+pub mod DocumentTexts
 pub mod OrderTexts
+pub mod CounterTexts
+pub mod SessionTexts
 pub mod Texts
 pub mod Limits
 pub mod Judgements
+pub mod Verdicts
+pub mod Sessions
 pub mod Replies
+pub mod Shown
+pub mod Steady

@@ -1,12 +1,12 @@
 -- The lines of orders. Texts are bytes; all but those of documents are ASCII.
-use Rattle.std.specs.Prelude.{ℕ, Bool, ◌+◌, if◌then◌else◌, List, [], ◌∷◌, ◌++◌, codes, encode_utf8_all}
+use Rattle.std.specs.Prelude.{ℕ, Bool, ◌+◌, if◌then◌else◌, List, [], ◌∷◌, ◌++◌, codes}
 use Rattle.std.specs.Fmt.{decimal}
 use Rattle.fn_rules.specs.Orders.{Outcome, Document, StuckAt}
-use Rattle.case_json.specs.DocText.{doc_text}
+use Rattle.ot_top.specs.DocumentTexts.{document_text}
 
 -- where an order ended: its document in brackets, or the place at which it is stuck
 abbrev pub outcome_text : Outcome → List ℕ
-outcome_text (Document d) = codes "[" ++ encode_utf8_all (doc_text d) ++ codes "]"
+outcome_text (Document d) = document_text d
 outcome_text (StuckAt place) = codes "stuck " ++ decimal place
 
 abbrev pub order_line : ℕ → Outcome → List ℕ

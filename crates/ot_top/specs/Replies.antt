@@ -1,30 +1,26 @@
 -- Which reply a command gets, in the order in which it is refused.
 use Rattle.std.specs.Prelude.{◌≡◌, ℕ, ◌≤◌, ◌⊎◌, ◌↔◌, true, List, length, map}
-use Rattle.std.specs.Prelude.{Option, Some, Result, Ok, Err, IsTrue, is_ok, MatchOption}
+use Rattle.std.specs.Prelude.{Option, Result, Ok, Err, IsTrue, is_ok, MatchOption}
 use Rattle.std.specs.List.{AllByRecursion}
 use Rattle.std.specs.Option.{ForSome}
 use Rattle.ot_model.specs.declared.cell.Cell.{Cell}
-use Rattle.fn_rules.specs.declared.function.Level.{Level}
-use Rattle.fn_rules.specs.declared.function.Level.TheVariants.{Tp1, Tp2}
 use Rattle.fn_rules.specs.Functions.{Function}
-use Rattle.fn_rules.specs.Properties.{HasTp1, HasTp2}
-use Rattle.fn_rules.specs.Orders.{HasOneOutcome, Outcome, Document, integrated}
+use Rattle.fn_rules.specs.Orders.{Outcome, Document, integrated}
 use Rattle.fn_text.specs.declared.fault.TextFault.{TextFault}
-use Rattle.fn_text.specs.Grammar.{IsTextOf}
 use Rattle.fn_text.specs.Reading.{function_in}
 use Rattle.case_json.specs.declared.fault.CaseFault.{CaseFault}
 use Rattle.case_json.specs.declared.trial.Trial.{Trial}
 use Rattle.case_json.specs.Cases.{trial_in}
 use Rattle.ot_integrate.specs.Ends.{outcome_of}
-use Rattle.ot_judge.specs.Certificates.{IsCertificate}
 use Rattle.ot_top.specs.declared.reply.FileKind.{FileKind}
 use Rattle.ot_top.specs.declared.reply.FileKind.TheVariants as files
 use Rattle.ot_top.specs.declared.reply.Reply.{Reply}
 use Rattle.ot_top.specs.declared.reply.Reply.TheVariants.{FunctionRefused, CaseRefused, Integrated, Usage}
-use Rattle.ot_top.specs.Commands.{Asked, Check, Integrate}
+use Rattle.ot_top.specs.Commands.{Asked, Prove, Check, Integrate, Replay}
 use Rattle.ot_top.specs.Judgements.{IsReplyToCertificate}
 use Rattle.ot_top.specs.Limits.{limit_of, IsTooLong}
-use Rattle.ot_top.specs.Texts.{accepted_text}
+use Rattle.ot_top.specs.Sessions.{IsReplyToSession}
+use Rattle.ot_top.specs.Verdicts.{IsReplyToProof}
 use Rattle.ot_top.specs.Words.{asked_by}
 
 -- In what follows `told` is what a file holds, where the shelf tells it.
@@ -73,11 +69,16 @@ IsReplyToCase f bytes r = IsReplyToTrial f (trial_in f bytes) r
 
 -- the reply to a command, where `holds` says what each name holds
 abbrev pub IsReplyTo : (List ℕ → Option (List ℕ)) → Asked → Reply → Type 0
+IsReplyTo holds (Prove level budget function) r =
+    IsReplyToFunction (holds function) (λ f. IsReplyToProof f level budget r) r
 IsReplyTo holds (Check function certificate) r =
     IsReplyToFunction (holds function) (λ f. IsReplyToCertificate f (holds certificate) r) r
 IsReplyTo holds (Integrate function case) r =
     IsReplyToFunction (holds function)
     (λ f. IsReplyToFile files.Case (holds case) (λ bytes. IsReplyToCase f bytes r) r) r
+IsReplyTo holds (Replay function session) r =
+    IsReplyToFunction (holds function)
+    (λ f. IsReplyToFile files.Case (holds session) (λ bytes. IsReplyToSession f bytes r) r) r
 
 -- the reply to words
 abbrev pub IsReply : List (List ℕ) → (List ℕ → Option (List ℕ)) → Reply → Type 0
@@ -89,21 +90,7 @@ GoesOn told = ForSome told (λ contents. (length contents ≤ limit_of files.Fun
 
 -- the names that a command opens are on offer: its first, and each other one where it goes on to it
 abbrev pub AreOffered : (List ℕ → Option (List ℕ)) → (List ℕ → Type 0) → Asked → Type 0
+AreOffered holds Offered (Prove level budget function) = Offered function
 AreOffered holds Offered (Check function certificate) = Offered function × (GoesOn (holds function) → Offered certificate)
 AreOffered holds Offered (Integrate function case) = Offered function × (GoesOn (holds function) → Offered case)
-
--- what a certificate at a level shows of its function
-abbrev pub HasLevel : Function → Level → Type 0
-HasLevel f Tp1 = HasTp1 f
-HasLevel f Tp2 = HasTp1 f × HasTp2 f × HasOneOutcome f
-
--- the words ask to judge a certificate; where both files are told, the first one is the text of a function
--- by the grammar, the second is a certificate of it at a level, the function has what the level says, and the
--- text of the level was written
-abbrev pub IsShown : List (List ℕ) → (List ℕ → Option (List ℕ)) → (List ℕ → Type 0) → Type 0
-IsShown words holds IsWritten =
-    (name certificate_name bytes certificate : List ℕ)
-    → asked_by words ≡ Some (Check name certificate_name)
-    → holds name ≡ Some bytes → holds certificate_name ≡ Some certificate
-    → (f : Function) × (level : Level)
-    × IsTextOf bytes f × IsCertificate certificate f level × HasLevel f level × IsWritten (accepted_text level)
+AreOffered holds Offered (Replay function session) = Offered function × (GoesOn (holds function) → Offered session)

@@ -1,5 +1,5 @@
 -- The status and the text of a reply.
-use Rattle.std.specs.Prelude.{ℕ, if◌then◌else◌, List, [], ◌∷◌, ◌++◌, codes, map}
+use Rattle.std.specs.Prelude.{ℕ, if◌then◌else◌, List, [], ◌∷◌, ◌++◌, codes, map, Some, None}
 use Rattle.fn_rules.specs.declared.function.Level.{Level}
 use Rattle.cert_text.specs.Spelling.{level_text}
 use Rattle.case_json.specs.declared.fault.CaseFault.{CaseFault}
@@ -8,10 +8,12 @@ use Rattle.ot_integrate.specs.Ends.{outcome_of}
 use Rattle.ot_top.specs.declared.reply.FileKind.{FileKind}
 use Rattle.ot_top.specs.declared.reply.FileKind.TheVariants as files
 use Rattle.ot_top.specs.declared.reply.Reply.{Reply}
-use Rattle.ot_top.specs.declared.reply.Reply.TheVariants.{Accepted, Refused, FunctionRefused}
-use Rattle.ot_top.specs.declared.reply.Reply.TheVariants.{CaseRefused, Integrated, Usage, TooLong}
+use Rattle.ot_top.specs.declared.reply.Reply.TheVariants.{Proved, Broken, Spent, Accepted, Refused, FunctionRefused}
+use Rattle.ot_top.specs.declared.reply.Reply.TheVariants.{CaseRefused, Integrated, Usage, TooLong, EventRefused, StuckAt, Replayed}
 use Rattle.ot_top.specs.FaultTexts.{text_fault_text, case_fault_text, refusal_text}
 use Rattle.ot_top.specs.OrderTexts.{orders_text}
+use Rattle.ot_top.specs.CounterTexts.{counter_text}
+use Rattle.ot_top.specs.SessionTexts.{event_fault_text, sites_text, stuck_text}
 
 -- too much of a part is a limit, and every other fault is one of the case
 abbrev pub case_status : CaseFault → ℕ
@@ -19,8 +21,15 @@ case_status (faults.Limit name) = 9
 case_status fault = 4
 
 abbrev pub status_of : Reply → ℕ
+status_of (Proved bytes) = 0
+status_of (Broken counter) = 1
+status_of Spent = 8
 status_of (Accepted level) = 0
 status_of (Integrated ends same) = if same then 0 else 1
+status_of (Replayed ends None) = 0
+status_of (Replayed ends (Some pair)) = 1
+status_of (StuckAt i) = 1
+status_of (EventRefused i fault) = 4
 status_of (Refused offset why) = 2
 status_of (FunctionRefused fault) = 3
 status_of (CaseRefused fault) = case_status fault
@@ -40,8 +49,14 @@ abbrev pub accepted_text : Level → List ℕ
 accepted_text level = codes "accepted " ++ level_text level ++ 10 ∷ []
 
 abbrev pub text_of : Reply → List ℕ
+text_of (Proved bytes) = bytes
+text_of (Broken counter) = counter_text counter
+text_of Spent = codes "spent" ++ 10 ∷ []
 text_of (Accepted level) = accepted_text level
 text_of (Integrated ends same) = orders_text (map outcome_of ends) same
+text_of (Replayed ends differ) = sites_text ends differ
+text_of (StuckAt i) = stuck_text i
+text_of (EventRefused i fault) = event_fault_text i fault
 text_of (Refused offset why) = refusal_text offset why
 text_of (FunctionRefused fault) = text_fault_text fault
 text_of (CaseRefused fault) = case_fault_text fault

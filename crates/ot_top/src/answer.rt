@@ -4,12 +4,15 @@ ghost use Rattle.ot_outside.specs.Faults.{Rose};
 ghost use Rattle.ot_outside.specs.Unchanged.{Unchanged};
 ghost use Rattle.ot_top.specs.Commands.{asked_of};
 ghost use Rattle.ot_top.specs.Replies.{AreOffered, IsReply, IsReplyTo};
+ghost use Rattle.ot_top.specs.Steady.{AreSteady, IsSteadyReply};
 ghost use Rattle.ot_top.specs.Words.{asked_by};
 
 use crate::check::check;
 use crate::command::Command;
 use crate::integrate::integrate;
 use crate::load::Stop;
+use crate::prove::prove;
+use crate::replay::replay;
 use crate::reply::Reply;
 use crate::words::read_words;
 use ot_outside::Shelf;
@@ -21,15 +24,23 @@ fn reply_to<H: Shelf>(alloc: Global, shelf: &mut H, command: &Command<'_>) -> Re
 
     ensures ok { IfOk result (λ reply. IsReplyTo (H.holds shelf.old) (asked_of command.now) reply) }
     ensures replied { (r : Reply) → result ≡ Err (Stop.Replied r) → IsReplyTo (H.holds shelf.old) (asked_of command.now) r }
+    ensures steady { IfOk result (λ reply. IsSteadyReply (H.holds shelf.old) (asked_of command.now) reply) }
+    ensures steady_replied { (r : Reply) → result ≡ Err (Stop.Replied r) → IsSteadyReply (H.holds shelf.old) (asked_of command.now) r }
     ensures shelf { IsErrOf result Stop.Shelf → Rose (H.faults shelf.old) (H.faults shelf.new) }
     ensures unchanged { Unchanged H.holds H.offered H.faults shelf.old shelf.new }
 {
     match *command {
+        Command::Prove {
+            level,
+            budget,
+            function,
+        } => prove(alloc, shelf, level, budget, function),
         Command::Check {
             function,
             certificate,
         } => check(alloc, shelf, function, certificate),
         Command::Integrate { function, case } => integrate(alloc, shelf, function, case),
+        Command::Replay { function, session } => replay(alloc, shelf, function, session),
     }
 }
 
@@ -43,6 +54,8 @@ pub(crate) fn answer<H: Shelf>(
 
     ensures ok { IfOk result (λ reply. IsReply (map string_bytes words.now) (H.holds shelf.old) reply) }
     ensures replied { (r : Reply) → result ≡ Err (Stop.Replied r) → IsReply (map string_bytes words.now) (H.holds shelf.old) r }
+    ensures steady { IfOk result (λ reply. AreSteady (map string_bytes words.now) (H.holds shelf.old) reply) }
+    ensures steady_replied { (r : Reply) → result ≡ Err (Stop.Replied r) → AreSteady (map string_bytes words.now) (H.holds shelf.old) r }
     ensures shelf { IsErrOf result Stop.Shelf → Rose (H.faults shelf.old) (H.faults shelf.new) }
     ensures unchanged { Unchanged H.holds H.offered H.faults shelf.old shelf.new }
 {

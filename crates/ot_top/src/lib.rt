@@ -1,9 +1,11 @@
 //! The answer to a command: from words, files and a sink to an exit status.
 //!
+//! `prove FN` writes a certificate of the function, or a counterexample, or says that the questions are too many.
 //! `check FN CERT` says whether the certificate shows that the transformation function has TP1, or TP1 and
 //! TP2, and otherwise at which byte and why it is refused.
 //! `integrate FN CASE` integrates the operations of a case in each of its orders and compares the
 //! documents.
+//! `replay FN SESSION` runs the events of a session, and compares sites that have integrated the same operations.
 //!
 //! The program above relies on one clause: `run` writes the reply that `IsReply` tells, and ends with
 //! its status; it ends with another status only where a file or the sink failed or memory is wanting.
@@ -16,9 +18,11 @@ mod command;
 mod integrate;
 mod load;
 mod program;
+mod prove;
+mod replay;
 mod reply;
 mod text;
 mod words;
 
 pub use program::{NO_MEMORY, SHELF_FAULT, SINK_FAULT, run};
-pub use reply::{FileKind, Reply};
+pub use reply::{EventFault, FileKind, Reply, SiteEnd};

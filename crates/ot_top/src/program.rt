@@ -4,7 +4,9 @@ ghost use Rattle.std.specs.Io.KnownBytes.{append_known};
 ghost use Rattle.ot_outside.specs.Faults.{Rose};
 ghost use Rattle.ot_outside.specs.Whole.{AppendsFront};
 ghost use Rattle.ot_outside.specs.Unchanged.{Unchanged};
-ghost use Rattle.ot_top.specs.Replies.{AreOffered, IsReply, IsShown};
+ghost use Rattle.ot_top.specs.Replies.{AreOffered, IsReply};
+ghost use Rattle.ot_top.specs.Shown.{IsBroken, IsComplete, IsProved, IsShown};
+ghost use Rattle.ot_top.specs.Steady.{IsSteady};
 ghost use Rattle.ot_top.specs.Texts.{status_of, text_of};
 ghost use Rattle.ot_top.specs.Words.{asked_by};
 
@@ -12,9 +14,12 @@ use crate::answer::answer;
 use crate::load::Stop;
 use crate::reply::Reply;
 use crate::text::{status, text};
-use fn_text::what_is_read_is_in_the_grammar;
-use ot_judge::certificates_show_the_properties;
+use fn_text::{texts_of_functions_are_read, what_is_read_is_in_the_grammar};
+use ot_counter::failing_ends_have_counterexamples;
+use ot_judge::{bytes_have_one_judgement, certificates_show_the_properties};
 use ot_outside::{Shelf, Sink, write_all};
+use ot_prove::plans_have_one_question_list;
+use ot_questions::Why;
 use std::alloc::Global;
 
 /// A file could not be opened or read.
@@ -44,6 +49,20 @@ pub fn run<H: Shelf, S: Sink>(alloc: Global, words: &[String], shelf: &mut H, ou
     ensures sound { result ≡ 0 → IsShown (map string_bytes words.now) (H.holds shelf.old)
         (λ text. S.written out.new ≡ append_known (S.written out.old) text) }
 
+    // What is proved has a certificate, which is written and which `check` accepts; what is broken fails at the instance
+    // that is written.
+    ensures proved { result ≡ 0 → IsProved (map string_bytes words.now) (H.holds shelf.old)
+        (λ text. S.written out.new ≡ append_known (S.written out.old) text) }
+    ensures broken { result ≡ 1 → IsBroken (map string_bytes words.now) (H.holds shelf.old)
+        (λ text. S.written out.new ≡ append_known (S.written out.old) text) }
+
+    // Where the function's file is told, the status of `prove` is the one that the questions of the function give.
+    ensures complete { result ≢ SHELF_FAULT → result ≢ SINK_FAULT → result ≢ NO_MEMORY
+        → IsComplete (map string_bytes words.now) (H.holds shelf.old) result }
+
+    // Where the function's file is told and the function makes sites agree, `replay` never finds them apart.
+    ensures steady { IsSteady (map string_bytes words.now) (H.holds shelf.old) result }
+
     ensures shelf_fault { result ≡ SHELF_FAULT → Rose (H.faults shelf.old) (H.faults shelf.new) × (S.written out.new ≡ S.written out.old) }
     ensures sink_fault { result ≡ SINK_FAULT →
         Rose (S.faults out.old) (S.faults out.new)
@@ -55,6 +74,10 @@ pub fn run<H: Shelf, S: Sink>(alloc: Global, words: &[String], shelf: &mut H, ou
     ensures sink_faults { S.faults out.old ≤ S.faults out.new }
 {
     certificates_show_the_properties();
+    bytes_have_one_judgement();
+    failing_ends_have_counterexamples();
+    plans_have_one_question_list::<Why>();
+    texts_of_functions_are_read();
     what_is_read_is_in_the_grammar();
     let reply = match answer(alloc, words, shelf) {
         Ok(reply) => reply,
@@ -62,11 +85,12 @@ pub fn run<H: Shelf, S: Sink>(alloc: Global, words: &[String], shelf: &mut H, ou
         Err(Stop::Shelf) => return SHELF_FAULT,
         Err(Stop::NoMemory) => return NO_MEMORY,
     };
-    let Ok(text) = text(alloc, &reply) else {
+    let status = status(&reply);
+    let Ok(text) = text(alloc, reply) else {
         return NO_MEMORY;
     };
     match write_all(out, &text) {
-        Ok(()) => status(&reply),
+        Ok(()) => status,
         Err(_) => SINK_FAULT,
     }
 }

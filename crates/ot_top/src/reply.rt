@@ -2,8 +2,10 @@
 use case_json::CaseFault;
 use fn_rules::Level;
 use fn_text::TextFault;
+use ot_counter::Counter;
 use ot_integrate::End;
 use ot_judge::Refusal;
+use ot_model::Doc;
 use plain_list::List;
 
 /// What a file holds.
@@ -15,13 +17,51 @@ pub enum FileKind {
     /// A certificate.
     Certificate,
 
-    /// A case.
+    /// A case or a session.
     Case,
+}
+
+/// What a site of a session has integrated, and the document that it holds.
+#[derive(Debug, Drop)]
+pub struct SiteEnd {
+    /// The numbers of the operations, in the order in which they were integrated.
+    pub seen: List<u32>,
+
+    /// The document.
+    pub doc: Doc,
+}
+
+/// Why an event of a session is refused.
+#[derive(Clone, Copy, Debug, PartialEq, Eq)]
+pub enum EventFault {
+    /// There is no such site.
+    Site,
+
+    /// The operation names another site.
+    Owner,
+
+    /// The function is not for operations of this kind.
+    Kind,
+
+    /// The operation is not enabled on the site's document.
+    Enabled,
+
+    /// No operation with this number was made.
+    Number,
 }
 
 /// The reply to a command.
 #[derive(Debug, Drop)]
 pub enum Reply {
+    /// The function has the properties of the level: the bytes of a certificate.
+    Proved(List<u8>),
+
+    /// The function breaks one of them: where, and how.
+    Broken(Counter),
+
+    /// There are more questions than the budget allows, or more forms than a session may count.
+    Spent,
+
     /// The file is a certificate of the function at this level.
     Accepted(Level),
 
@@ -37,11 +77,21 @@ pub enum Reply {
     /// The function's file is refused for its first fault.
     FunctionRefused(TextFault),
 
-    /// The case is refused for its first fault.
+    /// The case or the session is refused for its first fault.
     CaseRefused(CaseFault),
+
+    /// The event of a session with this number is refused, which counts from 0.
+    EventRefused(u32, EventFault),
+
+    /// A site of a session is stuck at the event with this number.
+    StuckAt(u32),
 
     /// How integrating ended, an order each, and whether every order gave the same document.
     Integrated(List<End>, bool),
+
+    /// What the sites of a session hold, and the first two that have integrated the same operations and hold different
+    /// documents.
+    Replayed(List<SiteEnd>, Option<(u32, u32)>),
 
     /// The words are not those of a command.
     Usage,

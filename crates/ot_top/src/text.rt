@@ -3,15 +3,20 @@ ghost use Rattle.std.specs.Prelude.{◌≡◌, [], IfOk, OnOk};
 ghost use Rattle.cert_text.specs.Spelling.{level_text};
 ghost use Rattle.ot_top.specs.Texts.{accepted_text, case_status, status_of, text_of, limit_text, limit_word};
 
+mod counters;
+mod documents;
 mod faults;
 mod orders;
+mod sessions;
 
 use crate::reply::{FileKind, Reply};
 use case_json::CaseFault;
+use counters::write_counter;
 use faults::{write_case_fault, write_refusal, write_text_fault};
 use fn_rules::Level;
 use orders::write_ends;
 use ot_model::NoMemory;
+use sessions::{write_event_fault, write_sites, write_stuck};
 use std::alloc::Global;
 
 // The status of a case's fault: too much of a part is a limit.
@@ -29,8 +34,15 @@ pub(crate) fn status(reply: &Reply) -> u8
     ensures { result ≡ status_of reply.now }
 {
     match reply {
+        Reply::Proved(_) => 0,
+        Reply::Broken(_) => 1,
+        Reply::Spent => 8,
         Reply::Accepted(_) => 0,
         Reply::Integrated(_, same) => { if *same { 0 } else { 1 } }
+        Reply::Replayed(_, None) => 0,
+        Reply::Replayed(_, Some(_)) => 1,
+        Reply::StuckAt(_) => 1,
+        Reply::EventRefused(..) => 4,
         Reply::Refused { .. } => 2,
         Reply::FunctionRefused(_) => 3,
         Reply::CaseRefused(fault) => case_status(fault),
@@ -79,19 +91,35 @@ fn write_accepted(alloc: Global, level: Level, out: &mut Vec<u8>) -> Result<(), 
     Ok(())
 }
 
-/// The text of a reply: a line, or a line for each order and one more.
-pub(crate) fn text(alloc: Global, reply: &Reply) -> Result<Vec<u8>, NoMemory>
+// The text of a reply, written anew.
+fn written(alloc: Global, reply: &Reply) -> Result<Vec<u8>, NoMemory>
     ensures { IfOk result (λ text. text.items ≡ text_of reply.now) }
 {
     let mut text = Vec::new(alloc);
     match reply {
+        Reply::Proved(bytes) => text.extend_from_slice(bytes.as_slice())?,
+        Reply::Broken(counter) => write_counter(alloc, counter, &mut text)?,
+        Reply::Spent => text.extend_from_slice(b"spent\n")?,
         Reply::Accepted(level) => write_accepted(alloc, *level, &mut text)?,
         Reply::Refused { offset, why } => write_refusal(alloc, *offset, *why, &mut text)?,
         Reply::FunctionRefused(fault) => write_text_fault(alloc, fault, &mut text)?,
         Reply::CaseRefused(fault) => write_case_fault(alloc, fault, &mut text)?,
         Reply::Integrated(ends, same) => write_ends(alloc, ends.as_slice(), *same, &mut text)?,
+        Reply::EventRefused(number, fault) => write_event_fault(alloc, *number, *fault, &mut text)?,
+        Reply::StuckAt(number) => write_stuck(alloc, *number, &mut text)?,
+        Reply::Replayed(ends, differ) => write_sites(alloc, ends.as_slice(), *differ, &mut text)?,
         Reply::Usage => text.extend_from_slice(b"usage: otp COMMAND ARGUMENTS\n")?,
         Reply::TooLong(kind) => write_limit(alloc, *kind, &mut text)?,
     }
     Ok(text)
+}
+
+/// The text of a reply. A certificate is not copied.
+pub(crate) fn text(alloc: Global, reply: Reply) -> Result<Vec<u8>, NoMemory>
+    ensures { IfOk result (λ text. text.items ≡ text_of reply) }
+{
+    match reply {
+        Reply::Proved(bytes) => Ok(bytes.into_vec()),
+        other => written(alloc, &other),
+    }
 }

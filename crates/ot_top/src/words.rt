@@ -1,14 +1,76 @@
 //! The words of a command. The first one says which command it is, and clap reads the others.
-ghost use Rattle.std.specs.Prelude.{◌≡◌, map, true, IfOk, string_bytes, option_map};
-ghost use Rattle.clap.specs.Words.{app_of, first_of, found_of, is_simple_and_free, rows_of};
+ghost use Rattle.std.specs.Prelude.{◌≡◌, codes, map, false, true, IfOk, string_bytes, option_map};
+ghost use Rattle.clap.specs.Words.{app_of, first_of, found_of, is_simple_and_free, rows_of, rule_of};
 ghost use Rattle.ot_top.specs.Commands.{asked_of};
-ghost use Rattle.ot_top.specs.Words.{asked_by, check_in, found_by, integrate_in, names_by, two_files, values_in};
+ghost use Rattle.clap.specs.declared.builder.value_parser.ValueParser.TheVariants.{Unsigned};
+ghost use Rattle.ot_top.specs.Words.{asked_by, bare_app, budget_by, budget_rule, check_in, found_by, integrate_in, level_by};
+ghost use Rattle.ot_top.specs.Words.{most_questions, names_by, prove_app, prove_by, prove_in, replay_in, required_rule, tp1_rule, two_files, values_in};
 
 use crate::command::Command;
+use clap::builder::ValueParser;
 use clap::error::ErrorKind;
-use clap::{Arg, ArgMatches};
+use clap::{Arg, ArgAction, ArgMatches};
+use fn_rules::Level;
 use ot_model::NoMemory;
 use std::alloc::Global;
+
+// The most questions that `prove` may be allowed.
+const MOST_QUESTIONS: u64 = 1_000_000;
+
+// What the budget may be.
+fn budget_parser<'a>() -> ValueParser<'a>
+    ensures { result ≡ Unsigned 1 most_questions }
+{
+    clap::value_parser!(u64).range(1..=1_000_000)
+}
+
+// The option `--tp1`.
+fn tp1_option<'a>(alloc: Global) -> Arg<'a>
+    ensures rule { rule_of result ≡ tp1_rule }
+    ensures local { result.global ≡ false }
+{
+    Arg::new(alloc, "tp1")
+        .long("tp1")
+        .action(ArgAction::SetTrue)
+}
+
+// The option `--budget N`.
+fn budget_option<'a>(alloc: Global) -> Arg<'a>
+    ensures rule { rule_of result ≡ budget_rule }
+    ensures local { result.global ≡ false }
+{
+    Arg::new(alloc, "budget")
+        .long("budget")
+        .value_parser(budget_parser())
+        .default_value("1000000")
+}
+
+// The name of the function's file.
+fn function_argument<'a>(alloc: Global) -> Arg<'a>
+    ensures rule { rule_of result ≡ required_rule (codes "function") }
+    ensures local { result.global ≡ false }
+{
+    Arg::new(alloc, "function").required(true)
+}
+
+// The clap command `prove`, without its arguments.
+fn bare_prove<'a>(alloc: Global) -> clap::Command<'a>
+    ensures { app_of result ≡ bare_app (codes "prove") }
+{
+    clap::Command::new(alloc, "prove")
+        .no_binary_name(true)
+        .disable_help_flag(true)
+}
+
+// The clap command `prove`: its two options, and a file name.
+fn prove_app<'a>(alloc: Global) -> Result<clap::Command<'a>, NoMemory>
+    ensures { IfOk result (λ c. app_of c ≡ prove_app) }
+{
+    let with_level = bare_prove(alloc).arg(tp1_option(alloc))?;
+    let with_options = with_level.arg(budget_option(alloc))?;
+    let whole = with_options.arg(function_argument(alloc))?;
+    Ok(whole)
+}
 
 // The clap command of a name, which has no options, not even for help, and takes two file names.
 fn two_files(alloc: Global, name: &str) -> Result<clap::Command<'_>, NoMemory>
@@ -70,6 +132,51 @@ fn two_names<'a>(
     }
 }
 
+// The level that the flag says.
+fn level_by(flag: Option<&str>) -> Level
+    ensures { result ≡ level_by (option_map (λ s. s.now) flag.entry) }
+{
+    match flag {
+        Some("true") => Level::Tp1,
+        _ => Level::Tp2,
+    }
+}
+
+// The number of a text that clap takes for the budget.
+fn budget_by(text: &str) -> Option<u64>
+    ensures { result ≡ budget_by text.now }
+{
+    match text.parse::<u64>() {
+        Ok(budget) if 1 <= budget && budget <= MOST_QUESTIONS => Some(budget),
+        _ => None,
+    }
+}
+
+// The level, the budget and the name that clap finds.
+fn prove_by<'a>(matches: &ArgMatches<'a>) -> Option<Command<'a>>
+    ensures { option_map asked_of result ≡ prove_by (rows_of (found_of matches.now)) }
+{
+    let level = level_by(value_of(matches, "tp1"));
+    let budget = budget_by(value_of(matches, "budget")?)?;
+    let function = value_of(matches, "function")?;
+    Some(Command::Prove {
+        level,
+        budget,
+        function,
+    })
+}
+
+// `prove [--tp1] [--budget N] FUNCTION`
+#[tactic(auto, unfolding(crate::specs::Words::prove_in))]
+fn prove_in<'a>(alloc: Global, words: &'a [String]) -> Result<Option<Command<'a>>, NoMemory>
+    ensures { IfOk result (λ command. option_map asked_of command ≡ prove_in (map string_bytes words.entry.now)) }
+{
+    match matches_in(prove_app(alloc)?, words)? {
+        Some(matches) => Ok(prove_by(&matches)),
+        None => Ok(None),
+    }
+}
+
 // `check FUNCTION CERTIFICATE`
 fn check_in<'a>(alloc: Global, words: &'a [String]) -> Result<Option<Command<'a>>, NoMemory>
     ensures { IfOk result (λ command. option_map asked_of command ≡ check_in (map string_bytes words.entry.now)) }
@@ -93,6 +200,16 @@ fn integrate_in<'a>(alloc: Global, words: &'a [String]) -> Result<Option<Command
     }
 }
 
+// `replay FUNCTION SESSION`
+fn replay_in<'a>(alloc: Global, words: &'a [String]) -> Result<Option<Command<'a>>, NoMemory>
+    ensures { IfOk result (λ command. option_map asked_of command ≡ replay_in (map string_bytes words.entry.now)) }
+{
+    match two_names(alloc, "replay", words)? {
+        Some((function, session)) => Ok(Some(Command::Replay { function, session })),
+        None => Ok(None),
+    }
+}
+
 /// Reads the words behind the program's name; none where they are not those of a command.
 pub(crate) fn read_words<'a>(
     alloc: Global,
@@ -104,8 +221,10 @@ pub(crate) fn read_words<'a>(
         return Ok(None);
     };
     match name.as_str() {
+        "prove" => prove_in(alloc, arguments),
         "check" => check_in(alloc, arguments),
         "integrate" => integrate_in(alloc, arguments),
+        "replay" => replay_in(alloc, arguments),
         _ => Ok(None),
     }
 }

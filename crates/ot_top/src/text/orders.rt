@@ -3,7 +3,7 @@ ghost use Rattle.std.specs.Prelude.{◌≡◌, ◌++◌, [], map, OnOk};
 ghost use Rattle.ot_integrate.specs.Ends.{outcome_of};
 ghost use Rattle.ot_top.specs.OrderTexts.{outcome_text, order_line, order_lines, orders_text};
 
-use case_json::doc_write;
+use super::documents::write_document;
 use ot_integrate::End;
 use ot_model::NoMemory;
 use std::alloc::Global;
@@ -12,11 +12,7 @@ fn write_outcome(alloc: Global, end: &End, out: &mut Vec<u8>) -> Result<(), NoMe
     ensures { OnOk result (out.new.items ≡ out.old.items ++ outcome_text (outcome_of end.now)) }
 {
     match end {
-        End::Doc(doc) => {
-            out.push(b'[')?;
-            doc_write(doc, out)?;
-            out.push(b']')?;
-        }
+        End::Doc(doc) => write_document(doc, out)?,
         End::Stuck(place) => {
             let text = format!(in alloc; "stuck {place}")?;
             out.extend_from_slice(text.as_bytes())?;

@@ -5,12 +5,12 @@ use Rattle.case_json.specs.DocText.{AppendsFront, tilde, char_text}
 use Rattle.case_json.proofs.Writing.{front_behind, on_err}
 use Rattle.case_json.proofs.doc_text.write_cell.Goals as goal
 
-pub returns-in_err-write_char-clause-err : goal.returns-in_err-write_char-clause-err
+pub returns-in_err-char_write-clause-err : goal.returns-in_err-char_write-clause-err
 unfolding encode
-returns-in_err-write_char-clause-err c =
+returns-in_err-char_write-clause-err c =
     let old : List ℕ = c.args.out.now.items in
-    let new : List ℕ = c.write_char-2.new.out.items in
+    let new : List ℕ = c.char_write-2.new.out.items in
     let text : List ℕ = encode_utf8_all (char_text c.args.cell.ch) in
     let front : AppendsFront (old ++ tilde ∷ []) new text =
-    subst (λ (before : List ℕ). AppendsFront before new text) c.in_ok-push.ensures.items c.in_err-write_char.ensures.err in
-    on_err c.from_residual-in_err-write_char.result (rw c.if-cell.false (front_behind old (tilde ∷ []) new text front))
+    subst (λ (before : List ℕ). AppendsFront before new text) c.in_ok-push.ensures.items c.in_err-char_write.ensures.err in
+    on_err c.from_residual-in_err-char_write.result (rw c.if-cell.false (front_behind old (tilde ∷ []) new text front))

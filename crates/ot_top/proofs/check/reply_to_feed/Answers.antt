@@ -36,8 +36,7 @@ returns-then-branch-clause-ok g c =
     at_its_end judged.result (IsAtEnd (feed_left judged.new.feed)) rests judged.ensures.nothing_left judged.ensures.truncated in
     let goes = goes_on (room_of judged.new.feed) (room_of c.args.feed.now) (file_left judged.new.feed) (file_left c.args.feed.now)
     c.in_ok-too_long.field-0 at_end kept.beyond c.in_ok-too_long.ensures.ok in
-    too_long_reply (function_of c.args.rules.now) (file_left c.args.feed.now) (room_of c.args.feed.now) judged.result c.requires
-    judged.ensures.judged rests c.in_ok-too_long.field-0 c.if-branch.true goes
+    too_long_reply (function_of c.args.rules.now) c.args.feed.now judged.result c.requires judged.ensures.judged rests c.in_ok-too_long.field-0 c.if-branch.true goes
 
 pub returns-clause-ok : goal.returns-clause-ok
 returns-clause-ok g c =
@@ -58,5 +57,4 @@ returns-clause-ok g c =
       | else-rests_on_the_end-via-else-rests_on_the_end w ↦
           absurd (let clash : true ≡ false = sym rests ∙ sym c.rests_on_the_end.ensures ∙ w.if-rests_on_the_end.false in cc)
     ] in
-    told_replies (function_of c.args.rules.now) (file_left c.args.feed.now) (room_of c.args.feed.now) judged.result c.requires
-    judged.ensures.judged c.told.result c.told.ensures.ok ends
+    told_replies (function_of c.args.rules.now) c.args.feed.now judged.result c.requires judged.ensures.judged c.told.result c.told.ensures.ok ends

@@ -1,0 +1,257 @@
+-- What the statuses of `prove` show, from its reply.
+use Rattle.std.proofs.Common.{◌≡◌, ◌≢◌, ℕ, ◌<◌, ◌≤◌, true, false, List, length, Option, Some, None, Result, Ok, Err, IsTrue, refl, ap, ◌∙◌, subst, take, inl, inr, arith}
+use Rattle.std.specs.Prelude.{MatchOption, ℤ, nat_lt}
+use Rattle.std.proofs.lemmas.Bool.Decides.{nat_tests}
+use Rattle.std.proofs.lemmas.List.{take_all}
+use Rattle.diff_graph.specs.declared.lit.Lit.{Lit}
+use Rattle.diff_graph.specs.Solutions.{AreLeast, valuation_of}
+use Rattle.ot_model.specs.declared.cell.Cell.{Cell}
+use Rattle.fn_rules.specs.declared.function.Level.{Level}
+use Rattle.fn_rules.specs.declared.function.ObName.{ObName}
+use Rattle.fn_rules.specs.declared.function.ObName.TheVariants.{Pair, Triple}
+use Rattle.fn_rules.specs.Functions.{Function}
+use Rattle.fn_rules.specs.Obligations.{is_obligation, obligations_of}
+use Rattle.fn_rules.specs.Validity.{is_valid}
+use Rattle.fn_text.specs.Grammar.{IsTextOf}
+use Rattle.fn_text.specs.Reading.{function_in}
+use Rattle.ask_core.specs.Plans.{Plan}
+use Rattle.ask_core.specs.Questions.{Questions, QuestionList}
+use Rattle.ot_prove.specs.Outcomes.{answered_by}
+use Rattle.ot_questions.specs.declared.name.Who.TheVariants.{A, B, C}
+use Rattle.ot_questions.specs.declared.why.Why.{Why}
+use Rattle.ot_questions.specs.Meaning.{op_at}
+use Rattle.ot_questions.specs.Obligation.{plan_of}
+use Rattle.ot_questions.specs.Places.{sym_op}
+use Rattle.ot_judge.specs.declared.refusal.JudgeEnd.{JudgeEnd}
+use Rattle.ot_judge.specs.declared.verdict.Verdict.{Verdict}
+use Rattle.ot_judge.specs.declared.verdict.Verdict.TheVariants as verdicts
+use Rattle.ot_judge.specs.Certificates.{IsCertificate}
+use Rattle.ot_judge.specs.Refusals.{IsJudgement}
+use Rattle.ot_judge.specs.Verdicts.{ObQuestions, IsDecidedAs, IsVerdict, IsWithin, count_in, failing_in}
+use Rattle.ot_counter.specs.declared.counter.Counter.{Counter}
+use Rattle.ot_counter.specs.Counters.{Breaks, BreaksBy, IsCounter, level_of}
+use Rattle.ot_counter.specs.Leading.{LeadTo}
+use Rattle.ot_counter.specs.Sides.{left_at, right_at}
+use Rattle.ot_counter.specs.Values.{document_at, floors_of, ops_at}
+use Rattle.ot_top.specs.declared.reply.FileKind.TheVariants as files
+use Rattle.ot_top.specs.declared.reply.Reply.{Reply}
+use Rattle.ot_top.specs.declared.reply.Reply.TheVariants.{Proved, Broken, Accepted, Usage}
+use Rattle.ot_top.specs.Commands.{Asked, Prove}
+use Rattle.ot_top.specs.Judgements.{IsReplyToCertificate, IsReplyToJudgement}
+use Rattle.ot_top.specs.Limits.{limit_of}
+use Rattle.ot_top.specs.Replies.{IsReadAs, IsReply, IsReplyTo, IsReplyToFunction}
+use Rattle.ot_top.specs.Shown.{AreBothWays, HasLevel, IsAcceptedAt, IsAskedAt, IsBroken, IsComplete, IsProved, status_by}
+use Rattle.ot_top.specs.Texts.{status_of, text_of}
+use Rattle.ot_top.specs.Verdicts.{IsReplyToProof, TellsVerdict}
+use Rattle.ot_top.specs.Words.{asked_by, most_questions}
+use Rattle.ot_top.proofs.Asking.{asked_at, asked_once}
+use Rattle.ot_top.proofs.Budgets.{few_questions}
+use Rattle.ot_top.proofs.Leads.{literals_lead}
+
+-- the reply to words that ask for a command
+reply_to_asked :
+    (words : List (List ℕ)) (holds : List ℕ → Option (List ℕ)) (r : Reply) (asked : Asked) → asked_by words ≡ Some asked
+    → IsReply words holds r → IsReplyTo holds asked r
+reply_to_asked words holds r asked named is =
+    subst (λ (o : Option Asked). MatchOption o (r ≡ Usage) (λ a. IsReplyTo holds a r)) named is
+
+-- a reply of another status than 9 and 3 comes of a function that was read
+read_behind :
+    (r : Reply) (status : ℕ) → status ≡ status_of r → status ≢ 9 → status ≢ 3 → (told : Option (List ℕ)) (Gets : Function → Type 0)
+    → IsReplyToFunction told Gets r → (f : Function) × IsReadAs (Ok f) told × Gets f
+read_behind r status is no_limit no_fault told Gets (inl (inl h)) = absurd (no_limit (is ∙ ap (λ x. status_of x) h.1))
+read_behind r status is no_limit no_fault told Gets (inl (inr h)) = absurd (no_fault (is ∙ ap (λ x. status_of x) h.2))
+read_behind r status is no_limit no_fault told Gets (inr h) = h
+
+-- the reply to the text of a function within the limit is the one that the function gets
+module _ (told : Option (List ℕ)) (bytes : List ℕ) (f : Function) (is_told : told ≡ Some bytes)
+    (within : length bytes ≤ limit_of files.Function) (read : function_in bytes ≡ Ok f) where
+  gets : (Gets : Function → Type 0) (r : Reply) → IsReplyToFunction told Gets r → Gets f
+  gets Gets r (inl (inl h)) = absurd (let longer = h.0 bytes is_told in omega (arith, longer, within))
+  gets Gets r (inl (inr h)) = absurd (let refused : function_in bytes ≡ Err h.0 = (h.1 bytes is_told).1 in cc)
+  gets Gets r (inr h) =
+      let other : function_in bytes ≡ Ok h.0 = (h.1 bytes is_told).1 in
+      let same : h.0 ≡ f = cc in
+      subst Gets same h.2
+
+-- a certificate within the limit is accepted
+module _ (one_judgement :
+    (f : Function) (bytes : List ℕ) (one other : Result Level JudgeEnd) → IsTrue (is_valid f) → IsJudgement f bytes one
+    → IsJudgement f bytes other → one ≡ other)
+    (f : Function) (valid : IsTrue (is_valid f)) (certificate : List ℕ) (level : Level) (is_one : IsCertificate certificate f level)
+    (within : length certificate ≤ limit_of files.Certificate) where
+  accepted_behind :
+      (told : Option (List ℕ)) (contents : List ℕ) (r : Reply) → told ≡ Some certificate
+      → IsReplyToJudgement told contents (Ok level) r → r ≡ Accepted level
+  accepted_behind told contents r is (inl h) = absurd (let longer = h.1.0 certificate is in omega (arith, longer, within))
+  accepted_behind told contents r is (inr h) = h.1
+
+  accepted_file : (told : Option (List ℕ)) (r : Reply) → told ≡ Some certificate → IsReplyToCertificate f told r → r ≡ Accepted level
+  accepted_file told r is (contents, known, reply) =
+      let judgement : Result Level JudgeEnd = reply.0 in
+      let front : take (limit_of files.Certificate) contents ≡ certificate =
+      ap (λ (l : List ℕ). take (limit_of files.Certificate) l) (known certificate is)
+      ∙ take_all (limit_of files.Certificate) certificate within in
+      let whole : IsJudgement f certificate judgement = subst (λ (b : List ℕ). IsJudgement f b judgement) front reply.1 in
+      let same : judgement ≡ Ok level = one_judgement f certificate judgement (Ok level) valid whole is_one in
+      accepted_behind told contents r is
+      (subst (λ (j : Result Level JudgeEnd). IsReplyToJudgement told contents j r) same reply.2)
+
+  accepted_at :
+      (bytes : List ℕ) → length bytes ≤ limit_of files.Function → function_in bytes ≡ Ok f → IsAcceptedAt bytes certificate level
+  accepted_at bytes small read holds name certificate_name r told certificate_told reply =
+      accepted_file (holds certificate_name) r certificate_told
+      (gets (holds name) bytes f told small read (λ g. IsReplyToCertificate g (holds certificate_name) r) r reply)
+
+-- status 0: the verdict is yes
+proved_verdict :
+    (f : Function) (level : Level) (budget : ℕ) (r : Reply) (verdict : Verdict) → 0 ≡ status_of r → budget ≤ most_questions
+    → IsDecidedAs f level budget verdict → (budget ≤ most_questions → IsWithin (limit_of files.Certificate) verdict)
+    → TellsVerdict f verdict r
+    → (certificate : List ℕ) × IsCertificate certificate f level × (length certificate ≤ limit_of files.Certificate) × (r ≡ Proved certificate)
+proved_verdict f level budget r (verdicts.Yes bytes) is few decided within tells =
+    let proof = decided.2.2 in
+    (bytes.items, (proof.trees, proof.fit, proof.text), within few, tells)
+proved_verdict f level budget r (verdicts.No ob answers why) is few decided within tells =
+    absurd (let one : 0 ≡ 1 = is ∙ ap (λ x. status_of x) tells.2 in omega (arith, one))
+proved_verdict f level budget r verdicts.Spent is few decided within tells =
+    absurd (let eight : 0 ≡ 8 = is ∙ ap (λ x. status_of x) tells in omega (arith, eight))
+
+module _ (is_text : (bytes : List ℕ) (f : Function) → function_in bytes ≡ Ok f → IsTextOf bytes f)
+    (is_within_limits : (bytes : List ℕ) (f : Function) → IsTextOf bytes f → IsTrue (is_valid f)) where
+  pub proved :
+      ((bytes : List ℕ) (f : Function) (level : Level) → IsCertificate bytes f level → HasLevel f level)
+      → ((f : Function) (bytes : List ℕ) (one other : Result Level JudgeEnd) → IsTrue (is_valid f) → IsJudgement f bytes one
+      → IsJudgement f bytes other → one ≡ other)
+      → (words : List (List ℕ)) (holds : List ℕ → Option (List ℕ)) (r : Reply) (IsWritten : List ℕ → Type 0) → 0 ≡ status_of r
+      → IsReply words holds r → IsWritten (text_of r) → IsProved words holds IsWritten
+  proved has_level one_judgement words holds r IsWritten is_zero is_reply written level budget name bytes named told =
+      let reply : IsReplyTo holds (Prove level budget name) r = reply_to_asked words holds r (Prove level budget name) named is_reply in
+      let got = read_behind r 0 is_zero (λ e. omega (arith, e)) (λ e. omega (arith, e)) (holds name)
+      (λ f. IsReplyToProof f level budget r) reply in
+      let f : Function = got.0 in
+      let file = got.1 bytes told in
+      let text = is_text bytes f file.1 in
+      let valid = is_within_limits bytes f text in
+      let few = few_questions words level budget name named in
+      let held = proved_verdict f level budget r got.2.0 is_zero few got.2.1 got.2.2 got.2.3 in (
+        f,
+        held.0,
+        text,
+        held.1,
+        held.2,
+        has_level held.0 f level held.1,
+        accepted_at one_judgement f valid held.0 level held.1 held.2 bytes file.0 file.1,
+        subst IsWritten (ap (λ x. text_of x) held.3) written,
+      )
+
+  -- what is read off values is what the interpreter gives on both ways
+  both_ways : (f : Function) (v : ℕ → ℤ) (d : List Cell) (ob : ObName)
+      → AreBothWays f (level_of ob) d (ops_at v ob) (left_at f v d ob) (right_at f v d ob)
+  both_ways f v d (Pair k l) = (op_at v (sym_op k A), op_at v (sym_op l B), refl, refl, refl)
+  both_ways f v d (Triple k l m) = (op_at v (sym_op k A), op_at v (sym_op l B), op_at v (sym_op m C), refl, refl, refl)
+
+  -- a counterexample breaks the property, and shows what the interpreter gives
+  abbrev IsBrokenBy : Function → Level → Counter → Type 0
+  IsBrokenBy f level counter =
+      IsAskedAt counter.level level × Breaks f counter.level counter.doc counter.ops
+      × BreaksBy f counter.level counter.doc counter.ops counter.why
+      × AreBothWays f counter.level counter.doc counter.ops counter.left counter.right
+
+  module _ (broken_there :
+      (f : Function) (ob : ObName) (w : List Lit) (why : Why) (values : List ℤ) → IsTrue (is_valid f) → IsTrue (is_obligation f.head ob)
+      → LeadTo why (plan_of f ob) w → AreLeast w (floors_of ob) values
+      → Breaks f (level_of ob) (document_at (valuation_of values) why) (ops_at (valuation_of values) ob))
+      (by_the_cause :
+      (f : Function) (ob : ObName) (w : List Lit) (why : Why) (values : List ℤ) → IsTrue (is_valid f) → IsTrue (is_obligation f.head ob)
+      → LeadTo why (plan_of f ob) w → AreLeast w (floors_of ob) values
+      → BreaksBy f (level_of ob) (document_at (valuation_of values) why) (ops_at (valuation_of values) ob) why) where
+    counter_breaks :
+        (f : Function) (level : Level) (ob : ObName) (w : List Lit) (why : Why) (counter : Counter) → IsTrue (is_valid f)
+        → IsTrue (is_obligation f.head ob) → LeadTo why (plan_of f ob) w → IsAskedAt (level_of ob) level
+        → IsCounter f ob w why counter → IsBrokenBy f level counter
+    counter_breaks f level ob w why counter valid declared leads asked is =
+        let v : ℕ → ℤ = valuation_of is.values in
+        let property : counter.level ≡ level_of ob = is.read.level in
+        let doc : counter.doc ≡ document_at v why = is.read.doc in
+        let ops : counter.ops ≡ ops_at v ob = is.read.ops in
+        let cause : counter.why ≡ why = is.read.cause in
+        let left : counter.left ≡ left_at f v (document_at v why) ob = is.read.left in
+        let right : counter.right ≡ right_at f v (document_at v why) ob = is.read.right in (
+          rw property asked,
+          rw (property, doc, ops) (broken_there f ob w why is.values valid declared leads is.least),
+          rw (property, doc, ops, cause) (by_the_cause f ob w why is.values valid declared leads is.least),
+          rw (property, doc, ops, left, right) (both_ways f v (document_at v why) ob),
+        )
+
+    -- status 1: the verdict is no
+    broken_verdict :
+        (f : Function) (level : Level) (budget : ℕ) (r : Reply) (verdict : Verdict) → 1 ≡ status_of r → IsTrue (is_valid f)
+        → IsDecidedAs f level budget verdict → TellsVerdict f verdict r
+        → (counter : Counter) × IsBrokenBy f level counter × (r ≡ Broken counter)
+    broken_verdict f level budget r (verdicts.Yes bytes) is valid decided tells =
+        absurd (let zero : 1 ≡ 0 = is ∙ ap (λ x. status_of x) tells in omega (arith, zero))
+    broken_verdict f level budget r (verdicts.No ob answers why) is valid decided tells =
+        let refuted = decided.2.1 in
+        let w : List Lit = answered_by answers.items in (
+          tells.0,
+          counter_breaks f level ob w why tells.0 valid refuted.listed (literals_lead why (plan_of f ob) answers.items refuted.way)
+              (asked_at (plan_of f) f.head level decided.0 _ decided.1 refuted.first) tells.1,
+          tells.2,
+        )
+    broken_verdict f level budget r verdicts.Spent is valid decided tells =
+        absurd (let eight : 1 ≡ 8 = is ∙ ap (λ x. status_of x) tells in omega (arith, eight))
+
+    pub broken :
+        (words : List (List ℕ)) (holds : List ℕ → Option (List ℕ)) (r : Reply) (IsWritten : List ℕ → Type 0) → 1 ≡ status_of r
+        → IsReply words holds r → IsWritten (text_of r) → IsBroken words holds IsWritten
+    broken words holds r IsWritten is_one is_reply written level budget name bytes named told =
+        let reply : IsReplyTo holds (Prove level budget name) r = reply_to_asked words holds r (Prove level budget name) named is_reply in
+        let got = read_behind r 1 is_one (λ e. omega (arith, e)) (λ e. omega (arith, e)) (holds name)
+        (λ f. IsReplyToProof f level budget r) reply in
+        let f : Function = got.0 in
+        let text = is_text bytes f (got.1 bytes told).1 in
+        let found = broken_verdict f level budget r got.2.0 is_one (is_within_limits bytes f text) got.2.1 got.2.3 in (
+          f,
+          found.0,
+          text,
+          found.1.0,
+          found.1.1,
+          found.1.2,
+          found.1.3,
+          subst IsWritten (ap (λ x. text_of x) found.2) written,
+        )
+
+-- the status of a verdict is that of the questions
+within_budget : (budget count : ℕ) → count ≤ budget → nat_lt budget count ≡ false
+within_budget budget count few = grind (arith, nat_tests)
+
+above_budget : (budget count : ℕ) → budget < count → nat_lt budget count ≡ true
+above_budget budget count many = grind (arith, nat_tests)
+
+status_of_verdict :
+    (f : Function) (level : Level) (budget : ℕ) (r : Reply) (verdict : Verdict) (lists : List (ObQuestions Why))
+    → IsVerdict f level budget lists verdict → TellsVerdict f verdict r → status_of r ≡ status_by budget lists
+status_of_verdict f level budget r (verdicts.Yes bytes) lists holding tells =
+    let few = within_budget budget (count_in lists) holding.0 in
+    let none : failing_in lists ≡ None = holding.1 in
+    rw (tells, few, none) refl
+status_of_verdict f level budget r (verdicts.No ob answers why) lists failing tells =
+    let few = within_budget budget (count_in lists) failing.0 in
+    let some = failing.1.first in
+    rw (tells.2, few, some) refl
+status_of_verdict f level budget r verdicts.Spent lists many tells =
+    let more = above_budget budget (count_in lists) many in
+    rw (tells, more) refl
+
+pub complete :
+    ((bytes : List ℕ) (f : Function) → IsTextOf bytes f → function_in bytes ≡ Ok f)
+    → ((p : Plan Why) (w : List Lit) (q r : Questions Why) → QuestionList p w q → QuestionList p w r → q ≡ r)
+    → (words : List (List ℕ)) (holds : List ℕ → Option (List ℕ)) (r : Reply) → IsReply words holds r
+    → IsComplete words holds (status_of r)
+complete texts_are_read one_list words holds r is_reply level budget name bytes f lists named told small text asked =
+    let reply : IsReplyTo holds (Prove level budget name) r = reply_to_asked words holds r (Prove level budget name) named is_reply in
+    let got = gets (holds name) bytes f told small (texts_are_read bytes f text) (λ g. IsReplyToProof g level budget r) r reply in
+    let same : got.1.0 ≡ lists = asked_once (plan_of f) one_list (obligations_of f.head level) got.1.0 lists got.1.1 asked in
+    status_of_verdict f level budget r got.0 lists
+    (subst (λ (l : List (ObQuestions Why)). IsVerdict f level budget l got.0) same got.1.2) got.3

@@ -1,0 +1,59 @@
+-- A reply that is refused before a session is run has another status than 1, and what words ask is what was read.
+use Rattle.std.proofs.Common.{refl, ◌≡◌, ◌≢◌, ℕ, ◌<◌, List, Option, Some, Result, Ok, sym, ap, ◌∙◌, subst, inl, inr, arith}
+use Rattle.std.specs.Prelude.{IfSome}
+use Rattle.fn_rules.specs.Functions.{Function}
+use Rattle.fn_text.specs.declared.fault.TextFault.{TextFault}
+use Rattle.fn_text.specs.Grammar.{IsTextOf}
+use Rattle.fn_text.specs.Reading.{function_in}
+use Rattle.case_json.specs.declared.fault.CaseFault.{CaseFault}
+use Rattle.case_json.specs.declared.fault.CaseFault.TheVariants as faults
+use Rattle.ot_top.specs.declared.reply.FileKind.{FileKind}
+use Rattle.ot_top.specs.declared.reply.FileKind.TheVariants as files
+use Rattle.ot_top.specs.declared.reply.Reply.{Reply}
+use Rattle.ot_top.specs.declared.reply.Reply.TheVariants.{CaseRefused, FunctionRefused, TooLong}
+use Rattle.ot_top.specs.Commands.{Asked, Replay}
+use Rattle.ot_top.specs.Limits.{IsTooLong}
+use Rattle.ot_top.specs.Replies.{IsFunctionRefusal, IsReadAs}
+use Rattle.ot_top.specs.Steady.{AreSteady, IsSteady, IsSteadyReply}
+use Rattle.ot_top.specs.Texts.{status_of}
+
+-- a reply of another status
+named_so : (r named : Reply) (status : ℕ) → r ≡ named → status_of named ≡ status → 1 < status → status_of r ≢ 1
+named_so r named status same says more is =
+    let one : status ≡ 1 = sym says ∙ sym (ap (λ x. status_of x) same) ∙ is in absurd (omega (arith, one, more))
+
+pub too_long-steady : (kind : FileKind) (told : Option (List ℕ)) (r : Reply) → IsTooLong kind told r → status_of r ≢ 1
+too_long-steady kind told r h = named_so r (TooLong kind) 9 h.1 refl (omega arith)
+
+pub function_refused-steady : (told : Option (List ℕ)) (r : Reply) → IsFunctionRefusal told r → status_of r ≢ 1
+function_refused-steady told r (inl h) = too_long-steady files.Function told r h
+function_refused-steady told r (inr h) = named_so r (FunctionRefused h.0) 3 h.2 refl (omega arith)
+
+pub case_refused-steady : (fault : CaseFault) → status_of (CaseRefused fault) ≢ 1
+case_refused-steady faults.Json is = absurd (omega (arith, is))
+case_refused-steady (faults.Field name) is = absurd (omega (arith, is))
+case_refused-steady (faults.Kind i) is = absurd (omega (arith, is))
+case_refused-steady (faults.Enabled i) is = absurd (omega (arith, is))
+case_refused-steady (faults.Pair i j) is = absurd (omega (arith, is))
+case_refused-steady (faults.Order i) is = absurd (omega (arith, is))
+case_refused-steady (faults.Limit name) is = absurd (omega (arith, is))
+case_refused-steady faults.NoMemory is = absurd (omega (arith, is))
+
+ok_is : (f g : Function) → ◌≡◌ {A = Result Function TextFault} (Ok f) (Ok g) → f ≡ g
+ok_is f g same = cc
+
+-- a file is read as one function
+pub same_function :
+    (told : Option (List ℕ)) (f g : Function) (bytes : List ℕ) → IsReadAs (Ok f) told → told ≡ Some bytes → function_in bytes ≡ Ok g
+    → g ≡ f
+same_function told f g bytes read is is_g = ok_is g f (sym is_g ∙ (read bytes is).1)
+
+-- what words ask has a status other than 1
+pub steady :
+    ((bytes : List ℕ) (f : Function) → IsTextOf bytes f → function_in bytes ≡ Ok f)
+    → (words : List (List ℕ)) (holds : List ℕ → Option (List ℕ)) (r : Reply) → AreSteady words holds r
+    → IsSteady words holds (status_of r)
+steady read words holds r are name session bytes f named told text agrees =
+    let reply : IsSteadyReply holds (Replay name session) r =
+    subst (λ (o : Option Asked). IfSome o (λ asked. IsSteadyReply holds asked r)) named are in
+    reply bytes f told (read bytes f text) agrees

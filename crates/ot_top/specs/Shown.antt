@@ -1,0 +1,103 @@
+-- What the statuses 0 and 1 show of a function whose file is told.
+use Rattle.std.specs.Prelude.{◌≡◌, ℕ, ◌≤◌, if◌then◌else◌, nat_lt, is_some, List, [], ◌∷◌, length, Option, Some}
+use Rattle.ot_model.specs.declared.cell.Cell.{Cell}
+use Rattle.ot_model.specs.declared.op.Op.{Op}
+use Rattle.fn_rules.specs.declared.function.Level.{Level}
+use Rattle.fn_rules.specs.declared.function.Level.TheVariants.{Tp1, Tp2}
+use Rattle.fn_rules.specs.Functions.{Function}
+use Rattle.fn_rules.specs.Obligations.{obligations_of}
+use Rattle.fn_rules.specs.Orders.{HasOneOutcome}
+use Rattle.fn_rules.specs.Properties.{HasTp1, HasTp2}
+use Rattle.fn_text.specs.Grammar.{IsTextOf}
+use Rattle.ot_questions.specs.declared.why.Why.{Why}
+use Rattle.ot_questions.specs.Instances.{form_behind}
+use Rattle.ot_questions.specs.Obligation.{plan_of}
+use Rattle.ot_judge.specs.Certificates.{IsCertificate}
+use Rattle.ot_judge.specs.Verdicts.{ObQuestions, AreAsked, count_in, failing_in}
+use Rattle.ot_counter.specs.declared.counter.Counter.{Counter}
+use Rattle.ot_counter.specs.declared.counter.Side.{Side}
+use Rattle.ot_counter.specs.Counters.{Breaks, BreaksBy}
+use Rattle.ot_counter.specs.Sides.{document_way, operation_side}
+use Rattle.ot_top.specs.declared.reply.FileKind.TheVariants as files
+use Rattle.ot_top.specs.declared.reply.Reply.{Reply}
+use Rattle.ot_top.specs.declared.reply.Reply.TheVariants.{Accepted}
+use Rattle.ot_top.specs.Commands.{Prove, Check}
+use Rattle.ot_top.specs.CounterTexts.{counter_text}
+use Rattle.ot_top.specs.Limits.{limit_of}
+use Rattle.ot_top.specs.Replies.{IsReplyTo}
+use Rattle.ot_top.specs.Texts.{accepted_text}
+use Rattle.ot_top.specs.Words.{asked_by}
+
+-- what a certificate at a level shows of its function
+abbrev pub HasLevel : Function → Level → Type 0
+HasLevel f Tp1 = HasTp1 f
+HasLevel f Tp2 = HasTp1 f × HasTp2 f × HasOneOutcome f
+
+-- the words ask to judge a certificate; where both files are told, the first one is the text of a function
+-- by the grammar, the second is a certificate of it at a level, the function has what the level says, and the
+-- text of the level was written
+abbrev pub IsShown : List (List ℕ) → (List ℕ → Option (List ℕ)) → (List ℕ → Type 0) → Type 0
+IsShown words holds IsWritten =
+    (name certificate_name bytes certificate : List ℕ)
+    → asked_by words ≡ Some (Check name certificate_name)
+    → holds name ≡ Some bytes → holds certificate_name ≡ Some certificate
+    → (f : Function) × (level : Level)
+    × IsTextOf bytes f × IsCertificate certificate f level × HasLevel f level × IsWritten (accepted_text level)
+
+-- `check` accepts: wherever a shelf tells these bytes of a function and of a certificate, every reply says the level
+abbrev pub IsAcceptedAt : List ℕ → List ℕ → Level → Type 0
+IsAcceptedAt bytes certificate level =
+    (holds : List ℕ → Option (List ℕ)) (name certificate_name : List ℕ) (r : Reply)
+    → holds name ≡ Some bytes → holds certificate_name ≡ Some certificate
+    → IsReplyTo holds (Check name certificate_name) r → r ≡ Accepted level
+
+-- the words ask to prove a function; where its file is told, it is the text of a function by the grammar, what was
+-- written is a certificate of it at the level that keeps the limit of its file, the function has what the level says,
+-- and `check` accepts the certificate
+abbrev pub IsProved : List (List ℕ) → (List ℕ → Option (List ℕ)) → (List ℕ → Type 0) → Type 0
+IsProved words holds IsWritten =
+    (level : Level) (budget : ℕ) (name bytes : List ℕ)
+    → asked_by words ≡ Some (Prove level budget name) → holds name ≡ Some bytes
+    → (f : Function) × (certificate : List ℕ)
+    × IsTextOf bytes f × IsCertificate certificate f level × (length certificate ≤ limit_of files.Certificate)
+    × HasLevel f level × IsAcceptedAt bytes certificate level × IsWritten certificate
+
+-- the property is asked at the level: TP1 at both, TP2 at level tp2 alone
+abbrev pub IsAskedAt : Level → Level → Type 0
+IsAskedAt Tp2 Tp1 = ⊥
+IsAskedAt property level = Unit {0}
+
+-- the two sides are what the interpreter gives on the two ways: of two operations on a document the document behind
+-- both, and of three the form of the third behind the others
+abbrev pub AreBothWays : Function → Level → List Cell → List Op → Side → Side → Type 0
+AreBothWays f Tp1 d ops left right =
+    (a b : Op) × (ops ≡ a ∷ b ∷ []) × (left ≡ document_way f d a b) × (right ≡ document_way f d b a)
+AreBothWays f Tp2 d ops left right =
+    (a b c : Op) × (ops ≡ a ∷ b ∷ c ∷ [])
+    × (left ≡ operation_side (form_behind f a b c)) × (right ≡ operation_side (form_behind f b a c))
+
+-- the words ask to prove a function; where its file is told, it is the text of a function by the grammar, and a
+-- counterexample was written: the function breaks the property there, which is asked at the level, by the cause that is
+-- written, and the sides that are written are what the interpreter gives
+abbrev pub IsBroken : List (List ℕ) → (List ℕ → Option (List ℕ)) → (List ℕ → Type 0) → Type 0
+IsBroken words holds IsWritten =
+    (level : Level) (budget : ℕ) (name bytes : List ℕ)
+    → asked_by words ≡ Some (Prove level budget name) → holds name ≡ Some bytes
+    → (f : Function) × (counter : Counter)
+    × IsTextOf bytes f × IsAskedAt counter.level level
+    × Breaks f counter.level counter.doc counter.ops × BreaksBy f counter.level counter.doc counter.ops counter.why
+    × AreBothWays f counter.level counter.doc counter.ops counter.left counter.right × IsWritten (counter_text counter)
+
+-- the status that the questions of a function give: there are more than the budget allows, or one of the obligations
+-- fails, or none does
+abbrev pub status_by : ℕ → List (ObQuestions Why) → ℕ
+status_by budget lists = if nat_lt budget (count_in lists) then 8 else (if is_some (failing_in lists) then 1 else 0)
+
+-- the words ask to prove a function; where its file is told, is within its limit and is the text of a function by the
+-- grammar, the status is the one that the questions of the function give
+abbrev pub IsComplete : List (List ℕ) → (List ℕ → Option (List ℕ)) → ℕ → Type 0
+IsComplete words holds status =
+    (level : Level) (budget : ℕ) (name bytes : List ℕ) (f : Function) (lists : List (ObQuestions Why))
+    → asked_by words ≡ Some (Prove level budget name) → holds name ≡ Some bytes
+    → length bytes ≤ limit_of files.Function → IsTextOf bytes f
+    → AreAsked (plan_of f) (obligations_of f.head level) lists → status ≡ status_by budget lists
