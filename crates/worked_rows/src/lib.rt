@@ -20,8 +20,12 @@ mod rows;
 #[cfg(test)]
 mod samples;
 #[cfg(test)]
+mod sessions;
+#[cfg(test)]
 mod setting;
 #[cfg(test)]
 mod sides;
 #[cfg(test)]
 mod terms;
+#[cfg(test)]
+mod verdicts;

@@ -12,6 +12,10 @@ pub const FAR_OT: &str =
 pub const SITES_OT: &str =
     "otfn 1\ntext plain\nkinds ins del\nassume sites differ\nblock ins ins\ncase p1 < p2 : ins p1\ncase p1 = p2 and s1 < s2 : ins p1\ncase true : ins p1 + 1\nblock ins del\ncase p1 <= p2 : ins p1\ncase true : ins p1 - 1\nblock del ins\ncase p1 < p2 : del p1\ncase true : del p1 + 1\nblock del del\ncase p1 < p2 : del p1\ncase p2 < p1 : del p1 - 1\ncase true : nop\nend\n";
 
+/// `SITES_OT` without what it assumes of sites.
+pub const UNTIED_OT: &str =
+    "otfn 1\ntext plain\nkinds ins del\nblock ins ins\ncase p1 < p2 : ins p1\ncase p1 = p2 and s1 < s2 : ins p1\ncase true : ins p1 + 1\nblock ins del\ncase p1 <= p2 : ins p1\ncase true : ins p1 - 1\nblock del ins\ncase p1 < p2 : del p1\ncase true : del p1 + 1\nblock del del\ncase p1 < p2 : del p1\ncase p2 < p1 : del p1 - 1\ncase true : nop\nend\n";
+
 /// `SITES_OT` with an insertion that a deletion at its position moves, though nothing before it was taken out.
 pub const OFFBY_OT: &str =
     "otfn 1\ntext plain\nkinds ins del\nassume sites differ\nblock ins ins\ncase p1 < p2 : ins p1\ncase p1 = p2 and s1 < s2 : ins p1\ncase true : ins p1 + 1\nblock ins del\ncase p1 < p2 : ins p1\ncase true : ins p1 - 1\nblock del ins\ncase p1 < p2 : del p1\ncase true : del p1 + 1\nblock del del\ncase p1 < p2 : del p1\ncase p2 < p1 : del p1 - 1\ncase true : nop\nend\n";
@@ -48,6 +52,14 @@ pub const LAST_OT: &str = "otfn 2\ntext plain\nkinds upd\nblock upd upd\ncase tr
 /// Insertions and updates whose ties are broken by characters, where an update that meets an insertion does not move.
 pub const CHARS_OT: &str =
     "otfn 2\ntext tomb\nkinds ins upd\nassume chars differ\nblock ins ins\ncase p1 < p2 : ins p1\ncase p1 = p2 and c1 < c2 : ins p1\ncase true : ins p1 + 1\nblock ins upd\ncase c1 < c2 or p1 <= p2 : ins p1\nblock upd ins\ncase p1 < p2 : upd p1\ncase p1 = p2 and c1 < c2 : upd p1\ncase true : upd p1 + 1\nblock upd upd\ncase not p1 = p2 or c2 < c1 : upd p1\ncase true : nop\nend\n";
+
+/// Insertions whose ties are broken by characters, with no case for one character at one position.
+pub const CHARACTERS_OT: &str =
+    "otfn 1\ntext plain\nkinds ins\nassume chars differ\nblock ins ins\ncase p1 < p2 : ins p1\ncase p2 < p1 : ins p1 + 1\ncase c1 < c2 : ins p1\ncase c2 < c1 : ins p1 + 1\nend\n";
+
+/// Insertions where of two at one position only that of the lower site has a result.
+pub const LOWER_OT: &str =
+    "otfn 1\ntext plain\nkinds ins\nassume sites differ\nblock ins ins\ncase p1 < p2 : ins p1\ncase p2 < p1 : ins p1 + 1\ncase s1 < s2 : ins p1\nend\n";
 
 /// A certificate of `INS_OT` at level tp1.
 pub const INS_CERT: &str =
