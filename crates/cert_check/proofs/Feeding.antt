@@ -43,6 +43,12 @@ module _ {N W : Type 0} {was_own is_own : N → Type 0} {old new : N → Plan W}
   why-same own why (inl memory) = inl memory
   why-same own why (inr refused) = inr (after-same own (Err why) refused)
 
+  -- places that stayed leave the same branches open
+  pub branches-refused :
+      AreOwn was_own places → (next : List (OpenPlace N)) → next ≡ places → branches_at new next ≡ branches_at old places
+  branches-refused own next stays =
+      ap (λ (x : List (OpenPlace N)). branches_at new x) stays ∙ branches_at-same was_own is_own old new places same own
+
   module _ {was_root root : Plan W} (way : IsUnderWay was_own old was_root places) (next : List (OpenPlace N))
       (own : AreOwn is_own next) (same_root : root ≡ was_root) where
     -- a token that is taken keeps that the asker's plan follows from the open places
@@ -62,8 +68,7 @@ module _ {N W : Type 0} {was_own is_own : N → Type 0} {old new : N → Plan W}
     -- so does a token that is refused, which leaves the places as they were
     pub IsUnderWay-refused : next ≡ places → IsUnderWay is_own new root next
     IsUnderWay-refused stays =
-        let branches =
-        ap (λ (x : List (OpenPlace N)). branches_at new x) stays ∙ branches_at-same was_own is_own old new places same way.own in
+        let branches = branches-refused way.own next stays in
         record {
           own = own;
           follows = λ tokens rest v.

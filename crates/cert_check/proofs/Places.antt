@@ -2,13 +2,12 @@
 use Rattle.std.proofs.Common.{◌≡◌, ℕ, ◌<◌, List, [], ◌∷◌, length, drop, Some, slice_get, Ok, Err, arith, refl, ap, ◌∙◌}
 use Rattle.std.specs.Option.{option_map}
 use Rattle.diff_graph.specs.declared.lit.Lit.{Lit}
-use Rattle.diff_graph.specs.declared.lit.PickEnd.{PickEnd}
 use Rattle.diff_graph.specs.Cycles.{pick_verdict}
 use Rattle.ask_core.specs.declared.tree.Tok.TheVariants as token
 use Rattle.ask_core.specs.Plans.{Plan, Ask, Holds, Fails}
 use Rattle.ask_core.specs.Paths.{OpenPlace, branches_at, after_question}
 use Rattle.cert_check.specs.declared.verdict.CheckEnd.TheVariants as end
-use Rattle.cert_check.specs.Steps.{after, end_of_cycle}
+use Rattle.cert_check.specs.Steps.{after}
 use Rattle.cert_check.specs.Judging.{AreOwn, SamePlans, first_answers}
 
 -- the same plans give the same branches
@@ -97,13 +96,6 @@ pub cycle_taken :
     → after (token.Cycle picks) (branches_at plan places) ≡ Ok (branches_at plan (drop 1 places))
 cycle_taken plan [] picks opened ok = absurd (omega arith)
 cycle_taken plan (p ∷ places) picks opened ok = rw ok
-
-pub cycle_refused :
-    {N W : Type 0} (plan : N → Plan W) (places : List (OpenPlace N)) (picks : List ℕ) (why : PickEnd)
-    → 0 < length places → pick_verdict (first_answers places) picks ≡ Err why
-    → after (token.Cycle picks) (branches_at plan places) ≡ Err (end_of_cycle why)
-cycle_refused plan [] picks why opened bad = absurd (omega arith)
-cycle_refused plan (p ∷ places) picks why opened bad = rw bad
 
 -- the answers of the first place
 pub first_answers-get :

@@ -72,6 +72,7 @@ impl<A: Asker> Checker<A> {
         ensures stays { IfErr result (λ e. self.new.refusal ≡ Some e) }
         ensures again { (e : CheckEnd) → self.old.refusal ≡ Some e → result ≡ Err e }
         ensures err { OnErr result (self.new.places ≡ self.old.places) }
+        ensures err_open { OnErr result (open_branches A.plan self.new ≡ open_branches A.plan self.old) }
         ensures root { A.root self.new.asker ≡ A.root self.old.asker }
     {
         if let Some(end) = self.refusal {

@@ -19,6 +19,9 @@ use Rattle.fn_rules.specs.Obligations.{is_obligation}
 use Rattle.ot_questions.specs.declared.why.Why.{Why}
 use Rattle.ot_questions.specs.Instances.{form_behind}
 use Rattle.ot_counter.specs.Sides.{document_way, operation_side}
+use Rattle.fn_rules.specs.Properties.{AreConcurrent}
+use Rattle.ot_model.specs.Effect.{IsEnabled}
+use Rattle.fn_rules.specs.declared.function.Level.TheVariants.{Tp1, Tp2}
 use Rattle.ot_counter.specs.Counters.{Breaks, BreaksBy}
 
 pub for_kind : (head : Head) (k : Kind) (o : Op) → is_declared head k ≡ true → kind_of o ≡ Some k → IsForKind head (kind_of o)
@@ -40,6 +43,20 @@ pub breaks_there :
     → Breaks f level d ops
 breaks_there f level at d e ops os p q r h =
     subst (λ x. Breaks f x d ops) (sym p) (subst (λ x. Breaks f at x ops) (sym q) (subst (λ x. Breaks f at e x) (sym r) h))
+
+-- what breaks a property is concurrent
+pub concurrent_where_broken : (f : Function) (level : Level) (d : List Cell) (ops : List Op) → Breaks f level d ops → AreConcurrent f d ops
+concurrent_where_broken f Tp1 d ops h = h.3
+concurrent_where_broken f Tp2 d ops h = h.4
+
+-- and each of two concurrent operations is enabled
+pub two_enabled :
+    (f : Function) (d e : List Cell) (a b x y : Op) → d ≡ e → a ≡ x → b ≡ y → AreConcurrent f e (x ∷ y ∷ [])
+    → IsEnabled a (length d) × IsEnabled b (length d)
+two_enabled f d e a b x y p q r h =
+    let at = λ (o z : Op) (here : o ≡ z) (enabled : IsEnabled z (length e)).
+    subst (λ o. IsEnabled o (length d)) (sym here) (subst (λ c. IsEnabled z (length c)) (sym p) enabled) in
+    (at a x q h.1, at b y r h.3.1)
 
 pub breaks_by_there :
     (f : Function) (why : Why) (level at : Level) (d e : List Cell) (ops os : List Op) → level ≡ at → d ≡ e → ops ≡ os

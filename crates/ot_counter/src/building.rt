@@ -5,8 +5,9 @@ ghost use Rattle.ot_questions.specs.declared.name.Who.{Who};
 ghost use Rattle.ot_questions.specs.declared.name.Who.TheVariants.{A, B, C};
 ghost use Rattle.ot_questions.specs.Names.{char_name};
 ghost use Rattle.diff_graph.specs.Solutions.{valuation_of};
-ghost use Rattle.ot_counter.specs.Values.{floors_of, IsSmallAt};
+ghost use Rattle.ot_counter.specs.Values.{floors_of, ops_at, document_at as document_read, IsSmallAt};
 ghost use Rattle.fn_rules.specs.Obligations.{is_obligation};
+ghost use Rattle.fn_rules.specs.Properties.{AreConcurrent};
 ghost use Rattle.fn_rules.specs.Rules.{function_of};
 ghost use Rattle.diff_graph.specs.Literals.{IsPossible};
 ghost use Rattle.ot_questions.specs.Obligation.{plan_of};
@@ -61,6 +62,7 @@ fn read_off(
     why: Why,
 ) -> Result<Counter, NoMemory>
     requires declared { IsTrue (is_obligation (function_of rules.now).head ob) }
+    requires concurrent { AreConcurrent (function_of rules.now) (document_read (valuation_of values.now) why) (ops_at (valuation_of values.now) ob) }
     requires parts { (who : Who) → char_name who < length (floors_of ob) → IsSmallAt values.now who }
     requires cells { pos 0 ≤ℤ valuation_of values.now 1 }
     ensures { IfOk result (λ counter. IsReadOff (function_of rules.now) ob (valuation_of values.now) why counter) }
@@ -87,6 +89,7 @@ fn of_pair(
     why: Why,
 ) -> Result<Counter, NoMemory>
     requires declared { IsTrue (is_obligation (function_of rules.now).head (Pair k l)) }
+    requires concurrent { AreConcurrent (function_of rules.now) (document_read (valuation_of values.now) why) (ops_at (valuation_of values.now) (Pair k l)) }
     requires first { IsSmallAt values.now A }
     requires second { IsSmallAt values.now B }
     requires cells { pos 0 ≤ℤ valuation_of values.now 1 }

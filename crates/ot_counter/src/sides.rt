@@ -1,6 +1,6 @@
 //! What the interpreter gives on the two ways of an instance.
-ghost use Rattle.std.specs.Prelude.{◌≡◌, IfOk};
-ghost use Rattle.ot_model.specs.Effect.{document_after};
+ghost use Rattle.std.specs.Prelude.{◌≡◌, length, IfOk};
+ghost use Rattle.ot_model.specs.Effect.{IsEnabled, document_after};
 ghost use Rattle.ot_model.specs.Operations.{kind_of};
 ghost use Rattle.fn_rules.specs.Functions.{IsForKind};
 ghost use Rattle.fn_rules.specs.Conditions.{IsWithin};
@@ -27,12 +27,14 @@ fn executed(mode: Mode, doc: &Doc, op: &Op) -> Result<Side, NoMemory>
 
 // The document after an operation that is enabled.
 fn after(mode: Mode, doc: &Doc, op: &Op) -> Result<Doc, NoMemory>
+    requires enabled { IsEnabled op.now (length doc.now) }
     ensures { IfOk result (λ next. next ≡ document_after mode op.now doc.now) }
 {
     let mut current = doc.try_clone()?;
     match apply(mode, op, &mut current) {
         Ok(()) => Ok(current),
-        Err(_) => Err(NoMemory),
+        Err(Apply::NoMemory) => Err(NoMemory),
+        Err(Apply::NotEnabled) => unreachable!(),
     }
 }
 
@@ -43,6 +45,7 @@ pub(crate) fn document_way(
     first: &Op,
     other: &Op,
 ) -> Result<Side, NoMemory>
+    requires enabled { IsEnabled first.now (length doc.now) }
     requires first_declared { IsForKind (function_of rules.now).head (kind_of first.now) }
     requires other_declared { IsForKind (function_of rules.now).head (kind_of other.now) }
     requires first_near { IsWithin sides.farthest first.now }

@@ -2,6 +2,7 @@
 pub mod Counts
 pub mod Faults
 pub mod Files
+pub mod Machine
 pub mod MemShelf
 pub mod MemSink
 pub mod ShelfFeed

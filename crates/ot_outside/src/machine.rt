@@ -1,5 +1,8 @@
 // The files and the standard output of the machine.
-ghost use Rattle.std.specs.Prelude.{◌≡◌, [], None, Some, if◌then◌else◌, is_none};
+ghost use Rattle.std.specs.Prelude.{◌≡◌, ◌<◌, ◌≤◌, ◌↔◌, ℕ, List, [], take, length, Some, if◌then◌else◌, is_err, IfOk, OnOk, OnErr};
+ghost use Rattle.std.specs.Io.KnownBytes.{IsAtEnd, append_known, prepend_known};
+ghost use Rattle.ot_outside.specs.Faults.{Rose, next_count};
+ghost use Rattle.ot_outside.specs.Machine.{left_of, machine_holds, machine_written};
 
 use crate::{Failed, Shelf, Sink};
 use std::fs::File;
@@ -34,17 +37,30 @@ impl<'a, R: Files> FileShelf<'a, R> {
 }
 
 impl<R: Files> Shelf for FileShelf<'_, R> {
-    ghost holds = { λ _ _. None };
+    ghost holds = { λ _. machine_holds };
 
     ghost offered = { λ _ _. Unit {0} };
 
-    ghost left = { λ shelf. if is_none shelf.file then Some [] else None };
+    ghost left = { λ shelf. left_of shelf.file };
 
     ghost faults = { λ shelf. shelf.faults };
 
     ghost calls = { λ shelf. shelf.calls };
 
-    fn open(&mut self, name: &str) -> Result<(), Failed> {
+    fn open(&mut self, name: &str) -> Result<(), Failed>
+        ensures ok { OnOk result (left_of self.new.file ≡ machine_holds name.now) }
+        ensures err { OnErr result (left_of self.new.file ≡ Some []) }
+
+        ensures holds { (n : List ℕ) → machine_holds n ≡ machine_holds n }
+        ensures offered { (n : List ℕ) → Unit {0} ↔ Unit {0} }
+        ensures faults { self.old.faults ≤ self.new.faults }
+
+        ensures failed { OnErr result (Rose self.old.faults self.new.faults) }
+        ensures called { self.new.calls ≡ next_count self.old.calls }
+
+        // Each call that fails counts, and no other.
+        ensures raised { self.new.faults ≡ (if is_err result then next_count self.old.faults else self.old.faults) }
+    {
         self.calls = self.calls.saturating_add(1);
         self.file = None;
         match File::open(self.rt, name) {
@@ -59,7 +75,24 @@ impl<R: Files> Shelf for FileShelf<'_, R> {
         }
     }
 
-    fn read(&mut self, into: &mut [u8]) -> Result<usize, Failed> {
+    fn read(&mut self, into: &mut [u8]) -> Result<usize, Failed>
+        requires { 0 < length into.old }
+
+        ensures count { IfOk result (λ n. n ≤ length into.new) }
+        ensures ok { IfOk result (λ n. left_of self.old.file ≡ prepend_known (take n into.new) (left_of self.new.file)) }
+        ensures end { IfOk result (λ n. n ≡ 0 → IsAtEnd (left_of self.old.file)) }
+        ensures err { OnErr result (left_of self.new.file ≡ left_of self.old.file) }
+
+        ensures holds { (n : List ℕ) → machine_holds n ≡ machine_holds n }
+        ensures offered { (n : List ℕ) → Unit {0} ↔ Unit {0} }
+        ensures faults { self.old.faults ≤ self.new.faults }
+
+        ensures failed { OnErr result (Rose self.old.faults self.new.faults) }
+        ensures called { self.new.calls ≡ next_count self.old.calls }
+
+        // Each call that fails counts, and no other.
+        ensures raised { self.new.faults ≡ (if is_err result then next_count self.old.faults else self.old.faults) }
+    {
         self.calls = self.calls.saturating_add(1);
         let Some(file) = &mut self.file else {
             return Ok(0);
@@ -93,11 +126,24 @@ impl<'a, R: Print> StdSink<'a, R> {
 }
 
 impl<R: Print> Sink for StdSink<'_, R> {
-    ghost written = { λ _. None };
+    ghost written = { λ _. machine_written };
 
     ghost faults = { λ sink. sink.faults };
 
-    fn write(&mut self, bytes: &[u8]) -> Result<usize, Failed> {
+    fn write(&mut self, bytes: &[u8]) -> Result<usize, Failed>
+        requires { 0 < length bytes.now }
+
+        ensures some { IfOk result (λ n. 0 < n) }
+        ensures count { IfOk result (λ n. n ≤ length bytes.now) }
+        ensures ok { IfOk result (λ n. machine_written ≡ append_known machine_written (take n bytes.now)) }
+        ensures err { OnErr result (machine_written ≡ machine_written) }
+        ensures faults { self.old.faults ≤ self.new.faults }
+
+        ensures failed { OnErr result (Rose self.old.faults self.new.faults) }
+
+        // Each call that fails counts, and no other.
+        ensures raised { self.new.faults ≡ (if is_err result then next_count self.old.faults else self.old.faults) }
+    {
         match self.rt.write_some(bytes) {
             Ok(count) if count > 0 => Ok(count),
             _ => {

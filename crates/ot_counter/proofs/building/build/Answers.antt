@@ -2,8 +2,8 @@ use Rattle.std.proofs.Common.{ℤ, List, subst, sym}
 use Rattle.diff_graph.specs.Solutions.{AreLeast, valuation_of}
 use Rattle.fn_rules.specs.Rules.{function_of}
 use Rattle.ot_counter.specs.Values.{floors_of}
-use Rattle.ot_counter.specs.Counters.{IsReadOff}
-use Rattle.ot_counter.proofs.Instances.{breaks_there, breaks_by_there}
+use Rattle.ot_counter.specs.Counters.{IsReadOff, level_of}
+use Rattle.ot_counter.proofs.Instances.{breaks_there, breaks_by_there, concurrent_where_broken}
 use Rattle.ot_counter.proofs.Counterexamples.{least_length}
 use Rattle.ot_counter.proofs.building.build.Goals as goal
 
@@ -14,6 +14,10 @@ read_off-requires c =
     subst (λ (xs : List ℤ). AreLeast c.args.answers.now (floors_of c.args.ob) xs) (sym c.deref.ensures.value) c.in_ok-values.ensures in
     record {
       declared = c.requires.declared;
+      concurrent =
+          concurrent_where_broken f (level_of c.args.ob) _ _
+          (c.failing_ends_have_counterexamples.ensures.broken f c.args.ob c.args.answers.now c.args.why c.deref.result.now
+          c.head-head.ensures.valid c.requires.declared c.requires.leads least);
       parts = λ who below.
           c.failing_ends_have_counterexamples.ensures.parts f c.args.ob c.args.answers.now c.args.why c.deref.result.now who
           c.head-head.ensures.valid c.requires.leads least below;
