@@ -18,7 +18,7 @@ use Rattle.ot_session.proofs.Lists.{AllByRecursion-map}
 module _ (d : List Cell) where
   pub fresh-viewed : (sites : List Site) → AllByRecursion (IsFresh d) sites → AllByRecursion (IsFreshView d) (map view_site sites)
   fresh-viewed sites fresh = AllByRecursion-map (IsFresh d) (IsFreshView d) view_site
-      (λ s f. record { document = f.document; seen = ap reverse f.seen; held = f.held }) sites fresh
+      (λ s f. record { document = f.document; seen = ap reverse f.seen; held = f.held; room = f.marked.held }) sites fresh
 
   sorted-fresh : (count : ℕ) (sites : List Site) → AllByRecursion (IsFresh d) sites → AllByRecursion (IsSorted count) sites
   sorted-fresh count [] fresh = tt

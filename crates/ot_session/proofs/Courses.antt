@@ -39,7 +39,7 @@ module _ (f : Function) (first : List Cell) (made : List Made) (sites : List Sit
   inside : t - 1 < length sites
   inside = omega (arith, site.low, site.high)
 
-  seen_with : (v : SiteView) → seen_in (slice_get (slice_set sites (t - 1) v) (t - 1)) ≡ v.seen
+  pub seen_with : (v : SiteView) → seen_in (slice_get (slice_set sites (t - 1) v) (t - 1)) ≡ v.seen
   seen_with v = ap seen_in (slice_get-set_same sites (t - 1) v inside)
 
   document_with : (v : SiteView) → document_in (slice_get (slice_set sites (t - 1) v) (t - 1)) ≡ v.document
@@ -50,7 +50,7 @@ module _ (f : Function) (first : List Cell) (made : List Made) (sites : List Sit
   other_with v u is_site differ =
       slice_get-set_other sites (t - 1) (u - 1) v (λ same. differ (omega (arith, same, is_site.low, site.low)))
 
-  site_with : (v : SiteView) → IsSite (length (slice_set sites (t - 1) v)) t
+  pub site_with : (v : SiteView) → IsSite (length (slice_set sites (t - 1) v)) t
   site_with v = record { low = site.low; high = omega (arith, site.high, length-set sites (t - 1) v) }
 
   as_with : (v w : SiteView) (u : ℕ) → IsSite (length (slice_set sites (t - 1) v)) u → IsSite (length (slice_set sites (t - 1) w)) u

@@ -7,9 +7,12 @@ pub mod Integrating
 pub mod Lists
 pub mod Making
 pub mod Marks
+pub mod OneAnswer
+pub mod OneView
 pub mod Reaches
 pub mod Seeking
 pub mod Sought
+pub mod Spending
 pub mod Tables
 pub mod Taken
 pub mod Turns

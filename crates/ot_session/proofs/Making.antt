@@ -77,6 +77,12 @@ module _ (f : Function) (first : List Cell) (t : ℕ) (o : Op) (made new_made : 
   extends-executed = subst (λ (ms : List Made). Extends (past_of made) (past_of ms)) (sym step.made)
       (Extends-push made (record { op = o; known = step.before.integrated }))
 
+  -- the marks are those of what its site had integrated
+  pub known-executed : ((x : ℕ) → is_marked step.before.integrated x ≡ has (reverse step.before.seen.items) x)
+      → (x : ℕ) → is_marked step.before.integrated x ≡ has (old.seen t) x
+  known-executed marks x = marks x ∙ ap (λ (l : List ℕ). has l x) (sym (ap seen_in was_site))
+
+  -- what was executed was made
   pub Makes-executed : ((x : ℕ) → is_marked step.before.integrated x ≡ has (reverse step.before.seen.items) x) → Makes f old new t o
   Makes-executed marks = record {
     keeps = record {
@@ -91,7 +97,7 @@ module _ (f : Function) (first : List Cell) (t : ℕ) (o : Op) (made new_made : 
         ∙ slice_get-push_same made (record { op = o; known = step.before.integrated }));
     befores = λ x. ap (λ (m : Option Made). known_in m x) (ap (λ (ms : List Made). slice_get ms (length made)) step.made
         ∙ slice_get-push_same made (record { op = o; known = step.before.integrated }))
-        ∙ marks x ∙ ap (λ (l : List ℕ). has l x) (sym (ap seen_in was_site));
+        ∙ known-executed marks x;
     seen = ap seen_in at_site
         ∙ ap (λ (l : List ℕ). reverse l) step.executes.seen ∙ reverse-append step.before.seen.items (length made ∷ [])
         ∙ ap (λ (l : List ℕ). length made ∷ l) (sym (ap seen_in was_site));

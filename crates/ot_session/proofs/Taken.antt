@@ -1,5 +1,5 @@
 -- A session at one of whose sites an operation was taken.
-use Rattle.std.proofs.Common.{◌≡◌, ◌↔◌, ◌<◌, ◌≤◌, ◌+◌, ◌-◌, ◌∷◌, [], ℕ, zero, suc, Bool, true, List, length, map, Option, Some, Result, Ok, Err, refl, sym, ap, ◌∙◌, subst, reverse, inl, inr, arith, is_ok, OnOk, IfSome, None}
+use Rattle.std.proofs.Common.{◌≡◌, ◌↔◌, ◌<◌, ◌≤◌, ◌+◌, ◌-◌, ◌*◌, ◌++◌, ◌∷◌, [], ℕ, zero, suc, Bool, true, List, length, map, Option, Some, Result, Ok, Err, refl, sym, ap, ◌∙◌, subst, reverse, inl, inr, arith, is_ok, OnOk, IfSome, None}
 use Rattle.std.specs.Prelude.{slice_get, slice_set}
 use Rattle.std.specs.Option.{option_map}
 use Rattle.std.specs.List.{AllByRecursion}
@@ -10,14 +10,15 @@ use Rattle.ot_model.specs.declared.cell.Cell.{Cell}
 use Rattle.ot_model.specs.declared.op.Op.{Op}
 use Rattle.fn_rules.specs.Functions.{Function}
 use Rattle.fn_rules.specs.Conditions.{is_integrable, IsIntegrable, IsFormOf}
-use Rattle.ot_causal.specs.Past.{Past, IsOrderly}
+use Rattle.ot_causal.specs.Past.{Past, IsNext, IsOrderly}
 use Rattle.ot_causal.specs.Forms.{form}
-use Rattle.ot_causal.specs.Counting.{counted}
+use Rattle.ot_causal.specs.Counting.{FormName, sought, counted, count_sought, most_forms}
 use Rattle.ot_causal.specs.Sessions.{SessionData, IsSite, IsSound, Integrates, counted_to, all_counted}
 use Rattle.ot_causal.specs.Convergence.{Converges}
 use Rattle.ot_session.specs.declared.answer.Took.{Took}
 use Rattle.ot_session.specs.declared.answer.Take.{Take}
 use Rattle.ot_session.specs.declared.answer.Take.TheVariants.{NoSite, NoOp, Stuck, Spent, NoMemory}
+use Rattle.ot_session.specs.declared.limits.TheConstants.{MAX_FORMS}
 use Rattle.ot_session.specs.declared.made.Made.{Made}
 use Rattle.ot_session.specs.declared.site.Site.{Site}
 use Rattle.ot_session.specs.Past.{past_of, AreUsable}
@@ -26,6 +27,7 @@ use Rattle.ot_session.specs.Taking.{standing, Takes, TakesAtPlace}
 use Rattle.ot_session.specs.Views.{View, TakesAt, HasTaken}
 use Rattle.ot_session.proofs.Courses.{slice_set-same, with, IsSound-taken, counts-taken, never-stuck}
 use Rattle.ot_session.proofs.Lists.{AllByRecursion-at, AllByRecursion-from}
+use Rattle.ot_session.proofs.Spending.{never-spent}
 use Rattle.ot_session.proofs.Views.{closed-viewed}
 
 -- a site counts no more than all do
@@ -145,6 +147,22 @@ module _ (f : Function) (first : List Cell) (made : List Made) (sites new_sites 
     never-stuck-taken converges tested kept usable o is =
         never-stuck f first made (map view_site sites) t site sound_law count_law converges tested kept usable n o (standing step.before total)
         (standing step.after new_total) sound_before
+        (subst (λ (a : Result Took Take). Takes f (past_of made) n (standing step.before total) (standing step.after new_total) a)
+        is step.takes)
+
+    -- the count is not spent where as many forms are allowed as all sites can count
+    pub never-spent-taken : ((session : SessionData) (s : ℕ) → IsSound f session → IsSite session.sites s
+        → length (counted session.past (session.seen s)) ≤ most_forms session.past session.sites)
+        → ((session : SessionData) (s o : ℕ) (names more : List FormName) → IsSound f session → IsSite session.sites s
+        → IsNext session.past (session.seen s) o → sought session.past o (session.seen s) ≡ names ++ more
+        → length (count_sought (counted session.past (session.seen s)) names) ≤ most_forms session.past session.sites)
+        → n < length made → AllByRecursion (IsSorted (length made)) sites → total ≡ all_counted (data_of first made (map view_site sites))
+        → length (map view_site sites) * most_forms (past_of made) (length (map view_site sites)) ≤ MAX_FORMS → answer ≡ Err Spent → ⊥
+    never-spent-taken whole within inside sorted all enough is =
+        let one : IsSorted (length made) step.before = AllByRecursion-at (IsSorted (length made)) sites (t - 1) step.before sorted step.was in
+        never-spent f whole within first made (map view_site sites) t site sound_law count_law n (standing step.before total)
+        (standing step.after new_total) inside (record { made = one.apart.made; other = one.apart.other }) sound_before
+        (ap all_counted was_data ∙ sym all) enough
         (subst (λ (a : Result Took Take). Takes f (past_of made) n (standing step.before total) (standing step.after new_total) a)
         is step.takes)
 

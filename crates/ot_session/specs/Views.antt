@@ -1,14 +1,16 @@
 -- A session, seen as plain data: the function, the first document, what was made, and each site.
-use Rattle.std.specs.Prelude.{◌≡◌, ◌<◌, ◌≤◌, ◌-◌, ℕ, Bool, true, false, List, [], length, map, Some, slice_get, slice_set, Result, Ok, Err, is_ok}
+use Rattle.std.specs.Prelude.{◌≡◌, ◌<◌, ◌≤◌, ◌-◌, ◌++◌, ℕ, Bool, true, false, List, [], ◌∷◌, length, map, Some, slice_get, slice_set, Result, Ok, Err, is_ok}
 use Rattle.std.specs.List.{AllByRecursion}
 use Rattle.ot_model.specs.declared.cell.Cell.{Cell}
 use Rattle.ot_model.specs.declared.op.Op.{Op}
 use Rattle.fn_rules.specs.Functions.{Function}
 use Rattle.fn_rules.specs.Rules.{function_of}
+use Rattle.ot_causal.specs.Members.{has}
 use Rattle.ot_causal.specs.Sessions.{SessionData, IsSite, Makes}
 use Rattle.ot_session.specs.declared.answer.Took.{Took}
 use Rattle.ot_session.specs.declared.answer.Take.{Take}
 use Rattle.ot_session.specs.declared.answer.Take.TheVariants.{NoSite, NoOp, Stuck, Spent, NoMemory}
+use Rattle.ot_session.specs.declared.limits.TheConstants.{MAX_MADE}
 use Rattle.ot_session.specs.declared.made.Made.{Made}
 use Rattle.ot_session.specs.declared.session.Session.{Session}
 use Rattle.ot_session.specs.Past.{is_marked, past_of}
@@ -41,11 +43,12 @@ data_in v = data_of v.first v.made v.sites
 abbrev pub closed : View → View
 closed v = record v { is_open = false }
 
--- a site that holds the document, where nothing is integrated or held
+-- a site that holds the document, where nothing is integrated or held, with room for the marks of all that can be made
 pub record IsFreshView (d : List Cell) (site : SiteView) : Type 0 where
   pub document : site.document ≡ d
   pub seen : site.seen ≡ []
   pub held : (x : ℕ) → is_marked site.held x ≡ false
+  pub room : length site.held ≡ MAX_MADE
 
 -- a new session: it is open, nothing was made and no form counted, and each of so many sites holds the document
 pub record IsBegun (f : Function) (d : List Cell) (sites : ℕ) (v : View) : Type 0 where
@@ -57,9 +60,17 @@ pub record IsBegun (f : Function) (d : List Cell) (sites : ℕ) (v : View) : Typ
   pub counted : v.counted ≡ 0
   pub is_open : v.is_open ≡ true
 
+-- an operation stands behind those that were made, with marks of what its site had integrated
+pub record StandsBehind (old new : View) (t : ℕ) (o : Op) : Type 0 where
+  pub known : List Bool
+  pub is : new.made ≡ old.made ++ record { op = o; known = known } ∷ []
+  pub marks : (x : ℕ) → is_marked known x ≡ has ((data_in old).seen t) x
+  pub room : length known ≡ MAX_MADE
+
 -- an operation was made at a site and has this number; nothing else changed, and each site holds what it held
 pub record HasMade (old new : View) (t : ℕ) (o : Op) (n : ℕ) : Type 0 where
   pub number : n ≡ length old.made
+  pub made : StandsBehind old new t o
   pub makes : Makes old.function (data_in old) (data_in new) t o
   pub function : new.function ≡ old.function
   pub held : map (λ (s : SiteView). s.held) new.sites ≡ map (λ (s : SiteView). s.held) old.sites

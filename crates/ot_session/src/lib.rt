@@ -7,11 +7,13 @@
 //!
 //! The layers above rely on these clauses: `make` answers exactly as its tests say, in their order; `take` does what
 //! `HasTaken` says of its answer; what each site has integrated is a closed list that leads from the first document to
-//! the site's own; and where the function has both properties no operation is stuck.
+//! the site's own; where the function has both properties no operation is stuck; and where the most forms that the
+//! sites can count are no more than are allowed, the count is never spent.
 #![tactic(auto)]
 
 mod answer;
 mod form;
+mod laws;
 mod limits;
 mod made;
 mod session;
@@ -21,5 +23,6 @@ mod table;
 mod taking;
 
 pub use answer::{Make, Take, Took};
+pub use laws::{makes_have_one_outcome, sessions_begin_as_one, takes_have_one_answer};
 pub use limits::{MAX_FORMS, MAX_MADE, MAX_SITES};
 pub use session::Session;

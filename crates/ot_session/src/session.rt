@@ -1,5 +1,5 @@
 //! The session.
-ghost use Rattle.std.specs.Prelude.{◌≡◌, ◌≤◌, ◌<◌, ◌↔◌, ◌≢◌, length, IfOk, IfErr, OnOk, IsTrue, Some, Err, reverse, map, true, false, ℕ};
+ghost use Rattle.std.specs.Prelude.{◌≡◌, ◌≤◌, ◌<◌, ◌↔◌, ◌≢◌, ◌*◌, length, IfOk, IfErr, OnOk, IsTrue, Some, Err, reverse, map, true, false, ℕ};
 ghost use Rattle.std.specs.List.{AllByRecursion};
 ghost use Rattle.ot_model.specs.declared.limits.TheConstants.{MAX_CELLS};
 ghost use Rattle.fn_rules.specs.Rules.{function_of};
@@ -19,7 +19,7 @@ use ot_causal::{
     both_properties_give_one_document, counted_forms_need_not_be_sought,
     forms_are_sought_before_they_are_made, forms_keep_all_but_the_position,
     making_more_changes_nothing, members_were_made, open_members_may_be_taken_out,
-    steps_count_what_they_seek, steps_keep_sessions_sound,
+    sites_count_no_more_than_the_bound, steps_count_what_they_seek, steps_keep_sessions_sound,
 };
 use ot_model::{Doc, NoMemory, Op, enabled};
 use std::alloc::Global;
@@ -46,6 +46,7 @@ impl Session {
     ghost use Rattle.ot_model.specs.Operations.{kind_of, site_of};
     ghost use Rattle.ot_model.specs.Effect.{IsEnabled, document_after};
     ghost use Rattle.fn_rules.specs.Functions.{HasDeclaredKind};
+    ghost use Rattle.ot_causal.specs.Counting.{counted, most_forms};
     ghost use Rattle.ot_causal.specs.Sessions.{IsSite, MayMake};
     ghost use Rattle.ot_causal.specs.Members.{HaveOneSet};
     ghost use Rattle.ot_causal.specs.Past.{IsClosed};
@@ -177,6 +178,10 @@ impl Session {
         // Where the function has both properties and characters need not differ, no operation is stuck.
         ensures never_stuck { HasTp1 (view_of self.old).function → HasTp2 (view_of self.old).function
             → (view_of self.old).function.head.chars_differ ≡ false → (o : ℕ) → result ≢ Err (takes.Stuck o) }
+
+        // Where the most forms that its sites can count are no more than are allowed, the count is never spent.
+        ensures never_spent { (data_in (view_of self.old)).sites * most_forms (data_in (view_of self.old)).past (data_in (view_of self.old)).sites ≤ MAX_FORMS
+            → result ≢ Err takes.Spent }
     {
         steps_keep_sessions_sound();
         steps_count_what_they_seek();
@@ -185,6 +190,7 @@ impl Session {
         both_properties_give_one_document();
         tests_decide_their_facts();
         forms_keep_all_but_the_position();
+        sites_count_no_more_than_the_bound();
         if !self.has_site(site) {
             return Err(Take::NoSite);
         }
@@ -223,6 +229,16 @@ impl Session {
             → (data_in (view_of self.now)).document s ≡ (data_in (view_of self.now)).document t }
     {
         both_properties_give_one_document();
+    }
+
+    /// A law: what a site counts is at most the sum, over the operations made, of the product, over the other sites, of
+    /// one more than the number made there.
+    pub fn sites_count_few_forms(&self)
+        ensures { (s : ℕ) → IsSite (data_in (view_of self.now)).sites s
+            → length (counted (data_in (view_of self.now)).past ((data_in (view_of self.now)).seen s))
+            ≤ most_forms (data_in (view_of self.now)).past (data_in (view_of self.now)).sites }
+    {
+        sites_count_no_more_than_the_bound();
     }
 
     /// Whether there is such a site.

@@ -53,7 +53,8 @@ pub(crate) fn execute_at(
             made.push_reserved(Made { op, known });
             Ok(number)
         }
-        Err(_) => Err(NoMemory),
+        Err(Apply::NoMemory) => Err(NoMemory),
+        Err(Apply::NotEnabled) => unreachable!(),
     }
 }
 

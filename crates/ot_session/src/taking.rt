@@ -21,7 +21,7 @@ use ot_causal::{
     counted_forms_need_not_be_sought, forms_are_sought_before_they_are_made, members_were_made,
     sublists_are_told_by_their_sets,
 };
-use ot_model::enabled;
+use ot_model::{Apply, enabled};
 use plain_list::List;
 use std::alloc::{AllocError, Global};
 
@@ -185,7 +185,8 @@ fn integrate(
             site.held.set(number as usize, false);
             Ok(())
         }
-        Err(_) => Err(Refusal::NoMemory),
+        Err(Apply::NoMemory) => Err(Refusal::NoMemory),
+        Err(Apply::NotEnabled) => unreachable!(),
     }
 }
 

@@ -43,20 +43,20 @@ returns-in-Ok-clause-ok c =
           (c.in_ok-known.ensures ∙ ap (λ (old : Site). old.integrated) (sym c.index-sites-place.is));
     }
 
-pub returns-in-Err-clause-sites : goal.returns-in-Err-clause-sites
-returns-in-Err-clause-sites c =
+pub returns-in-Err-NoMemory-clause-sites : goal.returns-in-Err-NoMemory-clause-sites
+returns-in-Err-NoMemory-clause-sites c =
     let sites = c.args.sites.now in
     let site = c.index-sites-place.result in
     map-set_same view_site sites c.args.place c.execute.new.self site
-    (view_site-same (get_or sites c.args.place site) c.execute.new.self c.in-Err.ensures.err)
+    (view_site-same (get_or sites c.args.place site) c.execute.new.self c.in-Err-NoMemory.ensures.err)
 
-pub returns-in-Err-clause-sorted : goal.returns-in-Err-clause-sorted
-returns-in-Err-clause-sorted c = λ n all.
+pub returns-in-Err-NoMemory-clause-sorted : goal.returns-in-Err-NoMemory-clause-sorted
+returns-in-Err-NoMemory-clause-sorted c = λ n all.
     let sites : List Site = c.args.sites.now in
     let site : Site = c.index-sites-place.result in
     let was : slice_get sites c.args.place ≡ Some site =
     slice_get_read sites (length sites) c.args.place site refl c.requires.place c.index-sites-place.is in
     let same : IsSameSite site c.execute.new.self =
-    subst (λ (old : Site). IsSameSite old c.execute.new.self) (sym c.index-sites-place.is) c.in-Err.ensures.err in
+    subst (λ (old : Site). IsSameSite old c.execute.new.self) (sym c.index-sites-place.is) c.in-Err-NoMemory.ensures.err in
     AllByRecursion-set (IsSorted n) sites c.args.place c.execute.new.self all
     (IsSorted-same n site c.execute.new.self same (AllByRecursion-at (IsSorted n) sites c.args.place site all was))

@@ -1,4 +1,4 @@
-use Rattle.std.proofs.Common.{◌≡◌, ◌<◌, ◌-◌, ◌∷◌, [], ℕ, List, length, length-append, map, Option, Some, None, refl, sym, ap, ◌∙◌, subst, arith}
+use Rattle.std.proofs.Common.{◌≡◌, ◌<◌, ◌-◌, ◌∷◌, [], ℕ, List, length, length-append, map, Option, Some, None, refl, sym, ap, ◌∙◌, subst, reverse, arith}
 use Rattle.std.specs.Prelude.{slice_get, IfSome}
 use Rattle.std.specs.Option.{option_map}
 use Rattle.std.specs.Coded.{Coded-set, coded_bool, coded_ℕ}
@@ -14,16 +14,17 @@ use Rattle.ot_model.specs.Effect.{IsEnabled}
 use Rattle.fn_rules.specs.declared.function.Head.{Head}
 use Rattle.fn_rules.specs.Functions.{Function, HasDeclaredKind}
 use Rattle.fn_rules.specs.Rules.{function_of}
+use Rattle.ot_causal.specs.Members.{has}
 use Rattle.ot_causal.specs.Past.{Past, Extends}
 use Rattle.ot_causal.specs.Sessions.{SessionData, IsSite, IsSound, Makes, MayMake, all_counted}
 use Rattle.ot_session.specs.declared.made.Made.{Made}
 use Rattle.ot_session.specs.declared.site.Site.{Site}
 use Rattle.ot_session.specs.declared.limits.TheConstants.{MAX_MADE}
-use Rattle.ot_session.specs.Sites.{view_site, document_in, data_of, ExecutesAt, IsSorted}
-use Rattle.ot_session.specs.Past.{past_of}
+use Rattle.ot_session.specs.Sites.{view_site, document_in, data_of, ExecutesAt, IsSorted, IsKept}
+use Rattle.ot_session.specs.Past.{is_marked, past_of}
 use Rattle.ot_session.specs.Views.{View, HasMade}
 use Rattle.ot_session.proofs.Lists.{AllByRecursion-at}
-use Rattle.ot_session.proofs.Making.{all-marked, extends-executed, Makes-executed, held-executed, may_make, makes, IsKept-executed, counts-executed, KeepsForms-executed}
+use Rattle.ot_session.proofs.Making.{all-marked, extends-executed, Makes-executed, known-executed, held-executed, may_make, makes, IsKept-executed, counts-executed, KeepsForms-executed}
 use Rattle.ot_session.proofs.session.Session.make.Goals as goal
 
 -- a fact of what is found, if something is
@@ -140,15 +141,23 @@ returns-in-Ok-clause-made c =
     let at : IsSite (length sites) t = subst (λ (n : ℕ). IsSite n t) (length-map sites view_site) site in
     let len : length new_sites ≡ length sites = ap length step.is ∙ length-set sites (t - 1) step.after in
     let items : new_sites ≡ (with_items s.sites new_sites).items = sym (with_items_is s.sites new_sites (len ∙ sym s.sites.ok.0)) in
+    let sorted : IsKept f s.first made sites → IsSorted (length made) step.before =
+    λ k. AllByRecursion-at (IsSorted (length made)) sites (t - 1) step.before k.sorted step.was in
+    let marks : (x : ℕ) → is_marked step.before.integrated x ≡ has (reverse step.before.seen.items) x =
+    λ x. ∥∥₁_elim s.kept (Coded-set coded_bool _ _) (λ k. (sorted k).marked.marks x) in
     let before : View = record { function = f; first = s.first; made = made; sites = map view_site sites; counted = s.counted; is_open = s.is_open } in
     subst (λ (ss : List Site).
     HasMade before (record { function = f; first = s.first; made = new_made; sites = map view_site ss; counted = s.counted; is_open = s.is_open }) t o c.in-Ok.number)
     items
     (record {
       number = c.in-Ok.ensures.number;
-      makes = Makes-executed f s.first t o made new_made sites new_sites at step
-          (λ x. ∥∥₁_elim s.kept (Coded-set coded_bool _ _)
-          (λ k. (AllByRecursion-at (IsSorted (length made)) sites (t - 1) step.before k.sorted step.was).marked.marks x));
+      made = record {
+        known = step.before.integrated;
+        is = step.made;
+        marks = known-executed f s.first t o made new_made sites new_sites at step marks;
+        room = ∥∥₁_elim s.kept (Coded-set coded_ℕ _ _) (λ k. (sorted k).marked.integrated);
+      };
+      makes = Makes-executed f s.first t o made new_made sites new_sites at step marks;
       function = refl;
       held = held-executed f s.first t o made new_made sites new_sites at step;
       counted = refl;

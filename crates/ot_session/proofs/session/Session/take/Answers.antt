@@ -20,7 +20,7 @@ use Rattle.ot_session.specs.Sites.{view_site, data_of, IsSorted, CanTake, IsKept
 use Rattle.ot_session.specs.Taking.{TakesAtPlace}
 use Rattle.ot_session.specs.Views.{View, HasTaken}
 use Rattle.ot_session.proofs.Usable.{AreUsable-sound}
-use Rattle.ot_session.proofs.Taken.{counted-most, CanTake-kept, forms-can, length-taken, TakesAt-taken, sound-taken, all-counted-open, never-stuck-taken, HasTaken-at, OnOk-fine, IfSome-from}
+use Rattle.ot_session.proofs.Taken.{counted-most, CanTake-kept, forms-can, length-taken, TakesAt-taken, sound-taken, all-counted-open, never-stuck-taken, never-spent-taken, HasTaken-at, OnOk-fine, IfSome-from}
 use Rattle.ot_session.proofs.session.Session.take.Goals as goal
 
 pub take_at-taken-requires-clause-can : goal.take_at-taken-requires-clause-can
@@ -161,3 +161,30 @@ returns-clause-never_stuck c = λ tp1 tp2 chars o is.
     (c.tests_decide_their_facts.ensures.integrable f)
     (c.forms_keep_all_but_the_position.ensures.kept f past)
     (usable k) o is)
+
+pub returns-clause-never_spent : goal.returns-clause-never_spent
+returns-clause-never_spent c = λ enough is.
+    let s = c.args.self.now in
+    let f : Function = function_of s.rules in
+    let t : ℕ = c.args.site in
+    let made : List Made = s.made.items in
+    let past : Past = past_of made in
+    let sites : List Site = s.sites.items in
+    let site : IsSite (length (map view_site sites)) t = c.if-not-has_site.ensures.0 refl in
+    let at : IsSite (length sites) t = subst (λ (n : ℕ). IsSite n t) (length-map sites view_site) site in
+    let n : ℕ = c.args.number in
+    let inside : n < length made = omega (arith, c.if-number-len.false, c.len.ensures, s.made.ok.0) in
+    let new_sites : List Site = c.take_at-taken.new.sites in
+    let total : ℕ = c.take_at-taken.new.total in
+    let answer : Result Took Take = c.take_at-taken.result in
+    let step : TakesAtPlace f past (t - 1) n sites new_sites s.counted total answer =
+    subst (λ (ms : List Made). TakesAtPlace f (past_of ms) (t - 1) n sites new_sites s.counted total answer) c.deref.ensures.value
+    (subst (λ (ss : List Site). TakesAtPlace f (past_of c.deref.result.now) (t - 1) n ss new_sites s.counted total answer) c.deref_mut.ensures.value
+    c.take_at-taken.ensures.takes) in
+    let sound_law = λ (old new : SessionData) (u m : ℕ). c.steps_keep_sessions_sound.ensures.integrated f old new u m in
+    let count_law = λ (old new : SessionData) (u m : ℕ). c.steps_count_what_they_seek.ensures.all_integrated f old new u m in
+    ∥∥₁_elim s.kept (hlevel) (λ k.
+    never-spent-taken f s.first made sites new_sites t at n s.counted total answer step sound_law count_law k.sound
+    (λ session. c.sites_count_no_more_than_the_bound.ensures.whole f session)
+    (λ session. c.sites_count_no_more_than_the_bound.ensures.within f session)
+    inside k.sorted (s.counts c.requires) enough is)
