@@ -1,0 +1,12 @@
+pub mod Places
+pub mod Edits
+pub mod Behind
+pub mod Commuting
+pub mod Converging
+pub mod Tested
+pub mod Ranges
+pub mod Sums
+pub mod Generated
+pub mod FewForms
+pub mod Standing
+pub mod InPlay
