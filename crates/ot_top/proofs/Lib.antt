@@ -3,6 +3,7 @@ mod Apps
 mod Asking
 mod Behind
 mod Budgets
+mod Drilling
 mod Ending
 mod Ends
 mod Examples
@@ -11,9 +12,17 @@ mod Judged
 mod Leads
 mod Lines
 mod NamesRead
+mod OneDrill
+mod OneFile
+mod OneJudgement
+mod OneOutcome
+mod OneReply
+mod OneVerdict
 mod PlainNames
 mod Proving
 mod Refusing
 mod Running
 mod Showing
 mod Steady
+mod Told
+mod Unread

@@ -49,7 +49,7 @@ use Rattle.ot_top.proofs.Budgets.{few_questions}
 use Rattle.ot_top.proofs.Leads.{literals_lead}
 
 -- the reply to words that ask for a command
-reply_to_asked :
+pub reply_to_asked :
     (words : List (List ℕ)) (holds : List ℕ → Option (List ℕ)) (r : Reply) (asked : Asked) → asked_by words ≡ Some asked
     → IsReply words holds r → IsReplyTo holds asked r
 reply_to_asked words holds r asked named is =
@@ -66,7 +66,7 @@ read_behind r status is no_limit no_fault told Gets (inr h) = h
 -- the reply to the text of a function within the limit is the one that the function gets
 module _ (told : Option (List ℕ)) (bytes : List ℕ) (f : Function) (is_told : told ≡ Some bytes)
     (within : length bytes ≤ limit_of files.Function) (read : function_in bytes ≡ Ok f) where
-  gets : (Gets : Function → Type 0) (r : Reply) → IsReplyToFunction told Gets r → Gets f
+  pub gets : (Gets : Function → Type 0) (r : Reply) → IsReplyToFunction told Gets r → Gets f
   gets Gets r (inl (inl h)) = absurd (let longer = h.0 bytes is_told in omega (arith, longer, within))
   gets Gets r (inl (inr h)) = absurd (let refused : function_in bytes ≡ Err h.0 = (h.1 bytes is_told).1 in cc)
   gets Gets r (inr h) =

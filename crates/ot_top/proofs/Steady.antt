@@ -5,12 +5,10 @@ use Rattle.fn_rules.specs.Functions.{Function}
 use Rattle.fn_text.specs.declared.fault.TextFault.{TextFault}
 use Rattle.fn_text.specs.Grammar.{IsTextOf}
 use Rattle.fn_text.specs.Reading.{function_in}
-use Rattle.case_json.specs.declared.fault.CaseFault.{CaseFault}
-use Rattle.case_json.specs.declared.fault.CaseFault.TheVariants as faults
 use Rattle.ot_top.specs.declared.reply.FileKind.{FileKind}
 use Rattle.ot_top.specs.declared.reply.FileKind.TheVariants as files
 use Rattle.ot_top.specs.declared.reply.Reply.{Reply}
-use Rattle.ot_top.specs.declared.reply.Reply.TheVariants.{CaseRefused, FunctionRefused, TooLong}
+use Rattle.ot_top.specs.declared.reply.Reply.TheVariants.{FunctionRefused, TooLong}
 use Rattle.ot_top.specs.Commands.{Asked, Replay}
 use Rattle.ot_top.specs.Limits.{IsTooLong}
 use Rattle.ot_top.specs.Replies.{IsFunctionRefusal, IsReadAs}
@@ -28,16 +26,6 @@ too_long-steady kind told r h = named_so r (TooLong kind) 9 h.1 refl (omega arit
 pub function_refused-steady : (told : Option (List ℕ)) (r : Reply) → IsFunctionRefusal told r → status_of r ≢ 1
 function_refused-steady told r (inl h) = too_long-steady files.Function told r h
 function_refused-steady told r (inr h) = named_so r (FunctionRefused h.0) 3 h.2 refl (omega arith)
-
-pub case_refused-steady : (fault : CaseFault) → status_of (CaseRefused fault) ≢ 1
-case_refused-steady faults.Json is = absurd (omega (arith, is))
-case_refused-steady (faults.Field name) is = absurd (omega (arith, is))
-case_refused-steady (faults.Kind i) is = absurd (omega (arith, is))
-case_refused-steady (faults.Enabled i) is = absurd (omega (arith, is))
-case_refused-steady (faults.Pair i j) is = absurd (omega (arith, is))
-case_refused-steady (faults.Order i) is = absurd (omega (arith, is))
-case_refused-steady (faults.Limit name) is = absurd (omega (arith, is))
-case_refused-steady faults.NoMemory is = absurd (omega (arith, is))
 
 ok_is : (f g : Function) → ◌≡◌ {A = Result Function TextFault} (Ok f) (Ok g) → f ≡ g
 ok_is f g same = cc

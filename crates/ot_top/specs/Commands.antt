@@ -1,6 +1,7 @@
 -- What words ask for: a command, with the names of its files.
-use Rattle.std.specs.Prelude.{ℕ, List}
+use Rattle.std.specs.Prelude.{ℕ, ◌≤◌, List}
 use Rattle.fn_rules.specs.declared.function.Level.{Level}
+use Rattle.ot_drill.specs.declared.limits.TheConstants.{MOST_ROUNDS}
 use Rattle.ot_top.specs.declared.command.Command.{Command}
 use Rattle.ot_top.specs.declared.command.Command.TheVariants as rust
 
@@ -13,9 +14,17 @@ pub data Asked : Type 0 where
   Integrate : List ℕ → List ℕ → Asked
   -- of a function's file and a session's file: the events are run
   Replay : List ℕ → List ℕ → Asked
+  -- the workload of a number is gone through
+  Drill : ℕ → Asked
 
 abbrev pub asked_of : Command → Asked
 asked_of (rust.Prove level budget function) = Prove level budget function.now
 asked_of (rust.Check function certificate) = Check function.now certificate.now
 asked_of (rust.Integrate function case) = Integrate function.now case.now
 asked_of (rust.Replay function session) = Replay function.now session.now
+asked_of (rust.Drill number) = Drill number
+
+-- the number is one that a workload is generated from
+abbrev pub IsWithinBounds : Asked → Type 0
+IsWithinBounds (Drill number) = number ≤ MOST_ROUNDS
+IsWithinBounds asked = Unit {0}

@@ -9,7 +9,10 @@ pub mod Texts
 pub mod Limits
 pub mod Judgements
 pub mod Verdicts
+pub mod LevelTexts
 pub mod Sessions
+pub mod Drills
+pub mod DrillTexts
 pub mod Replies
 pub mod Shown
 pub mod Steady

@@ -16,7 +16,8 @@ use Rattle.ot_top.specs.declared.reply.FileKind.{FileKind}
 use Rattle.ot_top.specs.declared.reply.FileKind.TheVariants as files
 use Rattle.ot_top.specs.declared.reply.Reply.{Reply}
 use Rattle.ot_top.specs.declared.reply.Reply.TheVariants.{FunctionRefused, CaseRefused, Integrated, Usage}
-use Rattle.ot_top.specs.Commands.{Asked, Prove, Check, Integrate, Replay}
+use Rattle.ot_top.specs.Commands.{Asked, Prove, Check, Integrate, Replay, Drill}
+use Rattle.ot_top.specs.Drills.{IsReplyToDrill}
 use Rattle.ot_top.specs.Judgements.{IsReplyToCertificate}
 use Rattle.ot_top.specs.Limits.{limit_of, IsTooLong}
 use Rattle.ot_top.specs.Sessions.{IsReplyToSession}
@@ -79,6 +80,7 @@ IsReplyTo holds (Integrate function case) r =
 IsReplyTo holds (Replay function session) r =
     IsReplyToFunction (holds function)
     (λ f. IsReplyToFile files.Case (holds session) (λ bytes. IsReplyToSession f bytes r) r) r
+IsReplyTo holds (Drill number) r = IsReplyToDrill number r
 
 -- the reply to words
 abbrev pub IsReply : List (List ℕ) → (List ℕ → Option (List ℕ)) → Reply → Type 0
@@ -94,3 +96,4 @@ AreOffered holds Offered (Prove level budget function) = Offered function
 AreOffered holds Offered (Check function certificate) = Offered function × (GoesOn (holds function) → Offered certificate)
 AreOffered holds Offered (Integrate function case) = Offered function × (GoesOn (holds function) → Offered case)
 AreOffered holds Offered (Replay function session) = Offered function × (GoesOn (holds function) → Offered session)
+AreOffered holds Offered (Drill number) = Unit {0}

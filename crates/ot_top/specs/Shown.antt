@@ -1,5 +1,5 @@
 -- What the statuses 0 and 1 show of a function whose file is told.
-use Rattle.std.specs.Prelude.{◌≡◌, ℕ, ◌≤◌, if◌then◌else◌, nat_lt, is_some, List, [], ◌∷◌, length, Option, Some}
+use Rattle.std.specs.Prelude.{◌≡◌, ◌⊎◌, ◌↔◌, ℕ, ◌≤◌, if◌then◌else◌, nat_lt, is_some, is_ok, List, [], ◌∷◌, length, Option, Some, None, Result}
 use Rattle.ot_model.specs.declared.cell.Cell.{Cell}
 use Rattle.ot_model.specs.declared.op.Op.{Op}
 use Rattle.fn_rules.specs.declared.function.Level.{Level}
@@ -12,7 +12,9 @@ use Rattle.fn_text.specs.Grammar.{IsTextOf}
 use Rattle.ot_questions.specs.declared.why.Why.{Why}
 use Rattle.ot_questions.specs.Instances.{form_behind}
 use Rattle.ot_questions.specs.Obligation.{plan_of}
+use Rattle.ot_judge.specs.declared.refusal.JudgeEnd.{JudgeEnd}
 use Rattle.ot_judge.specs.Certificates.{IsCertificate}
+use Rattle.ot_judge.specs.Refusals.{IsJudgement}
 use Rattle.ot_judge.specs.Verdicts.{ObQuestions, AreAsked, count_in, failing_in}
 use Rattle.ot_counter.specs.declared.counter.Counter.{Counter}
 use Rattle.ot_counter.specs.declared.counter.Side.{Side}
@@ -20,12 +22,16 @@ use Rattle.ot_counter.specs.Counters.{Breaks, BreaksBy}
 use Rattle.ot_counter.specs.Sides.{document_way, operation_side}
 use Rattle.ot_top.specs.declared.reply.FileKind.TheVariants as files
 use Rattle.ot_top.specs.declared.reply.Reply.{Reply}
-use Rattle.ot_top.specs.declared.reply.Reply.TheVariants.{Accepted}
-use Rattle.ot_top.specs.Commands.{Prove, Check}
+use Rattle.ot_top.specs.declared.reply.Drilled.{Drilled}
+use Rattle.ot_top.specs.declared.reply.Reply.TheVariants.{Accepted, Spent}
+use Rattle.ot_top.specs.Commands.{Asked, Prove, Check, Integrate, Replay, Drill}
+use Rattle.ot_top.specs.Drills.{IsDrilled}
+use Rattle.ot_top.specs.DrillTexts.{drill_text}
 use Rattle.ot_top.specs.CounterTexts.{counter_text}
 use Rattle.ot_top.specs.Limits.{limit_of}
 use Rattle.ot_top.specs.Replies.{IsReplyTo}
-use Rattle.ot_top.specs.Texts.{accepted_text}
+use Rattle.ot_top.specs.LevelTexts.{accepted_text}
+use Rattle.ot_top.specs.Texts.{text_of}
 use Rattle.ot_top.specs.Words.{asked_by}
 
 -- what a certificate at a level shows of its function
@@ -101,3 +107,37 @@ IsComplete words holds status =
     → asked_by words ≡ Some (Prove level budget name) → holds name ≡ Some bytes
     → length bytes ≤ limit_of files.Function → IsTextOf bytes f
     → AreAsked (plan_of f) (obligations_of f.head level) lists → status ≡ status_by budget lists
+
+-- the words ask to judge a certificate; where both files are told and within their limits, the first one is the text of a
+-- function by the grammar, and this is the judgement of the second: the status is that of the judgement
+abbrev pub IsJudgedAs : List (List ℕ) → (List ℕ → Option (List ℕ)) → ℕ → Type 0
+IsJudgedAs words holds status =
+    (name certificate_name bytes certificate : List ℕ) (f : Function) (judgement : Result Level JudgeEnd)
+    → asked_by words ≡ Some (Check name certificate_name) → holds name ≡ Some bytes → holds certificate_name ≡ Some certificate
+    → length bytes ≤ limit_of files.Function → IsTextOf bytes f
+    → length certificate ≤ limit_of files.Certificate → IsJudgement f certificate judgement
+    → status ≡ (if is_ok judgement then 0 else 2)
+
+-- the name of the function's file, which every command but one has
+abbrev pub function_name : Asked → Option (List ℕ)
+function_name (Prove level budget name) = Some name
+function_name (Check name certificate_name) = Some name
+function_name (Integrate name case) = Some name
+function_name (Replay name session) = Some name
+function_name (Drill number) = None
+
+-- the words name a function's file; where that is told and within its limit, the status is 3 exactly where it is the text
+-- of no function by the grammar
+abbrev pub IsUnread : List (List ℕ) → (List ℕ → Option (List ℕ)) → ℕ → Type 0
+IsUnread words holds status =
+    (asked : Asked) (name bytes : List ℕ)
+    → asked_by words ≡ Some asked → function_name asked ≡ Some name → holds name ≡ Some bytes → length bytes ≤ limit_of files.Function
+    → (status ≡ 3) ↔ ((f : Function) → ¬ IsTextOf bytes f)
+
+-- the words ask for the workload of a number: its function has more questions than are allowed, or what came of it was
+-- written, and then no two sites differ
+abbrev pub IsGoneThrough : List (List ℕ) → ℕ → (List ℕ → Type 0) → Type 0
+IsGoneThrough words status IsWritten =
+    (number : ℕ) → asked_by words ≡ Some (Drill number)
+    → ((status ≡ 8) × IsWritten (text_of Spent))
+    ⊎ ((status ≡ 0) × ((d : Drilled) × IsDrilled number d × (d.differ ≡ None) × IsWritten (drill_text d)))

@@ -5,7 +5,7 @@ use Rattle.fn_rules.specs.Properties.{HasTp1, HasTp2}
 use Rattle.fn_text.specs.Grammar.{IsTextOf}
 use Rattle.fn_text.specs.Reading.{function_in}
 use Rattle.ot_top.specs.declared.reply.Reply.{Reply}
-use Rattle.ot_top.specs.Commands.{Asked, Replay}
+use Rattle.ot_top.specs.Commands.{Asked, Replay, Drill}
 use Rattle.ot_top.specs.Texts.{status_of}
 use Rattle.ot_top.specs.Words.{asked_by}
 
@@ -15,10 +15,12 @@ pub record MakesSitesAgree (f : Function) : Type 0 where
   pub tp2 : HasTp2 f
   pub chars : f.head.chars_differ ≡ false
 
--- of a command that replays a session: where the file is read as such a function, the status is not 1
+-- of a command that replays a session: where the file is read as such a function, the status is not 1; that of a workload
+-- never is
 abbrev pub IsSteadyReply : (List ℕ → Option (List ℕ)) → Asked → Reply → Type 0
 IsSteadyReply holds (Replay name session) r =
     (bytes : List ℕ) (f : Function) → holds name ≡ Some bytes → function_in bytes ≡ Ok f → MakesSitesAgree f → status_of r ≢ 1
+IsSteadyReply holds (Drill number) r = status_of r ≢ 1
 IsSteadyReply holds asked r = Unit {0}
 
 -- the same of words

@@ -1,7 +1,5 @@
 -- The status and the text of a reply.
-use Rattle.std.specs.Prelude.{ℕ, if◌then◌else◌, List, [], ◌∷◌, ◌++◌, codes, map, Some, None}
-use Rattle.fn_rules.specs.declared.function.Level.{Level}
-use Rattle.cert_text.specs.Spelling.{level_text}
+use Rattle.std.specs.Prelude.{ℕ, if◌then◌else◌, List, [], ◌∷◌, ◌++◌, codes, map, Option, Some, None}
 use Rattle.case_json.specs.declared.fault.CaseFault.{CaseFault}
 use Rattle.case_json.specs.declared.fault.CaseFault.TheVariants as faults
 use Rattle.ot_integrate.specs.Ends.{outcome_of}
@@ -9,10 +7,12 @@ use Rattle.ot_top.specs.declared.reply.FileKind.{FileKind}
 use Rattle.ot_top.specs.declared.reply.FileKind.TheVariants as files
 use Rattle.ot_top.specs.declared.reply.Reply.{Reply}
 use Rattle.ot_top.specs.declared.reply.Reply.TheVariants.{Proved, Broken, Spent, Accepted, Refused, FunctionRefused}
-use Rattle.ot_top.specs.declared.reply.Reply.TheVariants.{CaseRefused, Integrated, Usage, TooLong, EventRefused, StuckAt, Replayed}
+use Rattle.ot_top.specs.declared.reply.Reply.TheVariants.{CaseRefused, Integrated, Usage, TooLong, EventRefused, StuckAt, Replayed, Drilled}
 use Rattle.ot_top.specs.FaultTexts.{text_fault_text, case_fault_text, refusal_text}
 use Rattle.ot_top.specs.OrderTexts.{orders_text}
 use Rattle.ot_top.specs.CounterTexts.{counter_text}
+use Rattle.ot_top.specs.LevelTexts.{accepted_text}
+use Rattle.ot_top.specs.DrillTexts.{drill_text}
 use Rattle.ot_top.specs.SessionTexts.{event_fault_text, sites_text, stuck_text}
 
 -- too much of a part is a limit, and every other fault is one of the case
@@ -20,15 +20,20 @@ abbrev pub case_status : CaseFault → ℕ
 case_status (faults.Limit name) = 9
 case_status fault = 4
 
+-- two sites differ, or none do
+abbrev pub differ_status : Option (ℕ × ℕ) → ℕ
+differ_status None = 0
+differ_status (Some pair) = 1
+
 abbrev pub status_of : Reply → ℕ
 status_of (Proved bytes) = 0
 status_of (Broken counter) = 1
 status_of Spent = 8
 status_of (Accepted level) = 0
 status_of (Integrated ends same) = if same then 0 else 1
-status_of (Replayed ends None) = 0
-status_of (Replayed ends (Some pair)) = 1
+status_of (Replayed ends differ) = differ_status differ
 status_of (StuckAt i) = 1
+status_of (Drilled d) = differ_status d.differ
 status_of (EventRefused i fault) = 4
 status_of (Refused offset why) = 2
 status_of (FunctionRefused fault) = 3
@@ -44,10 +49,6 @@ limit_word files.Case = codes "file"
 abbrev pub limit_text : FileKind → List ℕ
 limit_text kind = codes "limit " ++ limit_word kind ++ 10 ∷ []
 
--- that a certificate is accepted at a level
-abbrev pub accepted_text : Level → List ℕ
-accepted_text level = codes "accepted " ++ level_text level ++ 10 ∷ []
-
 abbrev pub text_of : Reply → List ℕ
 text_of (Proved bytes) = bytes
 text_of (Broken counter) = counter_text counter
@@ -56,6 +57,7 @@ text_of (Accepted level) = accepted_text level
 text_of (Integrated ends same) = orders_text (map outcome_of ends) same
 text_of (Replayed ends differ) = sites_text ends differ
 text_of (StuckAt i) = stuck_text i
+text_of (Drilled d) = drill_text d
 text_of (EventRefused i fault) = event_fault_text i fault
 text_of (Refused offset why) = refusal_text offset why
 text_of (FunctionRefused fault) = text_fault_text fault

@@ -8,7 +8,8 @@ use Rattle.clap.specs.declared.builder.action.ArgAction.TheVariants.{SetTrue}
 use Rattle.clap.specs.declared.builder.value_parser.ValueParser.TheVariants.{Unsigned}
 use Rattle.fn_rules.specs.declared.function.Level.{Level}
 use Rattle.fn_rules.specs.declared.function.Level.TheVariants.{Tp1, Tp2}
-use Rattle.ot_top.specs.Commands.{Asked, Prove, Check, Integrate, Replay}
+use Rattle.ot_drill.specs.declared.limits.TheConstants.{MOST_ROUNDS}
+use Rattle.ot_top.specs.Commands.{Asked, Prove, Check, Integrate, Replay, Drill}
 
 -- the clap command of a name, with no option for help and no arguments
 abbrev pub bare_app : List ℕ → App
@@ -40,9 +41,17 @@ budget_rule =
       defaults = codes "1000000" ∷ [];
     }
 
+-- the number of `drill`
+abbrev pub number_rule : Rule
+number_rule = record (new_rule (codes "number")) { required = true; parser = Some (Unsigned 1 MOST_ROUNDS) }
+
 -- the clap command `prove`: both options, and a file name
 abbrev pub prove_app : App
 prove_app = with_rule (with_rule (with_rule (bare_app (codes "prove")) tp1_rule) budget_rule) (required_rule (codes "function"))
+
+-- the clap command `drill`: a number, which clap reads
+abbrev pub drill_app : App
+drill_app = with_rule (bare_app (codes "drill")) number_rule
 
 -- what clap finds, where it refuses for no kind of error
 abbrev pub unless_refused : Kinds → List Row → Option (List Row)
@@ -66,19 +75,26 @@ abbrev pub level_by : Option (List ℕ) → Level
 level_by None = Tp2
 level_by (Some flag) = if bytes_eq flag (codes "true") then Tp1 else Tp2
 
--- the number of a text that clap takes for the budget
-abbrev pub budget_by : List ℕ → Option ℕ
-budget_by text = if is_unsigned_in 1 most_questions text then Some (digits_value 10 (without_leading_plus text)) else None
+-- the number of a text that clap takes for one from 1 to the greatest
+abbrev pub number_by : ℕ → List ℕ → Option ℕ
+number_by most text = if is_unsigned_in 1 most text then Some (digits_value 10 (without_leading_plus text)) else None
 
 -- the level, the budget and the name that are found
 abbrev pub prove_by : List Row → Option Asked
 prove_by rows =
     option_and_then (λ budget. option_map (Prove (level_by (first_of (codes "tp1") rows)) budget) (first_of (codes "function") rows))
-    (option_and_then budget_by (first_of (codes "budget") rows))
+    (option_and_then (number_by most_questions) (first_of (codes "budget") rows))
 
 -- the command behind each first word
 unfoldable pub prove_in : List (List ℕ) → Option Asked
 prove_in words = option_and_then prove_by (found_by prove_app words)
+
+-- the number that is found
+abbrev pub drill_by : List Row → Option Asked
+drill_by rows = option_map Drill (option_and_then (number_by MOST_ROUNDS) (first_of (codes "number") rows))
+
+unfoldable pub drill_in : List (List ℕ) → Option Asked
+drill_in words = option_and_then drill_by (found_by drill_app words)
 
 abbrev pub check_in : List (List ℕ) → Option Asked
 check_in words = option_map (λ names. Check names.0 names.1) (names_by (codes "check") words)
@@ -97,4 +113,5 @@ asked_by (word ∷ words) =
     else (if bytes_eq word (codes "check") then check_in words
     else (if bytes_eq word (codes "integrate") then integrate_in words
     else (if bytes_eq word (codes "replay") then replay_in words
-    else None)))
+    else (if bytes_eq word (codes "drill") then drill_in words
+    else None))))

@@ -2,13 +2,14 @@
 ghost use Rattle.std.specs.Prelude.{◌≡◌, map, Err, IfOk, IfSome, IsErrOf, string_bytes};
 ghost use Rattle.ot_outside.specs.Faults.{Rose};
 ghost use Rattle.ot_outside.specs.Unchanged.{Unchanged};
-ghost use Rattle.ot_top.specs.Commands.{asked_of};
+ghost use Rattle.ot_top.specs.Commands.{IsWithinBounds, asked_of};
 ghost use Rattle.ot_top.specs.Replies.{AreOffered, IsReply, IsReplyTo};
 ghost use Rattle.ot_top.specs.Steady.{AreSteady, IsSteadyReply};
 ghost use Rattle.ot_top.specs.Words.{asked_by};
 
 use crate::check::check;
 use crate::command::Command;
+use crate::drill::drill;
 use crate::integrate::integrate;
 use crate::load::Stop;
 use crate::prove::prove;
@@ -20,7 +21,8 @@ use std::alloc::Global;
 
 // The reply to a command.
 fn reply_to<H: Shelf>(alloc: Global, shelf: &mut H, command: &Command<'_>) -> Result<Reply, Stop>
-    requires { AreOffered (H.holds shelf.old) (H.offered shelf.old) (asked_of command.now) }
+    requires offered { AreOffered (H.holds shelf.old) (H.offered shelf.old) (asked_of command.now) }
+    requires within { IsWithinBounds (asked_of command.now) }
 
     ensures ok { IfOk result (λ reply. IsReplyTo (H.holds shelf.old) (asked_of command.now) reply) }
     ensures replied { (r : Reply) → result ≡ Err (Stop.Replied r) → IsReplyTo (H.holds shelf.old) (asked_of command.now) r }
@@ -41,6 +43,7 @@ fn reply_to<H: Shelf>(alloc: Global, shelf: &mut H, command: &Command<'_>) -> Re
         } => check(alloc, shelf, function, certificate),
         Command::Integrate { function, case } => integrate(alloc, shelf, function, case),
         Command::Replay { function, session } => replay(alloc, shelf, function, session),
+        Command::Drill { number } => Ok(drill(alloc, number)?),
     }
 }
 

@@ -42,4 +42,10 @@ pub(crate) enum Command<'a> {
         /// The name of the session's file.
         session: &'a str,
     },
+
+    /// The workload that is generated from a number is gone through.
+    Drill {
+        /// The number.
+        number: u32,
+    },
 }

@@ -6,6 +6,7 @@
 //! `integrate FN CASE` integrates the operations of a case in each of its orders and compares the
 //! documents.
 //! `replay FN SESSION` runs the events of a session, and compares sites that have integrated the same operations.
+//! `drill N` generates a workload, and goes the whole way from its function to its sites.
 //!
 //! The program above relies on one clause: `run` writes the reply that `IsReply` tells, and ends with
 //! its status; it ends with another status only where a file or the sink failed or memory is wanting.
@@ -15,7 +16,9 @@
 mod answer;
 mod check;
 mod command;
+mod drill;
 mod integrate;
+mod laws;
 mod load;
 mod program;
 mod prove;
@@ -24,5 +27,6 @@ mod reply;
 mod text;
 mod words;
 
+pub use laws::{commands_have_one_reply, sessions_have_one_reply};
 pub use program::{NO_MEMORY, SHELF_FAULT, SINK_FAULT, run};
-pub use reply::{EventFault, FileKind, Reply, SiteEnd};
+pub use reply::{Drilled, EventFault, FileKind, Reply, SiteEnd};

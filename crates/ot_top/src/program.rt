@@ -1,12 +1,12 @@
 //! The call that does all that the program does.
-ghost use Rattle.std.specs.Prelude.{◌≡◌, ◌≢◌, ◌≤◌, map, IfSome, string_bytes};
+ghost use Rattle.std.specs.Prelude.{◌≡◌, ◌≢◌, ◌≤◌, ◌⊎◌, map, IfSome, string_bytes};
 ghost use Rattle.std.specs.Io.KnownBytes.{append_known};
 ghost use Rattle.ot_outside.specs.Faults.{Rose};
 ghost use Rattle.ot_outside.specs.Whole.{AppendsFront};
 ghost use Rattle.ot_outside.specs.Unchanged.{Unchanged};
 ghost use Rattle.ot_top.specs.Replies.{AreOffered, IsReply};
-ghost use Rattle.ot_top.specs.Shown.{IsBroken, IsComplete, IsProved, IsShown};
-ghost use Rattle.ot_top.specs.Steady.{IsSteady};
+ghost use Rattle.ot_top.specs.Shown.{IsBroken, IsComplete, IsGoneThrough, IsJudgedAs, IsProved, IsShown, IsUnread};
+ghost use Rattle.ot_top.specs.Steady.{AreSteady, IsSteady};
 ghost use Rattle.ot_top.specs.Texts.{status_of, text_of};
 ghost use Rattle.ot_top.specs.Words.{asked_by};
 
@@ -30,6 +30,44 @@ pub const SINK_FAULT: u8 = 7;
 
 /// Memory is wanting.
 pub const NO_MEMORY: u8 = 10;
+
+// Writes the reply to words, and gives its status.
+fn write_answer<H: Shelf, S: Sink>(
+    alloc: Global,
+    words: &[String],
+    shelf: &mut H,
+    out: &mut S,
+) -> u8
+    requires { IfSome (asked_by (map string_bytes words.now)) (AreOffered (H.holds shelf.old) (H.offered shelf.old)) }
+
+    ensures replied { result ≢ SHELF_FAULT → result ≢ SINK_FAULT → result ≢ NO_MEMORY →
+        (reply : Reply) × IsReply (map string_bytes words.now) (H.holds shelf.old) reply
+        × AreSteady (map string_bytes words.now) (H.holds shelf.old) reply × (result ≡ status_of reply)
+        × (S.written out.new ≡ append_known (S.written out.old) (text_of reply)) }
+    ensures shelf_fault { result ≡ SHELF_FAULT → Rose (H.faults shelf.old) (H.faults shelf.new) × (S.written out.new ≡ S.written out.old) }
+    ensures sink_fault { result ≡ SINK_FAULT →
+        Rose (S.faults out.old) (S.faults out.new)
+        × ((reply : Reply) × IsReply (map string_bytes words.now) (H.holds shelf.old) reply
+        × AppendsFront (S.written out.old) (text_of reply) (S.written out.new)) }
+    ensures no_memory { result ≡ NO_MEMORY → S.written out.new ≡ S.written out.old }
+    ensures unchanged { Unchanged H.holds H.offered H.faults shelf.old shelf.new }
+    ensures sink_faults { S.faults out.old ≤ S.faults out.new }
+{
+    let reply = match answer(alloc, words, shelf) {
+        Ok(reply) => reply,
+        Err(Stop::Replied(reply)) => reply,
+        Err(Stop::Shelf) => return SHELF_FAULT,
+        Err(Stop::NoMemory) => return NO_MEMORY,
+    };
+    let status = status(&reply);
+    let Ok(text) = text(alloc, reply) else {
+        return NO_MEMORY;
+    };
+    match write_all(out, &text) {
+        Ok(()) => status,
+        Err(_) => SINK_FAULT,
+    }
+}
 
 /// Answers the words behind the program's name: writes the reply, and gives the exit status.
 ///
@@ -60,8 +98,26 @@ pub fn run<H: Shelf, S: Sink>(alloc: Global, words: &[String], shelf: &mut H, ou
     ensures complete { result ≢ SHELF_FAULT → result ≢ SINK_FAULT → result ≢ NO_MEMORY
         → IsComplete (map string_bytes words.now) (H.holds shelf.old) result }
 
+    // Where both files are told, the status of `check` is that of the one judgement that the certificate has, and where the
+    // function's file is told, 3 comes exactly where it is the text of no function.
+    ensures judged { result ≢ SHELF_FAULT → result ≢ SINK_FAULT → result ≢ NO_MEMORY
+        → IsJudgedAs (map string_bytes words.now) (H.holds shelf.old) result }
+    ensures unread { result ≢ SHELF_FAULT → result ≢ SINK_FAULT → result ≢ NO_MEMORY
+        → IsUnread (map string_bytes words.now) (H.holds shelf.old) result }
+
     // Where the function's file is told and the function makes sites agree, `replay` never finds them apart.
     ensures steady { IsSteady (map string_bytes words.now) (H.holds shelf.old) result }
+
+    // No event of a workload is refused, no site of it is stuck, and no two sites of it differ.
+    ensures gone_through { result ≢ SHELF_FAULT → result ≢ SINK_FAULT → result ≢ NO_MEMORY
+        → IsGoneThrough (map string_bytes words.now) result (λ text. S.written out.new ≡ append_known (S.written out.old) text) }
+
+    // Where neither count of faults rises, there was no memory and nothing was written, or the whole reply was.
+    ensures whole { ¬ (Rose (H.faults shelf.old) (H.faults shelf.new)) → ¬ (Rose (S.faults out.old) (S.faults out.new))
+        → ((result ≡ NO_MEMORY) × (S.written out.new ≡ S.written out.old))
+        ⊎ ((reply : Reply) × IsReply (map string_bytes words.now) (H.holds shelf.old) reply × (result ≡ status_of reply)
+        × (S.written out.new ≡ append_known (S.written out.old) (text_of reply))) }
+    ensures named { result ≤ NO_MEMORY }
 
     ensures shelf_fault { result ≡ SHELF_FAULT → Rose (H.faults shelf.old) (H.faults shelf.new) × (S.written out.new ≡ S.written out.old) }
     ensures sink_fault { result ≡ SINK_FAULT →
@@ -79,18 +135,5 @@ pub fn run<H: Shelf, S: Sink>(alloc: Global, words: &[String], shelf: &mut H, ou
     plans_have_one_question_list::<Why>();
     texts_of_functions_are_read();
     what_is_read_is_in_the_grammar();
-    let reply = match answer(alloc, words, shelf) {
-        Ok(reply) => reply,
-        Err(Stop::Replied(reply)) => reply,
-        Err(Stop::Shelf) => return SHELF_FAULT,
-        Err(Stop::NoMemory) => return NO_MEMORY,
-    };
-    let status = status(&reply);
-    let Ok(text) = text(alloc, reply) else {
-        return NO_MEMORY;
-    };
-    match write_all(out, &text) {
-        Ok(()) => status,
-        Err(_) => SINK_FAULT,
-    }
+    write_answer(alloc, words, shelf, out)
 }

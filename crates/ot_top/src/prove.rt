@@ -55,8 +55,8 @@ fn counter_of(
     Ok(counter)
 }
 
-// The reply to a function.
-fn reply_to_function(
+/// The reply to a function.
+pub(crate) fn reply_to_function(
     alloc: Global,
     rules: &Rules,
     level: Level,

@@ -138,8 +138,12 @@ fn end_at(alloc: Global, session: &Session, site: u32) -> Result<SiteEnd, NoMemo
     })
 }
 
-// The same of each site, of which there are so many.
-fn ends_of(alloc: Global, session: &Session, sites: u32) -> Result<List<SiteEnd>, NoMemory>
+/// The same of each site, of which there are so many.
+pub(crate) fn ends_of(
+    alloc: Global,
+    session: &Session,
+    sites: u32,
+) -> Result<List<SiteEnd>, NoMemory>
     requires { length (view_of session.now).sites ≡ sites }
     ensures { IfOk result (λ ends. ends ≡ map end_of (view_of session.now).sites) }
 {
@@ -189,8 +193,8 @@ fn first_other(one: &SiteEnd, first: u32, others: &[SiteEnd]) -> Option<u32>
     None
 }
 
-// The first two sites that differ.
-fn first_pair(ends: &[SiteEnd]) -> Option<(u32, u32)>
+/// The first two sites that differ.
+pub(crate) fn first_pair(ends: &[SiteEnd]) -> Option<(u32, u32)>
     requires { length ends.now ≤ MAX_SITES }
     ensures { IsFirstPair 1 ends.now result }
 {

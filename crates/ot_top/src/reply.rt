@@ -3,6 +3,7 @@ use case_json::CaseFault;
 use fn_rules::Level;
 use fn_text::TextFault;
 use ot_counter::Counter;
+use ot_drill::Tally;
 use ot_integrate::End;
 use ot_judge::Refusal;
 use ot_model::Doc;
@@ -50,6 +51,28 @@ pub enum EventFault {
     Number,
 }
 
+/// What came of a workload.
+#[derive(Debug, Drop)]
+pub struct Drilled {
+    /// The number that it was generated from.
+    pub number: u32,
+
+    /// How many cases the function has that was read.
+    pub cases: usize,
+
+    /// The level at which the certificate was accepted.
+    pub level: Level,
+
+    /// What was counted of the session.
+    pub tally: Tally,
+
+    /// The length of the document of site 1.
+    pub cells: usize,
+
+    /// The first two sites that have integrated the same operations and hold different documents.
+    pub differ: Option<(u32, u32)>,
+}
+
 /// The reply to a command.
 #[derive(Debug, Drop)]
 pub enum Reply {
@@ -92,6 +115,9 @@ pub enum Reply {
     /// What the sites of a session hold, and the first two that have integrated the same operations and hold different
     /// documents.
     Replayed(List<SiteEnd>, Option<(u32, u32)>),
+
+    /// What came of a workload.
+    Drilled(Drilled),
 
     /// The words are not those of a command.
     Usage,

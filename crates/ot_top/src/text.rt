@@ -1,10 +1,12 @@
 //! The status and the text of a reply.
-ghost use Rattle.std.specs.Prelude.{◌≡◌, [], IfOk, OnOk};
+ghost use Rattle.std.specs.Prelude.{◌≡◌, ◌++◌, [], IfOk, OnOk};
 ghost use Rattle.cert_text.specs.Spelling.{level_text};
-ghost use Rattle.ot_top.specs.Texts.{accepted_text, case_status, status_of, text_of, limit_text, limit_word};
+ghost use Rattle.ot_top.specs.LevelTexts.{accepted_text};
+ghost use Rattle.ot_top.specs.Texts.{case_status, differ_status, status_of, text_of, limit_text, limit_word};
 
 mod counters;
 mod documents;
+mod drills;
 mod faults;
 mod orders;
 mod sessions;
@@ -12,6 +14,7 @@ mod sessions;
 use crate::reply::{FileKind, Reply};
 use case_json::CaseFault;
 use counters::write_counter;
+use drills::write_drilled;
 use faults::{write_case_fault, write_refusal, write_text_fault};
 use fn_rules::Level;
 use orders::write_ends;
@@ -29,6 +32,16 @@ fn case_status(fault: &CaseFault) -> u8
     }
 }
 
+// Whether two sites differ.
+fn differ_status(differ: Option<(u32, u32)>) -> u8
+    ensures { result ≡ differ_status differ }
+{
+    match differ {
+        None => 0,
+        Some(_) => 1,
+    }
+}
+
 /// The exit status of a reply.
 pub(crate) fn status(reply: &Reply) -> u8
     ensures { result ≡ status_of reply.now }
@@ -39,8 +52,8 @@ pub(crate) fn status(reply: &Reply) -> u8
         Reply::Spent => 8,
         Reply::Accepted(_) => 0,
         Reply::Integrated(_, same) => { if *same { 0 } else { 1 } }
-        Reply::Replayed(_, None) => 0,
-        Reply::Replayed(_, Some(_)) => 1,
+        Reply::Replayed(_, differ) => differ_status(*differ),
+        Reply::Drilled(drilled) => differ_status(drilled.differ),
         Reply::StuckAt(_) => 1,
         Reply::EventRefused(..) => 4,
         Reply::Refused { .. } => 2,
@@ -81,9 +94,9 @@ fn level_word(level: Level) -> &'static str
     }
 }
 
+// Writes that a certificate is accepted at a level.
 fn write_accepted(alloc: Global, level: Level, out: &mut Vec<u8>) -> Result<(), NoMemory>
-    requires { out.old.items ≡ [] }
-    ensures { OnOk result (out.new.items ≡ accepted_text level) }
+    ensures { OnOk result (out.new.items ≡ out.old.items ++ accepted_text level) }
 {
     let word = level_word(level);
     let text = format!(in alloc; "accepted {word}\n")?;
@@ -108,6 +121,7 @@ fn written(alloc: Global, reply: &Reply) -> Result<Vec<u8>, NoMemory>
         Reply::EventRefused(number, fault) => write_event_fault(alloc, *number, *fault, &mut text)?,
         Reply::StuckAt(number) => write_stuck(alloc, *number, &mut text)?,
         Reply::Replayed(ends, differ) => write_sites(alloc, ends.as_slice(), *differ, &mut text)?,
+        Reply::Drilled(drilled) => write_drilled(alloc, drilled, &mut text)?,
         Reply::Usage => text.extend_from_slice(b"usage: otp COMMAND ARGUMENTS\n")?,
         Reply::TooLong(kind) => write_limit(alloc, *kind, &mut text)?,
     }

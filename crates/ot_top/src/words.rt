@@ -1,16 +1,18 @@
 //! The words of a command. The first one says which command it is, and clap reads the others.
-ghost use Rattle.std.specs.Prelude.{◌≡◌, codes, map, false, true, IfOk, string_bytes, option_map};
+ghost use Rattle.std.specs.Prelude.{◌≡◌, ◌≤◌, codes, map, false, true, IfOk, IfSome, string_bytes, option_map};
 ghost use Rattle.clap.specs.Words.{app_of, first_of, found_of, is_simple_and_free, rows_of, rule_of};
+ghost use Rattle.ot_drill.specs.declared.limits.TheConstants.{MOST_ROUNDS};
 ghost use Rattle.ot_top.specs.Commands.{asked_of};
 ghost use Rattle.clap.specs.declared.builder.value_parser.ValueParser.TheVariants.{Unsigned};
-ghost use Rattle.ot_top.specs.Words.{asked_by, bare_app, budget_by, budget_rule, check_in, found_by, integrate_in, level_by};
-ghost use Rattle.ot_top.specs.Words.{most_questions, names_by, prove_app, prove_by, prove_in, replay_in, required_rule, tp1_rule, two_files, values_in};
+ghost use Rattle.ot_top.specs.Words.{asked_by, bare_app, budget_rule, check_in, drill_app, drill_by, drill_in, found_by, integrate_in, level_by};
+ghost use Rattle.ot_top.specs.Words.{most_questions, names_by, number_by, number_rule, prove_app, prove_by, prove_in, replay_in, required_rule, tp1_rule, two_files, values_in};
 
 use crate::command::Command;
 use clap::builder::ValueParser;
 use clap::error::ErrorKind;
 use clap::{Arg, ArgAction, ArgMatches};
 use fn_rules::Level;
+use ot_drill::MOST_ROUNDS;
 use ot_model::NoMemory;
 use std::alloc::Global;
 
@@ -69,6 +71,33 @@ fn prove_app<'a>(alloc: Global) -> Result<clap::Command<'a>, NoMemory>
     let with_level = bare_prove(alloc).arg(tp1_option(alloc))?;
     let with_options = with_level.arg(budget_option(alloc))?;
     let whole = with_options.arg(function_argument(alloc))?;
+    Ok(whole)
+}
+
+// The number of `drill`, which is at most `MOST_ROUNDS`.
+fn number_argument<'a>(alloc: Global) -> Arg<'a>
+    ensures rule { rule_of result ≡ number_rule }
+    ensures local { result.global ≡ false }
+{
+    Arg::new(alloc, "number")
+        .required(true)
+        .value_parser(clap::value_parser!(u64).range(1..=16))
+}
+
+// The clap command `drill`, without its number.
+fn bare_drill<'a>(alloc: Global) -> clap::Command<'a>
+    ensures { app_of result ≡ bare_app (codes "drill") }
+{
+    clap::Command::new(alloc, "drill")
+        .no_binary_name(true)
+        .disable_help_flag(true)
+}
+
+// The clap command `drill`: a number.
+fn drill_app<'a>(alloc: Global) -> Result<clap::Command<'a>, NoMemory>
+    ensures { IfOk result (λ c. app_of c ≡ drill_app) }
+{
+    let whole = bare_drill(alloc).arg(number_argument(alloc))?;
     Ok(whole)
 }
 
@@ -142,12 +171,13 @@ fn level_by(flag: Option<&str>) -> Level
     }
 }
 
-// The number of a text that clap takes for the budget.
-fn budget_by(text: &str) -> Option<u64>
-    ensures { result ≡ budget_by text.now }
+// The number of a text that clap takes for one from 1 to the greatest.
+fn number_by(most: u64, text: &str) -> Option<u64>
+    ensures number { result ≡ number_by most text.now }
+    ensures within { IfSome result (λ number. number ≤ most) }
 {
     match text.parse::<u64>() {
-        Ok(budget) if 1 <= budget && budget <= MOST_QUESTIONS => Some(budget),
+        Ok(number) if 1 <= number && number <= most => Some(number),
         _ => None,
     }
 }
@@ -157,7 +187,7 @@ fn prove_by<'a>(matches: &ArgMatches<'a>) -> Option<Command<'a>>
     ensures { option_map asked_of result ≡ prove_by (rows_of (found_of matches.now)) }
 {
     let level = level_by(value_of(matches, "tp1"));
-    let budget = budget_by(value_of(matches, "budget")?)?;
+    let budget = number_by(MOST_QUESTIONS, value_of(matches, "budget")?)?;
     let function = value_of(matches, "function")?;
     Some(Command::Prove {
         level,
@@ -210,6 +240,27 @@ fn replay_in<'a>(alloc: Global, words: &'a [String]) -> Result<Option<Command<'a
     }
 }
 
+// The number that clap finds.
+fn drill_by<'a>(matches: &ArgMatches<'a>) -> Option<Command<'a>>
+    ensures { option_map asked_of result ≡ drill_by (rows_of (found_of matches.now)) }
+{
+    let number = number_by(MOST_ROUNDS as u64, value_of(matches, "number")?)?;
+    Some(Command::Drill {
+        number: number as u32,
+    })
+}
+
+// `drill NUMBER`
+#[tactic(auto, unfolding(crate::specs::Words::drill_in))]
+fn drill_in<'a>(alloc: Global, words: &'a [String]) -> Result<Option<Command<'a>>, NoMemory>
+    ensures { IfOk result (λ command. option_map asked_of command ≡ drill_in (map string_bytes words.entry.now)) }
+{
+    match matches_in(drill_app(alloc)?, words)? {
+        Some(matches) => Ok(drill_by(&matches)),
+        None => Ok(None),
+    }
+}
+
 /// Reads the words behind the program's name; none where they are not those of a command.
 pub(crate) fn read_words<'a>(
     alloc: Global,
@@ -225,6 +276,7 @@ pub(crate) fn read_words<'a>(
         "check" => check_in(alloc, arguments),
         "integrate" => integrate_in(alloc, arguments),
         "replay" => replay_in(alloc, arguments),
+        "drill" => drill_in(alloc, arguments),
         _ => Ok(None),
     }
 }

@@ -72,7 +72,12 @@ fn write_ends(alloc: Global, ends: &[SiteEnd], out: &mut Vec<u8>) -> Result<(), 
     Ok(())
 }
 
-fn write_last(alloc: Global, differ: Option<(u32, u32)>, out: &mut Vec<u8>) -> Result<(), NoMemory>
+/// Writes whether two sites differ.
+pub(crate) fn write_last(
+    alloc: Global,
+    differ: Option<(u32, u32)>,
+    out: &mut Vec<u8>,
+) -> Result<(), NoMemory>
     ensures { OnOk result (out.new.items ≡ out.old.items ++ last_line differ) }
 {
     match differ {

@@ -1,0 +1,171 @@
+-- What statuses tell, from the reply that was written.
+use Rattle.std.proofs.Common.{◌≡◌, ◌≢◌, ◌≤◌, ◌⊎◌, ℕ, true, false, Bool, List, length, take, Option, Some, None, Result, Ok, Err, refl, ap, ◌∙◌, subst, inl, inr, arith}
+use Rattle.std.specs.Prelude.{IfSome, IsTrue, is_ok, if◌then◌else◌}
+use Rattle.std.proofs.lemmas.Bool.{cases_eq}
+use Rattle.std.proofs.lemmas.List.{take_all}
+use Rattle.fn_rules.specs.declared.function.Level.{Level}
+use Rattle.fn_rules.specs.Functions.{Function}
+use Rattle.fn_rules.specs.Validity.{is_valid}
+use Rattle.fn_text.specs.Grammar.{IsTextOf}
+use Rattle.fn_text.specs.Reading.{function_in}
+use Rattle.case_json.specs.declared.fault.CaseFault.{CaseFault}
+use Rattle.case_json.specs.declared.fault.CaseFault.TheVariants as faults
+use Rattle.ot_judge.specs.declared.refusal.JudgeEnd.{JudgeEnd}
+use Rattle.ot_judge.specs.declared.refusal.JudgeEnd.TheVariants as judge
+use Rattle.ot_judge.specs.Refusals.{IsJudgement}
+use Rattle.ot_top.specs.declared.reply.Drilled.{Drilled}
+use Rattle.ot_top.specs.declared.reply.FileKind.TheVariants as files
+use Rattle.ot_top.specs.declared.reply.Reply.{Reply}
+use Rattle.ot_top.specs.declared.reply.Reply.TheVariants as replies
+use Rattle.ot_top.specs.Commands.{Asked, Check, Drill}
+use Rattle.ot_top.specs.Drills.{IsDrilled, IsReplyToQuestions}
+use Rattle.ot_top.specs.DrillTexts.{drill_text}
+use Rattle.ot_top.specs.Judgements.{IsReplyToCertificate, IsReplyToJudgement, Tells}
+use Rattle.ot_top.specs.Limits.{limit_of}
+use Rattle.ot_top.specs.Replies.{IsReply}
+use Rattle.ot_top.specs.Shown.{IsGoneThrough, IsJudgedAs}
+use Rattle.ot_top.specs.Steady.{AreSteady, IsSteadyReply}
+use Rattle.ot_top.specs.Texts.{differ_status, status_of, text_of}
+use Rattle.ot_top.specs.Words.{asked_by}
+use Rattle.ot_top.proofs.Proving.{gets, reply_to_asked}
+
+-- what was answered: the status and the text of a reply, where it is none of the faults and no want of memory
+abbrev pub IsAnswered : List (List ℕ) → (List ℕ → Option (List ℕ)) → ℕ → (List ℕ → Type 0) → Type 0
+IsAnswered words holds status IsWritten =
+    (reply : Reply) × IsReply words holds reply × AreSteady words holds reply × (status ≡ status_of reply) × IsWritten (text_of reply)
+
+-- one of three statuses, or none of them
+three : (status : ℕ) → ((status ≡ 6) ⊎ ((status ≡ 7) ⊎ (status ≡ 10))) ⊎ ((status ≢ 6) × (status ≢ 7) × (status ≢ 10))
+three status =
+    elim (cases_eq status 6) as (λ _. ((status ≡ 6) ⊎ ((status ≡ 7) ⊎ (status ≡ 10))) ⊎ ((status ≢ 6) × (status ≢ 7) × (status ≢ 10))) [
+      | inl six ↦ inl (inl six)
+      | inr not_six ↦
+          elim (cases_eq status 7) as (λ _. ((status ≡ 6) ⊎ ((status ≡ 7) ⊎ (status ≡ 10))) ⊎ ((status ≢ 6) × (status ≢ 7) × (status ≢ 10))) [
+            | inl seven ↦ inl (inr (inl seven))
+            | inr not_seven ↦
+                elim (cases_eq status 10) as (λ _. ((status ≡ 6) ⊎ ((status ≡ 7) ⊎ (status ≡ 10))) ⊎ ((status ≢ 6) × (status ≢ 7) × (status ≢ 10))) [
+                  | inl ten ↦ inl (inr (inr ten))
+                  | inr not_ten ↦ inr (not_six, not_seven, not_ten)
+                ]
+          ]
+    ]
+
+-- no reply has a greater status than 9
+case_named : (fault : CaseFault) → status_of (replies.CaseRefused fault) ≤ 9
+case_named faults.Json = omega arith
+case_named (faults.Field name) = omega arith
+case_named (faults.Kind i) = omega arith
+case_named (faults.Enabled i) = omega arith
+case_named (faults.Pair i j) = omega arith
+case_named (faults.Order i) = omega arith
+case_named (faults.Limit name) = omega arith
+case_named faults.NoMemory = omega arith
+
+differ_named : (differ : Option (ℕ × ℕ)) → differ_status differ ≤ 9
+differ_named None = omega arith
+differ_named (Some pair) = omega arith
+
+same_named : (same : Bool) → (if same then 0 else 1) ≤ 9
+same_named same = elim same as (λ b. (if b then 0 else 1) ≤ 9) [ true ↦ omega arith | false ↦ omega arith ]
+
+reply_named : (r : Reply) → status_of r ≤ 9
+reply_named (replies.Proved bytes) = omega arith
+reply_named (replies.Broken counter) = omega arith
+reply_named replies.Spent = omega arith
+reply_named (replies.Accepted level) = omega arith
+reply_named (replies.Refused offset why) = omega arith
+reply_named (replies.FunctionRefused fault) = omega arith
+reply_named (replies.CaseRefused fault) = case_named fault
+reply_named (replies.EventRefused i fault) = omega arith
+reply_named (replies.StuckAt i) = omega arith
+reply_named (replies.Integrated ends same) = same_named same
+reply_named (replies.Replayed ends differ) = differ_named differ
+reply_named (replies.Drilled d) = differ_named d.differ
+reply_named replies.Usage = omega arith
+reply_named (replies.TooLong kind) = omega arith
+
+pub named : (status : ℕ) → (status ≢ 6 → status ≢ 7 → status ≢ 10 → (r : Reply) × (status ≡ status_of r)) → status ≤ 10
+named status answered =
+    elim (three status) as (λ _. status ≤ 10) [
+      | inl (inl six) ↦ omega arith
+      | inl (inr (inl seven)) ↦ omega arith
+      | inl (inr (inr ten)) ↦ omega arith
+      | inr none ↦ (let reply = answered none.0 none.1 none.2 in let few = reply_named reply.0 in let is = reply.1 in omega arith)
+    ]
+
+-- where neither count rises, memory was wanting or the reply was written
+pub whole : (status : ℕ) (Shelf Sink Want Written : Type 0) → (status ≡ 6 → Shelf) → (status ≡ 7 → Sink) → (status ≡ 10 → Want)
+    → (status ≢ 6 → status ≢ 7 → status ≢ 10 → Written) → ¬ Shelf → ¬ Sink → ((status ≡ 10) × Want) ⊎ Written
+whole status Shelf Sink Want Written on_shelf on_sink on_want written no_shelf no_sink =
+    elim (three status) as (λ _. ((status ≡ 10) × Want) ⊎ Written) [
+      | inl (inl six) ↦ absurd (no_shelf (on_shelf six))
+      | inl (inr (inl seven)) ↦ absurd (no_sink (on_sink seven))
+      | inl (inr (inr ten)) ↦ inl (ten, on_want ten)
+      | inr none ↦ inr (written none.0 none.1 none.2)
+    ]
+
+-- words that ask for a command have the reply of that command, which is steady
+steady_asked : (words : List (List ℕ)) (holds : List ℕ → Option (List ℕ)) (r : Reply) (asked : Asked) → asked_by words ≡ Some asked
+    → AreSteady words holds r → IsSteadyReply holds asked r
+steady_asked words holds r asked named are =
+    subst (λ (o : Option Asked). IfSome o (λ a. IsSteadyReply holds a r)) named are
+
+-- a workload's reply
+agrees : (differ : Option (ℕ × ℕ)) → differ_status differ ≢ 1 → (differ ≡ None) × (differ_status differ ≡ 0)
+agrees None other = (refl, refl)
+agrees (Some pair) other = absurd (other refl)
+
+pub gone_through : (words : List (List ℕ)) (holds : List ℕ → Option (List ℕ)) (status : ℕ) (IsWritten : List ℕ → Type 0)
+    → IsAnswered words holds status IsWritten → IsGoneThrough words status IsWritten
+gone_through words holds status IsWritten (r, reply, steady, is, written) number named =
+    go (reply_to_asked words holds r (Drill number) named reply).2
+    (steady_asked words holds r (Drill number) named steady)
+  where
+    go : IsReplyToQuestions number (reply_to_asked words holds r (Drill number) named reply).0 r → status_of r ≢ 1
+        → ((status ≡ 8) × IsWritten (text_of replies.Spent))
+        ⊎ ((status ≡ 0) × ((d : Drilled) × IsDrilled number d × (d.differ ≡ None) × IsWritten (drill_text d)))
+    go (inl spent) other =
+        inl (is ∙ ap (λ x. status_of x) spent.1, subst IsWritten (ap (λ x. text_of x) spent.1) written)
+    go (inr done) other =
+        let d : Drilled = done.1.0 in
+        let same : r ≡ replies.Drilled d = done.1.2 in
+        let both = agrees d.differ (subst (λ x. status_of x ≢ 1) same other) in
+        inr (is ∙ ap (λ x. status_of x) same ∙ both.1, (d, done.1.1, both.0, subst IsWritten (ap (λ x. text_of x) same) written))
+
+-- the status of a judgement that is told
+judgement_status : (judgement : Result Level JudgeEnd) (r : Reply) → Tells judgement r → status_of r ≡ (if is_ok judgement then 0 else 2)
+judgement_status (Ok level) r tells = ap (λ x. status_of x) tells
+judgement_status (Err (judge.Refused offset why)) r tells = ap (λ x. status_of x) tells
+judgement_status (Err judge.Failed) r tells = absurd tells
+judgement_status (Err judge.NoMemory) r tells = absurd tells
+
+module _ (texts_are_read : (bytes : List ℕ) (f : Function) → IsTextOf bytes f → function_in bytes ≡ Ok f)
+    (one_judgement :
+    (f : Function) (bytes : List ℕ) (one other : Result Level JudgeEnd) → IsTrue (is_valid f) → IsJudgement f bytes one
+    → IsJudgement f bytes other → one ≡ other)
+    (is_valid_text : (bytes : List ℕ) (f : Function) → IsTextOf bytes f → IsTrue (is_valid f)) where
+  file_judged :
+      (f : Function) (told : Option (List ℕ)) (certificate : List ℕ) (judgement : Result Level JudgeEnd) (r : Reply)
+      → IsTrue (is_valid f) → told ≡ Some certificate → length certificate ≤ limit_of files.Certificate
+      → IsJudgement f certificate judgement → IsReplyToCertificate f told r → status_of r ≡ (if is_ok judgement then 0 else 2)
+  file_judged f told certificate judgement r valid is within judged (contents, known, (found, of_front, reply)) =
+      let front : take (limit_of files.Certificate) contents ≡ certificate =
+      ap (λ (l : List ℕ). take (limit_of files.Certificate) l) (known certificate is)
+      ∙ take_all (limit_of files.Certificate) certificate within in
+      let whole_judged : IsJudgement f certificate found = subst (λ (b : List ℕ). IsJudgement f b found) front of_front in
+      let same : found ≡ judgement = one_judgement f certificate found judgement valid whole_judged judged in
+      by_reply same reply
+    where
+      by_reply : found ≡ judgement → IsReplyToJudgement told contents found r → status_of r ≡ (if is_ok judgement then 0 else 2)
+      by_reply same (inl longer) = absurd (let more = longer.1.0 certificate is in omega (arith, more, within))
+      by_reply same (inr h) = judgement_status found r h.1 ∙ ap (λ (j : Result Level JudgeEnd). if is_ok j then 0 else 2) same
+
+  pub judged :
+      (words : List (List ℕ)) (holds : List ℕ → Option (List ℕ)) (status : ℕ) (IsWritten : List ℕ → Type 0)
+      → IsAnswered words holds status IsWritten → IsJudgedAs words holds status
+  judged words holds status IsWritten (r, reply, steady, is, written) name certificate_name bytes certificate f judgement named told certificate_told
+      small text within judged_so =
+      let gives = reply_to_asked words holds r (Check name certificate_name) named reply in
+      let got : IsReplyToCertificate f (holds certificate_name) r =
+      gets (holds name) bytes f told small (texts_are_read bytes f text) (λ g. IsReplyToCertificate g (holds certificate_name) r) r gives in
+      is ∙ file_judged f (holds certificate_name) certificate judgement r (is_valid_text bytes f text) certificate_told within judged_so got

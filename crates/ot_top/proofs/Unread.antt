@@ -1,0 +1,177 @@
+-- The status 3 is that of a function's file that is the text of no function.
+use Rattle.std.proofs.Common.{◌≡◌, ◌≢◌, ◌≤◌, ◌+◌, ℕ, true, false, Bool, List, [], ◌∷◌, length, Option, Some, None, Result, Ok, Err, refl, sym, ap, ◌∙◌, subst, inl, inr, arith}
+use Rattle.std.specs.Prelude.{◌↔◌, if◌then◌else◌}
+use Rattle.fn_rules.specs.declared.function.Level.{Level}
+use Rattle.fn_rules.specs.Functions.{Function}
+use Rattle.fn_rules.specs.Orders.{Outcome}
+use Rattle.fn_text.specs.Grammar.{IsTextOf}
+use Rattle.fn_text.specs.Reading.{function_in}
+use Rattle.case_json.specs.declared.fault.CaseFault.{CaseFault}
+use Rattle.case_json.specs.declared.fault.CaseFault.TheVariants as faults
+use Rattle.case_json.specs.declared.script.Event.{Event}
+use Rattle.case_json.specs.declared.script.Event.TheVariants.{Make, Take}
+use Rattle.case_json.specs.declared.script.Script.{Script}
+use Rattle.case_json.specs.declared.trial.Trial.{Trial}
+use Rattle.case_json.specs.Cases.{trial_in}
+use Rattle.case_json.specs.Scripts.{script_in}
+use Rattle.ot_judge.specs.declared.refusal.JudgeEnd.{JudgeEnd}
+use Rattle.ot_judge.specs.declared.refusal.JudgeEnd.TheVariants as judge
+use Rattle.ot_judge.specs.declared.verdict.Verdict.{Verdict}
+use Rattle.ot_judge.specs.declared.verdict.Verdict.TheVariants as verdicts
+use Rattle.ot_session.specs.declared.answer.Make.{Make as NotMade}
+use Rattle.ot_session.specs.declared.answer.Make.TheVariants as makes
+use Rattle.ot_session.specs.declared.answer.Take.{Take as NotTaken}
+use Rattle.ot_session.specs.declared.answer.Take.TheVariants as takes
+use Rattle.ot_session.specs.Views.{View}
+use Rattle.ot_top.specs.declared.reply.FileKind.TheVariants as files
+use Rattle.ot_top.specs.declared.reply.Reply.{Reply}
+use Rattle.ot_top.specs.declared.reply.Reply.TheVariants as replies
+use Rattle.ot_top.specs.Commands.{Asked, Prove, Check, Integrate, Replay, Drill}
+use Rattle.ot_top.specs.Judgements.{IsReplyToJudgement, Tells}
+use Rattle.ot_top.specs.Limits.{limit_of}
+use Rattle.ot_top.specs.Replies.{IsReplyTo, IsReplyToCase, IsReplyToFile, IsReplyToFunction, IsReplyToTrial, TellsOutcomes}
+use Rattle.ot_top.specs.Sessions.{IsReplyToScript, IsReplyToSession, Runs, TellsNotMade, TellsNotTaken, TellsSites}
+use Rattle.ot_top.specs.Shown.{IsUnread, function_name}
+use Rattle.ot_top.specs.Texts.{differ_status, status_of}
+use Rattle.ot_top.specs.Verdicts.{TellsVerdict}
+use Rattle.ot_top.proofs.Proving.{reply_to_asked}
+use Rattle.ot_top.proofs.Told.{IsAnswered}
+
+-- a reply of another status
+named_so : (r named : Reply) (status : ℕ) → r ≡ named → status_of named ≡ status → status ≢ 3 → status_of r ≢ 3
+named_so r named status same says other is = other (sym says ∙ sym (ap (λ x. status_of x) same) ∙ is)
+
+case_other : (fault : CaseFault) → status_of (replies.CaseRefused fault) ≢ 3
+case_other faults.Json is = absurd (omega (arith, is))
+case_other (faults.Field name) is = absurd (omega (arith, is))
+case_other (faults.Kind i) is = absurd (omega (arith, is))
+case_other (faults.Enabled i) is = absurd (omega (arith, is))
+case_other (faults.Pair i j) is = absurd (omega (arith, is))
+case_other (faults.Order i) is = absurd (omega (arith, is))
+case_other (faults.Limit name) is = absurd (omega (arith, is))
+case_other faults.NoMemory is = absurd (omega (arith, is))
+
+refused_case : (fault : CaseFault) (r : Reply) → r ≡ replies.CaseRefused fault → status_of r ≢ 3
+refused_case fault r same is = case_other fault (sym (ap (λ x. status_of x) same) ∙ is)
+
+-- what is told of a function that was read has another status, whatever the command
+verdict_other : (f : Function) (verdict : Verdict) (r : Reply) → TellsVerdict f verdict r → status_of r ≢ 3
+verdict_other f (verdicts.Yes bytes) r tells = named_so r (replies.Proved bytes.items) 0 tells refl (λ e. omega (arith, e))
+verdict_other f (verdicts.No ob answers why) r tells = named_so r (replies.Broken tells.0) 1 tells.2 refl (λ e. omega (arith, e))
+verdict_other f verdicts.Spent r tells = named_so r replies.Spent 8 tells refl (λ e. omega (arith, e))
+
+judgement_other : (judgement : Result Level JudgeEnd) (r : Reply) → Tells judgement r → status_of r ≢ 3
+judgement_other (Ok level) r tells = named_so r (replies.Accepted level) 0 tells refl (λ e. omega (arith, e))
+judgement_other (Err (judge.Refused offset why)) r tells = named_so r (replies.Refused offset why) 2 tells refl (λ e. omega (arith, e))
+judgement_other (Err judge.Failed) r tells = absurd tells
+judgement_other (Err judge.NoMemory) r tells = absurd tells
+
+certificate_other : (told : Option (List ℕ)) (contents : List ℕ) (judgement : Result Level JudgeEnd) (r : Reply)
+    → IsReplyToJudgement told contents judgement r → status_of r ≢ 3
+certificate_other told contents judgement r (inl longer) =
+    named_so r (replies.TooLong files.Certificate) 9 longer.1.1 refl (λ e. omega (arith, e))
+certificate_other told contents judgement r (inr tells) = judgement_other judgement r tells.1
+
+same_other : (same : Bool) → ◌≢◌ {A = ℕ} (if same then 0 else 1) 3
+same_other true is = absurd (omega (arith, is))
+same_other false is = absurd (omega (arith, is))
+
+differ_other : (differ : Option (ℕ × ℕ)) → differ_status differ ≢ 3
+differ_other None is = absurd (omega (arith, is))
+differ_other (Some pair) is = absurd (omega (arith, is))
+
+outcomes_other : (outcomes : List Outcome) (r : Reply) → TellsOutcomes outcomes r → status_of r ≢ 3
+outcomes_other outcomes (replies.Integrated ends same) tells = same_other same
+outcomes_other outcomes _ tells = absurd tells
+
+sites_other : (v : View) (r : Reply) → TellsSites v r → status_of r ≢ 3
+sites_other v (replies.Replayed ends differ) tells = differ_other differ
+sites_other v _ tells = absurd tells
+
+not_made_other : (i : ℕ) (why : NotMade) (r : Reply) → TellsNotMade i why r → status_of r ≢ 3
+not_made_other i makes.NoSite r tells = named_so r _ 4 tells refl (λ e. omega (arith, e))
+not_made_other i makes.WrongSite r tells = named_so r _ 4 tells refl (λ e. omega (arith, e))
+not_made_other i makes.WrongKind r tells = named_so r _ 4 tells refl (λ e. omega (arith, e))
+not_made_other i makes.NotEnabled r tells = named_so r _ 4 tells refl (λ e. omega (arith, e))
+not_made_other i makes.Full r tells = named_so r _ 9 tells refl (λ e. omega (arith, e))
+not_made_other i makes.NoMemory r tells = absurd tells
+
+not_taken_other : (i : ℕ) (why : NotTaken) (r : Reply) → TellsNotTaken i why r → status_of r ≢ 3
+not_taken_other i takes.NoSite r tells = named_so r _ 4 tells refl (λ e. omega (arith, e))
+not_taken_other i takes.NoOp r tells = named_so r _ 4 tells refl (λ e. omega (arith, e))
+not_taken_other i (takes.Stuck o) r tells = named_so r (replies.StuckAt i) 1 tells refl (λ e. omega (arith, e))
+not_taken_other i takes.Spent r tells = named_so r replies.Spent 8 tells refl (λ e. omega (arith, e))
+not_taken_other i takes.NoMemory r tells = absurd tells
+
+runs_other : (v : View) (i : ℕ) (events : List Event) (r : Reply) → Runs v i events r → status_of r ≢ 3
+runs_other v i [] r tells = sites_other v r tells
+runs_other v i (Make s o ∷ events) r (inl refused) = not_made_other i refused.0 r refused.2
+runs_other v i (Take s n ∷ events) r (inl refused) = not_taken_other i refused.0 r refused.3
+runs_other v i (event ∷ events) r (inr done) = runs_other done.0 (i + 1) events r done.2
+
+trial_other : (f : Function) (read : Result Trial CaseFault) (r : Reply) → IsReplyToTrial f read r → status_of r ≢ 3
+trial_other f (Err fault) r tells = refused_case fault r tells
+trial_other f (Ok t) r tells = outcomes_other _ r tells
+
+script_other : (f : Function) (read : Result Script CaseFault) (r : Reply) → IsReplyToScript f read r → status_of r ≢ 3
+script_other f (Err fault) r tells = refused_case fault r tells
+script_other f (Ok script) r tells = runs_other tells.0 0 script.events r tells.2
+
+case_reply_other : (f : Function) (bytes : List ℕ) (r : Reply) → IsReplyToCase f bytes r → status_of r ≢ 3
+unfolding IsReplyToCase
+case_reply_other f bytes r tells = trial_other f (trial_in f bytes) r tells
+
+session_reply_other : (f : Function) (bytes : List ℕ) (r : Reply) → IsReplyToSession f bytes r → status_of r ≢ 3
+unfolding IsReplyToSession
+session_reply_other f bytes r tells = script_other f (script_in bytes) r tells
+
+file_other : (told : Option (List ℕ)) (Gets : List ℕ → Type 0) (r : Reply) → ((bytes : List ℕ) → Gets bytes → status_of r ≢ 3)
+    → IsReplyToFile files.Case told Gets r → status_of r ≢ 3
+file_other told Gets r other (inl longer) = named_so r (replies.TooLong files.Case) 9 longer.1 refl (λ e. omega (arith, e))
+file_other told Gets r other (inr gets) = other gets.0 gets.2
+
+module _ (texts_are_read : (bytes : List ℕ) (f : Function) → IsTextOf bytes f → function_in bytes ≡ Ok f)
+    (is_text : (bytes : List ℕ) (f : Function) → function_in bytes ≡ Ok f → IsTextOf bytes f) where
+  -- a file that is refused is no text of a function, and one that is read is
+  read_or_not :
+      (told : Option (List ℕ)) (bytes : List ℕ) (Gets : Function → Type 0) (r : Reply) → told ≡ Some bytes
+      → length bytes ≤ limit_of files.Function → ((f : Function) → Gets f → status_of r ≢ 3) → IsReplyToFunction told Gets r
+      → (status_of r ≡ 3) ↔ ((f : Function) → ¬ IsTextOf bytes f)
+  read_or_not told bytes Gets r is small other (inl (inl longer)) =
+      absurd (let more = longer.0 bytes is in omega (arith, more, small))
+  read_or_not told bytes Gets r is small other (inl (inr (fault, read, same))) = (
+    λ three f text. let refused : function_in bytes ≡ Err fault = (read bytes is).1 in let ok = texts_are_read bytes f text in cc,
+    λ none. ap (λ x. status_of x) same,
+  )
+  read_or_not told bytes Gets r is small other (inr (f, read, gets)) = (
+    λ three g text. other f gets three,
+    λ none. absurd (none f (is_text bytes f (read bytes is).1)),
+  )
+
+  unread_reply :
+      (holds : List ℕ → Option (List ℕ)) (asked : Asked) (name bytes : List ℕ) (r : Reply) → function_name asked ≡ Some name
+      → holds name ≡ Some bytes → length bytes ≤ limit_of files.Function → IsReplyTo holds asked r
+      → (status_of r ≡ 3) ↔ ((f : Function) → ¬ IsTextOf bytes f)
+  unread_reply holds (Prove level budget function) name bytes r named told small reply =
+      let same : function ≡ name = cc in
+      read_or_not (holds function) bytes _ r (ap (λ n. holds n) same ∙ told) small (λ f gets. verdict_other f gets.0 r gets.3) reply
+  unread_reply holds (Check function certificate) name bytes r named told small reply =
+      let same : function ≡ name = cc in
+      read_or_not (holds function) bytes _ r (ap (λ n. holds n) same ∙ told) small
+      (λ f gets. certificate_other (holds certificate) gets.0 gets.2.0 r gets.2.2) reply
+  unread_reply holds (Integrate function case) name bytes r named told small reply =
+      let same : function ≡ name = cc in
+      read_or_not (holds function) bytes _ r (ap (λ n. holds n) same ∙ told) small
+      (λ f gets. file_other (holds case) (λ b. IsReplyToCase f b r) r (λ b. case_reply_other f b r) gets) reply
+  unread_reply holds (Replay function session) name bytes r named told small reply =
+      let same : function ≡ name = cc in
+      read_or_not (holds function) bytes _ r (ap (λ n. holds n) same ∙ told) small
+      (λ f gets. file_other (holds session) (λ b. IsReplyToSession f b r) r (λ b. session_reply_other f b r) gets) reply
+  unread_reply holds (Drill number) name bytes r named told small reply = absurd (cc)
+
+  pub unread :
+      (words : List (List ℕ)) (holds : List ℕ → Option (List ℕ)) (status : ℕ) (IsWritten : List ℕ → Type 0)
+      → IsAnswered words holds status IsWritten → IsUnread words holds status
+  unread words holds status IsWritten (r, reply, steady, is, written) asked name bytes named has told small =
+      subst (λ (s : ℕ). (s ≡ 3) ↔ ((f : Function) → ¬ IsTextOf bytes f)) (sym is)
+      (unread_reply holds asked name bytes r has told small (reply_to_asked words holds r asked named reply))

@@ -1,0 +1,31 @@
+use Rattle.ot_top.proofs.OneDrill.{drill_replied_once}
+use Rattle.ot_top.proofs.OneJudgement.{check_replied_once}
+use Rattle.ot_top.proofs.OneOutcome.{integrate_replied_once, replay_replied_once}
+use Rattle.ot_top.proofs.OneVerdict.{prove_replied_once}
+use Rattle.ot_top.proofs.laws.commands_have_one_reply.Goals as goal
+
+pub returns-clause-check : goal.returns-clause-check
+returns-clause-check c =
+    let grammar = c.what_is_read_is_in_the_grammar.ensures in
+    check_replied_once c.bytes_have_one_judgement.ensures grammar.text grammar.valid
+
+pub returns-clause-integrate : goal.returns-clause-integrate
+returns-clause-integrate c =
+    λ holds name case_name bytes contents one other told case_told first second.
+    integrate_replied_once holds name case_name bytes contents one other told case_told first second
+
+pub returns-clause-replay : goal.returns-clause-replay
+returns-clause-replay c =
+    λ holds name session_name bytes contents one other told session_told first second.
+    replay_replied_once holds name session_name bytes contents one other told session_told c.sessions_have_one_reply.ensures first second
+
+pub returns-clause-prove : goal.returns-clause-prove
+returns-clause-prove c =
+    λ holds level budget name bytes one other told first second.
+    prove_replied_once c.obligations_have_one_question_list.ensures.one holds level budget name bytes one other told first second
+
+pub returns-clause-drill : goal.returns-clause-drill
+returns-clause-drill c =
+    λ holds number one other first second.
+    drill_replied_once c.sessions_begin_as_one.ensures c.makes_have_one_outcome.ensures c.takes_have_one_answer.ensures.answer
+    c.takes_have_one_answer.ensures.session c.obligations_have_one_question_list.ensures.one holds number one other first second

@@ -1,0 +1,51 @@
+//! Laws of replies. Each is the contract of a function that does nothing.
+ghost use Rattle.std.specs.Prelude.{◌≡◌, ◌≢◌, ℕ, List, Option, Some};
+ghost use Rattle.fn_rules.specs.declared.function.Level.{Level};
+ghost use Rattle.fn_rules.specs.Functions.{Function};
+ghost use Rattle.ot_top.specs.Commands.{Prove, Check, Integrate, Replay, Drill};
+ghost use Rattle.ot_top.specs.Replies.{IsReplyTo};
+ghost use Rattle.ot_top.specs.Sessions.{IsReplyToSession};
+ghost use Rattle.ot_top.specs.Texts.{status_of};
+
+use crate::reply::Reply;
+use fn_text::what_is_read_is_in_the_grammar;
+use ot_judge::{bytes_have_one_judgement, obligations_have_one_question_list};
+use ot_session::{makes_have_one_outcome, sessions_begin_as_one, takes_have_one_answer};
+
+/// The bytes of a session get one reply under a function: each event is done in one way or refused for one reason, so the
+/// status and the text of `replay` are told by its files.
+pub fn sessions_have_one_reply()
+    ensures { (f : Function) (bytes : List ℕ) (one other : Reply) → IsReplyToSession f bytes one → IsReplyToSession f bytes other
+        → one ≡ other }
+{
+    sessions_begin_as_one();
+    makes_have_one_outcome();
+    takes_have_one_answer();
+}
+
+/// Where the files that a command names are told, two replies to the command are one, so they have one status and one text;
+/// but the certificates that `prove` writes may differ.
+pub fn commands_have_one_reply()
+    ensures check { (holds : List ℕ → Option (List ℕ)) (name certificate_name bytes certificate : List ℕ) (one other : Reply)
+        → holds name ≡ Some bytes → holds certificate_name ≡ Some certificate
+        → IsReplyTo holds (Check name certificate_name) one → IsReplyTo holds (Check name certificate_name) other → one ≡ other }
+    ensures integrate { (holds : List ℕ → Option (List ℕ)) (name case_name bytes contents : List ℕ) (one other : Reply)
+        → holds name ≡ Some bytes → holds case_name ≡ Some contents
+        → IsReplyTo holds (Integrate name case_name) one → IsReplyTo holds (Integrate name case_name) other → one ≡ other }
+    ensures replay { (holds : List ℕ → Option (List ℕ)) (name session_name bytes contents : List ℕ) (one other : Reply)
+        → holds name ≡ Some bytes → holds session_name ≡ Some contents
+        → IsReplyTo holds (Replay name session_name) one → IsReplyTo holds (Replay name session_name) other → one ≡ other }
+    ensures prove { (holds : List ℕ → Option (List ℕ)) (level : Level) (budget : ℕ) (name bytes : List ℕ) (one other : Reply)
+        → holds name ≡ Some bytes → IsReplyTo holds (Prove level budget name) one → IsReplyTo holds (Prove level budget name) other
+        → (status_of one ≡ status_of other) × (status_of one ≢ 0 → one ≡ other) }
+    ensures drill { (holds : List ℕ → Option (List ℕ)) (number : ℕ) (one other : Reply)
+        → IsReplyTo holds (Drill number) one → IsReplyTo holds (Drill number) other → one ≡ other }
+{
+    what_is_read_is_in_the_grammar();
+    bytes_have_one_judgement();
+    obligations_have_one_question_list();
+    sessions_begin_as_one();
+    makes_have_one_outcome();
+    takes_have_one_answer();
+    sessions_have_one_reply();
+}
