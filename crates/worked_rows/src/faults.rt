@@ -1,27 +1,65 @@
 //! Faults of the outside, and files at their limits.
-use crate::samples::{INS_OT, MARKS_CERT, MARKS_OT};
-use crate::setting::{Files, expect, shelf_of, shelf_with, status_of};
+use crate::samples::{INS_OT, MARKS_CERT, MARKS_OT, SITES_OT, TTF_OT};
+use crate::setting::{Files, expect, expect_faults, shelf_of, shelf_with, status_of};
 use ot_outside::MemSink;
 use std::alloc::Global;
 use std::process::Abort;
 use std::test::Fail;
 
-const FILES: Files<'static> = &[("marks.ot", MARKS_OT), ("marks.cert", MARKS_CERT)];
+const FILES: Files<'static> = &[
+    ("marks.ot", MARKS_OT),
+    ("marks.cert", MARKS_CERT),
+    ("sites.ot", SITES_OT),
+    ("ttf.ot", TTF_OT),
+    (
+        "three.json",
+        r#"{"doc":"y","ops":[["ins",1,"a",1],["del",0,2],["ins",0,"c",3]],"orders":[[0,1,2],[1,0,2]]}"#,
+    ),
+    (
+        "held.json",
+        r#"{"doc":"","sites":3,"events":[["make",1,["ins",0,"a",1]],["make",2,["ins",0,"b",2]],["take",2,0],["make",2,["del",1,2]],["take",3,2],["take",3,1],["take",3,0],["take",1,1],["take",1,1],["take",1,2]]}"#,
+    ),
+];
 
 const CHECK: &str = "check marks.ot marks.cert";
 
+// Commands, how many calls of the shelf they make, their statuses and their texts. The calls for a file are open, read, and
+// read at the end.
+const COMMANDS: &[(&str, u32, u8, &str)] = &[
+    (CHECK, 6, 0, "accepted tp1\n"),
+    (
+        "prove sites.ot",
+        3,
+        1,
+        "no tp2 operations\ndoc [y]\nop 1 ins 1 a 1\nop 2 del 0 2\nop 3 ins 0 c 3\nleft ins 0 c 3\nright ins 1 c 3\n",
+    ),
+    (
+        "integrate sites.ot three.json",
+        6,
+        1,
+        "order 0 [ca]\norder 1 [ac]\ndiffer\n",
+    ),
+    (
+        "replay ttf.ot held.json",
+        6,
+        0,
+        "site 1 3 [a~b]\nsite 2 3 [a~b]\nsite 3 3 [a~b]\nsame\n",
+    ),
+    (
+        "drill 2",
+        0,
+        0,
+        "drill 2\ncases 9\naccepted tp2\noperations 6\nheld 2\nrepeated 4\ncells 6\nsame\n",
+    ),
+];
+
 #[test]
-fn a_call_that_fails_is_answered(rt: HostRuntime) -> Result<(), Fail> {
+fn faults_of_the_outside_are_told(rt: HostRuntime) -> Result<(), Fail> {
     let alloc = rt.alloc();
-    // The calls of the shelf: open, read, read at the end, and the same for the second file.
-    for call in 1..=6 {
-        let mut shelf = shelf_of(alloc, FILES, &[call])?;
-        expect(&rt, alloc, &mut shelf, CHECK, 6, "")?;
+    for (line, calls, status, text) in COMMANDS {
+        expect_faults(&rt, alloc, FILES, line, *calls, (*status, text.as_bytes()))?;
     }
-    let mut shelf = shelf_of(alloc, FILES, &[7])?;
-    expect(&rt, alloc, &mut shelf, CHECK, 0, "accepted tp1\n")?;
-    let mut shelf = shelf_of(alloc, &[("marks.ot", MARKS_OT)], &[])?;
-    expect(&rt, alloc, &mut shelf, CHECK, 6, "")
+    Ok(())
 }
 
 // Fails the test unless the sink makes the command end with this status and this text.
@@ -49,18 +87,6 @@ fn a_reply_is_written_in_any_pieces(rt: HostRuntime) -> Result<(), Fail> {
     ] {
         let sink = MemSink::new(alloc, room, per_call, Vec::new(alloc))?;
         expect_over(&rt, alloc, sink, status, text)?;
-    }
-    Ok(())
-}
-
-#[test]
-fn what_was_written_is_a_front_of_the_reply(rt: HostRuntime) -> Result<(), Fail> {
-    let alloc = rt.alloc();
-    let mut front = String::new(alloc);
-    for (letter, call) in "accepted tp1\n".chars().zip(1..14) {
-        let sink = MemSink::new(alloc, 64, 1, Vec::from_slice(alloc, &[call])?)?;
-        expect_over(&rt, alloc, sink, 7, front.as_str())?;
-        front.push(letter)?;
     }
     Ok(())
 }

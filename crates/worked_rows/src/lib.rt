@@ -6,6 +6,8 @@
 #[cfg(test)]
 mod causes;
 #[cfg(test)]
+mod drills;
+#[cfg(test)]
 mod faults;
 #[cfg(test)]
 mod maker;

@@ -80,3 +80,48 @@ pub fn expect_rows(
     }
     Ok(())
 }
+
+// Fails the test unless the command has the status and the text over a sink that takes a byte at a call, of which these
+// fail.
+fn expect_bytes(
+    rt: &impl Abort,
+    alloc: Global,
+    mut shelf: MemShelf,
+    line: &str,
+    failing: &[u32],
+    (status, text): (u8, &[u8]),
+) -> Result<(), Fail> {
+    let mut sink = MemSink::new(alloc, 1_024, 1, Vec::from_slice(alloc, failing)?)?;
+    let found = status_of(alloc, line, &mut shelf, &mut sink)?;
+    assert_eq!(rt; found, status, "the status of {line}");
+    assert_eq!(rt; sink.written(), text, "the text of {line}");
+    Ok(())
+}
+
+/// Fails the test unless the command over these files tells each fault of the outside, and else has the status and the text.
+/// It makes so many calls of the shelf; where one of them fails, it ends with 6 and writes nothing. Where a sink that takes a
+/// byte at a call fails, it ends with 7 and has written what stands before that byte.
+pub fn expect_faults(
+    rt: &impl Abort,
+    alloc: Global,
+    files: Files<'_>,
+    line: &str,
+    calls: u32,
+    (status, text): (u8, &[u8]),
+) -> Result<(), Fail> {
+    for call in 1..=calls {
+        let mut shelf = shelf_of(alloc, files, &[call])?;
+        expect(rt, alloc, &mut shelf, line, 6, "")?;
+    }
+    // A further call of the shelf would fail, but is not made.
+    let further = calls.saturating_add(1);
+    let shelf = shelf_of(alloc, files, &[further])?;
+    expect_bytes(rt, alloc, shelf, line, &[], (status, text))?;
+    let mut front = Vec::new(alloc);
+    for (byte, call) in text.iter().zip(1..1_000) {
+        let shelf = shelf_of(alloc, files, &[further])?;
+        expect_bytes(rt, alloc, shelf, line, &[call], (7, front.as_slice()))?;
+        front.push(*byte)?;
+    }
+    Ok(())
+}

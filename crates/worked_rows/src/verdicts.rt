@@ -3,7 +3,7 @@ use crate::samples::{
     CHARACTERS_OT, FAR_OT, INS_OT, LAST_OT, MARKS_OT, OFFBY_OT, SITES_OT, TIES_OT, TTF_OT, TTFU_OT,
     TWICE_OT, UNTIED_OT,
 };
-use crate::setting::{Files, Rows, expect, expect_rows, shelf_of, shelf_with, status_of};
+use crate::setting::{Files, Rows, expect_faults, expect_rows, shelf_of, shelf_with, status_of};
 use ot_outside::MemSink;
 use std::alloc::{AllocError, Global};
 use std::test::Fail;
@@ -185,7 +185,7 @@ fn proved(
     let mut sink = MemSink::new(alloc, 65_536, 65_536, Vec::new(alloc))?;
     let line = match flag {
         "" => format!(in alloc; "prove --budget {budget} function")?,
-        flag => format!(in alloc; "prove {flag} --budget {budget} function")?,
+        flag => format!(in alloc; "prove function {flag} --budget {budget}")?,
     };
     let status = status_of(alloc, line.as_str(), &mut shelf, &mut sink)?;
     Ok((status, Vec::from_slice(alloc, sink.written())?))
@@ -265,20 +265,8 @@ const MARKS: &str = "prove --tp1 marks.ot";
 #[test]
 fn a_fault_leaves_nothing_or_a_front_of_a_certificate(rt: HostRuntime) -> Result<(), Fail> {
     let alloc = rt.alloc();
-    // The calls of the shelf: open, read, read at the end.
-    for call in 1..=3 {
-        let mut shelf = shelf_of(alloc, FILES, &[call])?;
-        expect(&rt, alloc, &mut shelf, MARKS, 6, "")?;
-    }
     let (status, certificate) = proved(alloc, MARKS_OT, "--tp1", 49)?;
     assert_eq!(rt; status, 0);
-    let mut front = Vec::new(alloc);
-    for (byte, call) in certificate.iter().zip(1..1_000) {
-        let mut shelf = shelf_of(alloc, FILES, &[])?;
-        let mut sink = MemSink::new(alloc, 1_024, 1, Vec::from_slice(alloc, &[call])?)?;
-        assert_eq!(rt; status_of(alloc, MARKS, &mut shelf, &mut sink)?, 7);
-        assert_eq!(rt; sink.written(), front.as_slice());
-        front.push(*byte)?;
-    }
-    Ok(())
+    // The calls of the shelf: open, read, read at the end.
+    expect_faults(&rt, alloc, FILES, MARKS, 3, (0, certificate.as_slice()))
 }
