@@ -71,9 +71,6 @@ pub record HasPut (before after rest whole : List ℕ) : Type 0 where
   pub is_put : after ≡ before ++ put
   pub all : put ++ rest ≡ whole
 
-pub HasPut-none : (items whole : List ℕ) → HasPut items items whole whole
-HasPut-none items whole = record { put = []; is_put = sym (append-nil items); all = refl }
-
 -- they are all, where the chain has ended
 pub HasPut-ended : (before after rest whole : List ℕ) → HasPut before after rest whole → rest ≡ [] → after ≡ before ++ whole
 HasPut-ended before after rest whole has ended =

@@ -1,6 +1,6 @@
 //! What a token that goes on makes of the control.
 
-ghost use Rattle.std.specs.Prelude.{◌≡◌};
+ghost use Rattle.std.specs.Prelude.{◌≡◌, ◌+◌, true};
 ghost use Rattle.fn_text.specs.Kinds.{with_kind};
 ghost use Rattle.fn_text.specs.Moves.{HasRoom};
 ghost use Rattle.fn_text.specs.Reader.{with_want, want_behind, control_behind};
@@ -16,6 +16,24 @@ fn with_kind(head: Head, kind: Kind) -> Head
         Kind::Ins => Head { ins: true, ..head },
         Kind::Del => Head { del: true, ..head },
         Kind::Upd => Head { upd: true, ..head },
+    }
+}
+
+fn with_sites(head: Head) -> Head
+    ensures { result ≡ record head { sites_differ = true } }
+{
+    Head {
+        sites_differ: true,
+        ..head
+    }
+}
+
+fn with_chars(head: Head) -> Head
+    ensures { result ≡ record head { chars_differ = true } }
+{
+    Head {
+        chars_differ: true,
+        ..head
     }
 }
 
@@ -43,6 +61,82 @@ impl Control {
         Control { want, head, ..self }
     }
 
+    // The control in a block whose kinds were read.
+    fn in_block(self, first: Kind, second: Kind) -> Control
+        ensures { result ≡ control_behind self (Move.BeginBlock first second) }
+    {
+        Control {
+            want: Want::BlockEnd,
+            begun: true,
+            first,
+            second,
+            seen: self.seen.with(first, second),
+            cases: 0,
+            ..self
+        }
+    }
+
+    // The control at the guard of one more case.
+    fn in_case(self) -> Control
+        requires { HasRoom self Move.BeginCase }
+        ensures { result ≡ control_behind self Move.BeginCase }
+    {
+        Control {
+            want: Want::Operand,
+            cases: self.cases + 1,
+            atoms: 0,
+            ..self
+        }
+    }
+
+    // The control in one more pair of parentheses.
+    fn opened(self) -> Control
+        requires { HasRoom self Move.Open }
+        ensures { result ≡ control_behind self Move.Open }
+    {
+        Control {
+            want: Want::Operand,
+            outside: self.outside + self.nots + 1,
+            nots: 0,
+            ..self
+        }
+    }
+
+    // The control behind one more `not`.
+    fn negated(self) -> Control
+        requires { HasRoom self Move.Negate }
+        ensures { result ≡ control_behind self Move.Negate }
+    {
+        Control {
+            want: Want::Operand,
+            nots: self.nots + 1,
+            ..self
+        }
+    }
+
+    // The control behind the first token of one more atom.
+    fn with_atom(self, want: Want) -> Control
+        requires { HasRoom self Move.Always }
+        ensures { result ≡ record self { want = want; atoms = self.atoms + 1 } }
+    {
+        Control {
+            want,
+            atoms: self.atoms + 1,
+            ..self
+        }
+    }
+
+    // The control behind a whole operand.
+    fn behind_operand(self, want: Want) -> Control
+        ensures { result ≡ record self { want = want; nots = 0 } }
+    {
+        Control {
+            want,
+            nots: 0,
+            ..self
+        }
+    }
+
     /// The control behind a token that does this.
     pub(crate) fn behind(self, move_: Move) -> Control
         requires { HasRoom self move_ }
@@ -57,71 +151,24 @@ impl Control {
             },
             Move::SetMode(mode) => c.with_head(Want::LineEnd(Next::Kinds), Head { mode, ..c.head }),
             Move::Declare(kind) => c.with_head(Want::NextKind, with_kind(c.head, kind)),
-            Move::AssumeSites => c.with_head(
-                Want::Differ,
-                Head {
-                    sites_differ: true,
-                    ..c.head
-                },
-            ),
-            Move::AssumeChars => c.with_head(
-                Want::Differ,
-                Head {
-                    chars_differ: true,
-                    ..c.head
-                },
-            ),
+            Move::AssumeSites => c.with_head(Want::Differ, with_sites(c.head)),
+            Move::AssumeChars => c.with_head(Want::Differ, with_chars(c.head)),
             Move::BlockWord(line, column) => Control {
                 line,
                 column,
                 ..c.wanting(Want::BlockFirst)
             },
-            Move::BeginBlock(first, second) => Control {
-                want: Want::BlockEnd,
-                begun: true,
-                first,
-                second,
-                seen: c.seen.with(first, second),
-                cases: 0,
-                ..c
-            },
-            Move::BeginCase => Control {
-                cases: c.cases + 1,
-                atoms: 0,
-                ..c.wanting(Want::Operand)
-            },
-            Move::Open => Control {
-                outside: c.outside + c.nots + 1,
-                nots: 0,
-                ..c.wanting(Want::Operand)
-            },
-            Move::Negate => Control {
-                nots: c.nots + 1,
-                ..c.wanting(Want::Operand)
-            },
-            Move::Always => Control {
-                atoms: c.atoms + 1,
-                ..c.wanting(Want::Operator)
-            },
-            Move::BeginAtom(sort, left) => Control {
-                atoms: c.atoms + 1,
-                ..c.wanting(Want::Comparison(sort, left))
-            },
+            Move::BeginBlock(first, second) => c.in_block(first, second),
+            Move::BeginCase => c.in_case(),
+            Move::Open => c.opened(),
+            Move::Negate => c.negated(),
+            Move::Always => c.with_atom(Want::Operator),
+            Move::BeginAtom(sort, left) => c.with_atom(Want::Comparison(sort, left)),
             Move::Compare(sort, left, cmp) => c.wanting(behind_atom(sort, left, cmp)),
             Move::Shift(..) => c.wanting(Want::Operator),
-            Move::And => Control {
-                nots: 0,
-                ..c.wanting(Want::Operand)
-            },
-            Move::Or => Control {
-                nots: 0,
-                ..c.wanting(Want::Operand)
-            },
+            Move::And | Move::Or => c.behind_operand(Want::Operand),
             Move::Close => c.wanting(Want::Operator),
-            Move::Colon => Control {
-                nots: 0,
-                ..c.wanting(Want::Result)
-            },
+            Move::Colon => c.behind_operand(Want::Result),
             Move::EndCase(_) => c.wanting(Want::Line),
             Move::End => Control {
                 begun: false,

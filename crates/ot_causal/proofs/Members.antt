@@ -117,15 +117,6 @@ HaveOneSet-older x l m new_l new_m same = record {
   ];
 }
 
--- a list that has the set of another behind a newest member is that other, without the member
-pub HaveOneSet-lacking : (x : ℕ) (l m : List ℕ) → IsDistinct m → has l x ≡ false → HaveOneSet (x ∷ l) m → HaveOneSet l (without x m)
-HaveOneSet-lacking x l m once new same = record {
-  at = λ z. elim (cases_eq z x) [
-    | inl is ↦ subst (λ (w : ℕ). has l w ≡ has (without x m) w) (sym is) (new ∙ sym (has-without_itself x m once))
-    | inr other ↦ sym (has-other x l z other) ∙ same.at z ∙ sym (has-without x m z other)
-  ];
-}
-
 pub IsSublist-itself : (l : List ℕ) → IsSublist l l
 IsSublist-itself [] = none
 IsSublist-itself (x ∷ l) = keep x l l (IsSublist-itself l)

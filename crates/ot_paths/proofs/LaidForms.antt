@@ -16,9 +16,6 @@ use Rattle.ot_rewrite.specs.Leading.{led_order}
 use Rattle.ot_rewrite.specs.Splits.{HasLowOffsets}
 use Rattle.ot_paths.specs.Sharing.{StandsAlike, laid_form}
 
-pub alike_itself : (f : Function) (g : GoalTree) → StandsAlike f g g
-alike_itself f g = record { asked = refl; belongs = λ ob h. h }
-
 pub alike_on : (f : Function) (g h i : GoalTree) → StandsAlike f g h → StandsAlike f h i → StandsAlike f g i
 alike_on f g h i first next =
     record { asked = next.asked ∙ first.asked; belongs = λ ob is_goal. next.belongs ob (first.belongs ob is_goal) }

@@ -1,14 +1,13 @@
 -- What the cases of a valid block keep where some of them are left out.
-use Rattle.std.proofs.Common.{◌≡◌, ℕ, zero, suc, ◌≤◌, Bool, true, ◌&&◌, IsTrue, nat_le, List, [], ◌∷◌, length, take, drop, map, ◌-◌, refl, ap, subst, ◌∙◌, sym, arith, rules}
-use Rattle.std.specs.List.{AllByRecursion, list_all}
+use Rattle.std.proofs.Common.{◌≡◌, ℕ, zero, suc, Bool, IsTrue, List, [], ◌∷◌, length, take, drop, map, ◌-◌, refl, ap, subst, ◌∙◌, sym}
+use Rattle.std.specs.List.{AllByRecursion}
 use Rattle.std.proofs.Math.Seq.{take-length}
 use Rattle.std.proofs.lemmas.List.{drop-map, length-drop}
 use Rattle.fn_rules.specs.declared.function.Case.{Case}
 use Rattle.fn_rules.specs.Functions.{GuardedCase, case_of}
-use Rattle.fn_rules.specs.Validity.{is_valid_case, are_valid_cases}
-use Rattle.fn_rules.specs.declared.limits.TheConstants.{MAX_CASES}
+use Rattle.fn_rules.specs.Validity.{are_valid_cases}
 use Rattle.ot_questions.specs.Nears.{IsNearCase}
-use Rattle.ot_questions.proofs.Nears.{AreNear-block, both_true, ≡-IsTrue}
+use Rattle.ot_questions.proofs.Nears.{AreNear-block, ≡-IsTrue}
 
 left_of : {X : Type 0} (P : X → Type 0) (xs : List X) (n : ℕ) → AllByRecursion P xs → AllByRecursion P (drop n xs)
 left_of P xs zero h = h
@@ -19,14 +18,6 @@ pub cases_left_near :
     (chars : Bool) (cs : List GuardedCase) (n : ℕ) → IsTrue (are_valid_cases chars cs) → AllByRecursion IsNearCase (drop n cs)
 cases_left_near chars cs n valid =
     left_of IsNearCase cs n (AreNear-block chars cs (≡-IsTrue (are_valid_cases chars cs) valid))
-
-few : (n : ℕ) → nat_le n MAX_CASES ≡ true → n ≤ 64
-few n e = grind arith
-
-pub few_cases : (chars : Bool) (cs : List GuardedCase) → IsTrue (are_valid_cases chars cs) → length cs ≤ 64
-few_cases chars cs valid =
-    few (length cs)
-    (both_true (nat_le (length cs) MAX_CASES) (list_all (is_valid_case chars) cs) (≡-IsTrue (are_valid_cases chars cs) valid)).0
 
 -- a slice up to the end of a list
 to_the_end : (xs : List Case) (n : ℕ) → take (length xs - n) (drop n xs) ≡ drop n xs
