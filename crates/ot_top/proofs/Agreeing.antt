@@ -7,7 +7,7 @@ use Rattle.std.proofs.lemmas.Option.{slice_get_within}
 use Rattle.ot_causal.specs.Members.{has, HaveOneSet}
 use Rattle.ot_causal.specs.Sessions.{IsSite}
 use Rattle.ot_session.specs.Sites.{SiteView, document_in, seen_in}
-use Rattle.ot_top.specs.declared.reply.SiteEnd.{SiteEnd}
+use Rattle.ot_replies.specs.declared.reply.SiteEnd.{SiteEnd}
 use Rattle.ot_top.specs.Sessions.{Differ, IsFirstOther, IsFirstPair, end_of}
 
 -- none of the others differs from one

@@ -1,10 +1,10 @@
 -- The reply behind a function's file, from what another file gets.
 use Rattle.std.proofs.Common.{◌≡◌, ℕ, List, Option, Ok, inl, inr, subst}
 use Rattle.fn_rules.specs.Functions.{Function}
-use Rattle.ot_top.specs.declared.reply.FileKind.{FileKind}
-use Rattle.ot_top.specs.declared.reply.Reply.{Reply}
+use Rattle.ot_replies.specs.declared.reply.FileKind.{FileKind}
+use Rattle.ot_replies.specs.declared.reply.Reply.{Reply}
 use Rattle.ot_top.specs.Judgements.{IsReplyToCertificate}
-use Rattle.ot_top.specs.Limits.{IsTooLong}
+use Rattle.ot_replies.specs.Limits.{IsTooLong}
 use Rattle.ot_top.specs.Replies.{Holds, IsReadAs, IsReplyToFile, IsReplyToFunction}
 
 -- the function's file is told first, and the shelf holds the same of the other one when it is opened

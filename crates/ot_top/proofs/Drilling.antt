@@ -26,12 +26,12 @@ use Rattle.ot_judge.specs.Verdicts.{ObQuestions, AreAsked, IsDecidedAs, IsWithin
 use Rattle.ot_counter.specs.Counters.{Breaks, level_of}
 use Rattle.ot_counter.specs.Leading.{LeadTo}
 use Rattle.ot_counter.specs.Values.{document_at, floors_of, ops_at}
-use Rattle.ot_top.specs.declared.reply.FileKind.TheVariants as files
-use Rattle.ot_top.specs.declared.reply.Reply.{Reply}
-use Rattle.ot_top.specs.declared.reply.Reply.TheVariants.{Proved, Spent}
-use Rattle.ot_top.specs.Limits.{limit_of}
+use Rattle.ot_replies.specs.declared.reply.FileKind.TheVariants as files
+use Rattle.ot_replies.specs.declared.reply.Reply.{Reply}
+use Rattle.ot_replies.specs.declared.reply.Reply.TheVariants.{Proved, Spent}
+use Rattle.ot_replies.specs.Limits.{limit_of}
 use Rattle.ot_top.specs.Verdicts.{IsReplyToProof, TellsVerdict}
-use Rattle.ot_top.specs.Words.{most_questions}
+use Rattle.ot_words.specs.Words.{most_questions}
 use Rattle.ot_top.proofs.Leads.{literals_lead}
 
 -- an answer that is a level, where it is no want and only one level comes

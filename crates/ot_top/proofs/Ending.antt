@@ -7,7 +7,7 @@ use Rattle.std.proofs.lemmas.List.{reverse-reverse}
 use Rattle.ot_model.specs.declared.cell.Cell.{Cell}
 use Rattle.ot_causal.specs.Members.{has}
 use Rattle.ot_session.specs.Sites.{SiteView, document_in, seen_in}
-use Rattle.ot_top.specs.declared.reply.SiteEnd.{SiteEnd}
+use Rattle.ot_replies.specs.declared.reply.SiteEnd.{SiteEnd}
 use Rattle.ot_top.specs.Sessions.{end_of}
 
 same_either_way : (x y : ℕ) → nat_eq y x ≡ nat_eq x y

@@ -15,11 +15,11 @@ use Rattle.ot_judge.specs.declared.refusal.Refusal.{Refusal}
 use Rattle.ot_judge.specs.declared.refusal.Refusal.TheVariants as why
 use Rattle.ot_judge.specs.Feeding.{IsTruncated, MayGive}
 use Rattle.ot_judge.specs.Refusals.{IsJudgement, IsWant}
-use Rattle.ot_top.specs.declared.reply.FileKind.TheVariants as files
-use Rattle.ot_top.specs.declared.reply.Reply.{Reply}
-use Rattle.ot_top.specs.declared.reply.Reply.TheVariants.{TooLong}
+use Rattle.ot_replies.specs.declared.reply.FileKind.TheVariants as files
+use Rattle.ot_replies.specs.declared.reply.Reply.{Reply}
+use Rattle.ot_replies.specs.declared.reply.Reply.TheVariants.{TooLong}
 use Rattle.ot_top.specs.Judgements.{IsReplyToCertificate, Tells, is_truncated, rests_on_the_end}
-use Rattle.ot_top.specs.Limits.{limit_of}
+use Rattle.ot_replies.specs.Limits.{limit_of}
 
 -- a told judgement is no want
 not_want : (judgement : Result Level JudgeEnd) (r : Reply) → Tells judgement r → IsWant judgement → ⊥

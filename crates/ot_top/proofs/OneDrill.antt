@@ -21,10 +21,10 @@ use Rattle.ot_drill.specs.declared.tally.Tally.{Tally}
 use Rattle.ot_drill.specs.Events.{drill_events}
 use Rattle.ot_drill.specs.Playing.{nothing_done, with_answer, IsPlayed, ArePlayed, start, then}
 use Rattle.ot_drill.specs.Workload.{drill_function}
-use Rattle.ot_top.specs.declared.reply.Drilled.{Drilled}
-use Rattle.ot_top.specs.declared.reply.Reply.{Reply}
-use Rattle.ot_top.specs.declared.reply.Reply.TheVariants as replies
-use Rattle.ot_top.specs.Commands.{Drill}
+use Rattle.ot_replies.specs.declared.reply.Drilled.{Drilled}
+use Rattle.ot_replies.specs.declared.reply.Reply.{Reply}
+use Rattle.ot_replies.specs.declared.reply.Reply.TheVariants as replies
+use Rattle.ot_words.specs.Commands.{Drill}
 use Rattle.ot_top.specs.Drills.{IsDrilled, IsReplyToQuestions}
 use Rattle.ot_top.specs.Replies.{IsReplyTo}
 use Rattle.ot_top.specs.Sessions.{IsFirstPair, end_of}

@@ -3,9 +3,9 @@ use Rattle.std.proofs.Common.{◌≡◌, ℕ, List, length, Option, Some, Ok, Er
 use Rattle.fn_rules.specs.Functions.{Function}
 use Rattle.fn_text.specs.declared.fault.TextFault.{TextFault}
 use Rattle.fn_text.specs.Reading.{function_in}
-use Rattle.ot_top.specs.declared.reply.FileKind.{FileKind}
-use Rattle.ot_top.specs.declared.reply.Reply.{Reply}
-use Rattle.ot_top.specs.declared.reply.Reply.TheVariants.{FunctionRefused}
+use Rattle.ot_replies.specs.declared.reply.FileKind.{FileKind}
+use Rattle.ot_replies.specs.declared.reply.Reply.{Reply}
+use Rattle.ot_replies.specs.declared.reply.Reply.TheVariants.{FunctionRefused}
 use Rattle.ot_top.specs.Replies.{IsReplyToFile, IsReplyToFunction}
 
 module _ (told : Option (List ℕ)) (bytes : List ℕ) (is_told : told ≡ Some bytes) where

@@ -8,11 +8,11 @@ use Rattle.fn_text.specs.Reading.{function_in}
 use Rattle.ot_judge.specs.declared.refusal.JudgeEnd.{JudgeEnd}
 use Rattle.ot_judge.specs.declared.refusal.JudgeEnd.TheVariants as judge
 use Rattle.ot_judge.specs.Refusals.{IsJudgement}
-use Rattle.ot_top.specs.declared.reply.FileKind.TheVariants as files
-use Rattle.ot_top.specs.declared.reply.Reply.{Reply}
-use Rattle.ot_top.specs.Commands.{Check}
+use Rattle.ot_replies.specs.declared.reply.FileKind.TheVariants as files
+use Rattle.ot_replies.specs.declared.reply.Reply.{Reply}
+use Rattle.ot_words.specs.Commands.{Check}
 use Rattle.ot_top.specs.Judgements.{IsReplyToCertificate, IsReplyToJudgement, Tells, rests_on_the_end}
-use Rattle.ot_top.specs.Limits.{limit_of, IsTooLong}
+use Rattle.ot_replies.specs.Limits.{limit_of, IsTooLong}
 use Rattle.ot_top.specs.Replies.{IsReplyTo}
 use Rattle.ot_top.proofs.OneFile.{function_once}
 

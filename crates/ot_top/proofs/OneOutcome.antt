@@ -8,10 +8,10 @@ use Rattle.case_json.specs.Cases.{trial_in}
 use Rattle.ot_integrate.specs.declared.end.End.{End}
 use Rattle.ot_integrate.specs.declared.end.End.TheVariants as ends
 use Rattle.ot_integrate.specs.Ends.{outcome_of}
-use Rattle.ot_top.specs.declared.reply.FileKind.TheVariants as files
-use Rattle.ot_top.specs.declared.reply.Reply.{Reply}
-use Rattle.ot_top.specs.declared.reply.Reply.TheVariants.{Integrated}
-use Rattle.ot_top.specs.Commands.{Integrate, Replay}
+use Rattle.ot_replies.specs.declared.reply.FileKind.TheVariants as files
+use Rattle.ot_replies.specs.declared.reply.Reply.{Reply}
+use Rattle.ot_replies.specs.declared.reply.Reply.TheVariants.{Integrated}
+use Rattle.ot_words.specs.Commands.{Integrate, Replay}
 use Rattle.ot_top.specs.Replies.{HaveOneEnd, IsReplyTo, IsReplyToCase, IsReplyToFile, IsReplyToTrial, TellsOutcomes, outcomes_of}
 use Rattle.ot_top.specs.Sessions.{IsReplyToSession}
 use Rattle.ot_top.proofs.OneFile.{file_once, function_once}

@@ -17,11 +17,11 @@ use Rattle.ot_judge.specs.Verdicts.{AreAsked, FailingOb, IsVerdict, ObQuestions,
 use Rattle.ot_counter.specs.declared.counter.Counter.{Counter}
 use Rattle.ot_counter.specs.Counters.{IsCounter, IsReadOff}
 use Rattle.ot_counter.specs.Values.{floors_of}
-use Rattle.ot_top.specs.declared.reply.Reply.{Reply}
-use Rattle.ot_top.specs.declared.reply.Reply.TheVariants.{Broken}
-use Rattle.ot_top.specs.Commands.{Prove}
+use Rattle.ot_replies.specs.declared.reply.Reply.{Reply}
+use Rattle.ot_replies.specs.declared.reply.Reply.TheVariants.{Broken}
+use Rattle.ot_words.specs.Commands.{Prove}
 use Rattle.ot_top.specs.Replies.{IsReplyTo}
-use Rattle.ot_top.specs.Texts.{status_of}
+use Rattle.ot_replies.specs.Texts.{status_of}
 use Rattle.ot_top.specs.Verdicts.{IsReplyToProof, TellsVerdict}
 use Rattle.ot_top.proofs.OneFile.{function_once}
 

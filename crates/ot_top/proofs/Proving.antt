@@ -33,19 +33,19 @@ use Rattle.ot_counter.specs.Counters.{Breaks, BreaksBy, IsCounter, level_of}
 use Rattle.ot_counter.specs.Leading.{LeadTo}
 use Rattle.ot_counter.specs.Sides.{left_at, right_at}
 use Rattle.ot_counter.specs.Values.{document_at, floors_of, ops_at}
-use Rattle.ot_top.specs.declared.reply.FileKind.TheVariants as files
-use Rattle.ot_top.specs.declared.reply.Reply.{Reply}
-use Rattle.ot_top.specs.declared.reply.Reply.TheVariants.{Proved, Broken, Accepted, Usage}
-use Rattle.ot_top.specs.Commands.{Asked, Prove}
+use Rattle.ot_replies.specs.declared.reply.FileKind.TheVariants as files
+use Rattle.ot_replies.specs.declared.reply.Reply.{Reply}
+use Rattle.ot_replies.specs.declared.reply.Reply.TheVariants.{Proved, Broken, Accepted, Usage}
+use Rattle.ot_words.specs.Commands.{Asked, Prove}
 use Rattle.ot_top.specs.Judgements.{IsReplyToCertificate, IsReplyToJudgement}
-use Rattle.ot_top.specs.Limits.{limit_of}
+use Rattle.ot_replies.specs.Limits.{limit_of}
 use Rattle.ot_top.specs.Replies.{IsReadAs, IsReply, IsReplyTo, IsReplyToFunction}
 use Rattle.ot_top.specs.Shown.{AreBothWays, HasLevel, IsAcceptedAt, IsAskedAt, IsBroken, IsComplete, IsProved, status_by}
-use Rattle.ot_top.specs.Texts.{status_of, text_of}
+use Rattle.ot_replies.specs.Texts.{status_of, text_of}
 use Rattle.ot_top.specs.Verdicts.{IsReplyToProof, TellsVerdict}
-use Rattle.ot_top.specs.Words.{asked_by, most_questions}
+use Rattle.ot_words.specs.Words.{asked_by, most_questions}
 use Rattle.ot_top.proofs.Asking.{asked_at, asked_once}
-use Rattle.ot_top.proofs.Budgets.{few_questions}
+use Rattle.ot_words.proofs.Bounds.{within_bounds}
 use Rattle.ot_top.proofs.Leads.{literals_lead}
 
 -- the reply to words that ask for a command
@@ -133,7 +133,7 @@ module _ (is_text : (bytes : List ℕ) (f : Function) → function_in bytes ≡ 
       let file = got.1 bytes told in
       let text = is_text bytes f file.1 in
       let valid = is_within_limits bytes f text in
-      let few = few_questions words level budget name named in
+      let few = within_bounds words (Prove level budget name) named in
       let held = proved_verdict f level budget r got.2.0 is_zero few got.2.1 got.2.2 got.2.3 in (
         f,
         held.0,

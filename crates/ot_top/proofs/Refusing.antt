@@ -12,10 +12,10 @@ use Rattle.ot_session.specs.declared.answer.Take.TheVariants as takes
 use Rattle.ot_session.specs.declared.answer.Took.{Took}
 use Rattle.ot_session.specs.Views.{View, data_in}
 use Rattle.ot_top.specs.declared.replay.Halt.{Halt}
-use Rattle.ot_top.specs.declared.reply.EventFault.TheVariants as why
-use Rattle.ot_top.specs.declared.reply.Reply.{Reply}
-use Rattle.ot_top.specs.declared.reply.Reply.TheVariants.{EventRefused, CaseRefused, Spent}
-use Rattle.ot_top.specs.Texts.{status_of}
+use Rattle.ot_replies.specs.declared.reply.EventFault.TheVariants as why
+use Rattle.ot_replies.specs.declared.reply.Reply.{Reply}
+use Rattle.ot_replies.specs.declared.reply.Reply.TheVariants.{EventRefused, CaseRefused, Spent}
+use Rattle.ot_replies.specs.Texts.{status_of}
 use Rattle.ot_top.specs.Sessions.{CannotMake, TellsNotMade, TellsNotTaken, IsRefused}
 
 -- the answer is this refusal

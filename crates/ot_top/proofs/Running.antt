@@ -4,7 +4,7 @@ use Rattle.std.proofs.lemmas.List.{length-set}
 use Rattle.case_json.specs.declared.script.Event.{Event}
 use Rattle.case_json.specs.declared.script.Event.TheVariants.{Make, Take}
 use Rattle.ot_session.specs.Views.{View}
-use Rattle.ot_top.specs.declared.reply.Reply.{Reply}
+use Rattle.ot_replies.specs.declared.reply.Reply.{Reply}
 use Rattle.ot_top.specs.Sessions.{IsDone, IsRefused, Runs}
 
 pub done_is_open : (v new : View) (event : Event) → IsDone v event new → v.is_open ≡ true → new.is_open ≡ true

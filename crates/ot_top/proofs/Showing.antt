@@ -13,16 +13,16 @@ use Rattle.ot_judge.specs.declared.refusal.JudgeEnd.{JudgeEnd}
 use Rattle.ot_judge.specs.declared.refusal.JudgeEnd.TheVariants as judge
 use Rattle.ot_judge.specs.Certificates.{IsCertificate}
 use Rattle.ot_judge.specs.Refusals.{IsJudgement}
-use Rattle.ot_top.specs.declared.reply.FileKind.{FileKind}
-use Rattle.ot_top.specs.declared.reply.FileKind.TheVariants as files
-use Rattle.ot_top.specs.declared.reply.Reply.{Reply}
-use Rattle.ot_top.specs.declared.reply.Reply.TheVariants.{Accepted, Refused, FunctionRefused, Usage, TooLong}
-use Rattle.ot_top.specs.Commands.{Asked, Check}
+use Rattle.ot_replies.specs.declared.reply.FileKind.{FileKind}
+use Rattle.ot_replies.specs.declared.reply.FileKind.TheVariants as files
+use Rattle.ot_replies.specs.declared.reply.Reply.{Reply}
+use Rattle.ot_replies.specs.declared.reply.Reply.TheVariants.{Accepted, Refused, FunctionRefused, Usage, TooLong}
+use Rattle.ot_words.specs.Commands.{Asked, Check}
 use Rattle.ot_top.specs.Judgements.{IsReplyToCertificate, IsReplyToContents, Tells, rests_on_the_end}
-use Rattle.ot_top.specs.Limits.{limit_of, IsTooLong}
+use Rattle.ot_replies.specs.Limits.{limit_of, IsTooLong}
 use Rattle.ot_top.specs.Replies.{IsFunctionRefusal, IsReadAs, IsReply, IsReplyTo}
 use Rattle.ot_top.specs.Shown.{HasLevel, IsShown}
-use Rattle.ot_top.specs.Texts.{status_of, text_of}
+use Rattle.ot_replies.specs.Texts.{status_of, text_of}
 
 -- a reply of another status than 0
 other_status : (r other : Reply) (status : ℕ) → 0 ≡ status_of r → r ≡ other → status_of other ≡ status → 0 < status → ⊥

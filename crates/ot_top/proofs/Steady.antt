@@ -5,15 +5,15 @@ use Rattle.fn_rules.specs.Functions.{Function}
 use Rattle.fn_text.specs.declared.fault.TextFault.{TextFault}
 use Rattle.fn_text.specs.Grammar.{IsTextOf}
 use Rattle.fn_text.specs.Reading.{function_in}
-use Rattle.ot_top.specs.declared.reply.FileKind.{FileKind}
-use Rattle.ot_top.specs.declared.reply.FileKind.TheVariants as files
-use Rattle.ot_top.specs.declared.reply.Reply.{Reply}
-use Rattle.ot_top.specs.declared.reply.Reply.TheVariants.{FunctionRefused, TooLong}
-use Rattle.ot_top.specs.Commands.{Asked, Replay}
-use Rattle.ot_top.specs.Limits.{IsTooLong}
+use Rattle.ot_replies.specs.declared.reply.FileKind.{FileKind}
+use Rattle.ot_replies.specs.declared.reply.FileKind.TheVariants as files
+use Rattle.ot_replies.specs.declared.reply.Reply.{Reply}
+use Rattle.ot_replies.specs.declared.reply.Reply.TheVariants.{FunctionRefused, TooLong}
+use Rattle.ot_words.specs.Commands.{Asked, Replay}
+use Rattle.ot_replies.specs.Limits.{IsTooLong}
 use Rattle.ot_top.specs.Replies.{IsFunctionRefusal, IsReadAs}
 use Rattle.ot_top.specs.Steady.{AreSteady, IsSteady, IsSteadyReply}
-use Rattle.ot_top.specs.Texts.{status_of}
+use Rattle.ot_replies.specs.Texts.{status_of}
 
 -- a reply of another status
 named_so : (r named : Reply) (status : ℕ) → r ≡ named → status_of named ≡ status → 1 < status → status_of r ≢ 1

@@ -13,20 +13,20 @@ use Rattle.case_json.specs.declared.fault.CaseFault.TheVariants as faults
 use Rattle.ot_judge.specs.declared.refusal.JudgeEnd.{JudgeEnd}
 use Rattle.ot_judge.specs.declared.refusal.JudgeEnd.TheVariants as judge
 use Rattle.ot_judge.specs.Refusals.{IsJudgement}
-use Rattle.ot_top.specs.declared.reply.Drilled.{Drilled}
-use Rattle.ot_top.specs.declared.reply.FileKind.TheVariants as files
-use Rattle.ot_top.specs.declared.reply.Reply.{Reply}
-use Rattle.ot_top.specs.declared.reply.Reply.TheVariants as replies
-use Rattle.ot_top.specs.Commands.{Asked, Check, Drill}
+use Rattle.ot_replies.specs.declared.reply.Drilled.{Drilled}
+use Rattle.ot_replies.specs.declared.reply.FileKind.TheVariants as files
+use Rattle.ot_replies.specs.declared.reply.Reply.{Reply}
+use Rattle.ot_replies.specs.declared.reply.Reply.TheVariants as replies
+use Rattle.ot_words.specs.Commands.{Asked, Check, Drill}
 use Rattle.ot_top.specs.Drills.{IsDrilled, IsReplyToQuestions}
-use Rattle.ot_top.specs.DrillTexts.{drill_text}
+use Rattle.ot_replies.specs.DrillTexts.{drill_text}
 use Rattle.ot_top.specs.Judgements.{IsReplyToCertificate, IsReplyToJudgement, Tells}
-use Rattle.ot_top.specs.Limits.{limit_of}
+use Rattle.ot_replies.specs.Limits.{limit_of}
 use Rattle.ot_top.specs.Replies.{IsReply}
 use Rattle.ot_top.specs.Shown.{IsGoneThrough, IsJudgedAs}
 use Rattle.ot_top.specs.Steady.{AreSteady, IsSteadyReply}
-use Rattle.ot_top.specs.Texts.{differ_status, status_of, text_of}
-use Rattle.ot_top.specs.Words.{asked_by}
+use Rattle.ot_replies.specs.Texts.{differ_status, status_of, text_of}
+use Rattle.ot_words.specs.Words.{asked_by}
 use Rattle.ot_top.proofs.Proving.{gets, reply_to_asked}
 
 -- what was answered: the status and the text of a reply, where it is none of the faults and no want of memory

@@ -23,16 +23,16 @@ use Rattle.ot_session.specs.declared.answer.Make.TheVariants as makes
 use Rattle.ot_session.specs.declared.answer.Take.{Take as NotTaken}
 use Rattle.ot_session.specs.declared.answer.Take.TheVariants as takes
 use Rattle.ot_session.specs.Views.{View}
-use Rattle.ot_top.specs.declared.reply.FileKind.TheVariants as files
-use Rattle.ot_top.specs.declared.reply.Reply.{Reply}
-use Rattle.ot_top.specs.declared.reply.Reply.TheVariants as replies
-use Rattle.ot_top.specs.Commands.{Asked, Prove, Check, Integrate, Replay, Drill}
+use Rattle.ot_replies.specs.declared.reply.FileKind.TheVariants as files
+use Rattle.ot_replies.specs.declared.reply.Reply.{Reply}
+use Rattle.ot_replies.specs.declared.reply.Reply.TheVariants as replies
+use Rattle.ot_words.specs.Commands.{Asked, Prove, Check, Integrate, Replay, Drill}
 use Rattle.ot_top.specs.Judgements.{IsReplyToJudgement, Tells}
-use Rattle.ot_top.specs.Limits.{limit_of}
+use Rattle.ot_replies.specs.Limits.{limit_of}
 use Rattle.ot_top.specs.Replies.{IsReplyTo, IsReplyToCase, IsReplyToFile, IsReplyToFunction, IsReplyToTrial, TellsOutcomes}
 use Rattle.ot_top.specs.Sessions.{IsReplyToScript, IsReplyToSession, Runs, TellsNotMade, TellsNotTaken, TellsSites}
 use Rattle.ot_top.specs.Shown.{IsUnread, function_name}
-use Rattle.ot_top.specs.Texts.{differ_status, status_of}
+use Rattle.ot_replies.specs.Texts.{differ_status, status_of}
 use Rattle.ot_top.specs.Verdicts.{TellsVerdict}
 use Rattle.ot_top.proofs.Proving.{reply_to_asked}
 use Rattle.ot_top.proofs.Told.{IsAnswered}

@@ -10,11 +10,11 @@ use Rattle.ot_drill.specs.declared.limits.TheConstants.{SITES}
 use Rattle.ot_drill.specs.Events.{drill_events}
 use Rattle.ot_drill.specs.Playing.{ArePlayed}
 use Rattle.ot_drill.specs.Workload.{case_count, drill_function}
-use Rattle.ot_top.specs.declared.reply.Drilled.{Drilled}
-use Rattle.ot_top.specs.declared.reply.Reply.{Reply}
-use Rattle.ot_top.specs.declared.reply.Reply.TheVariants as replies
+use Rattle.ot_replies.specs.declared.reply.Drilled.{Drilled}
+use Rattle.ot_replies.specs.declared.reply.Reply.{Reply}
+use Rattle.ot_replies.specs.declared.reply.Reply.TheVariants as replies
 use Rattle.ot_top.specs.Sessions.{IsFirstPair, end_of}
-use Rattle.ot_top.specs.Words.{most_questions}
+use Rattle.ot_words.specs.Words.{most_questions}
 
 -- what came of the workload of a number: the cases of its function, the level that its certificate shows, what was
 -- counted while its events were done in a new session of its sites without cells, and what these hold in the end

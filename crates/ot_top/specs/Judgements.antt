@@ -8,10 +8,10 @@ use Rattle.ot_judge.specs.declared.refusal.JudgeEnd.TheVariants as judge
 use Rattle.ot_judge.specs.declared.refusal.Refusal.{Refusal}
 use Rattle.ot_judge.specs.declared.refusal.Refusal.TheVariants as why
 use Rattle.ot_judge.specs.Refusals.{IsJudgement}
-use Rattle.ot_top.specs.declared.reply.FileKind.TheVariants as files
-use Rattle.ot_top.specs.declared.reply.Reply.{Reply}
-use Rattle.ot_top.specs.declared.reply.Reply.TheVariants.{Accepted, Refused}
-use Rattle.ot_top.specs.Limits.{limit_of, IsTooLong}
+use Rattle.ot_replies.specs.declared.reply.FileKind.TheVariants as files
+use Rattle.ot_replies.specs.declared.reply.Reply.{Reply}
+use Rattle.ot_replies.specs.declared.reply.Reply.TheVariants.{Accepted, Refused}
+use Rattle.ot_replies.specs.Limits.{limit_of, IsTooLong}
 
 abbrev pub is_truncated : Refusal → Bool
 is_truncated why.Truncated = true

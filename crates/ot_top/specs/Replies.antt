@@ -12,17 +12,17 @@ use Rattle.case_json.specs.declared.fault.CaseFault.{CaseFault}
 use Rattle.case_json.specs.declared.trial.Trial.{Trial}
 use Rattle.case_json.specs.Cases.{trial_in}
 use Rattle.ot_integrate.specs.Ends.{outcome_of}
-use Rattle.ot_top.specs.declared.reply.FileKind.{FileKind}
-use Rattle.ot_top.specs.declared.reply.FileKind.TheVariants as files
-use Rattle.ot_top.specs.declared.reply.Reply.{Reply}
-use Rattle.ot_top.specs.declared.reply.Reply.TheVariants.{FunctionRefused, CaseRefused, Integrated, Usage}
-use Rattle.ot_top.specs.Commands.{Asked, Prove, Check, Integrate, Replay, Drill}
+use Rattle.ot_replies.specs.declared.reply.FileKind.{FileKind}
+use Rattle.ot_replies.specs.declared.reply.FileKind.TheVariants as files
+use Rattle.ot_replies.specs.declared.reply.Reply.{Reply}
+use Rattle.ot_replies.specs.declared.reply.Reply.TheVariants.{FunctionRefused, CaseRefused, Integrated, Usage}
+use Rattle.ot_words.specs.Commands.{Asked, Prove, Check, Integrate, Replay, Drill}
 use Rattle.ot_top.specs.Drills.{IsReplyToDrill}
 use Rattle.ot_top.specs.Judgements.{IsReplyToCertificate}
-use Rattle.ot_top.specs.Limits.{limit_of, IsTooLong}
+use Rattle.ot_replies.specs.Limits.{limit_of, IsTooLong}
 use Rattle.ot_top.specs.Sessions.{IsReplyToSession}
 use Rattle.ot_top.specs.Verdicts.{IsReplyToProof}
-use Rattle.ot_top.specs.Words.{asked_by}
+use Rattle.ot_words.specs.Words.{asked_by}
 
 -- In what follows `told` is what a file holds, where the shelf tells it.
 

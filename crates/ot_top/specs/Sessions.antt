@@ -21,10 +21,10 @@ use Rattle.ot_session.specs.declared.answer.Took.{Took}
 use Rattle.ot_session.specs.declared.limits.TheConstants.{MAX_MADE}
 use Rattle.ot_session.specs.Sites.{SiteView}
 use Rattle.ot_session.specs.Views.{View, data_in, IsBegun, HasMade, HasTaken}
-use Rattle.ot_top.specs.declared.reply.EventFault.TheVariants as why
-use Rattle.ot_top.specs.declared.reply.Reply.{Reply}
-use Rattle.ot_top.specs.declared.reply.Reply.TheVariants.{Replayed, StuckAt, EventRefused, CaseRefused, Spent}
-use Rattle.ot_top.specs.declared.reply.SiteEnd.{SiteEnd}
+use Rattle.ot_replies.specs.declared.reply.EventFault.TheVariants as why
+use Rattle.ot_replies.specs.declared.reply.Reply.{Reply}
+use Rattle.ot_replies.specs.declared.reply.Reply.TheVariants.{Replayed, StuckAt, EventRefused, CaseRefused, Spent}
+use Rattle.ot_replies.specs.declared.reply.SiteEnd.{SiteEnd}
 
 -- what a site has integrated, in order, and its document
 abbrev pub end_of : SiteView → SiteEnd

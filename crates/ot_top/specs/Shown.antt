@@ -20,19 +20,19 @@ use Rattle.ot_counter.specs.declared.counter.Counter.{Counter}
 use Rattle.ot_counter.specs.declared.counter.Side.{Side}
 use Rattle.ot_counter.specs.Counters.{Breaks, BreaksBy}
 use Rattle.ot_counter.specs.Sides.{document_way, operation_side}
-use Rattle.ot_top.specs.declared.reply.FileKind.TheVariants as files
-use Rattle.ot_top.specs.declared.reply.Reply.{Reply}
-use Rattle.ot_top.specs.declared.reply.Drilled.{Drilled}
-use Rattle.ot_top.specs.declared.reply.Reply.TheVariants.{Accepted, Spent}
-use Rattle.ot_top.specs.Commands.{Asked, Prove, Check, Integrate, Replay, Drill}
+use Rattle.ot_replies.specs.declared.reply.FileKind.TheVariants as files
+use Rattle.ot_replies.specs.declared.reply.Reply.{Reply}
+use Rattle.ot_replies.specs.declared.reply.Drilled.{Drilled}
+use Rattle.ot_replies.specs.declared.reply.Reply.TheVariants.{Accepted, Spent}
+use Rattle.ot_words.specs.Commands.{Asked, Prove, Check, Integrate, Replay, Drill}
 use Rattle.ot_top.specs.Drills.{IsDrilled}
-use Rattle.ot_top.specs.DrillTexts.{drill_text}
-use Rattle.ot_top.specs.CounterTexts.{counter_text}
-use Rattle.ot_top.specs.Limits.{limit_of}
+use Rattle.ot_replies.specs.DrillTexts.{drill_text}
+use Rattle.ot_replies.specs.CounterTexts.{counter_text}
+use Rattle.ot_replies.specs.Limits.{limit_of}
 use Rattle.ot_top.specs.Replies.{IsReplyTo}
-use Rattle.ot_top.specs.LevelTexts.{accepted_text}
-use Rattle.ot_top.specs.Texts.{text_of}
-use Rattle.ot_top.specs.Words.{asked_by}
+use Rattle.ot_replies.specs.LevelTexts.{accepted_text}
+use Rattle.ot_replies.specs.Texts.{text_of}
+use Rattle.ot_words.specs.Words.{asked_by}
 
 -- what a certificate at a level shows of its function
 abbrev pub HasLevel : Function → Level → Type 0

@@ -4,10 +4,10 @@ use Rattle.fn_rules.specs.Functions.{Function}
 use Rattle.fn_rules.specs.Properties.{HasTp1, HasTp2}
 use Rattle.fn_text.specs.Grammar.{IsTextOf}
 use Rattle.fn_text.specs.Reading.{function_in}
-use Rattle.ot_top.specs.declared.reply.Reply.{Reply}
-use Rattle.ot_top.specs.Commands.{Asked, Replay, Drill}
-use Rattle.ot_top.specs.Texts.{status_of}
-use Rattle.ot_top.specs.Words.{asked_by}
+use Rattle.ot_replies.specs.declared.reply.Reply.{Reply}
+use Rattle.ot_words.specs.Commands.{Asked, Replay, Drill}
+use Rattle.ot_replies.specs.Texts.{status_of}
+use Rattle.ot_words.specs.Words.{asked_by}
 
 -- the function has both properties and does not assume that characters differ
 pub record MakesSitesAgree (f : Function) : Type 0 where

@@ -8,11 +8,11 @@ use Rattle.ot_judge.specs.declared.verdict.Verdict.TheVariants as verdicts
 use Rattle.ot_judge.specs.Verdicts.{IsDecidedAs, IsWithin}
 use Rattle.ot_counter.specs.declared.counter.Counter.{Counter}
 use Rattle.ot_counter.specs.Counters.{IsCounter}
-use Rattle.ot_top.specs.declared.reply.FileKind.TheVariants as files
-use Rattle.ot_top.specs.declared.reply.Reply.{Reply}
-use Rattle.ot_top.specs.declared.reply.Reply.TheVariants.{Proved, Broken, Spent}
-use Rattle.ot_top.specs.Limits.{limit_of}
-use Rattle.ot_top.specs.Words.{most_questions}
+use Rattle.ot_replies.specs.declared.reply.FileKind.TheVariants as files
+use Rattle.ot_replies.specs.declared.reply.Reply.{Reply}
+use Rattle.ot_replies.specs.declared.reply.Reply.TheVariants.{Proved, Broken, Spent}
+use Rattle.ot_replies.specs.Limits.{limit_of}
+use Rattle.ot_words.specs.Words.{most_questions}
 
 -- the reply tells the verdict: the bytes of the certificate, or the counterexample of the answers that lead to the
 -- first failing end

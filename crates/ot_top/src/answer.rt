@@ -2,21 +2,20 @@
 ghost use Rattle.std.specs.Prelude.{◌≡◌, map, Err, IfOk, IfSome, IsErrOf, string_bytes};
 ghost use Rattle.ot_outside.specs.Faults.{Rose};
 ghost use Rattle.ot_outside.specs.Unchanged.{Unchanged};
-ghost use Rattle.ot_top.specs.Commands.{IsWithinBounds, asked_of};
+ghost use Rattle.ot_words.specs.Commands.{asked_of};
 ghost use Rattle.ot_top.specs.Replies.{AreOffered, IsReply, IsReplyTo};
 ghost use Rattle.ot_top.specs.Steady.{AreSteady, IsSteadyReply};
-ghost use Rattle.ot_top.specs.Words.{asked_by};
+ghost use Rattle.ot_words.specs.Words.{IsWithinBounds, asked_by};
 
 use crate::check::check;
-use crate::command::Command;
 use crate::drill::drill;
 use crate::integrate::integrate;
 use crate::load::Stop;
 use crate::prove::prove;
 use crate::replay::replay;
-use crate::reply::Reply;
-use crate::words::read_words;
 use ot_outside::Shelf;
+use ot_replies::Reply;
+use ot_words::{Command, read_words};
 use std::alloc::Global;
 
 // The reply to a command.

@@ -5,17 +5,17 @@ ghost use Rattle.ot_judge.specs.declared.refusal.JudgeEnd.TheVariants as judge;
 ghost use Rattle.ot_outside.specs.Faults.{Rose};
 ghost use Rattle.ot_outside.specs.ShelfFeed.{file_left, held_by, room_of, shelf_of};
 ghost use Rattle.ot_outside.specs.Unchanged.{Unchanged};
-ghost use Rattle.ot_top.specs.Commands.{Check};
+ghost use Rattle.ot_words.specs.Commands.{Check};
 ghost use Rattle.ot_top.specs.Judgements.{IsReplyToCertificate, Tells, is_truncated, rests_on_the_end};
 ghost use Rattle.ot_top.specs.Replies.{GoesOn, IsReplyTo};
-ghost use Rattle.ot_top.specs.Limits.{limit_of};
-ghost use Rattle.ot_top.specs.declared.reply.FileKind.TheVariants as files;
+ghost use Rattle.ot_replies.specs.Limits.{limit_of};
+ghost use Rattle.ot_replies.specs.declared.reply.FileKind.TheVariants as files;
 
 use crate::load::{Stop, limit, load_function};
-use crate::reply::{FileKind, Reply};
 use fn_rules::{Level, Rules};
 use ot_judge::{JudgeEnd, Refusal, check_all};
 use ot_outside::{Shelf, ShelfFeed};
+use ot_replies::{FileKind, Reply};
 use std::alloc::Global;
 
 fn is_truncated(why: Refusal) -> bool

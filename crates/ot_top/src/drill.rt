@@ -4,11 +4,10 @@ ghost use Rattle.fn_rules.specs.Rules.{function_of};
 ghost use Rattle.ot_drill.specs.Workload.{drill_function};
 ghost use Rattle.ot_judge.specs.Certificates.{IsCertificate};
 ghost use Rattle.ot_top.specs.Drills.{IsDrilled, IsReplyToDrill};
-ghost use Rattle.ot_top.specs.Texts.{status_of};
+ghost use Rattle.ot_replies.specs.Texts.{status_of};
 
 use crate::prove::reply_to_function;
 use crate::replay::{ends_of, first_pair};
-use crate::reply::{Drilled, Reply};
 use fn_rules::{Level, Rules};
 use fn_text::read_back;
 use ot_counter::failing_ends_have_counterexamples;
@@ -18,6 +17,7 @@ use ot_drill::{
 use ot_judge::{JudgeEnd, check_all};
 use ot_model::NoMemory;
 use ot_outside::SliceFeed;
+use ot_replies::{Drilled, Reply};
 use std::alloc::Global;
 
 // The most questions that may be asked of a workload's function.

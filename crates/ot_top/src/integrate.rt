@@ -6,18 +6,18 @@ ghost use Rattle.fn_rules.specs.Rules.{function_of};
 ghost use Rattle.ot_integrate.specs.Ends.{outcome_of};
 ghost use Rattle.ot_outside.specs.Faults.{Rose};
 ghost use Rattle.ot_outside.specs.Unchanged.{Unchanged};
-ghost use Rattle.ot_top.specs.Commands.{Integrate};
-ghost use Rattle.ot_top.specs.Limits.{limit_of};
+ghost use Rattle.ot_words.specs.Commands.{Integrate};
+ghost use Rattle.ot_replies.specs.Limits.{limit_of};
 ghost use Rattle.ot_top.specs.Replies.{GoesOn, HaveOneEnd, IsReplyTo, IsReplyToCase, TellsOutcomes, outcomes_of};
-ghost use Rattle.ot_top.specs.declared.reply.FileKind.TheVariants as files;
+ghost use Rattle.ot_replies.specs.declared.reply.FileKind.TheVariants as files;
 
 use crate::load::{Stop, load_function, read_file};
-use crate::reply::{FileKind, Reply};
 use case_json::{CaseFault, Trial, trial_read};
 use fn_rules::Rules;
 use ot_integrate::End;
 use ot_model::{Doc, NoMemory};
 use ot_outside::Shelf;
+use ot_replies::{FileKind, Reply};
 use plain_list::List;
 use std::alloc::Global;
 

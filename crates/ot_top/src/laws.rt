@@ -2,14 +2,14 @@
 ghost use Rattle.std.specs.Prelude.{◌≡◌, ◌≢◌, ℕ, List, Option, Some};
 ghost use Rattle.fn_rules.specs.declared.function.Level.{Level};
 ghost use Rattle.fn_rules.specs.Functions.{Function};
-ghost use Rattle.ot_top.specs.Commands.{Prove, Check, Integrate, Replay, Drill};
+ghost use Rattle.ot_words.specs.Commands.{Prove, Check, Integrate, Replay, Drill};
 ghost use Rattle.ot_top.specs.Replies.{IsReplyTo};
 ghost use Rattle.ot_top.specs.Sessions.{IsReplyToSession};
-ghost use Rattle.ot_top.specs.Texts.{status_of};
+ghost use Rattle.ot_replies.specs.Texts.{status_of};
 
-use crate::reply::Reply;
 use fn_text::what_is_read_is_in_the_grammar;
 use ot_judge::{bytes_have_one_judgement, obligations_have_one_question_list};
+use ot_replies::Reply;
 use ot_session::{makes_have_one_outcome, sessions_begin_as_one, takes_have_one_answer};
 
 /// The bytes of a session get one reply under a function: each event is done in one way or refused for one reason, so the

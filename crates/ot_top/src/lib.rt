@@ -15,7 +15,6 @@
 
 mod answer;
 mod check;
-mod command;
 mod drill;
 mod integrate;
 mod laws;
@@ -23,10 +22,7 @@ mod load;
 mod program;
 mod prove;
 mod replay;
-mod reply;
-mod text;
-mod words;
 
 pub use laws::{commands_have_one_reply, sessions_have_one_reply};
+pub use ot_replies::{Drilled, EventFault, FileKind, Reply, SiteEnd};
 pub use program::{NO_MEMORY, SHELF_FAULT, SINK_FAULT, run};
-pub use reply::{Drilled, EventFault, FileKind, Reply, SiteEnd};

@@ -3,14 +3,14 @@ ghost use Rattle.std.specs.Prelude.{◌≡◌, Ok, Err, IfOk, IsErrOf};
 ghost use Rattle.fn_rules.specs.Rules.{function_of};
 ghost use Rattle.ot_outside.specs.Faults.{Rose};
 ghost use Rattle.ot_outside.specs.Unchanged.{Unchanged};
-ghost use Rattle.ot_top.specs.Limits.{limit_of, IsTooLong};
+ghost use Rattle.ot_replies.specs.Limits.{limit_of, IsTooLong};
 ghost use Rattle.ot_top.specs.Replies.{Holds, IsFunctionRefusal, IsReadAs};
 
-use crate::reply::{FileKind, Reply};
 use fn_rules::Rules;
 use fn_text::{ReadError, read_rules};
 use ot_model::NoMemory;
 use ot_outside::{Failed, ReadEnd, Shelf, read_all};
+use ot_replies::{FileKind, Reply};
 use std::alloc::Global;
 
 /// Why a command goes no further.

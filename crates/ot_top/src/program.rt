@@ -7,19 +7,18 @@ ghost use Rattle.ot_outside.specs.Unchanged.{Unchanged};
 ghost use Rattle.ot_top.specs.Replies.{AreOffered, IsReply};
 ghost use Rattle.ot_top.specs.Shown.{IsBroken, IsComplete, IsGoneThrough, IsJudgedAs, IsProved, IsShown, IsUnread};
 ghost use Rattle.ot_top.specs.Steady.{AreSteady, IsSteady};
-ghost use Rattle.ot_top.specs.Texts.{status_of, text_of};
-ghost use Rattle.ot_top.specs.Words.{asked_by};
+ghost use Rattle.ot_replies.specs.Texts.{status_of, text_of};
+ghost use Rattle.ot_words.specs.Words.{asked_by};
 
 use crate::answer::answer;
 use crate::load::Stop;
-use crate::reply::Reply;
-use crate::text::{status, text};
 use fn_text::{texts_of_functions_are_read, what_is_read_is_in_the_grammar};
 use ot_counter::failing_ends_have_counterexamples;
 use ot_judge::{bytes_have_one_judgement, certificates_show_the_properties};
 use ot_outside::{Shelf, Sink, write_all};
 use ot_prove::plans_have_one_question_list;
 use ot_questions::Why;
+use ot_replies::{Reply, status, text};
 use std::alloc::Global;
 
 /// A file could not be opened or read.

@@ -9,12 +9,11 @@ ghost use Rattle.ot_outside.specs.Faults.{Rose};
 ghost use Rattle.ot_outside.specs.Unchanged.{Unchanged};
 ghost use Rattle.ot_prove.specs.Outcomes.{AreAnswersTo, answered_by};
 ghost use Rattle.ot_questions.specs.Obligation.{plan_of};
-ghost use Rattle.ot_top.specs.Commands.{Prove};
+ghost use Rattle.ot_words.specs.Commands.{Prove};
 ghost use Rattle.ot_top.specs.Replies.{IsReplyTo};
 ghost use Rattle.ot_top.specs.Verdicts.{IsReplyToProof};
 
 use crate::load::{Stop, load_function};
-use crate::reply::Reply;
 use diff_graph::{Lit, answered};
 use fn_rules::{Level, ObName, Rules};
 use ot_counter::{Counter, build};
@@ -23,6 +22,7 @@ use ot_model::NoMemory;
 use ot_outside::Shelf;
 use ot_prove::Answer;
 use ot_questions::Why;
+use ot_replies::Reply;
 use plain_list::List;
 use std::alloc::Global;
 

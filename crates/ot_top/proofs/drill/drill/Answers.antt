@@ -5,11 +5,11 @@ use Rattle.fn_rules.specs.Functions.{Function}
 use Rattle.fn_rules.specs.Rules.{function_of}
 use Rattle.ot_drill.specs.Workload.{drill_function}
 use Rattle.ot_judge.specs.Certificates.{IsCertificate}
-use Rattle.ot_top.specs.declared.reply.Reply.{Reply}
-use Rattle.ot_top.specs.declared.reply.Reply.TheVariants.{Proved}
-use Rattle.ot_top.specs.Texts.{status_of}
+use Rattle.ot_replies.specs.declared.reply.Reply.{Reply}
+use Rattle.ot_replies.specs.declared.reply.Reply.TheVariants.{Proved}
+use Rattle.ot_replies.specs.Texts.{status_of}
 use Rattle.ot_top.specs.Verdicts.{IsReplyToProof}
-use Rattle.ot_top.specs.Words.{most_questions}
+use Rattle.ot_words.specs.Words.{most_questions}
 use Rattle.ot_top.proofs.Drilling.{IsShownBy, shown_by, too_many}
 use Rattle.ot_top.proofs.drill.drill.Goals as goal
 

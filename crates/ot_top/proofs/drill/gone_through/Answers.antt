@@ -3,7 +3,7 @@ use Rattle.std.proofs.Common.{◌≡◌, List, sym, subst, ◌∙◌, map, false
 use Rattle.fn_rules.specs.Functions.{Function}
 use Rattle.fn_rules.specs.Properties.{HasTp1, HasTp2}
 use Rattle.ot_session.specs.Views.{view_of}
-use Rattle.ot_top.specs.declared.reply.SiteEnd.{SiteEnd}
+use Rattle.ot_replies.specs.declared.reply.SiteEnd.{SiteEnd}
 use Rattle.ot_top.specs.Sessions.{IsFirstPair, end_of}
 use Rattle.ot_top.proofs.Agreeing.{none_differ}
 use Rattle.ot_top.proofs.drill.gone_through.Goals as goal

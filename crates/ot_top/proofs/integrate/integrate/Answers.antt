@@ -1,7 +1,7 @@
 -- The function is read, and then the case.
 use Rattle.std.proofs.Common.{rules, subst, List, ℕ}
 use Rattle.fn_rules.specs.Rules.{function_of}
-use Rattle.ot_top.specs.declared.reply.FileKind.TheVariants as files
+use Rattle.ot_replies.specs.declared.reply.FileKind.TheVariants as files
 use Rattle.ot_top.specs.Replies.{IsReplyToCase}
 use Rattle.ot_top.proofs.Behind.{then_too_long, then_gets}
 use Rattle.ot_top.proofs.integrate.integrate.Goals as goal

@@ -1,9 +1,9 @@
 use Rattle.std.proofs.Common.{arith, ◌≢◌, ◌≡◌, ℕ, List, Option, None, map, subst, ◌∙◌}
 use Rattle.ot_session.specs.Views.{view_of}
-use Rattle.ot_top.specs.declared.reply.SiteEnd.{SiteEnd}
-use Rattle.ot_top.specs.declared.reply.Reply.TheVariants.{Replayed}
+use Rattle.ot_replies.specs.declared.reply.SiteEnd.{SiteEnd}
+use Rattle.ot_replies.specs.declared.reply.Reply.TheVariants.{Replayed}
 use Rattle.ot_top.specs.Sessions.{IsFirstPair, end_of}
-use Rattle.ot_top.specs.Texts.{status_of}
+use Rattle.ot_replies.specs.Texts.{status_of}
 use Rattle.ot_top.proofs.Agreeing.{none_differ}
 use Rattle.ot_top.proofs.replay.ended.Goals as goal
 

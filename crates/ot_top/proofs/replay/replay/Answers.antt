@@ -2,7 +2,7 @@
 use Rattle.std.proofs.Common.{rules, subst, List, ℕ}
 use Rattle.fn_rules.specs.Functions.{Function}
 use Rattle.fn_rules.specs.Rules.{function_of}
-use Rattle.ot_top.specs.declared.reply.FileKind.TheVariants as files
+use Rattle.ot_replies.specs.declared.reply.FileKind.TheVariants as files
 use Rattle.ot_top.specs.Sessions.{IsReplyToSession}
 use Rattle.ot_top.specs.Steady.{MakesSitesAgree}
 use Rattle.ot_top.proofs.Behind.{then_too_long, then_gets}

@@ -1,6 +1,6 @@
 use Rattle.std.proofs.Common.{◌≡◌, length, drop, true}
 use Rattle.ot_session.specs.Views.{view_of}
-use Rattle.ot_top.specs.declared.reply.Reply.{Reply}
+use Rattle.ot_replies.specs.declared.reply.Reply.{Reply}
 use Rattle.ot_top.specs.Sessions.{Runs}
 use Rattle.ot_top.proofs.replay.run_events.Given as goal
 

@@ -1,0 +1,9 @@
+pub mod Limits
+pub mod FaultTexts
+pub mod DocumentTexts
+pub mod OrderTexts
+pub mod CounterTexts
+pub mod SessionTexts
+pub mod LevelTexts
+pub mod DrillTexts
+pub mod Texts

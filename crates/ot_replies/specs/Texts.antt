@@ -1,0 +1,66 @@
+-- The status and the text of a reply.
+use Rattle.std.specs.Prelude.{ℕ, if◌then◌else◌, List, [], ◌∷◌, ◌++◌, codes, map, Option, Some, None}
+use Rattle.case_json.specs.declared.fault.CaseFault.{CaseFault}
+use Rattle.case_json.specs.declared.fault.CaseFault.TheVariants as faults
+use Rattle.ot_integrate.specs.Ends.{outcome_of}
+use Rattle.ot_replies.specs.declared.reply.FileKind.{FileKind}
+use Rattle.ot_replies.specs.declared.reply.FileKind.TheVariants as files
+use Rattle.ot_replies.specs.declared.reply.Reply.{Reply}
+use Rattle.ot_replies.specs.declared.reply.Reply.TheVariants.{Proved, Broken, Spent, Accepted, Refused, FunctionRefused}
+use Rattle.ot_replies.specs.declared.reply.Reply.TheVariants.{CaseRefused, Integrated, Usage, TooLong, EventRefused, StuckAt, Replayed, Drilled}
+use Rattle.ot_replies.specs.FaultTexts.{text_fault_text, case_fault_text, refusal_text}
+use Rattle.ot_replies.specs.OrderTexts.{orders_text}
+use Rattle.ot_replies.specs.CounterTexts.{counter_text}
+use Rattle.ot_replies.specs.LevelTexts.{accepted_text}
+use Rattle.ot_replies.specs.DrillTexts.{drill_text}
+use Rattle.ot_replies.specs.SessionTexts.{event_fault_text, sites_text, stuck_text}
+
+-- too much of a part is a limit, and every other fault is one of the case
+abbrev pub case_status : CaseFault → ℕ
+case_status (faults.Limit name) = 9
+case_status fault = 4
+
+-- two sites differ, or none do
+abbrev pub differ_status : Option (ℕ × ℕ) → ℕ
+differ_status None = 0
+differ_status (Some pair) = 1
+
+abbrev pub status_of : Reply → ℕ
+status_of (Proved bytes) = 0
+status_of (Broken counter) = 1
+status_of Spent = 8
+status_of (Accepted level) = 0
+status_of (Integrated ends same) = if same then 0 else 1
+status_of (Replayed ends differ) = differ_status differ
+status_of (StuckAt i) = 1
+status_of (Drilled d) = differ_status d.differ
+status_of (EventRefused i fault) = 4
+status_of (Refused offset why) = 2
+status_of (FunctionRefused fault) = 3
+status_of (CaseRefused fault) = case_status fault
+status_of Usage = 5
+status_of (TooLong kind) = 9
+
+abbrev pub limit_word : FileKind → List ℕ
+limit_word files.Function = codes "function"
+limit_word files.Certificate = codes "certificate"
+limit_word files.Case = codes "file"
+
+abbrev pub limit_text : FileKind → List ℕ
+limit_text kind = codes "limit " ++ limit_word kind ++ 10 ∷ []
+
+abbrev pub text_of : Reply → List ℕ
+text_of (Proved bytes) = bytes
+text_of (Broken counter) = counter_text counter
+text_of Spent = codes "spent" ++ 10 ∷ []
+text_of (Accepted level) = accepted_text level
+text_of (Integrated ends same) = orders_text (map outcome_of ends) same
+text_of (Replayed ends differ) = sites_text ends differ
+text_of (StuckAt i) = stuck_text i
+text_of (Drilled d) = drill_text d
+text_of (EventRefused i fault) = event_fault_text i fault
+text_of (Refused offset why) = refusal_text offset why
+text_of (FunctionRefused fault) = text_fault_text fault
+text_of (CaseRefused fault) = case_fault_text fault
+text_of Usage = codes "usage: otp COMMAND ARGUMENTS" ++ 10 ∷ []
+text_of (TooLong kind) = limit_text kind

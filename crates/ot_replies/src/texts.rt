@@ -1,0 +1,139 @@
+//! The status and the text of a reply.
+ghost use Rattle.std.specs.Prelude.{◌≡◌, ◌++◌, [], IfOk, OnOk};
+ghost use Rattle.cert_text.specs.Spelling.{level_text};
+ghost use Rattle.ot_replies.specs.LevelTexts.{accepted_text};
+ghost use Rattle.ot_replies.specs.Texts.{case_status, differ_status, status_of, text_of, limit_text, limit_word};
+
+mod counters;
+mod documents;
+mod drills;
+mod faults;
+mod orders;
+mod sessions;
+
+use crate::reply::{FileKind, Reply};
+use case_json::CaseFault;
+use counters::write_counter;
+use drills::write_drilled;
+use faults::{write_case_fault, write_refusal, write_text_fault};
+use fn_rules::Level;
+use orders::write_ends;
+use ot_model::NoMemory;
+use sessions::{write_event_fault, write_sites, write_stuck};
+use std::alloc::Global;
+
+// The status of a case's fault: too much of a part is a limit.
+fn case_status(fault: &CaseFault) -> u8
+    ensures { result ≡ case_status fault.now }
+{
+    match fault {
+        CaseFault::Limit(_) => 9,
+        _ => 4,
+    }
+}
+
+// Whether two sites differ.
+fn differ_status(differ: Option<(u32, u32)>) -> u8
+    ensures { result ≡ differ_status differ }
+{
+    match differ {
+        None => 0,
+        Some(_) => 1,
+    }
+}
+
+/// The exit status of a reply.
+pub fn status(reply: &Reply) -> u8
+    ensures { result ≡ status_of reply.now }
+{
+    match reply {
+        Reply::Proved(_) => 0,
+        Reply::Broken(_) => 1,
+        Reply::Spent => 8,
+        Reply::Accepted(_) => 0,
+        Reply::Integrated(_, same) => { if *same { 0 } else { 1 } }
+        Reply::Replayed(_, differ) => differ_status(*differ),
+        Reply::Drilled(drilled) => differ_status(drilled.differ),
+        Reply::StuckAt(_) => 1,
+        Reply::EventRefused(..) => 4,
+        Reply::Refused { .. } => 2,
+        Reply::FunctionRefused(_) => 3,
+        Reply::CaseRefused(fault) => case_status(fault),
+        Reply::Usage => 5,
+        Reply::TooLong(_) => 9,
+    }
+}
+
+// The word of a limit.
+fn limit_word(kind: FileKind) -> &'static str
+    ensures { result.now ≡ limit_word kind }
+{
+    match kind {
+        FileKind::Function => "function",
+        FileKind::Certificate => "certificate",
+        FileKind::Case => "file",
+    }
+}
+
+fn write_limit(alloc: Global, kind: FileKind, out: &mut Vec<u8>) -> Result<(), NoMemory>
+    requires { out.old.items ≡ [] }
+    ensures { OnOk result (out.new.items ≡ limit_text kind) }
+{
+    let word = limit_word(kind);
+    let text = format!(in alloc; "limit {word}\n")?;
+    out.extend_from_slice(text.as_bytes())?;
+    Ok(())
+}
+
+fn level_word(level: Level) -> &'static str
+    ensures { result.now ≡ level_text level }
+{
+    match level {
+        Level::Tp1 => "tp1",
+        Level::Tp2 => "tp2",
+    }
+}
+
+// Writes that a certificate is accepted at a level.
+fn write_accepted(alloc: Global, level: Level, out: &mut Vec<u8>) -> Result<(), NoMemory>
+    ensures { OnOk result (out.new.items ≡ out.old.items ++ accepted_text level) }
+{
+    let word = level_word(level);
+    let text = format!(in alloc; "accepted {word}\n")?;
+    out.extend_from_slice(text.as_bytes())?;
+    Ok(())
+}
+
+// The text of a reply, written anew.
+fn written(alloc: Global, reply: &Reply) -> Result<Vec<u8>, NoMemory>
+    ensures { IfOk result (λ text. text.items ≡ text_of reply.now) }
+{
+    let mut text = Vec::new(alloc);
+    match reply {
+        Reply::Proved(bytes) => text.extend_from_slice(bytes.as_slice())?,
+        Reply::Broken(counter) => write_counter(alloc, counter, &mut text)?,
+        Reply::Spent => text.extend_from_slice(b"spent\n")?,
+        Reply::Accepted(level) => write_accepted(alloc, *level, &mut text)?,
+        Reply::Refused { offset, why } => write_refusal(alloc, *offset, *why, &mut text)?,
+        Reply::FunctionRefused(fault) => write_text_fault(alloc, fault, &mut text)?,
+        Reply::CaseRefused(fault) => write_case_fault(alloc, fault, &mut text)?,
+        Reply::Integrated(ends, same) => write_ends(alloc, ends.as_slice(), *same, &mut text)?,
+        Reply::EventRefused(number, fault) => write_event_fault(alloc, *number, *fault, &mut text)?,
+        Reply::StuckAt(number) => write_stuck(alloc, *number, &mut text)?,
+        Reply::Replayed(ends, differ) => write_sites(alloc, ends.as_slice(), *differ, &mut text)?,
+        Reply::Drilled(drilled) => write_drilled(alloc, drilled, &mut text)?,
+        Reply::Usage => text.extend_from_slice(b"usage: otp COMMAND ARGUMENTS\n")?,
+        Reply::TooLong(kind) => write_limit(alloc, *kind, &mut text)?,
+    }
+    Ok(text)
+}
+
+/// The text of a reply. A certificate is not copied.
+pub fn text(alloc: Global, reply: Reply) -> Result<Vec<u8>, NoMemory>
+    ensures { IfOk result (λ text. text.items ≡ text_of reply) }
+{
+    match reply {
+        Reply::Proved(bytes) => Ok(bytes.into_vec()),
+        other => written(alloc, &other),
+    }
+}

@@ -1,0 +1,182 @@
+//! The lines of a counterexample.
+ghost use Rattle.std.specs.Prelude.{◌≡◌, ◌++◌, [], codes, encode_utf8_all, OnOk};
+ghost use Rattle.std.specs.Fmt.{decimal, signed_decimal};
+ghost use Rattle.case_json.specs.DocText.{char_text};
+ghost use Rattle.cert_text.specs.Spelling.{level_text};
+ghost use Rattle.ot_replies.specs.DocumentTexts.{document_text};
+ghost use Rattle.ot_replies.specs.CounterTexts.{counter_text, line_of, op_lines, op_text, side_text, why_word};
+
+use super::documents::write_document;
+use super::level_word;
+use case_json::char_write;
+use fn_rules::Level;
+use ot_counter::{Counter, Side};
+use ot_model::{Doc, NoMemory, Op};
+use ot_questions::Why;
+use std::alloc::Global;
+
+fn why_word(why: Why) -> &'static str
+    ensures { result.now ≡ why_word why }
+{
+    match why {
+        Why::Undefined => "undefined",
+        Why::OutOfRange => "range",
+        Why::Lengths => "lengths",
+        Why::Cells { .. } => "cells",
+        Why::Operations => "operations",
+    }
+}
+
+// The word of a kind.
+fn write_word(word: &str, out: &mut Vec<u8>) -> Result<(), NoMemory>
+    ensures { OnOk result (out.new.items ≡ out.old.items ++ word.now) }
+{
+    out.extend_from_slice(word.as_bytes())?;
+    Ok(())
+}
+
+// The position in front of a character.
+fn write_position(alloc: Global, at: i64, out: &mut Vec<u8>) -> Result<(), NoMemory>
+    ensures { OnOk result (out.new.items ≡ out.old.items ++ (codes " " ++ signed_decimal at ++ codes " ")) }
+{
+    let text = format!(in alloc; " {at} ")?;
+    out.extend_from_slice(text.as_bytes())?;
+    Ok(())
+}
+
+// The site behind a character.
+fn write_site(alloc: Global, site: u32, out: &mut Vec<u8>) -> Result<(), NoMemory>
+    ensures { OnOk result (out.new.items ≡ out.old.items ++ (codes " " ++ decimal site)) }
+{
+    let text = format!(in alloc; " {site}")?;
+    out.extend_from_slice(text.as_bytes())?;
+    Ok(())
+}
+
+// An operation with a character, behind the word of its kind.
+fn write_with_char(
+    alloc: Global,
+    word: &str,
+    at: i64,
+    ch: char,
+    site: u32,
+    out: &mut Vec<u8>,
+) -> Result<(), NoMemory>
+    ensures { OnOk result (out.new.items ≡ out.old.items
+        ++ (word.now ++ codes " " ++ signed_decimal at ++ codes " " ++ encode_utf8_all (char_text ch) ++ codes " " ++ decimal site)) }
+{
+    write_word(word, out)?;
+    write_position(alloc, at, out)?;
+    char_write(ch, out)?;
+    write_site(alloc, site, out)?;
+    Ok(())
+}
+
+// A deletion.
+fn write_deletion(alloc: Global, at: i64, site: u32, out: &mut Vec<u8>) -> Result<(), NoMemory>
+    ensures { OnOk result (out.new.items ≡ out.old.items ++ (codes "del " ++ signed_decimal at ++ codes " " ++ decimal site)) }
+{
+    let text = format!(in alloc; "del {at} {site}")?;
+    out.extend_from_slice(text.as_bytes())?;
+    Ok(())
+}
+
+fn write_op(alloc: Global, op: &Op, out: &mut Vec<u8>) -> Result<(), NoMemory>
+    ensures { OnOk result (out.new.items ≡ out.old.items ++ op_text op.now) }
+{
+    match *op {
+        Op::Ins { at, ch, site } => write_with_char(alloc, "ins", at, ch, site, out)?,
+        Op::Upd { at, ch, site } => write_with_char(alloc, "upd", at, ch, site, out)?,
+        Op::Del { at, site } => write_deletion(alloc, at, site, out)?,
+        Op::Nop => out.extend_from_slice(b"nop")?,
+    }
+    Ok(())
+}
+
+fn write_side(alloc: Global, side: &Side, out: &mut Vec<u8>) -> Result<(), NoMemory>
+    ensures { OnOk result (out.new.items ≡ out.old.items ++ side_text side.now) }
+{
+    match side {
+        Side::Undefined => out.extend_from_slice(b"undefined")?,
+        Side::OutOfRange => out.extend_from_slice(b"range")?,
+        Side::Doc(doc) => write_document(doc, out)?,
+        Side::Op(op) => write_op(alloc, op, out)?,
+    }
+    Ok(())
+}
+
+// The line of the property that fails, and of the cause.
+fn write_failure(alloc: Global, level: Level, why: Why, out: &mut Vec<u8>) -> Result<(), NoMemory>
+    ensures { OnOk result (out.new.items ≡ out.old.items
+        ++ line_of (codes "no " ++ level_text level ++ codes " " ++ why_word why)) }
+{
+    let property = level_word(level);
+    let cause = why_word(why);
+    let text = format!(in alloc; "no {property} {cause}\n")?;
+    out.extend_from_slice(text.as_bytes())?;
+    Ok(())
+}
+
+// The line of the document.
+fn write_doc_line(doc: &Doc, out: &mut Vec<u8>) -> Result<(), NoMemory>
+    ensures { OnOk result (out.new.items ≡ out.old.items ++ line_of (codes "doc " ++ document_text doc.now)) }
+{
+    out.extend_from_slice(b"doc ")?;
+    write_document(doc, out)?;
+    out.push(b'\n')?;
+    Ok(())
+}
+
+// The line of an operation.
+fn write_op_line(alloc: Global, number: usize, op: &Op, out: &mut Vec<u8>) -> Result<(), NoMemory>
+    ensures { OnOk result (out.new.items ≡ out.old.items
+        ++ line_of (codes "op " ++ decimal number ++ codes " " ++ op_text op.now)) }
+{
+    let front = format!(in alloc; "op {number} ")?;
+    out.extend_from_slice(front.as_bytes())?;
+    write_op(alloc, op, out)?;
+    out.push(b'\n')?;
+    Ok(())
+}
+
+// A line for each operation; they are counted from 1.
+fn write_ops(alloc: Global, ops: &[Op], out: &mut Vec<u8>) -> Result<(), NoMemory>
+    ensures { OnOk result (out.new.items ≡ out.old.items ++ op_lines 1 ops.now) }
+{
+    for (place, op) in ops.iter().enumerate() {
+        write_op_line(alloc, place + 1, op, out)?;
+    }
+    Ok(())
+}
+
+// The line of a side, behind its name.
+fn write_side_line(
+    alloc: Global,
+    name: &str,
+    side: &Side,
+    out: &mut Vec<u8>,
+) -> Result<(), NoMemory>
+    ensures { OnOk result (out.new.items ≡ out.old.items ++ line_of (name.now ++ side_text side.now)) }
+{
+    out.extend_from_slice(name.as_bytes())?;
+    write_side(alloc, side, out)?;
+    out.push(b'\n')?;
+    Ok(())
+}
+
+/// Writes the lines of a counterexample.
+pub(crate) fn write_counter(
+    alloc: Global,
+    counter: &Counter,
+    out: &mut Vec<u8>,
+) -> Result<(), NoMemory>
+    requires { out.old.items ≡ [] }
+    ensures { OnOk result (out.new.items ≡ counter_text counter.now) }
+{
+    write_failure(alloc, counter.level, counter.why, out)?;
+    write_doc_line(&counter.doc, out)?;
+    write_ops(alloc, counter.ops.as_slice(), out)?;
+    write_side_line(alloc, "left ", &counter.left, out)?;
+    write_side_line(alloc, "right ", &counter.right, out)?;
+    Ok(())
+}

@@ -1,0 +1,16 @@
+//! A document in a line.
+ghost use Rattle.std.specs.Prelude.{◌≡◌, ◌++◌, OnOk};
+ghost use Rattle.ot_replies.specs.DocumentTexts.{document_text};
+
+use case_json::doc_write;
+use ot_model::{Doc, NoMemory};
+
+/// Writes the text of a document in brackets.
+pub(crate) fn write_document(doc: &Doc, out: &mut Vec<u8>) -> Result<(), NoMemory>
+    ensures { OnOk result (out.new.items ≡ out.old.items ++ document_text doc.now) }
+{
+    out.push(b'[')?;
+    doc_write(doc, out)?;
+    out.push(b']')?;
+    Ok(())
+}

@@ -1,0 +1,136 @@
+//! The lines of faults.
+ghost use Rattle.std.specs.Prelude.{◌≡◌, [], string_bytes, IfOk, OnOk};
+ghost use Rattle.case_json.specs.declared.fault.CaseFault.TheVariants.{Pair};
+ghost use Rattle.ot_replies.specs.FaultTexts.{case_text, case_fault_text, kind_word, name_word, refusal_text, refusal_word, text_fault_text};
+
+use case_json::{CaseFault, Name};
+use fn_text::{FaultKind, TextFault};
+use ot_judge::Refusal;
+use ot_model::NoMemory;
+use std::alloc::Global;
+
+fn kind_word(kind: FaultKind) -> &'static str
+    ensures { result.now ≡ kind_word kind }
+{
+    match kind {
+        FaultKind::Byte => "byte",
+        FaultKind::Word => "word",
+        FaultKind::Expected => "expected",
+        FaultKind::Sort => "sort",
+        FaultKind::Offset => "offset",
+        FaultKind::Missing => "missing",
+        FaultKind::Double => "double",
+        FaultKind::Kind => "kind",
+        FaultKind::Cases => "cases",
+        FaultKind::Atoms => "atoms",
+        FaultKind::Nesting => "nesting",
+        FaultKind::Outcome => "result",
+        FaultKind::Version => "version",
+        FaultKind::NoMemory => "memory",
+    }
+}
+
+fn name_word(name: Name) -> &'static str
+    ensures { result.now ≡ name_word name }
+{
+    match name {
+        Name::Doc => "doc",
+        Name::Ops => "ops",
+        Name::Orders => "orders",
+        Name::Sites => "sites",
+        Name::Events => "events",
+        Name::Cells => "cells",
+    }
+}
+
+fn refusal_word(why: Refusal) -> &'static str
+    ensures { result.now ≡ refusal_word why }
+{
+    match why {
+        Refusal::Token => "token",
+        Refusal::Truncated => "truncated",
+        Refusal::Trailing => "trailing",
+        Refusal::NotAQuestion => "notaquestion",
+        Refusal::NotDone => "notdone",
+        Refusal::GoalFails => "fails",
+        Refusal::BadPick => "pick",
+        Refusal::NotACycle => "cycle",
+        Refusal::NotNegative => "notnegative",
+    }
+}
+
+/// Writes the line of a certificate that is refused.
+pub(crate) fn write_refusal(
+    alloc: Global,
+    offset: u64,
+    why: Refusal,
+    out: &mut Vec<u8>,
+) -> Result<(), NoMemory>
+    requires { out.old.items ≡ [] }
+    ensures { OnOk result (out.new.items ≡ refusal_text offset why) }
+{
+    let place = format!(in alloc; "certificate {offset} ")?;
+    out.extend_from_slice(place.as_bytes())?;
+    out.extend_from_slice(refusal_word(why).as_bytes())?;
+    out.push(b'\n')?;
+    Ok(())
+}
+
+/// Writes the line of a function whose text has a fault.
+pub(crate) fn write_text_fault(
+    alloc: Global,
+    fault: &TextFault,
+    out: &mut Vec<u8>,
+) -> Result<(), NoMemory>
+    requires { out.old.items ≡ [] }
+    ensures { OnOk result (out.new.items ≡ text_fault_text fault.now) }
+{
+    let word = kind_word(fault.kind);
+    let line = fault.line;
+    let column = fault.column;
+    let text = format!(in alloc; "function {line}:{column} {word}\n")?;
+    out.extend_from_slice(text.as_bytes())?;
+    Ok(())
+}
+
+fn pair_text(alloc: Global, i: u32, j: u32) -> Result<String, NoMemory>
+    ensures { IfOk result (λ text. string_bytes text ≡ case_text (Pair i j)) }
+{
+    Ok(format!(in alloc; "case pair {i} {j}")?)
+}
+
+fn case_text(alloc: Global, fault: &CaseFault) -> Result<String, NoMemory>
+    ensures { IfOk result (λ text. string_bytes text ≡ case_text fault.now) }
+{
+    match fault {
+        CaseFault::Json => Ok(format!(in alloc; "case json")?),
+        CaseFault::Field(name) => {
+            let word = name_word(*name);
+            Ok(format!(in alloc; "case field {word}")?)
+        }
+        CaseFault::Kind(i) => Ok(format!(in alloc; "case kind {i}")?),
+        CaseFault::Enabled(i) => Ok(format!(in alloc; "case enabled {i}")?),
+        CaseFault::Pair(i, j) => pair_text(alloc, *i, *j),
+        CaseFault::Order(i) => Ok(format!(in alloc; "case order {i}")?),
+        CaseFault::Limit(name) => {
+            let word = name_word(*name);
+            Ok(format!(in alloc; "limit {word}")?)
+        }
+        CaseFault::NoMemory => Ok(format!(in alloc; "memory")?),
+    }
+}
+
+/// Writes the line of a case that has a fault.
+pub(crate) fn write_case_fault(
+    alloc: Global,
+    fault: &CaseFault,
+    out: &mut Vec<u8>,
+) -> Result<(), NoMemory>
+    requires { out.old.items ≡ [] }
+    ensures { OnOk result (out.new.items ≡ case_fault_text fault.now) }
+{
+    let text = case_text(alloc, fault)?;
+    out.extend_from_slice(text.as_bytes())?;
+    out.push(b'\n')?;
+    Ok(())
+}

@@ -1,0 +1,121 @@
+-- What words ask for is within its bounds.
+use Rattle.std.proofs.Common.{◌≡◌, ℕ, ◌≤◌, ◌<◌, ◌^◌, Bool, true, false, List, [], ◌∷◌, Option, Some, None, refl, ap, subst, cond}
+use Rattle.std.specs.Prelude.{option_map, option_and_then, codes}
+use Rattle.std.specs.Str.{bytes_eq}
+use Rattle.std.specs.Str.Parse.{IsNumeral, digits_value, without_leading_plus}
+use Rattle.clap.proofs.ValueTestLemmas.{Accepts-accepts, accepts-Accepts}
+use Rattle.clap.specs.ValueTests.{is_unsigned_in}
+use Rattle.clap.specs.Words.{Row, first_of}
+use Rattle.clap.specs.declared.builder.value_parser.ValueParser.TheVariants.{Unsigned}
+use Rattle.fn_rules.specs.declared.function.Level.{Level}
+use Rattle.ot_words.specs.Commands.{Asked, Prove, Check, Integrate, Replay, Drill}
+use Rattle.ot_drill.specs.declared.limits.TheConstants.{MOST_ROUNDS}
+use Rattle.ot_words.specs.Words.{IsWithinBounds, asked_by, check_in, drill_app, drill_by, drill_in, found_by, integrate_in, level_by, most_questions}
+use Rattle.ot_words.specs.Words.{names_by, number_by, prove_app, prove_by, prove_in, replay_in}
+
+number_within : (most : ℕ) (text : List ℕ) (n : ℕ) → number_by most text ≡ Some n → n ≤ most
+number_within most text n is = go (is_unsigned_in 1 most text) refl is
+  where
+    go : (test : Bool) → is_unsigned_in 1 most text ≡ test
+        → cond test (Some (digits_value 10 (without_leading_plus text))) None ≡ Some n → n ≤ most
+    go true passed some =
+        let number : digits_value 10 (without_leading_plus text) ≡ n = cc in
+        subst (λ (m : ℕ). m ≤ most) number (accepts-Accepts false (Unsigned 1 most) text passed).3
+    go false passed some = absurd (cc)
+
+where_passed : (test : Bool) (n value : ℕ) → test ≡ true → n ≡ value → Some n ≡ cond test (Some value) None
+where_passed true n value passed is = ap (λ x. Some x) is
+where_passed false n value passed is = absurd (cc)
+
+where_not_passed : (test : Bool) (value : ℕ) → (test ≡ true → ⊥) → None ≡ cond test (Some value) None
+where_not_passed true value refused = absurd (refused refl)
+where_not_passed false value refused = refl
+
+-- a number of 64 bits that is within the bounds is taken
+pub is_taken :
+    (most : ℕ) (text : List ℕ) (n : ℕ) → IsNumeral 10 (without_leading_plus text)
+    → digits_value 10 (without_leading_plus text) < 2 ^ 64 → n ≡ digits_value 10 (without_leading_plus text) → 1 ≤ n → n ≤ most
+    → Some n ≡ number_by most text
+is_taken most text n numeral small is some few =
+    let value : ℕ = digits_value 10 (without_leading_plus text) in
+    where_passed (is_unsigned_in 1 most text) n value
+    (Accepts-accepts false (Unsigned 1 most) text
+    (numeral, small, subst (λ (k : ℕ). 1 ≤ k) is some, subst (λ (k : ℕ). k ≤ most) is few)) is
+
+-- a text that is no number of 64 bits is refused
+pub is_refused :
+    (most : ℕ) (text : List ℕ)
+    → (IsNumeral 10 (without_leading_plus text) → digits_value 10 (without_leading_plus text) < 2 ^ 64 → ⊥)
+    → None ≡ number_by most text
+is_refused most text no_number =
+    where_not_passed (is_unsigned_in 1 most text) (digits_value 10 (without_leading_plus text))
+    (λ passed. let read = accepts-Accepts false (Unsigned 1 most) text passed in no_number read.0 read.1)
+
+found_within :
+    (most : ℕ) (text : Option (List ℕ)) (n : ℕ) → option_and_then (number_by most) text ≡ Some n → n ≤ most
+found_within most None n is = absurd (cc)
+found_within most (Some text) n is = number_within most text n is
+
+-- what was found, if something was, is within its bounds
+abbrev IsWithin : Option Asked → Type 0
+IsWithin found = (asked : Asked) → found ≡ Some asked → IsWithinBounds asked
+
+none_is_within : IsWithin None
+none_is_within asked is = absurd (cc)
+
+one_of : (test : Bool) (one other : Option Asked) → IsWithin one → IsWithin other → IsWithin (cond test one other)
+one_of true one other first second = first
+one_of false one other first second = second
+
+names_are_within :
+    (command : List ℕ → List ℕ → Asked) → ((one other : List ℕ) → IsWithinBounds (command one other))
+    → (names : Option (List ℕ × List ℕ)) → IsWithin (option_map (λ n. command n.0 n.1) names)
+names_are_within command free None asked is = absurd (cc)
+names_are_within command free (Some n) asked is =
+    let same : command n.0 n.1 ≡ asked = cc in subst (λ (a : Asked). IsWithinBounds a) same (free n.0 n.1)
+
+proof_is_within :
+    (level : Level) (budget : Option ℕ) (file : Option (List ℕ)) → ((b : ℕ) → budget ≡ Some b → b ≤ most_questions)
+    → IsWithin (option_and_then (λ b. option_map (Prove level b) file) budget)
+proof_is_within level None file few asked is = absurd (cc)
+proof_is_within level (Some b) None few asked is = absurd (cc)
+proof_is_within level (Some b) (Some name) few asked is =
+    let same : Prove level b name ≡ asked = cc in subst (λ (a : Asked). IsWithinBounds a) same (few b refl)
+
+proofs_are_within : (words : List (List ℕ)) → IsWithin (prove_in words)
+unfolding prove_in
+proofs_are_within words = go (found_by prove_app words)
+  where
+    go : (found : Option (List Row)) → IsWithin (option_and_then prove_by found)
+    go None = none_is_within
+    go (Some rows) =
+        proof_is_within (level_by (first_of (codes "tp1") rows))
+        (option_and_then (number_by most_questions) (first_of (codes "budget") rows)) (first_of (codes "function") rows)
+        (found_within most_questions (first_of (codes "budget") rows))
+
+drill_is_within : (number : Option ℕ) → ((n : ℕ) → number ≡ Some n → n ≤ MOST_ROUNDS) → IsWithin (option_map Drill number)
+drill_is_within None few asked is = absurd (cc)
+drill_is_within (Some n) few asked is =
+    let same : Drill n ≡ asked = cc in subst (λ (a : Asked). IsWithinBounds a) same (few n refl)
+
+drills_are_within : (words : List (List ℕ)) → IsWithin (drill_in words)
+unfolding drill_in
+drills_are_within words = go (found_by drill_app words)
+  where
+    go : (found : Option (List Row)) → IsWithin (option_and_then drill_by found)
+    go None = none_is_within
+    go (Some rows) =
+        drill_is_within (option_and_then (number_by MOST_ROUNDS) (first_of (codes "number") rows))
+        (found_within MOST_ROUNDS (first_of (codes "number") rows))
+
+pub within_bounds : (words : List (List ℕ)) (asked : Asked) → asked_by words ≡ Some asked → IsWithinBounds asked
+within_bounds [] = none_is_within
+within_bounds (word ∷ words) =
+    one_of (bytes_eq word (codes "prove")) (prove_in words) _ (proofs_are_within words)
+    (one_of (bytes_eq word (codes "check")) (check_in words) _
+    (names_are_within Check (λ one other. tt) (names_by (codes "check") words))
+    (one_of (bytes_eq word (codes "integrate")) (integrate_in words) _
+    (names_are_within Integrate (λ one other. tt) (names_by (codes "integrate") words))
+    (one_of (bytes_eq word (codes "replay")) (replay_in words) _
+    (names_are_within Replay (λ one other. tt) (names_by (codes "replay") words))
+    (one_of (bytes_eq word (codes "drill")) (drill_in words) None (drills_are_within words) none_is_within))))

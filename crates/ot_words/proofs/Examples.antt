@@ -1,0 +1,89 @@
+-- The words of commands, read by clap.
+use Rattle.std.proofs.Common.{◌≡◌, [], ◌∷◌, Some, None, codes, refl}
+use Rattle.clap.proofs.OnLiterals.{clap_on_literals}
+use Rattle.fn_rules.specs.declared.function.Level.TheVariants.{Tp1, Tp2}
+use Rattle.ot_words.specs.Commands.{Prove, Check, Integrate}
+use Rattle.ot_words.specs.Words.{asked_by, names_by, prove_in, found_by}
+
+-- two file names, of which the empty word and `-` are such
+two_names : asked_by (codes "check" ∷ codes "a" ∷ codes "b" ∷ []) ≡ Some (Check (codes "a") (codes "b"))
+unfolding clap_on_literals names_by found_by
+two_names = refl
+
+empty_name : asked_by (codes "integrate" ∷ [] ∷ codes "-" ∷ []) ≡ Some (Integrate [] (codes "-"))
+unfolding clap_on_literals names_by found_by
+empty_name = refl
+
+-- behind `--` a word that begins with `-` is a file name
+behind_dashes : asked_by (codes "check" ∷ codes "--" ∷ codes "-a" ∷ codes "b" ∷ []) ≡ Some (Check (codes "-a") (codes "b"))
+unfolding clap_on_literals names_by found_by
+behind_dashes = refl
+
+between_dashes : asked_by (codes "check" ∷ codes "a" ∷ codes "--" ∷ codes "--tp1" ∷ []) ≡ Some (Check (codes "a") (codes "--tp1"))
+unfolding clap_on_literals names_by found_by
+between_dashes = refl
+
+no_names : asked_by (codes "check" ∷ codes "--" ∷ []) ≡ None
+unfolding clap_on_literals names_by found_by
+no_names = refl
+
+one_name : asked_by (codes "check" ∷ codes "a" ∷ []) ≡ None
+unfolding clap_on_literals names_by found_by
+one_name = refl
+
+three_names : asked_by (codes "check" ∷ codes "a" ∷ codes "b" ∷ codes "c" ∷ []) ≡ None
+unfolding clap_on_literals names_by found_by
+three_names = refl
+
+no_such_option : asked_by (codes "check" ∷ codes "--x" ∷ codes "a" ∷ codes "b" ∷ []) ≡ None
+unfolding clap_on_literals names_by found_by
+no_such_option = refl
+
+no_help : asked_by (codes "integrate" ∷ codes "--help" ∷ []) ≡ None
+unfolding clap_on_literals names_by found_by
+no_help = refl
+
+no_short_help : asked_by (codes "integrate" ∷ codes "-h" ∷ codes "a" ∷ codes "b" ∷ []) ≡ None
+unfolding clap_on_literals names_by found_by
+no_short_help = refl
+
+no_version : asked_by (codes "integrate" ∷ codes "a" ∷ codes "--version" ∷ codes "b" ∷ []) ≡ None
+unfolding clap_on_literals names_by found_by
+no_version = refl
+
+no_command : asked_by (codes "--version" ∷ []) ≡ None
+unfolding clap_on_literals names_by found_by
+no_command = refl
+
+-- the options of `prove` stand before the name or behind it
+no_options : asked_by (codes "prove" ∷ codes "a" ∷ []) ≡ Some (Prove Tp2 1000000 (codes "a"))
+unfolding clap_on_literals prove_in found_by
+no_options = refl
+
+options_before : asked_by (codes "prove" ∷ codes "--budget" ∷ codes "+07" ∷ codes "--tp1" ∷ codes "a" ∷ []) ≡ Some (Prove Tp1 7 (codes "a"))
+unfolding clap_on_literals prove_in found_by
+options_before = refl
+
+option_behind : asked_by (codes "prove" ∷ codes "a" ∷ codes "--budget=1000000" ∷ []) ≡ Some (Prove Tp2 1000000 (codes "a"))
+unfolding clap_on_literals prove_in found_by
+option_behind = refl
+
+option_as_name : asked_by (codes "prove" ∷ codes "--" ∷ codes "--tp1" ∷ []) ≡ Some (Prove Tp2 1000000 (codes "--tp1"))
+unfolding clap_on_literals prove_in found_by
+option_as_name = refl
+
+no_question : asked_by (codes "prove" ∷ codes "--budget" ∷ codes "0" ∷ codes "a" ∷ []) ≡ None
+unfolding clap_on_literals prove_in found_by
+no_question = refl
+
+too_many_questions : asked_by (codes "prove" ∷ codes "--budget=1000001" ∷ codes "a" ∷ []) ≡ None
+unfolding clap_on_literals prove_in found_by
+too_many_questions = refl
+
+flag_twice : asked_by (codes "prove" ∷ codes "--tp1" ∷ codes "--tp1" ∷ codes "a" ∷ []) ≡ None
+unfolding clap_on_literals prove_in found_by
+flag_twice = refl
+
+no_such_flag : asked_by (codes "prove" ∷ codes "--tp" ∷ codes "a" ∷ []) ≡ None
+unfolding clap_on_literals prove_in found_by
+no_such_flag = refl

@@ -1,0 +1,5 @@
+mod Apps
+pub mod Bounds
+mod Examples
+mod NamesRead
+mod PlainNames

@@ -1,0 +1,24 @@
+-- What words ask for: a command, with the names of its files.
+use Rattle.std.specs.Prelude.{ℕ, List}
+use Rattle.fn_rules.specs.declared.function.Level.{Level}
+use Rattle.ot_words.specs.declared.command.Command.{Command}
+use Rattle.ot_words.specs.declared.command.Command.TheVariants as rust
+
+pub data Asked : Type 0 where
+  -- at a level, by so many questions at the most, of a function's file: the function is proved, or refuted
+  Prove : Level → ℕ → List ℕ → Asked
+  -- of a function's file and a certificate's file: the certificate is judged
+  Check : List ℕ → List ℕ → Asked
+  -- of a function's file and a case's file: the operations are integrated
+  Integrate : List ℕ → List ℕ → Asked
+  -- of a function's file and a session's file: the events are run
+  Replay : List ℕ → List ℕ → Asked
+  -- the workload of a number is gone through
+  Drill : ℕ → Asked
+
+abbrev pub asked_of : Command → Asked
+asked_of (rust.Prove level budget function) = Prove level budget function.now
+asked_of (rust.Check function certificate) = Check function.now certificate.now
+asked_of (rust.Integrate function case) = Integrate function.now case.now
+asked_of (rust.Replay function session) = Replay function.now session.now
+asked_of (rust.Drill number) = Drill number

@@ -1,0 +1,123 @@
+-- Which words are those of a command, by what clap states of a simple command.
+use Rattle.std.specs.Prelude.{ℕ, ◌≤◌, List, [], ◌∷◌, Option, Some, None, codes, if◌then◌else◌, true, option_map, option_and_then}
+use Rattle.std.specs.Str.{bytes_eq}
+use Rattle.std.specs.Str.Parse.{digits_value, without_leading_plus}
+use Rattle.clap.specs.Words.{App, Row, Rule, Kinds, new_app, new_rule, with_rule, matches_of, first_of, fault_of}
+use Rattle.clap.specs.ValueTests.{is_unsigned_in}
+use Rattle.clap.specs.declared.builder.action.ArgAction.TheVariants.{SetTrue}
+use Rattle.clap.specs.declared.builder.value_parser.ValueParser.TheVariants.{Unsigned}
+use Rattle.fn_rules.specs.declared.function.Level.{Level}
+use Rattle.fn_rules.specs.declared.function.Level.TheVariants.{Tp1, Tp2}
+use Rattle.ot_drill.specs.declared.limits.TheConstants.{MOST_ROUNDS}
+use Rattle.ot_words.specs.Commands.{Asked, Prove, Check, Integrate, Replay, Drill}
+
+-- the clap command of a name, with no option for help and no arguments
+abbrev pub bare_app : List ℕ → App
+bare_app name =
+    let app = new_app name in record app { top = record app.top { no_binary_name = true; disable_help_flag = true } }
+
+-- a required argument
+abbrev pub required_rule : List ℕ → Rule
+required_rule id = record (new_rule id) { required = true }
+
+-- the clap command of a name that takes two file names
+abbrev pub two_files : List ℕ → App
+two_files name = with_rule (with_rule (bare_app name) (required_rule (codes "first"))) (required_rule (codes "second"))
+
+-- the most questions that `prove` may be allowed, which it is allowed where the words do not say
+abbrev pub most_questions : ℕ
+most_questions = 1000000
+
+-- the option `--tp1`
+abbrev pub tp1_rule : Rule
+tp1_rule = record (new_rule (codes "tp1")) { long = Some (codes "tp1"); action = Some SetTrue }
+
+-- the option `--budget N`, whose number clap reads
+abbrev pub budget_rule : Rule
+budget_rule =
+    record (new_rule (codes "budget")) {
+      long = Some (codes "budget");
+      parser = Some (Unsigned 1 most_questions);
+      defaults = codes "1000000" ∷ [];
+    }
+
+-- the number of `drill`
+abbrev pub number_rule : Rule
+number_rule = record (new_rule (codes "number")) { required = true; parser = Some (Unsigned 1 MOST_ROUNDS) }
+
+-- the clap command `prove`: both options, and a file name
+abbrev pub prove_app : App
+prove_app = with_rule (with_rule (with_rule (bare_app (codes "prove")) tp1_rule) budget_rule) (required_rule (codes "function"))
+
+-- the clap command `drill`: a number, which clap reads
+abbrev pub drill_app : App
+drill_app = with_rule (bare_app (codes "drill")) number_rule
+
+-- what clap finds, where it refuses for no kind of error
+abbrev pub unless_refused : Kinds → List Row → Option (List Row)
+unless_refused [] rows = Some rows
+unless_refused (kind ∷ kinds) rows = None
+
+-- what clap finds in the words, unless it refuses them
+unfoldable pub found_by : App → List (List ℕ) → Option (List Row)
+found_by app words = unless_refused (fault_of app words) (matches_of app words)
+
+-- the values of both arguments, if they are there
+abbrev pub values_in : List Row → Option (List ℕ × List ℕ)
+values_in rows = option_and_then (λ a. option_map (λ b. (a, b)) (first_of (codes "second") rows)) (first_of (codes "first") rows)
+
+-- the two file names in the words behind a command's name
+unfoldable pub names_by : List ℕ → List (List ℕ) → Option (List ℕ × List ℕ)
+names_by name words = option_and_then values_in (found_by (two_files name) words)
+
+-- the level that the flag says
+abbrev pub level_by : Option (List ℕ) → Level
+level_by None = Tp2
+level_by (Some flag) = if bytes_eq flag (codes "true") then Tp1 else Tp2
+
+-- the number of a text that clap takes for one from 1 to the greatest
+abbrev pub number_by : ℕ → List ℕ → Option ℕ
+number_by most text = if is_unsigned_in 1 most text then Some (digits_value 10 (without_leading_plus text)) else None
+
+-- the level, the budget and the name that are found
+abbrev pub prove_by : List Row → Option Asked
+prove_by rows =
+    option_and_then (λ budget. option_map (Prove (level_by (first_of (codes "tp1") rows)) budget) (first_of (codes "function") rows))
+    (option_and_then (number_by most_questions) (first_of (codes "budget") rows))
+
+-- the command behind each first word
+unfoldable pub prove_in : List (List ℕ) → Option Asked
+prove_in words = option_and_then prove_by (found_by prove_app words)
+
+-- the number that is found
+abbrev pub drill_by : List Row → Option Asked
+drill_by rows = option_map Drill (option_and_then (number_by MOST_ROUNDS) (first_of (codes "number") rows))
+
+unfoldable pub drill_in : List (List ℕ) → Option Asked
+drill_in words = option_and_then drill_by (found_by drill_app words)
+
+abbrev pub check_in : List (List ℕ) → Option Asked
+check_in words = option_map (λ names. Check names.0 names.1) (names_by (codes "check") words)
+
+abbrev pub integrate_in : List (List ℕ) → Option Asked
+integrate_in words = option_map (λ names. Integrate names.0 names.1) (names_by (codes "integrate") words)
+
+abbrev pub replay_in : List (List ℕ) → Option Asked
+replay_in words = option_map (λ names. Replay names.0 names.1) (names_by (codes "replay") words)
+
+-- the command that words name: the first word says which, and the others are its arguments
+abbrev pub asked_by : List (List ℕ) → Option Asked
+asked_by [] = None
+asked_by (word ∷ words) =
+    if bytes_eq word (codes "prove") then prove_in words
+    else (if bytes_eq word (codes "check") then check_in words
+    else (if bytes_eq word (codes "integrate") then integrate_in words
+    else (if bytes_eq word (codes "replay") then replay_in words
+    else (if bytes_eq word (codes "drill") then drill_in words
+    else None))))
+
+-- the number that is asked for is within its bounds
+abbrev pub IsWithinBounds : Asked → Type 0
+IsWithinBounds (Prove level budget function) = budget ≤ most_questions
+IsWithinBounds (Drill number) = number ≤ MOST_ROUNDS
+IsWithinBounds asked = Unit {0}

@@ -1,0 +1,51 @@
+//! Commands as values.
+use fn_rules::Level;
+
+/// A command, with the names of its files.
+#[derive(Clone, Copy, Debug)]
+pub enum Command<'a> {
+    /// A function is proved, or refuted.
+    Prove {
+        /// The level.
+        level: Level,
+
+        /// How many questions may be asked.
+        budget: u64,
+
+        /// The name of the function's file.
+        function: &'a str,
+    },
+
+    /// A certificate is judged.
+    Check {
+        /// The name of the function's file.
+        function: &'a str,
+
+        /// The name of the certificate's file.
+        certificate: &'a str,
+    },
+
+    /// The operations of a case are integrated.
+    Integrate {
+        /// The name of the function's file.
+        function: &'a str,
+
+        /// The name of the case's file.
+        case: &'a str,
+    },
+
+    /// The events of a session are run.
+    Replay {
+        /// The name of the function's file.
+        function: &'a str,
+
+        /// The name of the session's file.
+        session: &'a str,
+    },
+
+    /// The workload that is generated from a number is gone through.
+    Drill {
+        /// The number.
+        number: u32,
+    },
+}

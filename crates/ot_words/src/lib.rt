@@ -1,0 +1,9 @@
+//! From the words behind the program's name to a command: the first word says which command it is, and clap reads
+//! the others.
+#![tactic(auto)]
+
+mod command;
+mod words;
+
+pub use command::Command;
+pub use words::read_words;

@@ -1,0 +1,279 @@
+//! The words of a command. The first one says which command it is, and clap reads the others.
+ghost use Rattle.std.specs.Prelude.{◌≡◌, ◌≤◌, codes, map, false, true, IfOk, IfSome, string_bytes, option_map};
+ghost use Rattle.clap.specs.Words.{app_of, first_of, found_of, is_simple_and_free, rows_of, rule_of};
+ghost use Rattle.ot_drill.specs.declared.limits.TheConstants.{MOST_ROUNDS};
+ghost use Rattle.ot_words.specs.Commands.{asked_of};
+ghost use Rattle.clap.specs.declared.builder.value_parser.ValueParser.TheVariants.{Unsigned};
+ghost use Rattle.ot_words.specs.Words.{asked_by, bare_app, budget_rule, check_in, drill_app, drill_by, drill_in, found_by, integrate_in, level_by};
+ghost use Rattle.ot_words.specs.Words.{most_questions, names_by, number_by, number_rule, prove_app, prove_by, prove_in, replay_in, required_rule, tp1_rule, two_files, values_in};
+
+use crate::command::Command;
+use clap::builder::ValueParser;
+use clap::error::ErrorKind;
+use clap::{Arg, ArgAction, ArgMatches};
+use fn_rules::Level;
+use ot_drill::MOST_ROUNDS;
+use ot_model::NoMemory;
+use std::alloc::Global;
+
+// The most questions that `prove` may be allowed.
+const MOST_QUESTIONS: u64 = 1_000_000;
+
+// What the budget may be.
+fn budget_parser<'a>() -> ValueParser<'a>
+    ensures { result ≡ Unsigned 1 most_questions }
+{
+    clap::value_parser!(u64).range(1..=1_000_000)
+}
+
+// The option `--tp1`.
+fn tp1_option<'a>(alloc: Global) -> Arg<'a>
+    ensures rule { rule_of result ≡ tp1_rule }
+    ensures local { result.global ≡ false }
+{
+    Arg::new(alloc, "tp1")
+        .long("tp1")
+        .action(ArgAction::SetTrue)
+}
+
+// The option `--budget N`.
+fn budget_option<'a>(alloc: Global) -> Arg<'a>
+    ensures rule { rule_of result ≡ budget_rule }
+    ensures local { result.global ≡ false }
+{
+    Arg::new(alloc, "budget")
+        .long("budget")
+        .value_parser(budget_parser())
+        .default_value("1000000")
+}
+
+// The name of the function's file.
+fn function_argument<'a>(alloc: Global) -> Arg<'a>
+    ensures rule { rule_of result ≡ required_rule (codes "function") }
+    ensures local { result.global ≡ false }
+{
+    Arg::new(alloc, "function").required(true)
+}
+
+// The clap command `prove`, without its arguments.
+fn bare_prove<'a>(alloc: Global) -> clap::Command<'a>
+    ensures { app_of result ≡ bare_app (codes "prove") }
+{
+    clap::Command::new(alloc, "prove")
+        .no_binary_name(true)
+        .disable_help_flag(true)
+}
+
+// The clap command `prove`: its two options, and a file name.
+fn prove_app<'a>(alloc: Global) -> Result<clap::Command<'a>, NoMemory>
+    ensures { IfOk result (λ c. app_of c ≡ prove_app) }
+{
+    let with_level = bare_prove(alloc).arg(tp1_option(alloc))?;
+    let with_options = with_level.arg(budget_option(alloc))?;
+    let whole = with_options.arg(function_argument(alloc))?;
+    Ok(whole)
+}
+
+// The number of `drill`, which is at most `MOST_ROUNDS`.
+fn number_argument<'a>(alloc: Global) -> Arg<'a>
+    ensures rule { rule_of result ≡ number_rule }
+    ensures local { result.global ≡ false }
+{
+    Arg::new(alloc, "number")
+        .required(true)
+        .value_parser(clap::value_parser!(u64).range(1..=16))
+}
+
+// The clap command `drill`, without its number.
+fn bare_drill<'a>(alloc: Global) -> clap::Command<'a>
+    ensures { app_of result ≡ bare_app (codes "drill") }
+{
+    clap::Command::new(alloc, "drill")
+        .no_binary_name(true)
+        .disable_help_flag(true)
+}
+
+// The clap command `drill`: a number.
+fn drill_app<'a>(alloc: Global) -> Result<clap::Command<'a>, NoMemory>
+    ensures { IfOk result (λ c. app_of c ≡ drill_app) }
+{
+    let whole = bare_drill(alloc).arg(number_argument(alloc))?;
+    Ok(whole)
+}
+
+// The clap command of a name, which has no options, not even for help, and takes two file names.
+fn two_files(alloc: Global, name: &str) -> Result<clap::Command<'_>, NoMemory>
+    ensures { IfOk result (λ c. app_of c ≡ two_files name.entry.now) }
+{
+    let bare = clap::Command::new(alloc, name)
+        .no_binary_name(true)
+        .disable_help_flag(true);
+    let first = Arg::new(alloc, "first").required(true);
+    let second = Arg::new(alloc, "second").required(true);
+    bare.arg(first)?.arg(second)
+}
+
+// What clap finds in the words, unless it refuses them.
+fn matches_in<'a>(
+    command: clap::Command<'a>,
+    words: &'a [String],
+) -> Result<Option<ArgMatches<'a>>, NoMemory>
+    requires { is_simple_and_free (app_of command) ≡ true }
+    ensures { IfOk result (λ found. option_map (λ m. rows_of (found_of m)) found
+        ≡ found_by (app_of command.entry) (map string_bytes words.entry.now)) }
+{
+    match command.try_get_matches_from(words) {
+        Ok(matches) => Ok(Some(matches)),
+        Err(error) => match error.kind() {
+            ErrorKind::OutOfMemory => Err(NoMemory),
+            _ => Ok(None),
+        },
+    }
+}
+
+// The value of an argument.
+fn value_of<'a>(matches: &ArgMatches<'a>, id: &str) -> Option<&'a str>
+    ensures { option_map (λ s. s.now) result ≡ first_of id.now (rows_of (found_of matches.now)) }
+{
+    matches.get_str(id)
+}
+
+// The values of both arguments, if they are there.
+fn values_in<'a>(matches: &ArgMatches<'a>) -> Option<(&'a str, &'a str)>
+    ensures { option_map (λ v. (v.0.now, v.1.now)) result ≡ values_in (rows_of (found_of matches.now)) }
+{
+    Some((value_of(matches, "first")?, value_of(matches, "second")?))
+}
+
+// The two file names in the words behind a command's name.
+#[tactic(auto, unfolding(crate::specs::Words::names_by))]
+fn two_names<'a>(
+    alloc: Global,
+    name: &'a str,
+    words: &'a [String],
+) -> Result<Option<(&'a str, &'a str)>, NoMemory>
+    ensures { IfOk result (λ names. option_map (λ v. (v.0.now, v.1.now)) names
+        ≡ names_by name.entry.now (map string_bytes words.entry.now)) }
+{
+    match matches_in(two_files(alloc, name)?, words)? {
+        Some(matches) => Ok(values_in(&matches)),
+        None => Ok(None),
+    }
+}
+
+// The level that the flag says.
+fn level_by(flag: Option<&str>) -> Level
+    ensures { result ≡ level_by (option_map (λ s. s.now) flag.entry) }
+{
+    match flag {
+        Some("true") => Level::Tp1,
+        _ => Level::Tp2,
+    }
+}
+
+// The number of a text that clap takes for one from 1 to the greatest.
+fn number_by(most: u64, text: &str) -> Option<u64>
+    ensures number { result ≡ number_by most text.now }
+    ensures within { IfSome result (λ number. number ≤ most) }
+{
+    match text.parse::<u64>() {
+        Ok(number) if 1 <= number && number <= most => Some(number),
+        _ => None,
+    }
+}
+
+// The level, the budget and the name that clap finds.
+fn prove_by<'a>(matches: &ArgMatches<'a>) -> Option<Command<'a>>
+    ensures { option_map asked_of result ≡ prove_by (rows_of (found_of matches.now)) }
+{
+    let level = level_by(value_of(matches, "tp1"));
+    let budget = number_by(MOST_QUESTIONS, value_of(matches, "budget")?)?;
+    let function = value_of(matches, "function")?;
+    Some(Command::Prove {
+        level,
+        budget,
+        function,
+    })
+}
+
+// `prove [--tp1] [--budget N] FUNCTION`
+#[tactic(auto, unfolding(crate::specs::Words::prove_in))]
+fn prove_in<'a>(alloc: Global, words: &'a [String]) -> Result<Option<Command<'a>>, NoMemory>
+    ensures { IfOk result (λ command. option_map asked_of command ≡ prove_in (map string_bytes words.entry.now)) }
+{
+    match matches_in(prove_app(alloc)?, words)? {
+        Some(matches) => Ok(prove_by(&matches)),
+        None => Ok(None),
+    }
+}
+
+// `check FUNCTION CERTIFICATE`
+fn check_in<'a>(alloc: Global, words: &'a [String]) -> Result<Option<Command<'a>>, NoMemory>
+    ensures { IfOk result (λ command. option_map asked_of command ≡ check_in (map string_bytes words.entry.now)) }
+{
+    match two_names(alloc, "check", words)? {
+        Some((function, certificate)) => Ok(Some(Command::Check {
+            function,
+            certificate,
+        })),
+        None => Ok(None),
+    }
+}
+
+// `integrate FUNCTION CASE`
+fn integrate_in<'a>(alloc: Global, words: &'a [String]) -> Result<Option<Command<'a>>, NoMemory>
+    ensures { IfOk result (λ command. option_map asked_of command ≡ integrate_in (map string_bytes words.entry.now)) }
+{
+    match two_names(alloc, "integrate", words)? {
+        Some((function, case)) => Ok(Some(Command::Integrate { function, case })),
+        None => Ok(None),
+    }
+}
+
+// `replay FUNCTION SESSION`
+fn replay_in<'a>(alloc: Global, words: &'a [String]) -> Result<Option<Command<'a>>, NoMemory>
+    ensures { IfOk result (λ command. option_map asked_of command ≡ replay_in (map string_bytes words.entry.now)) }
+{
+    match two_names(alloc, "replay", words)? {
+        Some((function, session)) => Ok(Some(Command::Replay { function, session })),
+        None => Ok(None),
+    }
+}
+
+// The number that clap finds.
+fn drill_by<'a>(matches: &ArgMatches<'a>) -> Option<Command<'a>>
+    ensures { option_map asked_of result ≡ drill_by (rows_of (found_of matches.now)) }
+{
+    let number = number_by(MOST_ROUNDS as u64, value_of(matches, "number")?)?;
+    Some(Command::Drill {
+        number: number as u32,
+    })
+}
+
+// `drill NUMBER`
+#[tactic(auto, unfolding(crate::specs::Words::drill_in))]
+fn drill_in<'a>(alloc: Global, words: &'a [String]) -> Result<Option<Command<'a>>, NoMemory>
+    ensures { IfOk result (λ command. option_map asked_of command ≡ drill_in (map string_bytes words.entry.now)) }
+{
+    match matches_in(drill_app(alloc)?, words)? {
+        Some(matches) => Ok(drill_by(&matches)),
+        None => Ok(None),
+    }
+}
+
+/// Reads the words behind the program's name; none where they are not those of a command.
+pub fn read_words<'a>(alloc: Global, words: &'a [String]) -> Result<Option<Command<'a>>, NoMemory>
+    ensures { IfOk result (λ command. option_map asked_of command ≡ asked_by (map string_bytes words.entry.now)) }
+{
+    let [name, arguments @ ..] = words else {
+        return Ok(None);
+    };
+    match name.as_str() {
+        "prove" => prove_in(alloc, arguments),
+        "check" => check_in(alloc, arguments),
+        "integrate" => integrate_in(alloc, arguments),
+        "replay" => replay_in(alloc, arguments),
+        "drill" => drill_in(alloc, arguments),
+        _ => Ok(None),
+    }
+}
