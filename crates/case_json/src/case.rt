@@ -67,6 +67,3 @@ pub(crate) fn document(alloc: Global, json: &Value) -> Result<Doc, CaseFault>
         None => Err(CaseFault::Field(Name::Doc)),
     }
 }
-
-#[cfg(test)]
-mod tests;

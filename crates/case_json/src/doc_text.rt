@@ -137,6 +137,3 @@ pub fn char_write(ch: char, out: &mut Vec<u8>) -> Result<(), NoMemory>
         _ => out.extend_from_slice(ch.encode_utf8(&mut [0; 4]).as_bytes()),
     }
 }
-
-#[cfg(test)]
-mod tests;

@@ -90,6 +90,3 @@ fn take(site: &Value, taken: &Value) -> Option<Event>
         number: number(MAX_NUMBER, taken)?,
     })
 }
-
-#[cfg(test)]
-mod tests;

@@ -89,6 +89,3 @@ impl<A: Asker> Checker<A> {
         }
     }
 }
-
-#[cfg(test)]
-mod tests;

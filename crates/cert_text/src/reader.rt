@@ -181,6 +181,3 @@ fn refusal_at(stage: Stage, offset: u64) -> CertEnd
         _ => CertEnd::BadToken(offset),
     }
 }
-
-#[cfg(test)]
-mod tests;

@@ -114,6 +114,3 @@ fn write_tokens(tree: &Tree, out: &mut Vec<u8>) -> Result<(), NoMemory>
     }
     Ok(())
 }
-
-#[cfg(test)]
-mod tests;

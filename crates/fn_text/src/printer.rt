@@ -268,6 +268,3 @@ pub fn print(alloc: Global, rules: &Rules) -> Result<Vec<u8>, NoMemory>
     push_function(&mut tokens, rules)?;
     Ok(spell(alloc, &tokens)?)
 }
-
-#[cfg(test)]
-mod tests;

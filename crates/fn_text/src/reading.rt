@@ -60,6 +60,3 @@ pub fn read(alloc: Global, bytes: &[u8]) -> Result<Rules, TextFault>
         }),
     }
 }
-
-#[cfg(test)]
-mod tests;

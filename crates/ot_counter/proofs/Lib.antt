@@ -11,4 +11,3 @@ pub mod Counterexamples
 pub mod Near
 pub mod Instances
 pub mod Examples
-pub mod Walked

@@ -143,6 +143,3 @@ fn of_triple(
         right,
     })
 }
-
-#[cfg(test)]
-mod tests;

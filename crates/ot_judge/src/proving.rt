@@ -107,6 +107,3 @@ pub fn prove_all(
         }
     }
 }
-
-#[cfg(test)]
-mod tests;

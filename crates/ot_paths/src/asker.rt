@@ -163,6 +163,3 @@ impl<'a> Asker for PathAsker<'a> {
 
     ghost fine = { λ a n own. own.fine };
 }
-
-#[cfg(test)]
-mod tests;

@@ -39,6 +39,3 @@ pub fn prove<A: Asker>(
         asked: search.asked,
     })
 }
-
-#[cfg(test)]
-mod tests;

@@ -295,6 +295,3 @@ pub fn next_question(rules: &Rules, ob: ObName, answers: &[bool]) -> Next
         Err(Stop::Fails(why)) => Next::Fails(why),
     }
 }
-
-#[cfg(test)]
-mod tests;

@@ -20,5 +20,5 @@ mod Guarded
 mod Fronted
 mod SplitForms
 mod SplitEnds
-mod SplitExamples
+pub mod SplitExamples
 mod Stepped

@@ -22,6 +22,3 @@ pub use question::Split;
 pub use rewriting::step;
 pub use simplifying::{front_of, simplify};
 pub use splitting::split;
-
-#[cfg(test)]
-mod split_tests;

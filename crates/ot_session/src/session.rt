@@ -248,6 +248,3 @@ impl Session {
         1 <= site && site as usize <= self.sites.len()
     }
 }
-
-#[cfg(test)]
-mod tests;

@@ -28,6 +28,3 @@ pub use laws::{
 pub use ot_questions::{Place, SymOp, Why};
 pub use placing::place_form;
 pub use starting::{enabled_form, start_goal};
-
-#[cfg(test)]
-mod tests;

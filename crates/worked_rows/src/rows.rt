@@ -153,6 +153,8 @@ const WORDS: Rows<'static> = &[
     ("-- check ins.ot ins.cert", 5, USAGE),
     ("Check ins.ot ins.cert", 5, USAGE),
     ("fly ins.ot", 5, USAGE),
+    ("fly ttf.ot", 5, USAGE),
+    ("check ttf.ot", 5, USAGE),
     ("prove ins.ot ins.cert", 5, USAGE),
 ];
 

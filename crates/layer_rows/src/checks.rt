@@ -1,0 +1,57 @@
+//! Words over an asker with two names: `?` and `.` as they are, `x` for the cycle of answers 0 and 1.
+ghost use Rattle.std.specs.Prelude.{◌≡◌};
+
+use crate::two_names::TwoNames;
+use ask_core::{NoMemory, Picks, Tok};
+use cert_check::{CheckEnd, Checker, Progress};
+use std::alloc::Global;
+use std::test::Fail;
+
+fn token_of(alloc: Global, mark: u8) -> Tok {
+    match mark {
+        b'?' => Tok::Ask,
+        b'.' => Tok::Holds,
+        _ => {
+            let mut picks = Picks::new(alloc);
+            picks.push(0);
+            picks.push(1);
+            Tok::Cycle(picks)
+        }
+    }
+}
+
+/// The answer to the last token of a word, or Done where that comes before.
+fn last_answer(
+    alloc: Global,
+    strict: bool,
+    word: &[u8],
+) -> Result<Result<Progress, CheckEnd>, NoMemory> {
+    let mut checker = Checker::new(alloc, TwoNames { strict })?;
+    let mut last = Ok(Progress::More);
+    for mark in word {
+        last = checker.feed(token_of(alloc, *mark));
+        if let Ok(Progress::Done) = last {
+            return Ok(last);
+        }
+    }
+    Ok(last)
+}
+
+#[test]
+fn a_word_is_answered_as_it_fits_the_plan(rt: HostRuntime) -> Result<(), Fail> {
+    for (strict, word, want) in [
+        (true, "??x..", Ok(Progress::Done)),
+        (true, "??.", Err(CheckEnd::GoalFails)),
+        (true, ".", Err(CheckEnd::NotDone)),
+        (true, "??x?", Err(CheckEnd::NotAQuestion)),
+        (false, "??x", Err(CheckEnd::NotNegative)),
+        (true, "??x.", Ok(Progress::More)),
+    ] {
+        assert_eq!(rt;
+            last_answer(rt.alloc(), strict, word.as_bytes())?,
+            want,
+            "{word}"
+        );
+    }
+    Ok(())
+}

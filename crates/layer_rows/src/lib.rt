@@ -1,0 +1,23 @@
+//! Calls of the layers below the commands, beside rows that were found by hand: tests alone.
+#![tactic(auto)]
+
+#[cfg(test)]
+mod askers;
+#[cfg(test)]
+mod checks;
+#[cfg(test)]
+mod functions;
+#[cfg(test)]
+mod plans;
+#[cfg(test)]
+mod searches;
+#[cfg(test)]
+mod sessions;
+#[cfg(test)]
+mod splits;
+#[cfg(test)]
+mod terms;
+#[cfg(test)]
+mod two_names;
+#[cfg(test)]
+mod verdicts;

@@ -1,0 +1,47 @@
+//! Forms split at their first questions.
+use bumpalo::Bump;
+use ot_rewrite::{Split, split};
+use ot_terms::{Form, NoMemory, Place};
+use std::process::Abort;
+use std::test::Fail;
+
+const X: Place = Place { var: 3, off: 0 };
+
+const Y: Place = Place { var: 6, off: 2 };
+
+fn less_is_split<'a>(rt: &impl Abort, bump: &'a Bump) -> Result<(), NoMemory> {
+    let less = Form::lt(bump, X, Y)?;
+    let before = Place { var: 6, off: 1 };
+    assert!(rt; matches!(split(bump, less)?, Split::Ask { x, y, .. } if x == X && y == before));
+    Ok(())
+}
+
+fn own_name_is_split<'a>(rt: &impl Abort, bump: &'a Bump) -> Result<(), NoMemory> {
+    let itself = Form::eq(bump, X, X)?;
+    assert!(rt; matches!(split(bump, itself)?, Split::Yes));
+    assert!(rt; matches!(split(bump, Form::not(bump, itself)?)?, Split::No));
+    Ok(())
+}
+
+// Two different names are equal, or the first is behind the second: what is left behind the first answer.
+fn parts_are_left<'a>(rt: &impl Abort, bump: &'a Bump) -> Result<(), NoMemory> {
+    let either = Form::or(bump, Form::eq(bump, X, Y)?, Form::lt(bump, Y, X)?)?;
+    match split(bump, either)? {
+        Split::Ask {
+            yes: Form::Or(Form::Le(x, _), Form::Lt(_, _)),
+            no: Form::Or(Form::Not(Form::True), _),
+            ..
+        } => assert!(rt; *x == Y),
+        _ => assert!(rt; false),
+    }
+    Ok(())
+}
+
+#[test]
+fn forms_are_split_at_their_first_question(rt: HostRuntime) -> Result<(), Fail> {
+    let bump = Bump::new(rt.alloc());
+    less_is_split(&rt, &bump)?;
+    own_name_is_split(&rt, &bump)?;
+    parts_are_left(&rt, &bump)?;
+    Ok(())
+}
