@@ -18,10 +18,8 @@ use ot_judge::{JudgeEnd, check_all};
 use ot_model::NoMemory;
 use ot_outside::SliceFeed;
 use ot_replies::{Drilled, Reply};
+use ot_words::MOST_QUESTIONS;
 use std::alloc::Global;
-
-// The most questions that may be asked of a workload's function.
-const MOST_QUESTIONS: u64 = 1_000_000;
 
 // The function of a workload, as it is read from its text.
 fn function_read(alloc: Global, number: u32) -> Result<Rules, NoMemory>

@@ -6,4 +6,4 @@ mod command;
 mod words;
 
 pub use command::Command;
-pub use words::read_words;
+pub use words::{MOST_QUESTIONS, read_words};

@@ -16,8 +16,8 @@ use ot_drill::MOST_ROUNDS;
 use ot_model::NoMemory;
 use std::alloc::Global;
 
-// The most questions that `prove` may be allowed.
-const MOST_QUESTIONS: u64 = 1_000_000;
+/// The most questions that `prove` may be allowed, and that a workload's function may have.
+pub const MOST_QUESTIONS: u64 = 1_000_000;
 
 // What the budget may be.
 fn budget_parser<'a>() -> ValueParser<'a>
