@@ -3,6 +3,11 @@ use Rattle.cert_check.proofs.Completing.{Completes-step, Completes-none}
 use Rattle.cert_check.proofs.Feeding.{after-same, why-same, branches-refused, IsUnderWay-taken, IsUnderWay-refused, none_open}
 use Rattle.cert_check.proofs.checker.Checker.feed.Goals as goal
 
+pub returns-in-Err-clause-err_open : goal.returns-in-Err-clause-err_open
+returns-in-Err-clause-err_open g c =
+    rw (← c.self.view_is)
+    (branches-refused c.take_token.ensures.same c.self.inside.path c.args.tok c.self.invariant.own c.take_token.new.path c.in-Err.ensures.err)
+
 pub invariant_of-self : goal.invariant_of-self
 invariant_of-self g c =
     let now = c.take_token in
@@ -65,8 +70,3 @@ pub returns-in-Err-clause-refused : goal.returns-in-Err-clause-refused
 returns-in-Err-clause-refused g c none other tokens =
     let why = why-same c.take_token.ensures.same c.self.inside.path c.args.tok c.self.invariant.own c.in-Err.end c.in-Err.ensures.why in
     rw (← c.self.view_is) (Completes-none c.trees_are_judged_token_by_token.ensures c.args.tok _ c.in-Err.end tokens why other)
-
-pub returns-in-Err-clause-err_open : goal.returns-in-Err-clause-err_open
-returns-in-Err-clause-err_open g c =
-    rw (← c.self.view_is)
-    (branches-refused c.take_token.ensures.same c.self.inside.path c.args.tok c.self.invariant.own c.take_token.new.path c.in-Err.ensures.err)
