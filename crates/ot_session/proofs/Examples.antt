@@ -2,8 +2,9 @@
 use Rattle.std.proofs.Common.{◌≡◌, [], ◌∷◌, Some, None, refl}
 use Rattle.fn_rules.specs.Functions.{Function}
 use Rattle.ot_causal.specs.Past.{Past}
-use Rattle.ot_causal.specs.Counting.{name_of}
-use Rattle.ot_session.specs.Seeking.{Exhausted, first_obstacle}
+use Rattle.ot_causal.specs.Forms.{form}
+use Rattle.ot_causal.specs.Counting.{name_of, sought_within, sought, counted}
+use Rattle.ot_session.specs.Seeking.{Missing, Exhausted, first_obstacle, count_behind}
 
 module _ (f : Function) (past : Past) where
   -- nothing is sought
@@ -17,3 +18,13 @@ module _ (f : Function) (past : Past) where
   -- a form that was counted, behind its list in another order, is not counted again
   a_form_that_was_counted : first_obstacle f past 500000 (name_of 2 (0 ∷ 1 ∷ []) ∷ []) (name_of 2 (1 ∷ 0 ∷ []) ∷ []) ≡ None
   a_form_that_was_counted = refl
+
+  -- a form that does not exist is counted, and none behind it
+  a_form_that_is_missing : form f past 1 (0 ∷ []) ≡ None
+      → first_obstacle f past 7 [] (name_of 1 (0 ∷ []) ∷ name_of 2 (0 ∷ []) ∷ []) ≡ Some (Missing 8)
+  a_form_that_is_missing none = rw none refl
+
+  -- an operation behind nothing has no form to be counted
+  nothing_to_count : count_behind f past 7 [] 3 ≡ 7
+  unfolding counted sought sought_within
+  nothing_to_count = refl

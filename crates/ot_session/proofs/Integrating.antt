@@ -1,13 +1,15 @@
 -- A site at which an operation was integrated.
-use Rattle.std.proofs.Common.{◌≡◌, ◌≢◌, ◌<◌, ◌≤◌, ◌+◌, ◌-◌, ◌++◌, ◌∷◌, [], ℕ, Bool, true, false, List, length, Option, Some, None, Result, sym, ap, ◌∙◌, subst, inl, inr, arith, reverse}
+use Rattle.std.proofs.Common.{◌≡◌, ◌≢◌, ◌<◌, ◌≤◌, ◌+◌, ◌-◌, ◌++◌, ◌∷◌, [], ℕ, Bool, true, false, List, length, Option, Some, None, Result, Ok, Err, refl, sym, ap, ◌∙◌, subst, inl, inr, arith, reverse}
 use Rattle.std.specs.Prelude.{nat_eq, slice_set}
 use Rattle.std.specs.List.{AllByRecursion}
+use Rattle.std.proofs.Math.Logic.{∥∥₁_map, ∥∥₁_map₂}
 use Rattle.std.proofs.Common.{get_or-set_other}
 use Rattle.std.proofs.lemmas.Bool.{false≢true, cases_eq, ne_eqb, or_from}
 use Rattle.std.proofs.lemmas.Grind.{get_or-set_at}
 use Rattle.std.proofs.lemmas.List.{length-set, reverse-append}
 use Rattle.ot_model.specs.declared.op.Op.{Op}
 use Rattle.ot_model.specs.Effect.{is_enabled, document_after}
+use Rattle.fn_rules.specs.declared.function.Head.{Head}
 use Rattle.fn_rules.specs.Functions.{Function}
 use Rattle.ot_causal.specs.Members.{has, IsSublist, skip}
 use Rattle.ot_causal.specs.Past.{Past, IsNext, IsClosed}
@@ -18,11 +20,13 @@ use Rattle.ot_session.specs.declared.site.Site.{Site}
 use Rattle.ot_session.specs.declared.table.Key.{Key}
 use Rattle.ot_session.specs.Past.{is_marked}
 use Rattle.ot_session.specs.declared.form.Refusal.{Refusal}
+use Rattle.ot_session.specs.declared.form.Refusal.TheVariants.{NoForm, Spent}
 use Rattle.ot_session.specs.Entries.{IsFormEntry, HasForms, IsTable, MaySeek, Seeks, HasSought}
-use Rattle.ot_session.specs.Seeking.{Obstacle, Missing, Exhausted, first_obstacle, IsSpent}
-use Rattle.ot_session.specs.Sites.{IsMarked, IsApart, CanTake}
-use Rattle.ot_session.specs.Taking.{standing, HasIntegrated}
+use Rattle.ot_session.specs.Seeking.{Obstacle, Missing, Exhausted, first_obstacle, IsSpent, uncounted, count_at, count_behind}
+use Rattle.ot_session.specs.Sites.{IsMarked, IsApart, CanTake, Executes}
+use Rattle.ot_session.specs.Taking.{standing, HasIntegrated, IsStuck}
 use Rattle.ot_session.proofs.Marks.{marked-set}
+use Rattle.ot_session.proofs.Seeking.{length-count_sought}
 
 module _ (f : Function) (past : Past) (seen : List ℕ) (n : ℕ) where
   entries-longer : (names : List FormName) (es : List (Key × Op)) → AllByRecursion (IsFormEntry f past seen names) es
@@ -49,19 +53,19 @@ module _ (f : Function) (past : Past) (seen : List ℕ) (n : ℕ) where
   }
 
   -- what is in the way, where so many were counted in all
-  pub first_obstacle-total : (others total : ℕ) (found : Option Obstacle) → total ≡ others + length (counted past seen)
+  first_obstacle-total : (others total : ℕ) (found : Option Obstacle) → total ≡ others + length (counted past seen)
       → first_obstacle f past (others + length (counted past seen)) (counted past seen) (sought past n seen) ≡ found
       → first_obstacle f past total (counted past seen) (sought past n seen) ≡ found
   first_obstacle-total others total found same is =
       subst (λ (m : ℕ). first_obstacle f past m (counted past seen) (sought past n seen) ≡ found) (sym same) is
 
   -- nothing in the way: the count is not spent
-  pub unspent-none : (total : ℕ) → first_obstacle f past total (counted past seen) (sought past n seen) ≡ None → ¬ (IsSpent f past total seen n)
+  unspent-none : (total : ℕ) → first_obstacle f past total (counted past seen) (sought past n seen) ≡ None → ¬ (IsSpent f past total seen n)
   unspent-none total none spent = let two : None ≡ Some Exhausted = sym none ∙ spent in cc
 
-  pub unspent-missing : (total : ℕ) → first_obstacle f past total (counted past seen) (sought past n seen) ≡ Some Missing
+  unspent-missing : (total more : ℕ) → first_obstacle f past total (counted past seen) (sought past n seen) ≡ Some (Missing more)
       → ¬ (IsSpent f past total seen n)
-  unspent-missing total missing spent = let two : Some Missing ≡ Some Exhausted = sym missing ∙ spent in cc
+  unspent-missing total more missing spent = let two : Some (Missing more) ≡ Some Exhausted = sym missing ∙ spent in cc
 
 -- an operation with this form was executed at a site, whose table is this one now
 pub record Changes (f : Function) (n : ℕ) (p : Op) (table : List (Key × Op)) (old new : Site) : Type 0 where
@@ -71,13 +75,24 @@ pub record Changes (f : Function) (n : ℕ) (p : Op) (table : List (Key × Op)) 
   pub held : new.held ≡ slice_set old.held n false
   pub stored : new.table ≡ table
 
+pub Changes-executed : (f : Function) (n : ℕ) (p : Op) (head : Head) (table : List (Key × Op)) (old after : Site) (marks : List Bool)
+    → Executes head.mode n p (record old { table = table }) after → head ≡ f.head → marks ≡ slice_set after.held n false
+    → Changes f n p table old (record after { held = marks })
+Changes-executed f n p head table old after marks executes same held = record {
+  document = executes.document ∙ ap (λ (h : Head). document_after h.mode p old.doc) same;
+  seen = executes.seen;
+  integrated = executes.integrated;
+  held = held ∙ ap (λ (marks : List Bool). slice_set marks n false) executes.held;
+  stored = executes.table;
+}
+
 module _ (f : Function) (past : Past) (n : ℕ) (p : Op) (table : List (Key × Op)) (old new : Site) (change : Changes f n p table old new)
     (next : IsNext past (reverse old.seen.items) n)
     (counted_next : (o : ℕ) (l : List ℕ) → counted past (o ∷ l) ≡ count_sought (counted past l) (sought past o l)) where
   seen_now : reverse new.seen.items ≡ n ∷ reverse old.seen.items
   seen_now = ap (λ (l : List ℕ). reverse l) change.seen ∙ reverse-append old.seen.items (n ∷ [])
 
-  pub HasIntegrated-changed : (others total more : ℕ) → total ≡ others + length (counted past (reverse old.seen.items))
+  HasIntegrated-changed : (others total more : ℕ) → total ≡ others + length (counted past (reverse old.seen.items))
       → Seeks f past (reverse old.seen.items) (counted past (reverse old.seen.items)) others n (reverse old.seen.items) table more
       → form f past n (reverse old.seen.items) ≡ Some p → is_enabled p (length old.doc) ≡ true
       → HasIntegrated f past n (standing old total) (standing new more)
@@ -124,7 +139,7 @@ module _ (f : Function) (past : Past) (n : ℕ) (p : Op) (table : List (Key × O
   }
 
   -- the site can take more
-  pub CanTake-changed : past.count ≤ MAX_MADE
+  CanTake-changed : past.count ≤ MAX_MADE
       → ((names : List FormName) → AreCounted past (reverse old.seen.items) names → AreCounted past (n ∷ reverse old.seen.items) names)
       → CanTake f past old
       → HasForms f past (reverse old.seen.items) (count_sought (counted past (reverse old.seen.items)) (sought past n (reverse old.seen.items))) table
@@ -166,7 +181,7 @@ IsTable-kept f past site total some can = record {
 }
 
 -- what seeking a form answers at a site, with the lists by another name
-pub HasSought-at : (f : Function) (past : Past) (seen first second : List ℕ) (n total others more : ℕ) (old new : List (Key × Op)) (r : Result Op Refusal)
+HasSought-at : (f : Function) (past : Past) (seen first second : List ℕ) (n total others more : ℕ) (old new : List (Key × Op)) (r : Result Op Refusal)
     → first ≡ seen → second ≡ seen → total ≡ others + length (counted past seen) → ∥ HasForms f past seen (counted past seen) old ∥₁
     → ((names : List FormName) (m : ℕ) → ∥ HasForms f past first names old ∥₁ → total ≡ m + length names
     → HasSought f past first names m n second new more r)
@@ -176,3 +191,87 @@ HasSought-at f past seen first second n total others more old new r first_is sec
     (subst (λ (l : List ℕ). HasSought f past first (counted past seen) others n l new more r) second_is
     (clause (counted past seen) others
     (subst (λ (l : List ℕ). ∥ HasForms f past l (counted past seen) old ∥₁) (sym first_is) has) count))
+
+-- what seeking the form of what is next answers at a site that can take it
+module _ (f : Function) (past : Past) (site : Site) (n total more : ℕ) (table : List (Key × Op)) (first second : List ℕ)
+    (first_is : first ≡ reverse site.seen.items) (second_is : second ≡ reverse site.seen.items)
+    (some : length (counted past (reverse site.seen.items)) ≤ total) (can : ∥ CanTake f past site ∥₁)
+    (next : IsNext past (reverse site.seen.items) n) where
+  abbrev seen : List ℕ
+  seen = reverse site.seen.items
+
+  -- how many were counted at other sites
+  abbrev others : ℕ
+  others = total - length (counted past seen)
+
+  count : total ≡ others + length (counted past seen)
+  count = omega (arith, some)
+
+  -- what is answered wherever some were counted
+  abbrev Answers : Result Op Refusal → Type 0
+  Answers r = (names : List FormName) (m : ℕ) → ∥ HasForms f past first names site.table ∥₁ → total ≡ m + length names
+      → HasSought f past first names m n second table more r
+
+  answer : (r : Result Op Refusal) → Answers r → HasSought f past seen (counted past seen) others n seen table more r
+  answer r = HasSought-at f past seen first second n total others more site.table table r first_is second_is count (∥∥₁_map can (λ k. k.forms.has))
+
+  seeks : (p : Op) → Answers (Ok p) → Seeks f past seen (counted past seen) others n seen table more
+  seeks p clause = answer (Ok p) clause
+
+  missing : (e : Refusal) → e ≡ NoForm → Answers (Err e)
+      → first_obstacle f past total (counted past seen) (sought past n seen) ≡ Some (Missing more)
+  missing e is clause = first_obstacle-total f past seen n others total (Some (Missing more)) count
+      (subst (λ (x : Refusal). HasSought f past seen (counted past seen) others n seen table more (Err x)) is (answer (Err e) clause))
+
+  free : (p : Op) → Answers (Ok p) → first_obstacle f past total (counted past seen) (sought past n seen) ≡ None
+  free p clause = first_obstacle-total f past seen n others total None count (seeks p clause).free
+
+  pub IsSpent-sought : (e : Refusal) → e ≡ Spent → Answers (Err e) → IsSpent f past total seen n
+  IsSpent-sought e is clause = first_obstacle-total f past seen n others total (Some Exhausted) count
+      (subst (λ (x : Refusal). HasSought f past seen (counted past seen) others n seen table more (Err x)) is (answer (Err e) clause))
+
+  -- it is stuck where its form does not exist
+  pub IsStuck-missing : (e : Refusal) → e ≡ NoForm → Answers (Err e) → form f past n second ≡ None → IsStuck f past n (standing site total)
+  IsStuck-missing e is clause none =
+      let there : form f past n seen ≡ None = subst (λ (l : List ℕ). form f past n l ≡ None) second_is none in
+      record { next = next; unspent = unspent-missing f past seen n total more (missing e is clause); document = rw there refl }
+
+  pub count_behind-missing : (e : Refusal) → e ≡ NoForm → Answers (Err e) → more ≡ count_behind f past total seen n
+  count_behind-missing e is clause = sym (ap (λ (found : Option Obstacle). count_at found total (uncounted past seen n)) (missing e is clause))
+
+  module _ (p : Op) (clause : Answers (Ok p)) (form_is : form f past n second ≡ Some p) where
+    there : form f past n seen ≡ Some p
+    there = subst (λ (l : List ℕ). form f past n l ≡ Some p) second_is form_is
+
+    -- or is not enabled
+    pub IsStuck-refused : is_enabled p (length site.doc) ≡ false → IsStuck f past n (standing site total)
+    IsStuck-refused refused = record {
+      next = next;
+      unspent = unspent-none f past seen n total (free p clause);
+      document = rw (there, refused) refl;
+    }
+
+    module _ (counted_next : (o : ℕ) (l : List ℕ) → counted past (o ∷ l) ≡ count_sought (counted past l) (sought past o l)) where
+      pub count_behind-sought : more ≡ count_behind f past total seen n
+      count_behind-sought =
+          let all : count_behind f past total seen n ≡ total + uncounted past seen n =
+          ap (λ (found : Option Obstacle). count_at found total (uncounted past seen n)) (free p clause) in
+          omega (
+            arith,
+            all,
+            count,
+            (seeks p clause).count,
+            ap (λ (names : List FormName). length names) (counted_next n seen),
+            length-count_sought (counted past seen) (sought past n seen),
+          )
+
+      module _ (new : Site) (change : Changes f n p table site new) where
+        -- otherwise it is integrated
+        pub HasIntegrated-sought : is_enabled p (length site.doc) ≡ true → HasIntegrated f past n (standing site total) (standing new more)
+        HasIntegrated-sought enabled =
+            HasIntegrated-changed f past n p table site new change next counted_next others total more count (seeks p clause) there enabled
+
+        pub CanTake-sought : past.count ≤ MAX_MADE
+            → ((names : List FormName) → AreCounted past seen names → AreCounted past (n ∷ seen) names) → ∥ CanTake f past new ∥₁
+        CanTake-sought few longer = ∥∥₁_map₂ can (seeks p clause).table (λ k forms.
+            CanTake-changed f past n p table site new change next counted_next few longer k forms)

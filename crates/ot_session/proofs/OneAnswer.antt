@@ -11,8 +11,9 @@ use Rattle.ot_session.specs.declared.answer.Took.{Took}
 use Rattle.ot_session.specs.declared.answer.Took.TheVariants.{Done, Held, Repeat}
 use Rattle.ot_session.specs.declared.answer.Take.{Take}
 use Rattle.ot_session.specs.declared.answer.Take.TheVariants.{NoSite, NoOp, Stuck, Spent, NoMemory}
+use Rattle.ot_session.specs.declared.limits.TheConstants.{MAX_FORMS}
 use Rattle.ot_session.specs.Past.{past_of}
-use Rattle.ot_session.specs.Seeking.{IsSpent}
+use Rattle.ot_session.specs.Seeking.{IsSpent, count_behind}
 use Rattle.ot_session.specs.Sites.{SiteView}
 use Rattle.ot_session.specs.Taking.{Standing, IsKnown, HasAllBefore, IsLeastDue, NoneIsDue, HasIntegrated, IsStuck, IsTurn, IsCourse, start, then, Integrates, Takes}
 use Rattle.ot_session.specs.Views.{View, TakesAt, HasTaken}
@@ -88,101 +89,97 @@ module _ (f : Function) (past : Past) (taken : ℕ) where
       (subst (λ (s : Standing). IsRun (done ++ o ∷ []) s other second) mid run) in
       (ap (λ (l : List ℕ). o ∷ l) rest.0 ∙ ap (λ (x : ℕ). x ∷ other) (sym turn), rest.1)
 
-  -- why nothing more was integrated behind these, and what was answered
-  data IsEnd (done : List ℕ) (at : Standing) (answer : Result Took Take) : Type 0 where
-    over : 0 < length done → NoneIsDue past at.site → answer ≡ Ok (Done done) → IsEnd done at answer
-    stuck : (o : ℕ) → IsTurn past taken done at.site o → IsStuck f past o at → answer ≡ Err (Stuck o) → IsEnd done at answer
-    spent : (o : ℕ) → IsTurn past taken done at.site o → IsSpent f past at.counted at.site.seen o → answer ≡ Err Spent → IsEnd done at answer
+  -- why nothing more was integrated behind these, what was answered, and what is left
+  data IsEnd (done : List ℕ) (at : Standing) (answer : Result Took Take) (left : Standing) : Type 0 where
+    over : 0 < length done → NoneIsDue past at.site → answer ≡ Ok (Done done) → left ≡ at → IsEnd done at answer left
+    stuck : (o : ℕ) → IsTurn past taken done at.site o → IsStuck f past o at → answer ≡ Err (Stuck o)
+        → left ≡ record { site = at.site; counted = count_behind f past at.counted at.site.seen o } → IsEnd done at answer left
+    spent : (o : ℕ) → IsTurn past taken done at.site o → IsSpent f past at.counted at.site.seen o → answer ≡ Err Spent
+        → left ≡ record { site = at.site; counted = MAX_FORMS } → IsEnd done at answer left
 
   -- nothing can be integrated there
-  Stops-end : (done : List ℕ) (at : Standing) (answer : Result Took Take) → IsEnd done at answer → Stops done at
-  Stops-end done at answer (over some none is) = record { none = λ o new turn step. IsTurn-none done at.site o some none turn }
-  Stops-end done at answer (stuck p own is_stuck is) = record {
+  Stops-end : (done : List ℕ) (at : Standing) (answer : Result Took Take) (left : Standing) → IsEnd done at answer left → Stops done at
+  Stops-end done at answer left (over some none is _) = record { none = λ o new turn step. IsTurn-none done at.site o some none turn }
+  Stops-end done at answer left (stuck p own is_stuck is _) = record {
     none = λ o new turn step.
         let same : p ≡ o = IsTurn-one done at.site p o own turn in
         let here : HasIntegrated f past p at new = subst (λ (x : ℕ). HasIntegrated f past x at new) (sym same) step in
         let both : None ≡ Some new.site.document = sym is_stuck.document ∙ here.document in
         cc;
   }
-  Stops-end done at answer (spent p own is_spent is) = record {
+  Stops-end done at answer left (spent p own is_spent is _) = record {
     none = λ o new turn step.
         step.unspent (subst (λ (x : ℕ). IsSpent f past at.counted at.site.seen x) (IsTurn-one done at.site p o own turn) is_spent);
   }
 
-  -- there is one answer
-  IsEnd-one : (done : List ℕ) (at : Standing) (a b : Result Took Take) → IsEnd done at a → IsEnd done at b → a ≡ b
-  IsEnd-one done at a b (over some none is) (over _ _ same) = is ∙ sym same
-  IsEnd-one done at a b (over some none is) (stuck o turn _ same) = absurd (IsTurn-none done at.site o some none turn)
-  IsEnd-one done at a b (over some none is) (spent o turn _ same) = absurd (IsTurn-none done at.site o some none turn)
-  IsEnd-one done at a b (stuck o turn _ is) (over some none same) = absurd (IsTurn-none done at.site o some none turn)
-  IsEnd-one done at a b (stuck o turn _ is) (stuck p own _ same) =
-      is ∙ ap (λ (x : ℕ). Err (Stuck x)) (IsTurn-one done at.site o p turn own) ∙ sym same
-  IsEnd-one done at a b (stuck o turn is_stuck is) (spent p own is_spent same) =
+  -- there is one answer, which leaves one site and one count
+  IsEnd-one : (done : List ℕ) (at : Standing) (a b : Result Took Take) (one other : Standing) → IsEnd done at a one → IsEnd done at b other
+      → (a ≡ b) × (one ≡ other)
+  IsEnd-one done at a b one other (over some none is left) (over _ _ same right) = (is ∙ sym same, left ∙ sym right)
+  IsEnd-one done at a b one other (over some none is left) (stuck o turn _ same right) = absurd (IsTurn-none done at.site o some none turn)
+  IsEnd-one done at a b one other (over some none is left) (spent o turn _ same right) = absurd (IsTurn-none done at.site o some none turn)
+  IsEnd-one done at a b one other (stuck o turn _ is left) (over some none same right) = absurd (IsTurn-none done at.site o some none turn)
+  IsEnd-one done at a b one other (stuck o turn _ is left) (stuck p own _ same right) =
+      let both : o ≡ p = IsTurn-one done at.site o p turn own in (
+        is ∙ ap (λ (x : ℕ). Err (Stuck x)) both ∙ sym same,
+        left ∙ ap (λ (x : ℕ). record { site = at.site; counted = count_behind f past at.counted at.site.seen x }) both ∙ sym right,
+      )
+  IsEnd-one done at a b one other (stuck o turn is_stuck is left) (spent p own is_spent same right) =
       absurd (is_stuck.unspent
       (subst (λ (x : ℕ). IsSpent f past at.counted at.site.seen x) (IsTurn-one done at.site p o own turn) is_spent))
-  IsEnd-one done at a b (spent o turn _ is) (over some none same) = absurd (IsTurn-none done at.site o some none turn)
-  IsEnd-one done at a b (spent o turn is_spent is) (stuck p own is_stuck same) =
+  IsEnd-one done at a b one other (spent o turn _ is left) (over some none same right) = absurd (IsTurn-none done at.site o some none turn)
+  IsEnd-one done at a b one other (spent o turn is_spent is left) (stuck p own is_stuck same right) =
       absurd (is_stuck.unspent
       (subst (λ (x : ℕ). IsSpent f past at.counted at.site.seen x) (IsTurn-one done at.site o p turn own) is_spent))
-  IsEnd-one done at a b (spent o turn _ is) (spent p own _ same) = is ∙ sym same
+  IsEnd-one done at a b one other (spent o turn _ is left) (spent p own _ same right) = (is ∙ sym same, left ∙ sym right)
 
   -- why there is this answer
-  data IsWhy (old : Standing) (answer : Result Took Take) (left : SiteView) : Type 0 where
-    known : IsKnown old.site taken → answer ≡ Ok Repeat → left ≡ old.site → IsWhy old answer left
+  data IsWhy (old : Standing) (answer : Result Took Take) (left : Standing) : Type 0 where
+    known : IsKnown old.site taken → answer ≡ Ok Repeat → left ≡ old → IsWhy old answer left
     missing : ¬ (IsKnown old.site taken) → ¬ (HasAllBefore past old.site taken) → answer ≡ Ok Held
-        → left ≡ record (old.site) { held = slice_set old.site.held taken true } → IsWhy old answer left
-    ended : (done : List ℕ) (mid : Standing) → Integrates f past taken old done mid → IsEnd done mid answer → left ≡ mid.site
-        → IsWhy old answer left
+        → left ≡ record old { site = record (old.site) { held = slice_set old.site.held taken true } } → IsWhy old answer left
+    ended : (done : List ℕ) (mid : Standing) → Integrates f past taken old done mid → IsEnd done mid answer left → IsWhy old answer left
 
   -- each answer but a want of memory has its cause
   IsWhy-takes : (old new : Standing) (answer : Result Took Take) → Takes f past taken old new answer → answer ≢ Err NoMemory
-      → IsWhy old answer new.site
-  IsWhy-takes old new (Ok Repeat) takes other = known takes.known refl (ap (λ (s : Standing). s.site) takes.same)
-  IsWhy-takes old new (Ok Held) takes other = missing takes.unknown takes.missing refl (ap (λ (s : Standing). s.site) takes.is)
-  IsWhy-takes old new (Ok (Done done)) takes other = ended done new takes.integrates (over takes.some takes.over refl) refl
+      → IsWhy old answer new
+  IsWhy-takes old new (Ok Repeat) takes other = known takes.known refl takes.same
+  IsWhy-takes old new (Ok Held) takes other = missing takes.unknown takes.missing refl takes.is
+  IsWhy-takes old new (Ok (Done done)) takes other = ended done new takes.integrates (over takes.some takes.over refl refl)
   IsWhy-takes old new (Err (Stuck o)) takes other =
-      ended takes.done takes.mid takes.integrates (stuck o takes.turn takes.stuck refl) takes.site
+      ended takes.done takes.mid takes.integrates
+      (stuck o takes.turn takes.stuck refl (λ i. record { site = takes.site i; counted = takes.counted i }))
   IsWhy-takes old new (Err Spent) takes other =
-      ended takes.done takes.mid takes.integrates (spent takes.o takes.turn takes.spent refl) takes.site
+      ended takes.done takes.mid takes.integrates
+      (spent takes.o takes.turn takes.spent refl (λ i. record { site = takes.site i; counted = takes.counted i }))
   IsWhy-takes old new (Err NoMemory) takes other = absurd (other refl)
   IsWhy-takes old new (Err NoSite) takes other = absurd takes
   IsWhy-takes old new (Err NoOp) takes other = absurd takes
 
   -- where nothing more was integrated, what was done is one, and so is what it led to
-  Integrates-one : (old : Standing) (done more : List ℕ) (mid last : Standing) (a b : Result Took Take) → Integrates f past taken old done mid
-      → IsEnd done mid a → Integrates f past taken old more last → IsEnd more last b → (done ≡ more) × (mid ≡ last)
-  Integrates-one old done more mid last a b first end second other_end =
-      IsRun-one [] done more old mid last (run done mid a first end) (run more last b second other_end)
+  Integrates-one : (old : Standing) (done more : List ℕ) (mid last : Standing) → Integrates f past taken old done mid → Stops done mid
+      → Integrates f past taken old more last → Stops more last → (done ≡ more) × (mid ≡ last)
+  Integrates-one old done more mid last first end second other_end =
+      IsRun-one [] done more old mid last (run done mid first end) (run more last second other_end)
     where
-      run : (done : List ℕ) (mid : Standing) (a : Result Took Take) → Integrates f past taken old done mid → IsEnd done mid a → IsRun [] old done mid
-      run done mid a integrates end = subst (λ (l : List ℕ). IsRun [] old l mid) (append-nil done)
-          (IsRun-course old done mid integrates.course [] mid (refl, Stops-end done mid a end))
+      run : (done : List ℕ) (mid : Standing) → Integrates f past taken old done mid → Stops done mid → IsRun [] old done mid
+      run done mid integrates stops = subst (λ (l : List ℕ). IsRun [] old l mid) (append-nil done)
+          (IsRun-course old done mid integrates.course [] mid (refl, stops))
 
-  -- of one cause there is one answer, which leaves one site
-  IsWhy-one : (old : Standing) (a b : Result Took Take) (one other : SiteView) → IsWhy old a one → IsWhy old b other → (a ≡ b) × (one ≡ other)
+  -- of one cause there is one answer, which leaves one site and one count
+  IsWhy-one : (old : Standing) (a b : Result Took Take) (one other : Standing) → IsWhy old a one → IsWhy old b other → (a ≡ b) × (one ≡ other)
   IsWhy-one old a b one other (known have is left) (known _ same right) = (is ∙ sym same, left ∙ sym right)
   IsWhy-one old a b one other (known have is left) (missing lack _ same right) = absurd (lack have)
-  IsWhy-one old a b one other (known have is left) (ended done mid integrates end right) = absurd (integrates.unknown have)
+  IsWhy-one old a b one other (known have is left) (ended done mid integrates end) = absurd (integrates.unknown have)
   IsWhy-one old a b one other (missing lack want is left) (known have same right) = absurd (lack have)
   IsWhy-one old a b one other (missing lack want is left) (missing _ _ same right) = (is ∙ sym same, left ∙ sym right)
-  IsWhy-one old a b one other (missing lack want is left) (ended done mid integrates end right) = absurd (want integrates.ready)
-  IsWhy-one old a b one other (ended done mid integrates end left) (known have same right) = absurd (integrates.unknown have)
-  IsWhy-one old a b one other (ended done mid integrates end left) (missing lack want same right) = absurd (want integrates.ready)
-  IsWhy-one old a b one other (ended done mid integrates end left) (ended more last second other_end right) =
-      let same = Integrates-one old done more mid last a b integrates end second other_end in
-      let moved : IsEnd done last b = subst (λ (l : List ℕ). IsEnd l last b) (sym same.0) other_end in (
-        IsEnd-one done mid a b end (subst (λ (s : Standing). IsEnd done s b) (sym same.1) moved),
-        left ∙ ap (λ (s : Standing). s.site) same.1 ∙ sym right,
-      )
-
-  -- an operation that was taken leaves one site and one count
-  Takes-one : (old one other : Standing) (took : Took) → Takes f past taken old one (Ok took) → Takes f past taken old other (Ok took)
-      → one ≡ other
-  Takes-one old one other Repeat first second = first.same ∙ sym second.same
-  Takes-one old one other Held first second = first.is ∙ sym second.is
-  Takes-one old one other (Done done) first second =
-      (Integrates-one old done done one other (Ok (Done done)) (Ok (Done done)) first.integrates (over first.some first.over refl)
-      second.integrates (over second.some second.over refl)).1
+  IsWhy-one old a b one other (missing lack want is left) (ended done mid integrates end) = absurd (want integrates.ready)
+  IsWhy-one old a b one other (ended done mid integrates end) (known have same right) = absurd (integrates.unknown have)
+  IsWhy-one old a b one other (ended done mid integrates end) (missing lack want same right) = absurd (want integrates.ready)
+  IsWhy-one old a b one other (ended done mid integrates end) (ended more last second other_end) =
+      let same = Integrates-one old done more mid last integrates (Stops-end done mid a one end) second (Stops-end more last b other other_end) in
+      let moved : IsEnd done last b other = subst (λ (l : List ℕ). IsEnd l last b other) (sym same.0) other_end in
+      IsEnd-one done mid a b one other end (subst (λ (s : Standing). IsEnd done s b other) (sym same.1) moved)
 
 module _ (old one other : View) (t n : ℕ) where
   -- the site that takes the operation is one
@@ -198,24 +195,22 @@ module _ (old one other : View) (t n : ℕ) where
       subst (λ (v : SiteView). Takes old.function (past_of old.made) n (record { site = v; counted = old.counted }) second.after b)
       (before-one a b first second) second.takes
 
-  -- where both took the operation, the answer and the site are one
+  -- where both took the operation, the answer and the session behind are one
   TakesAt-one : (a b : Result Took Take) (first : TakesAt old one t n a) (second : TakesAt old other t n b) → a ≢ Err NoMemory
-      → b ≢ Err NoMemory → (a ≡ b) × (first.after.site ≡ second.after.site)
+      → b ≢ Err NoMemory → (a ≡ b) × (one ≡ other)
   TakesAt-one a b first second fine good =
       let at : Standing = record { site = first.before; counted = old.counted } in
-      IsWhy-one old.function (past_of old.made) n at a b first.after.site second.after.site
+      let behind : Standing → Result Took Take → View =
+      λ s r. record old { sites = slice_set old.sites (t - 1) s.site; counted = s.counted; is_open = is_ok r } in
+      let both = IsWhy-one old.function (past_of old.made) n at a b first.after second.after
       (IsWhy-takes old.function (past_of old.made) n at first.after a first.takes fine)
-      (IsWhy-takes old.function (past_of old.made) n at second.after b (takes-there a b first second) good)
-
-  -- but for the count, the session behind is one
-  TakesAt-but_count : (a : Result Took Take) (first : TakesAt old one t n a) (second : TakesAt old other t n a)
-      → first.after.site ≡ second.after.site → record one { counted = other.counted } ≡ other
-  TakesAt-but_count a first second same =
-      let left : View = record old { sites = slice_set old.sites (t - 1) second.after.site; counted = second.after.counted; is_open = is_ok a } in
-      ap (λ (v : View). record v { counted = other.counted }) first.is
-      ∙ ap (λ (v : View). record old { sites = slice_set old.sites (t - 1) first.after.site; counted = v.counted; is_open = is_ok a }) second.is
-      ∙ ap (λ (v : SiteView). record old { sites = slice_set old.sites (t - 1) v; counted = second.after.counted; is_open = is_ok a }) same
-      ∙ sym second.is
+      (IsWhy-takes old.function (past_of old.made) n at second.after b (takes-there a b first second) good) in (
+        both.0,
+        first.is
+            ∙ ap (λ (s : Standing). behind s a) both.1
+            ∙ ap (λ (r : Result Took Take). behind second.after r) both.0
+            ∙ sym second.is,
+      )
 
   -- which of the three cases it was, with the session behind
   data IsHow (new : View) (answer : Result Took Take) : Type 0 where
@@ -250,26 +245,12 @@ module _ (old one other : View) (t n : ℕ) where
 
   -- the session behind an operation that was taken is one
   pub HasTaken-session : (took : Took) → HasTaken old one t n (Ok took) → HasTaken old other t n (Ok took) → one ≡ other
-  HasTaken-session took first second =
-      let at : Standing = record { site = first.before; counted = old.counted } in
-      let same : first.after ≡ second.after = Takes-one old.function (past_of old.made) n at first.after second.after took first.takes
-      (takes-there (Ok took) (Ok took) first second) in
-      first.is
-      ∙ ap (λ (s : Standing). record old { sites = slice_set old.sites (t - 1) s.site; counted = s.counted; is_open = true }) same
-      ∙ sym second.is
+  HasTaken-session took first second = (TakesAt-one (Ok took) (Ok took) first second (λ same. cc) (λ same. cc)).1
 
-  -- so is the session behind a refusal, but for the count
-  pub HasTaken-but_count : (a : Result Took Take) → HasTaken old one t n a → HasTaken old other t n a → a ≢ Err NoMemory
-      → record one { counted = other.counted } ≡ other
-  HasTaken-but_count (Ok took) first second fine = TakesAt-but_count (Ok took) first second (TakesAt-one (Ok took) (Ok took) first second fine fine).1
-  HasTaken-but_count (Err NoSite) first second fine =
-      ap (λ (v : View). record v { counted = other.counted }) first.1
-      ∙ ap (λ (v : View). record old { counted = v.counted }) second.1 ∙ sym second.1
-  HasTaken-but_count (Err NoOp) first second fine =
-      ap (λ (v : View). record v { counted = other.counted }) first.2
-      ∙ ap (λ (v : View). record old { counted = v.counted }) second.2 ∙ sym second.2
-  HasTaken-but_count (Err (Stuck o)) first second fine =
-      TakesAt-but_count (Err (Stuck o)) first second (TakesAt-one (Err (Stuck o)) (Err (Stuck o)) first second fine fine).1
-  HasTaken-but_count (Err Spent) first second fine =
-      TakesAt-but_count (Err Spent) first second (TakesAt-one (Err Spent) (Err Spent) first second fine fine).1
-  HasTaken-but_count (Err NoMemory) first second fine = absurd (fine refl)
+  -- so is the session behind a refusal, but for want of memory
+  pub HasTaken-refusal : (e : Take) → HasTaken old one t n (Err e) → HasTaken old other t n (Err e) → e ≢ NoMemory → one ≡ other
+  HasTaken-refusal NoSite first second fine = first.1 ∙ sym second.1
+  HasTaken-refusal NoOp first second fine = first.2 ∙ sym second.2
+  HasTaken-refusal (Stuck o) first second fine = (TakesAt-one (Err (Stuck o)) (Err (Stuck o)) first second (λ same. cc) (λ same. cc)).1
+  HasTaken-refusal Spent first second fine = (TakesAt-one (Err Spent) (Err Spent) first second (λ same. cc) (λ same. cc)).1
+  HasTaken-refusal NoMemory first second fine = absurd (fine refl)

@@ -1,7 +1,7 @@
 -- What is met where lists of forms are sought one behind the other.
 use Rattle.std.proofs.Common.{◌≡◌, ◌≢◌, ◌≤◌, ◌+◌, ℕ, Bool, true, false, cond, List, [], ◌∷◌, ◌++◌, length, Option, Some, None, is_none, refl, ap, subst, inl, inr, arith}
 use Rattle.std.specs.Prelude.{nat_eq}
-use Rattle.std.specs.Coded.{Coded, code_by, coded_bool, coded_option}
+use Rattle.std.specs.Coded.{Coded, code_by, coded_ℕ, coded_option}
 use Rattle.std.proofs.lemmas.Bool.{cases_Bool, eq-eqb, ne_eqb}
 use Rattle.ot_model.specs.declared.op.Op.{Op}
 use Rattle.fn_rules.specs.Functions.{Function}
@@ -11,24 +11,24 @@ use Rattle.ot_causal.specs.Counting.{FormName, is_among, count_sought}
 use Rattle.ot_session.specs.declared.limits.TheConstants.{MAX_FORMS}
 use Rattle.ot_session.specs.Seeking.{Obstacle, Missing, Exhausted, first_obstacle}
 
-is_missing : Obstacle → Bool
-is_missing Missing = true
-is_missing Exhausted = false
+missing_count : Obstacle → Option ℕ
+missing_count (Missing counted) = Some counted
+missing_count Exhausted = None
 
-obstacle_of : Bool → Obstacle
-obstacle_of true = Missing
-obstacle_of false = Exhausted
+obstacle_of : Option ℕ → Obstacle
+obstacle_of (Some counted) = Missing counted
+obstacle_of None = Exhausted
 
-obstacle_of-is_missing : (o : Obstacle) → obstacle_of (is_missing o) ≡ o
-unfolding obstacle_of is_missing
-obstacle_of-is_missing Missing = refl
-obstacle_of-is_missing Exhausted = refl
+obstacle_of-missing_count : (o : Obstacle) → obstacle_of (missing_count o) ≡ o
+unfolding obstacle_of missing_count
+obstacle_of-missing_count (Missing counted) = refl
+obstacle_of-missing_count Exhausted = refl
 
 pub obstacle_code : Coded (Option Obstacle)
-obstacle_code = coded_option (code_by Bool coded_bool is_missing obstacle_of obstacle_of-is_missing)
+obstacle_code = coded_option (code_by (Option ℕ) (coded_option coded_ℕ) missing_count obstacle_of obstacle_of-missing_count)
 
 -- counting more counts no less
-length-count_sought : (names more : List FormName) → length names ≤ length (count_sought names more)
+pub length-count_sought : (names more : List FormName) → length names ≤ length (count_sought names more)
 length-count_sought names [] = omega arith
 length-count_sought names (name ∷ more) = elim (cases_Bool (is_among names name)) [
   | inl among ↦ rw among (length-count_sought names more)
@@ -67,19 +67,19 @@ module _ (f : Function) (past : Past) where
       cond-keeps (is_among names name)
       (first_obstacle f past total names first)
       (cond (nat_eq total MAX_FORMS) (Some Exhausted)
-      (cond (is_none (form f past name.of name.behind)) (Some Missing) (first_obstacle f past (total + 1) (name ∷ names) first)))
+      (cond (is_none (form f past name.of name.behind)) (Some (Missing (total + 1))) (first_obstacle f past (total + 1) (name ∷ names) first)))
       (first_obstacle f past total names (first ++ more))
       (cond (nat_eq total MAX_FORMS) (Some Exhausted)
-      (cond (is_none (form f past name.of name.behind)) (Some Missing) (first_obstacle f past (total + 1) (name ∷ names) (first ++ more))))
+      (cond (is_none (form f past name.of name.behind)) (Some (Missing (total + 1))) (first_obstacle f past (total + 1) (name ∷ names) (first ++ more))))
       (Some o)
       (first_obstacle-stops total names first more o)
       (cond-keeps (nat_eq total MAX_FORMS) (Some Exhausted)
-      (cond (is_none (form f past name.of name.behind)) (Some Missing) (first_obstacle f past (total + 1) (name ∷ names) first))
+      (cond (is_none (form f past name.of name.behind)) (Some (Missing (total + 1))) (first_obstacle f past (total + 1) (name ∷ names) first))
       (Some Exhausted)
-      (cond (is_none (form f past name.of name.behind)) (Some Missing) (first_obstacle f past (total + 1) (name ∷ names) (first ++ more)))
+      (cond (is_none (form f past name.of name.behind)) (Some (Missing (total + 1))) (first_obstacle f past (total + 1) (name ∷ names) (first ++ more)))
       (Some o) (λ same. same)
-      (cond-keeps (is_none (form f past name.of name.behind)) (Some Missing) (first_obstacle f past (total + 1) (name ∷ names) first)
-      (Some Missing) (first_obstacle f past (total + 1) (name ∷ names) (first ++ more))
+      (cond-keeps (is_none (form f past name.of name.behind)) (Some (Missing (total + 1))) (first_obstacle f past (total + 1) (name ∷ names) first)
+      (Some (Missing (total + 1))) (first_obstacle f past (total + 1) (name ∷ names) (first ++ more))
       (Some o) (λ same. same) (first_obstacle-stops (total + 1) (name ∷ names) first more o)))
       is
 
@@ -92,20 +92,23 @@ module _ (f : Function) (past : Past) where
     | inl among ↦ rw among (first_obstacle-goes_on others names first more
         (subst (λ (b : Bool). cond b (first_obstacle f past (others + length names) names first)
         (cond (nat_eq (others + length names) MAX_FORMS) (Some Exhausted)
-        (cond (is_none (form f past name.of name.behind)) (Some Missing) (first_obstacle f past (others + length names + 1) (name ∷ names) first)))
+        (cond (is_none (form f past name.of name.behind)) (Some (Missing (others + length names + 1)))
+        (first_obstacle f past (others + length names + 1) (name ∷ names) first)))
         ≡ None) among free))
     | inr new ↦ (
         let below =
         cond-second (nat_eq (others + length names) MAX_FORMS) (Some Exhausted)
-        (cond (is_none (form f past name.of name.behind)) (Some Missing) (first_obstacle f past (others + length names + 1) (name ∷ names) first))
+        (cond (is_none (form f past name.of name.behind)) (Some (Missing (others + length names + 1)))
+        (first_obstacle f past (others + length names + 1) (name ∷ names) first))
         None (λ same. cc)
         (subst (λ (b : Bool). cond b (first_obstacle f past (others + length names) names first)
         (cond (nat_eq (others + length names) MAX_FORMS) (Some Exhausted)
-        (cond (is_none (form f past name.of name.behind)) (Some Missing) (first_obstacle f past (others + length names + 1) (name ∷ names) first)))
+        (cond (is_none (form f past name.of name.behind)) (Some (Missing (others + length names + 1)))
+        (first_obstacle f past (others + length names + 1) (name ∷ names) first)))
         ≡ None) new free) in
         let there =
-        cond-second (is_none (form f past name.of name.behind)) (Some Missing) (first_obstacle f past (others + length names + 1) (name ∷ names) first)
-        None (λ same. cc) below.1 in
+        cond-second (is_none (form f past name.of name.behind)) (Some (Missing (others + length names + 1)))
+        (first_obstacle f past (others + length names + 1) (name ∷ names) first) None (λ same. cc) below.1 in
         let one : others + length names + 1 ≡ others + length (name ∷ names) = omega arith in
         rw (new, below.0, there.0, one)
         (first_obstacle-goes_on others (name ∷ names) first more
@@ -119,7 +122,7 @@ module _ (f : Function) (past : Past) where
 
   -- one that does not exist
   pub first_obstacle-missing : (total : ℕ) (names : List FormName) (name : FormName) → is_among names name ≡ false → total ≢ MAX_FORMS
-      → form f past name.of name.behind ≡ None → first_obstacle f past total names (name ∷ []) ≡ Some Missing
+      → form f past name.of name.behind ≡ None → first_obstacle f past total names (name ∷ []) ≡ Some (Missing (total + 1))
   first_obstacle-missing total names name new unspent none = rw (new, ne_eqb total MAX_FORMS unspent, none) refl
 
   -- one that does

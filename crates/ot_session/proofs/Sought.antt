@@ -73,11 +73,11 @@ module _ (f : Function) (past : Past) (seen : List ℕ) (o x : ℕ) (l : List �
       (first_obstacle-stops f past (others + length names) names (of_o ++ of_x) (name_of o l ∷ []) r
       (first_obstacle-stops f past (others + length names) names of_o of_x r is))
 
-  pub HasSought-own : (names : List FormName) (others : ℕ) (es fs : List (Key × Op)) (n m : ℕ) (e : Refusal)
-      → HasSought f past seen names others o (without x l) es n (Err e) → HasSought f past seen names others o l fs m (Err e)
-  HasSought-own names others es fs n m NoForm is = stops_own names others Missing is
-  HasSought-own names others es fs n m Spent is = stops_own names others Exhausted is
-  HasSought-own names others es fs n m NoMemory is = tt
+  pub HasSought-own : (names : List FormName) (others : ℕ) (es fs : List (Key × Op)) (n : ℕ) (e : Refusal)
+      → HasSought f past seen names others o (without x l) es n (Err e) → HasSought f past seen names others o l fs n (Err e)
+  HasSought-own names others es fs n NoForm is = stops_own names others (Missing n) is
+  HasSought-own names others es fs n Spent is = stops_own names others Exhausted is
+  HasSought-own names others es fs n NoMemory is = tt
 
   module _ (names : List FormName) (others : ℕ) (free : first_obstacle f past (others + length names) names of_o ≡ None) where
     -- so is what is in the way of the member's form
@@ -88,11 +88,11 @@ module _ (f : Function) (past : Past) (seen : List ℕ) (o x : ℕ) (l : List �
         (first_obstacle-stops f past (others + length names) names (of_o ++ of_x) (name_of o l ∷ []) r
         (first_obstacle-goes_on f past others names of_o of_x free ∙ is))
 
-    pub HasSought-by : (es fs : List (Key × Op)) (n m : ℕ) (e : Refusal)
-        → HasSought f past seen (count_sought names of_o) others x (without x l) es n (Err e) → HasSought f past seen names others o l fs m (Err e)
-    HasSought-by es fs n m NoForm is = stops_by Missing is
-    HasSought-by es fs n m Spent is = stops_by Exhausted is
-    HasSought-by es fs n m NoMemory is = tt
+    pub HasSought-by : (es fs : List (Key × Op)) (n : ℕ) (e : Refusal)
+        → HasSought f past seen (count_sought names of_o) others x (without x l) es n (Err e) → HasSought f past seen names others o l fs n (Err e)
+    HasSought-by es fs n NoForm is = stops_by (Missing n) is
+    HasSought-by es fs n Spent is = stops_by Exhausted is
+    HasSought-by es fs n NoMemory is = tt
 
     -- what was counted before the form itself
     abbrev before : List FormName

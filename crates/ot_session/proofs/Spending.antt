@@ -41,18 +41,18 @@ Exceeds-exhausted f past total names (name ∷ more) is =
     elim (cond-cases (is_among names name)
     (first_obstacle f past total names more)
     (cond (nat_eq total MAX_FORMS) (Some Exhausted)
-    (cond (is_none (form f past name.of name.behind)) (Some Missing) (first_obstacle f past (total + 1) (name ∷ names) more)))
+    (cond (is_none (form f past name.of name.behind)) (Some (Missing (total + 1))) (first_obstacle f past (total + 1) (name ∷ names) more)))
     (Some Exhausted) is) [
       | inl among ↦ (
           let later : Exceeds total names more = Exceeds-exhausted f past total names more among.1 in
           record { reached = name ∷ later.reached; rest = later.rest; split = ap (λ l. name ∷ l) later.split; over = rw (among.0) later.over })
       | inr new ↦ elim (cond-cases (nat_eq total MAX_FORMS) (Some Exhausted)
-          (cond (is_none (form f past name.of name.behind)) (Some Missing) (first_obstacle f past (total + 1) (name ∷ names) more))
+          (cond (is_none (form f past name.of name.behind)) (Some (Missing (total + 1))) (first_obstacle f past (total + 1) (name ∷ names) more))
           (Some Exhausted) new.1) [
             | inl spent ↦ record { reached = name ∷ []; rest = more; split = refl; over = rw (new.0) (omega (arith, eqb-true total MAX_FORMS spent.0)) }
-            | inr unspent ↦ elim (cond-cases (is_none (form f past name.of name.behind)) (Some Missing)
+            | inr unspent ↦ elim (cond-cases (is_none (form f past name.of name.behind)) (Some (Missing (total + 1)))
                 (first_obstacle f past (total + 1) (name ∷ names) more) (Some Exhausted) unspent.1) [
-                  | inl missing ↦ absurd (let differ : Some Missing ≡ Some Exhausted = missing.1 in cc)
+                  | inl missing ↦ absurd (let differ : Some (Missing (total + 1)) ≡ Some Exhausted = missing.1 in cc)
                   | inr there ↦ (
                       let later : Exceeds (total + 1) (name ∷ names) more = Exceeds-exhausted f past (total + 1) (name ∷ names) more there.1 in
                       record {

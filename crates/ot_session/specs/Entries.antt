@@ -70,7 +70,7 @@ pub record Seeks (f : Function) (past : Past) (seen : List ℕ) (names : List Fo
 abbrev pub HasSought : Function → Past → List ℕ → List FormName → ℕ → ℕ → List ℕ → List (Key × Op) → ℕ → Result Op Refusal → Type 0
 HasSought f past seen names others o l entries total (Ok p) = Seeks f past seen names others o l entries total
 HasSought f past seen names others o l entries total (Err NoForm) =
-    first_obstacle f past (others + length names) names (sought past o l) ≡ Some Missing
+    first_obstacle f past (others + length names) names (sought past o l) ≡ Some (Missing total)
 HasSought f past seen names others o l entries total (Err Spent) =
     first_obstacle f past (others + length names) names (sought past o l) ≡ Some Exhausted
 HasSought f past seen names others o l entries total (Err NoMemory) = Unit {0}

@@ -1,5 +1,5 @@
 -- What is met where forms are sought and counted.
-use Rattle.std.specs.Prelude.{◌≡◌, ℕ, ◌+◌, cond, nat_eq, List, [], ◌∷◌, Option, Some, None, is_none}
+use Rattle.std.specs.Prelude.{◌≡◌, ℕ, ◌+◌, ◌-◌, cond, nat_eq, List, [], ◌∷◌, length, Option, Some, None, is_none}
 use Rattle.fn_rules.specs.Functions.{Function}
 use Rattle.ot_causal.specs.Past.{Past}
 use Rattle.ot_causal.specs.Forms.{form}
@@ -8,8 +8,8 @@ use Rattle.ot_session.specs.declared.limits.TheConstants.{MAX_FORMS}
 
 -- why forms are sought no further
 pub data Obstacle : Type 0 where
-  -- a form does not exist
-  Missing : Obstacle
+  -- a form does not exist; so many were counted, with it
+  Missing : ℕ → Obstacle
   -- one more is to be counted, and as many were counted as are allowed
   Exhausted : Obstacle
 
@@ -23,9 +23,23 @@ first_obstacle f past total names (name ∷ more) =
     (cond (nat_eq total MAX_FORMS)
     (Some Exhausted)
     (cond (is_none (form f past name.of name.behind))
-    (Some Missing)
+    (Some (Missing (total + 1)))
     (first_obstacle f past (total + 1) (name ∷ names) more)))
 
 -- the count is spent where the form of an operation is sought at a site that has integrated the list
 abbrev pub IsSpent : Function → Past → ℕ → List ℕ → ℕ → Type 0
 IsSpent f past total seen o = first_obstacle f past total (counted past seen) (sought past o seen) ≡ Some Exhausted
+
+-- how many of the forms that are sought for an operation a site that has integrated the list has not counted
+abbrev pub uncounted : Past → List ℕ → ℕ → ℕ
+uncounted past seen o = length (counted past (o ∷ seen)) - length (counted past seen)
+
+-- how many are counted in all, where so many were before and so many more are sought, unless this is in the way
+abbrev pub count_at : Option Obstacle → ℕ → ℕ → ℕ
+count_at None total more = total + more
+count_at (Some (Missing counted)) total more = counted
+count_at (Some Exhausted) total more = MAX_FORMS
+
+-- how many are counted in all once the form of an operation was sought at a site that has integrated the list
+abbrev pub count_behind : Function → Past → ℕ → List ℕ → ℕ → ℕ
+count_behind f past total seen o = count_at (first_obstacle f past total (counted past seen) (sought past o seen)) total (uncounted past seen o)

@@ -1,5 +1,5 @@
 -- What a site does with an operation that it takes.
-use Rattle.std.specs.Prelude.{◌≡◌, ◌<◌, ◌+◌, ◌⊎◌, ℕ, Bool, true, false, List, [], ◌∷◌, ◌++◌, length, Some, None, slice_get, slice_set, Result, Ok, Err}
+use Rattle.std.specs.Prelude.{◌≡◌, ◌<◌, ◌≤◌, ◌+◌, ◌⊎◌, ℕ, Bool, true, false, List, [], ◌∷◌, ◌++◌, length, Some, None, slice_get, slice_set, Result, Ok, Err}
 use Rattle.fn_rules.specs.Functions.{Function}
 use Rattle.ot_causal.specs.Members.{has}
 use Rattle.ot_causal.specs.Past.{Past, IsNext}
@@ -10,9 +10,10 @@ use Rattle.ot_session.specs.declared.answer.Took.TheVariants.{Done, Held, Repeat
 use Rattle.ot_session.specs.declared.answer.Take.{Take}
 use Rattle.ot_session.specs.declared.answer.Take.TheVariants.{NoSite, NoOp, Stuck, Spent, NoMemory}
 use Rattle.ot_session.specs.Past.{is_marked, AreMarkedToo}
+use Rattle.ot_session.specs.declared.limits.TheConstants.{MAX_FORMS}
 use Rattle.ot_session.specs.declared.site.Site.{Site}
 use Rattle.ot_session.specs.Sites.{SiteView, view_site}
-use Rattle.ot_session.specs.Seeking.{IsSpent}
+use Rattle.ot_session.specs.Seeking.{IsSpent, count_behind}
 
 -- a site, and how many forms were counted in the session
 pub record Standing : Type 0 where
@@ -96,7 +97,8 @@ pub record HasDone (f : Function) (past : Past) (taken : ℕ) (old new : Standin
   pub some : 0 < length done
   pub over : NoneIsDue past new.site
 
--- some were integrated, and then it was the turn of one that is stuck
+-- some were integrated, and then it was the turn of one that is stuck: the forms that were sought for it are counted, up to
+-- the first that does not exist
 pub record HasStuck (f : Function) (past : Past) (taken : ℕ) (old new : Standing) (o : ℕ) : Type 0 where
   pub done : List ℕ
   pub mid : Standing
@@ -104,6 +106,7 @@ pub record HasStuck (f : Function) (past : Past) (taken : ℕ) (old new : Standi
   pub turn : IsTurn past taken done mid.site o
   pub stuck : IsStuck f past o mid
   pub site : new.site ≡ mid.site
+  pub counted : new.counted ≡ count_behind f past mid.counted mid.site.seen o
 
 -- some were integrated, and then it was the turn of one that the count is spent for
 pub record HasSpent (f : Function) (past : Past) (taken : ℕ) (old new : Standing) : Type 0 where
@@ -114,13 +117,15 @@ pub record HasSpent (f : Function) (past : Past) (taken : ℕ) (old new : Standi
   pub turn : IsTurn past taken done mid.site o
   pub spent : IsSpent f past mid.counted mid.site.seen o
   pub site : new.site ≡ mid.site
+  pub counted : new.counted ≡ MAX_FORMS
 
--- some were integrated, and then memory was wanting
+-- some were integrated, and then memory was wanting; what was counted for those stays counted
 pub record HasLacked (f : Function) (past : Past) (taken : ℕ) (old new : Standing) : Type 0 where
   pub done : List ℕ
   pub mid : Standing
   pub integrates : Integrates f past taken old done mid
   pub site : new.site ≡ mid.site
+  pub counted : mid.counted ≤ new.counted
 
 -- a site took an operation that was made, and this is the answer
 abbrev pub Takes : Function → Past → ℕ → Standing → Standing → Result Took Take → Type 0

@@ -78,6 +78,8 @@ pub(crate) fn form_behind(
         → HasSought (function_of seeking.entry.rules.now) (past_of seeking.entry.made.now) seeking.entry.seen.now names others number list.now
         table.new counted.new result }
     ensures counted { counted.new ≤ MAX_FORMS }
+    ensures more { counted.old ≤ counted.new }
+    ensures spent { result ≡ Err Spent → counted.new ≡ MAX_FORMS }
 {
     forms_are_sought_before_they_are_made();
     counted_forms_need_not_be_sought();

@@ -20,13 +20,12 @@ pub fn makes_have_one_outcome()
 {}
 
 /// What a site answers where it takes an operation is told by the session alone: two answers, of which neither is want
-/// of memory, are one. So is the session behind them where the operation was taken; behind a refusal it is one but for
-/// the count of forms, of which a refusal that closes the session says nothing.
+/// of memory, are one, and so is the session behind them, whether the operation was taken or refused.
 pub fn takes_have_one_answer()
     ensures answer { (old one other : View) (t n : ℕ) (a b : Result Took Take) → HasTaken old one t n a → HasTaken old other t n b
         → a ≢ Err takes.NoMemory → b ≢ Err takes.NoMemory → a ≡ b }
     ensures session { (old one other : View) (t n : ℕ) (took : Took) → HasTaken old one t n (Ok took) → HasTaken old other t n (Ok took)
         → one ≡ other }
-    ensures but_count { (old one other : View) (t n : ℕ) (a : Result Took Take) → HasTaken old one t n a → HasTaken old other t n a
-        → a ≢ Err takes.NoMemory → record one { counted = other.counted } ≡ other }
+    ensures refusal { (old one other : View) (t n : ℕ) (e : Take) → HasTaken old one t n (Err e) → HasTaken old other t n (Err e)
+        → e ≢ takes.NoMemory → one ≡ other }
 {}

@@ -111,6 +111,7 @@ impl Session {
     /// How many forms were counted.
     pub fn forms(&self) -> u64
         ensures counted { result ≡ (view_of self.now).counted }
+        ensures within { result ≤ MAX_FORMS }
         ensures all { (view_of self.now).is_open ≡ true → result ≡ all_counted (data_in (view_of self.now)) }
     {
         self.counted
@@ -182,6 +183,9 @@ impl Session {
         // Where the most forms that its sites can count are no more than are allowed, the count is never spent.
         ensures never_spent { (data_in (view_of self.old)).sites * most_forms (data_in (view_of self.old)).past (data_in (view_of self.old)).sites ≤ MAX_FORMS
             → result ≢ Err takes.Spent }
+
+        // Whatever the answer, what was counted stays counted.
+        ensures more { (view_of self.old).counted ≤ (view_of self.new).counted }
     {
         steps_keep_sessions_sound();
         steps_count_what_they_seek();

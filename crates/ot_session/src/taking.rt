@@ -7,7 +7,7 @@ ghost use Rattle.ot_causal.specs.Counting.{counted};
 ghost use Rattle.ot_session.specs.declared.limits.TheConstants.{MAX_MADE, MAX_FORMS};
 ghost use Rattle.ot_session.specs.declared.form.Refusal.TheVariants.{NoForm, Spent};
 ghost use Rattle.ot_session.specs.Past.{is_marked, past_of};
-ghost use Rattle.ot_session.specs.Seeking.{IsSpent};
+ghost use Rattle.ot_session.specs.Seeking.{IsSpent, count_behind};
 ghost use Rattle.ot_session.specs.Sites.{view_site, IsSameSite, IsSorted, CanTake};
 ghost use Rattle.ot_session.specs.Taking.{standing, IsKnown, HasAllBefore, HasIntegrated, IsStuck, Takes, done_in, TakesAtPlace, IsDueByMarks, IsLeastByMarks};
 
@@ -45,6 +45,7 @@ pub(crate) fn take_at(
     ensures sorted { ∥ AllByRecursion (IsSorted (length made.now)) sites.new ∥₁ }
     ensures can { OnOk result (∥ AllByRecursion (CanTake (function_of rules.now) (past_of made.now)) sites.new ∥₁) }
     ensures within { total.new ≤ MAX_FORMS }
+    ensures more { total.old ≤ total.new }
 {
     take_here(alloc, rules, made, &mut sites[place], total, number)
 }
@@ -66,6 +67,7 @@ fn take_here(
     ensures sorted { ∥ IsSorted (length made.now) site.new ∥₁ }
     ensures can { OnOk result (∥ CanTake (function_of rules.now) (past_of made.now) site.new ∥₁) }
     ensures within { total.new ≤ MAX_FORMS }
+    ensures more { total.old ≤ total.new }
 {
     if is_marked(site.integrated.as_slice(), number as usize) {
         return Ok(Took::Repeat);
@@ -104,6 +106,7 @@ fn integrate_all(
     ensures sorted { ∥ IsSorted (length made.now) site.new ∥₁ }
     ensures can { OnOk result (∥ CanTake (function_of rules.now) (past_of made.now) site.new ∥₁) }
     ensures within { total.new ≤ MAX_FORMS }
+    ensures more { total.old ≤ total.new }
 {
     members_were_made();
     let mut done = List::new(alloc);
@@ -153,9 +156,12 @@ fn integrate(
     ensures ok { OnOk result (HasIntegrated (function_of rules.now) (past_of made.now) number (standing site.old total.old) (standing site.new total.new)) }
     ensures can { OnOk result (∥ CanTake (function_of rules.now) (past_of made.now) site.new ∥₁) }
     ensures stuck { result ≡ Err NoForm → IsStuck (function_of rules.now) (past_of made.now) number (standing site.old total.old) }
+    ensures stuck_at { result ≡ Err NoForm → total.new ≡ count_behind (function_of rules.now) (past_of made.now) total.old (reverse site.old.seen.items) number }
     ensures spent { result ≡ Err Spent → IsSpent (function_of rules.now) (past_of made.now) total.old (reverse site.old.seen.items) number }
+    ensures spent_at { result ≡ Err Spent → total.new ≡ MAX_FORMS }
     ensures err { OnErr result (IsSameSite site.old site.new) }
     ensures within { total.new ≤ MAX_FORMS }
+    ensures more { total.old ≤ total.new }
 {
     forms_are_sought_before_they_are_made();
     counted_forms_need_not_be_sought();

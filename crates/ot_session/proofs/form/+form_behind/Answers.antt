@@ -13,7 +13,7 @@ use Rattle.ot_session.specs.declared.form.Refusal.{Refusal}
 use Rattle.ot_session.specs.declared.limits.TheConstants.{MAX_FORMS}
 use Rattle.ot_session.specs.Past.{past_of, most_cells}
 use Rattle.ot_session.specs.Lists.{clock}
-use Rattle.ot_session.specs.Seeking.{Missing, Exhausted}
+use Rattle.ot_session.specs.Seeking.{Missing, Exhausted, first_obstacle}
 use Rattle.ot_session.specs.Entries.{form_under, HasForms, IsTable, MaySeek, Seeks, HasSought}
 use Rattle.ot_session.proofs.Clocks.{get_or-clock, clock-without}
 use Rattle.ot_session.proofs.Seeking.{obstacle_code, first_obstacle-counted, first_obstacle-exhausted, first_obstacle-missing, first_obstacle-there}
@@ -129,8 +129,7 @@ returns-in_err-own-clause-sought t c = λ names others has total.
     subst (λ (m : List ℕ). HasSought f past seen names others o m c.form_behind.new.table c.form_behind.new.counted (Err e))
     (c.deref.ensures.value ∙ c.in_ok-older.ensures) (c.in_err-own.ensures.sought names others has total) in
     subst (λ (r : Result Op Refusal). HasSought f past seen names others o l c.form_behind.new.table c.form_behind.new.counted r) (sym same)
-    (HasSought-own f past seen o x l split names others c.form_behind.new.table c.form_behind.new.table c.form_behind.new.counted
-    c.form_behind.new.counted e stopped)
+    (HasSought-own f past seen o x l split names others c.form_behind.new.table c.form_behind.new.table c.form_behind.new.counted e stopped)
 
 pub form_behind-requires-2 : goal.form_behind-requires-2
 form_behind-requires-2 t c =
@@ -256,7 +255,7 @@ returns-in_err-by-clause-sought t c = λ names others has total.
     (c.deref-2.ensures.value ∙ c.in_ok-older.ensures) (c.in_err-by.ensures.sought first others own.table own.count) in
     subst (λ (r : Result Op Refusal). HasSought f past seen names others o l c.form_behind-2.new.table c.form_behind-2.new.counted r) (sym same)
     (HasSought-by f past seen o x l split names others own.free c.form_behind-2.new.table c.form_behind-2.new.table
-    c.form_behind-2.new.counted c.form_behind-2.new.counted e stopped)
+    c.form_behind-2.new.counted e stopped)
 
 pub returns-in_err-count_one-clause-sought : goal.returns-in_err-count_one-clause-sought
 returns-in_err-count_one-clause-sought t c = λ names others has total.
@@ -330,8 +329,10 @@ returns-in_default-transform-clause-sought t c = λ names others has total.
     let none : form f past o l ≡ None =
     c.forms_are_made_from_shorter_ones.ensures.moved f past o l x (sym c.in-Some.ensures)
     ∙ rw (own_is, by_is) (sym c.transform.ensures ∙ c.in_default-transform.is) in
-    first_obstacle-itself f past seen o x l split names others own.free joined part.free (Some Missing)
-    (first_obstacle-missing f past (others + length second) second (name_of o l) new unspent none)
+    let counted : others + length second + 1 ≡ c.count_one.new.counted = omega (arith, part.count, c.in_ok-count_one.ensures.ok) in
+    first_obstacle-itself f past seen o x l split names others own.free joined part.free (Some (Missing c.count_one.new.counted))
+    (subst (λ (m : ℕ). first_obstacle f past (others + length second) second (name_of o l ∷ []) ≡ Some (Missing m)) counted
+    (first_obstacle-missing f past (others + length second) second (name_of o l) new unspent none))
 
 pub returns-clause-sought : goal.returns-clause-sought
 returns-clause-sought t c = λ names others has total.

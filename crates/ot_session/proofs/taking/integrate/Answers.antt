@@ -1,23 +1,17 @@
-use Rattle.std.proofs.Common.{rules, ◌≡◌, ◌+◌, ◌-◌, ℕ, Bool, true, false, List, length, Some, None, Ok, Err, refl, sym, ap, ◌∙◌, subst, arith, reverse}
-use Rattle.std.specs.Prelude.{slice_set}
+use Rattle.std.proofs.Common.{rules, ◌≡◌, ℕ, Bool, List, length, Err, sym, ap, ◌∙◌, subst, arith, reverse}
 use Rattle.std.specs.Coded.{le_prop}
-use Rattle.std.proofs.Math.Logic.{∥∥₁_elim, ∥∥₁_map, ∥∥₁_map₂}
+use Rattle.std.proofs.Math.Logic.{∥∥₁_elim, ∥∥₁_map}
 use Rattle.ot_model.specs.declared.op.Op.{Op}
-use Rattle.ot_model.specs.Effect.{is_enabled, document_after}
+use Rattle.ot_model.specs.Effect.{is_enabled}
 use Rattle.fn_rules.specs.Rules.{function_of}
-use Rattle.fn_rules.specs.declared.function.Head.{Head}
 use Rattle.fn_rules.specs.Functions.{Function}
 use Rattle.ot_causal.specs.Past.{Past}
-use Rattle.ot_causal.specs.Forms.{form}
-use Rattle.ot_causal.specs.Counting.{counted}
 use Rattle.ot_session.specs.declared.form.Refusal.{Refusal}
 use Rattle.ot_session.specs.declared.form.Refusal.TheVariants.{NoForm, Spent}
 use Rattle.ot_session.specs.declared.site.Site.{Site}
 use Rattle.ot_session.specs.Past.{past_of}
-use Rattle.ot_session.specs.Seeking.{Missing, Exhausted}
-use Rattle.ot_session.specs.Entries.{HasForms, IsTable, MaySeek, Seeks, HasSought}
-use Rattle.ot_session.specs.Sites.{Executes}
-use Rattle.ot_session.proofs.Integrating.{first_obstacle-total, unspent-none, unspent-missing, Changes, HasIntegrated-changed, CanTake-changed, MaySeek-next, IsTable-kept, HasSought-at}
+use Rattle.ot_session.specs.Entries.{IsTable, MaySeek}
+use Rattle.ot_session.proofs.Integrating.{Changes, Changes-executed, MaySeek-next, IsTable-kept, IsStuck-missing, count_behind-missing, IsSpent-sought, IsStuck-refused, count_behind-sought, HasIntegrated-sought, CanTake-sought}
 use Rattle.ot_session.proofs.taking.integrate.Goals as goal
 
 pub form_behind-requires-clause-may : goal.form_behind-requires-clause-may
@@ -74,79 +68,52 @@ form_behind-requires-clause-table c =
 
 pub returns-in_err-form-clause-stuck : goal.returns-in_err-form-clause-stuck
 returns-in_err-form-clause-stuck c = λ none.
-    let f : Function = function_of c.args.rules.now in
-    let past : Past = past_of c.args.made.now in
-    let seen : List ℕ = reverse c.args.site.now.seen.items in
-    let n : ℕ = c.args.number in
-    let total : ℕ = c.args.total.now in
-    let others : ℕ = total - length (counted past seen) in
-    let count : total ≡ others + length (counted past seen) = omega (arith, c.requires.total) in
-    let items : c.in_ok-seen.seen.items ≡ seen = c.in_ok-seen.ensures ∙ ap reverse c.deref.ensures.value in
-    let first : c.deref-2.result.now ≡ seen = c.deref-2.ensures.value ∙ items in
-    let second : c.deref-4.result.now ≡ seen = c.deref-4.ensures.value ∙ items in
-    let has : ∥ HasForms f past seen (counted past seen) c.args.site.now.table ∥₁ = ∥∥₁_map c.requires.can (λ k. k.forms.has) in
+    let items : c.in_ok-seen.seen.items ≡ reverse c.args.site.now.seen.items = c.in_ok-seen.ensures ∙ ap reverse c.deref.ensures.value in
     let e : Refusal = c.in_err-form.field-0.0 in
     let same : c.from_residual-in_err-form.result ≡ Err e = search rules in
     let is : e ≡ NoForm = let errs : Err e ≡ Err NoForm = sym same ∙ none in cc in
-    let found : HasSought f past seen (counted past seen) others n seen c.form_behind.new.table c.form_behind.new.counted (Err NoForm) =
-    subst (λ (x : Refusal). HasSought f past seen (counted past seen) others n seen c.form_behind.new.table c.form_behind.new.counted (Err x)) is
-    (HasSought-at f past seen c.deref-2.result.now c.deref-4.result.now n total others c.form_behind.new.counted c.args.site.now.table
-    c.form_behind.new.table (Err e) first second count has c.in_err-form.ensures.sought) in
-    let missing : form f past n seen ≡ None =
-    subst (λ (l : List ℕ). form f past n l ≡ None) second (c.in_err-form.ensures.no_form (ap (λ (x : Refusal). Err x) is)) in
-    record {
-      next = c.requires.next;
-      unspent = unspent-missing f past seen n total (first_obstacle-total f past seen n others total (Some Missing) count found);
-      document = rw missing refl;
-    }
+    IsStuck-missing (function_of c.args.rules.now) (past_of c.args.made.now) c.args.site.now c.args.number c.args.total.now c.form_behind.new.counted
+    c.form_behind.new.table c.deref-2.result.now c.deref-4.result.now (c.deref-2.ensures.value ∙ items) (c.deref-4.ensures.value ∙ items)
+    c.requires.total c.requires.can c.requires.next e is c.in_err-form.ensures.sought
+    (c.in_err-form.ensures.no_form (ap (λ (x : Refusal). Err x) is))
+
+pub returns-in_err-form-clause-stuck_at : goal.returns-in_err-form-clause-stuck_at
+returns-in_err-form-clause-stuck_at c = λ none.
+    let items : c.in_ok-seen.seen.items ≡ reverse c.args.site.now.seen.items = c.in_ok-seen.ensures ∙ ap reverse c.deref.ensures.value in
+    let e : Refusal = c.in_err-form.field-0.0 in
+    let same : c.from_residual-in_err-form.result ≡ Err e = search rules in
+    let is : e ≡ NoForm = let errs : Err e ≡ Err NoForm = sym same ∙ none in cc in
+    count_behind-missing (function_of c.args.rules.now) (past_of c.args.made.now) c.args.site.now c.args.number c.args.total.now c.form_behind.new.counted
+    c.form_behind.new.table c.deref-2.result.now c.deref-4.result.now (c.deref-2.ensures.value ∙ items) (c.deref-4.ensures.value ∙ items)
+    c.requires.total c.requires.can c.requires.next e is c.in_err-form.ensures.sought
 
 pub returns-in_err-form-clause-spent : goal.returns-in_err-form-clause-spent
 returns-in_err-form-clause-spent c = λ none.
-    let f : Function = function_of c.args.rules.now in
-    let past : Past = past_of c.args.made.now in
-    let seen : List ℕ = reverse c.args.site.now.seen.items in
-    let n : ℕ = c.args.number in
-    let total : ℕ = c.args.total.now in
-    let others : ℕ = total - length (counted past seen) in
-    let count : total ≡ others + length (counted past seen) = omega (arith, c.requires.total) in
-    let items : c.in_ok-seen.seen.items ≡ seen = c.in_ok-seen.ensures ∙ ap reverse c.deref.ensures.value in
-    let first : c.deref-2.result.now ≡ seen = c.deref-2.ensures.value ∙ items in
-    let second : c.deref-4.result.now ≡ seen = c.deref-4.ensures.value ∙ items in
-    let has : ∥ HasForms f past seen (counted past seen) c.args.site.now.table ∥₁ = ∥∥₁_map c.requires.can (λ k. k.forms.has) in
+    let items : c.in_ok-seen.seen.items ≡ reverse c.args.site.now.seen.items = c.in_ok-seen.ensures ∙ ap reverse c.deref.ensures.value in
     let e : Refusal = c.in_err-form.field-0.0 in
     let same : c.from_residual-in_err-form.result ≡ Err e = search rules in
     let is : e ≡ Spent = let errs : Err e ≡ Err Spent = sym same ∙ none in cc in
-    let found : HasSought f past seen (counted past seen) others n seen c.form_behind.new.table c.form_behind.new.counted (Err Spent) =
-    subst (λ (x : Refusal). HasSought f past seen (counted past seen) others n seen c.form_behind.new.table c.form_behind.new.counted (Err x)) is
-    (HasSought-at f past seen c.deref-2.result.now c.deref-4.result.now n total others c.form_behind.new.counted c.args.site.now.table
-    c.form_behind.new.table (Err e) first second count has c.in_err-form.ensures.sought) in
-    first_obstacle-total f past seen n others total (Some Exhausted) count found
+    IsSpent-sought (function_of c.args.rules.now) (past_of c.args.made.now) c.args.site.now c.args.number c.args.total.now c.form_behind.new.counted
+    c.form_behind.new.table c.deref-2.result.now c.deref-4.result.now (c.deref-2.ensures.value ∙ items) (c.deref-4.ensures.value ∙ items)
+    c.requires.total c.requires.can c.requires.next e is c.in_err-form.ensures.sought
 
 pub returns-then-not-enabled-clause-stuck : goal.returns-then-not-enabled-clause-stuck
 returns-then-not-enabled-clause-stuck c = λ _.
-    let f : Function = function_of c.args.rules.now in
-    let past : Past = past_of c.args.made.now in
-    let seen : List ℕ = reverse c.args.site.now.seen.items in
-    let n : ℕ = c.args.number in
-    let total : ℕ = c.args.total.now in
-    let others : ℕ = total - length (counted past seen) in
-    let count : total ≡ others + length (counted past seen) = omega (arith, c.requires.total) in
-    let items : c.in_ok-seen.seen.items ≡ seen = c.in_ok-seen.ensures ∙ ap reverse c.deref.ensures.value in
-    let first : c.deref-2.result.now ≡ seen = c.deref-2.ensures.value ∙ items in
-    let second : c.deref-4.result.now ≡ seen = c.deref-4.ensures.value ∙ items in
-    let has : ∥ HasForms f past seen (counted past seen) c.args.site.now.table ∥₁ = ∥∥₁_map c.requires.can (λ k. k.forms.has) in
+    let items : c.in_ok-seen.seen.items ≡ reverse c.args.site.now.seen.items = c.in_ok-seen.ensures ∙ ap reverse c.deref.ensures.value in
     let p : Op = c.in_ok-form.form in
-    let seeks : Seeks f past seen (counted past seen) others n seen c.form_behind.new.table c.form_behind.new.counted =
-    HasSought-at f past seen c.deref-2.result.now c.deref-4.result.now n total others c.form_behind.new.counted c.args.site.now.table
-    c.form_behind.new.table (Ok p) first second count has c.in_ok-form.ensures.sought in
-    let form_is : form f past n seen ≡ Some p = subst (λ (l : List ℕ). form f past n l ≡ Some p) second c.in_ok-form.ensures.ok in
-    let refused : is_enabled p (length c.args.site.now.doc) ≡ false =
-    ap (λ (cells : ℕ). is_enabled p cells) (sym c.len.ensures) ∙ sym c.enabled.ensures.test ∙ c.if-not-enabled.true in
-    record {
-      next = c.requires.next;
-      unspent = unspent-none f past seen n total (first_obstacle-total f past seen n others total None count seeks.free);
-      document = rw (form_is, refused) refl;
-    }
+    IsStuck-refused (function_of c.args.rules.now) (past_of c.args.made.now) c.args.site.now c.args.number c.args.total.now c.form_behind.new.counted
+    c.form_behind.new.table c.deref-2.result.now c.deref-4.result.now (c.deref-2.ensures.value ∙ items) (c.deref-4.ensures.value ∙ items)
+    c.requires.total c.requires.can c.requires.next p c.in_ok-form.ensures.sought c.in_ok-form.ensures.ok
+    (ap (λ (cells : ℕ). is_enabled p cells) (sym c.len.ensures) ∙ sym c.enabled.ensures.test ∙ c.if-not-enabled.true)
+
+pub returns-then-not-enabled-clause-stuck_at : goal.returns-then-not-enabled-clause-stuck_at
+returns-then-not-enabled-clause-stuck_at c = λ _.
+    let items : c.in_ok-seen.seen.items ≡ reverse c.args.site.now.seen.items = c.in_ok-seen.ensures ∙ ap reverse c.deref.ensures.value in
+    let p : Op = c.in_ok-form.form in
+    count_behind-sought (function_of c.args.rules.now) (past_of c.args.made.now) c.args.site.now c.args.number c.args.total.now c.form_behind.new.counted
+    c.form_behind.new.table c.deref-2.result.now c.deref-4.result.now (c.deref-2.ensures.value ∙ items) (c.deref-4.ensures.value ∙ items)
+    c.requires.total c.requires.can c.requires.next p c.in_ok-form.ensures.sought c.in_ok-form.ensures.ok
+    (c.forms_are_sought_before_they_are_made.ensures.counted_next (past_of c.args.made.now))
 
 pub execute-requires : goal.execute-requires
 execute-requires c =
@@ -159,84 +126,28 @@ set-requires c =
 
 pub returns-in-Ok-clause-ok : goal.returns-in-Ok-clause-ok
 returns-in-Ok-clause-ok c =
-    let f : Function = function_of c.args.rules.now in
-    let past : Past = past_of c.args.made.now in
-    let seen : List ℕ = reverse c.args.site.now.seen.items in
-    let n : ℕ = c.args.number in
-    let total : ℕ = c.args.total.now in
-    let others : ℕ = total - length (counted past seen) in
-    let count : total ≡ others + length (counted past seen) = omega (arith, c.requires.total) in
-    let items : c.in_ok-seen.seen.items ≡ seen = c.in_ok-seen.ensures ∙ ap reverse c.deref.ensures.value in
-    let first : c.deref-2.result.now ≡ seen = c.deref-2.ensures.value ∙ items in
-    let second : c.deref-4.result.now ≡ seen = c.deref-4.ensures.value ∙ items in
-    let has : ∥ HasForms f past seen (counted past seen) c.args.site.now.table ∥₁ = ∥∥₁_map c.requires.can (λ k. k.forms.has) in
+    let items : c.in_ok-seen.seen.items ≡ reverse c.args.site.now.seen.items = c.in_ok-seen.ensures ∙ ap reverse c.deref.ensures.value in
     let p : Op = c.in_ok-form.form in
-    let seeks : Seeks f past seen (counted past seen) others n seen c.form_behind.new.table c.form_behind.new.counted =
-    HasSought-at f past seen c.deref-2.result.now c.deref-4.result.now n total others c.form_behind.new.counted c.args.site.now.table
-    c.form_behind.new.table (Ok p) first second count has c.in_ok-form.ensures.sought in
-    let form_is : form f past n seen ≡ Some p = subst (λ (l : List ℕ). form f past n l ≡ Some p) second c.in_ok-form.ensures.ok in
-    let old : Site = c.args.site.now in
-    let new : Site =
-    record {
-      doc = c.execute.new.self.doc;
-      seen = c.execute.new.self.seen;
-      integrated = c.execute.new.self.integrated;
-      held = c.set.new.self;
-      table = c.execute.new.self.table;
-    } in
-    let mid : Site = record { doc = old.doc; seen = old.seen; integrated = old.integrated; held = old.held; table = c.form_behind.new.table } in
-    let executes : Executes c.head.result.mode n p mid c.execute.new.self = c.in-Ok.ensures.ok in
-    let change : Changes f n p c.form_behind.new.table old new =
-    record {
-      document = executes.document ∙ ap (λ (h : Head). document_after h.mode p old.doc) c.head.ensures.head;
-      seen = executes.seen;
-      integrated = executes.integrated;
-      held = c.set.ensures ∙ ap (λ (marks : List Bool). slice_set marks n false) executes.held;
-      stored = executes.table;
-    } in
-    let enabled : is_enabled p (length old.doc) ≡ true =
-    ap (λ (cells : ℕ). is_enabled p cells) (sym c.len.ensures) ∙ sym c.enabled.ensures.test ∙ c.if-not-enabled.false in
-    HasIntegrated-changed f past n p c.form_behind.new.table old new change c.requires.next
-    (c.forms_are_sought_before_they_are_made.ensures.counted_next past) others total c.form_behind.new.counted count seeks form_is enabled
+    let new : Site = record (c.execute.new.self) { held = c.set.new.self } in
+    let change : Changes (function_of c.args.rules.now) c.args.number p c.form_behind.new.table c.args.site.now new =
+    Changes-executed (function_of c.args.rules.now) c.args.number p c.head.result c.form_behind.new.table c.args.site.now c.execute.new.self
+    c.set.new.self c.in-Ok.ensures.ok c.head.ensures.head c.set.ensures in
+    HasIntegrated-sought (function_of c.args.rules.now) (past_of c.args.made.now) c.args.site.now c.args.number c.args.total.now c.form_behind.new.counted
+    c.form_behind.new.table c.deref-2.result.now c.deref-4.result.now (c.deref-2.ensures.value ∙ items) (c.deref-4.ensures.value ∙ items)
+    c.requires.total c.requires.can c.requires.next p c.in_ok-form.ensures.sought c.in_ok-form.ensures.ok
+    (c.forms_are_sought_before_they_are_made.ensures.counted_next (past_of c.args.made.now)) new change
+    (ap (λ (cells : ℕ). is_enabled p cells) (sym c.len.ensures) ∙ sym c.enabled.ensures.test ∙ c.if-not-enabled.false)
 
 pub returns-in-Ok-clause-can : goal.returns-in-Ok-clause-can
 returns-in-Ok-clause-can c =
-    let f : Function = function_of c.args.rules.now in
-    let past : Past = past_of c.args.made.now in
-    let seen : List ℕ = reverse c.args.site.now.seen.items in
-    let n : ℕ = c.args.number in
-    let total : ℕ = c.args.total.now in
-    let others : ℕ = total - length (counted past seen) in
-    let count : total ≡ others + length (counted past seen) = omega (arith, c.requires.total) in
-    let items : c.in_ok-seen.seen.items ≡ seen = c.in_ok-seen.ensures ∙ ap reverse c.deref.ensures.value in
-    let first : c.deref-2.result.now ≡ seen = c.deref-2.ensures.value ∙ items in
-    let second : c.deref-4.result.now ≡ seen = c.deref-4.ensures.value ∙ items in
-    let has : ∥ HasForms f past seen (counted past seen) c.args.site.now.table ∥₁ = ∥∥₁_map c.requires.can (λ k. k.forms.has) in
+    let items : c.in_ok-seen.seen.items ≡ reverse c.args.site.now.seen.items = c.in_ok-seen.ensures ∙ ap reverse c.deref.ensures.value in
     let p : Op = c.in_ok-form.form in
-    let seeks : Seeks f past seen (counted past seen) others n seen c.form_behind.new.table c.form_behind.new.counted =
-    HasSought-at f past seen c.deref-2.result.now c.deref-4.result.now n total others c.form_behind.new.counted c.args.site.now.table
-    c.form_behind.new.table (Ok p) first second count has c.in_ok-form.ensures.sought in
-    let form_is : form f past n seen ≡ Some p = subst (λ (l : List ℕ). form f past n l ≡ Some p) second c.in_ok-form.ensures.ok in
-    let old : Site = c.args.site.now in
-    let new : Site =
-    record {
-      doc = c.execute.new.self.doc;
-      seen = c.execute.new.self.seen;
-      integrated = c.execute.new.self.integrated;
-      held = c.set.new.self;
-      table = c.execute.new.self.table;
-    } in
-    let mid : Site = record { doc = old.doc; seen = old.seen; integrated = old.integrated; held = old.held; table = c.form_behind.new.table } in
-    let executes : Executes c.head.result.mode n p mid c.execute.new.self = c.in-Ok.ensures.ok in
-    let change : Changes f n p c.form_behind.new.table old new =
-    record {
-      document = executes.document ∙ ap (λ (h : Head). document_after h.mode p old.doc) c.head.ensures.head;
-      seen = executes.seen;
-      integrated = executes.integrated;
-      held = c.set.ensures ∙ ap (λ (marks : List Bool). slice_set marks n false) executes.held;
-      stored = executes.table;
-    } in
-    ∥∥₁_map₂ c.requires.can seeks.table (λ k forms.
-    CanTake-changed f past n p c.form_behind.new.table old new change c.requires.next
-    (c.forms_are_sought_before_they_are_made.ensures.counted_next past) c.requires.few
-    (λ names. c.counted_forms_need_not_be_sought.ensures.longer past seen names n) k forms)
+    let new : Site = record (c.execute.new.self) { held = c.set.new.self } in
+    let change : Changes (function_of c.args.rules.now) c.args.number p c.form_behind.new.table c.args.site.now new =
+    Changes-executed (function_of c.args.rules.now) c.args.number p c.head.result c.form_behind.new.table c.args.site.now c.execute.new.self
+    c.set.new.self c.in-Ok.ensures.ok c.head.ensures.head c.set.ensures in
+    CanTake-sought (function_of c.args.rules.now) (past_of c.args.made.now) c.args.site.now c.args.number c.args.total.now c.form_behind.new.counted
+    c.form_behind.new.table c.deref-2.result.now c.deref-4.result.now (c.deref-2.ensures.value ∙ items) (c.deref-4.ensures.value ∙ items)
+    c.requires.total c.requires.can c.requires.next p c.in_ok-form.ensures.sought c.in_ok-form.ensures.ok
+    (c.forms_are_sought_before_they_are_made.ensures.counted_next (past_of c.args.made.now)) new change c.requires.few
+    (λ names. c.counted_forms_need_not_be_sought.ensures.longer (past_of c.args.made.now) (reverse c.args.site.now.seen.items) names c.args.number)

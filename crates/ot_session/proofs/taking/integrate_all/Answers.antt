@@ -23,6 +23,7 @@ loop-next-init c =
       can = c.requires.can;
       some = c.requires.total;
       within = c.requires.within;
+      more = omega arith;
       turn = λ o is. (let same : n ≡ o = cc in (
         subst (λ (done : List ℕ). IsTurn past n done view o) (sym c.new-done.ensures) (sym same),
         subst (λ (m : ℕ). IsNext past (reverse old.seen.items) m) same
@@ -91,6 +92,7 @@ loop-next-preserved c =
       can = c.in-Ok.ensures.can;
       some = omega (arith, step.counted, c.loop-next.invariant.some);
       within = c.integrate.ensures.within;
+      more = omega (arith, c.loop-next.invariant.more, c.integrate.ensures.more);
       turn = λ o is. (
           let least : IsLeastByMarks past (is_marked new.integrated) (is_marked new.held) o =
           subst (λ (r : Option ℕ). IfSome r (λ m. IsLeastByMarks past (is_marked new.integrated) (is_marked new.held) m)) is some in (
