@@ -7,6 +7,7 @@ use Rattle.diff_graph.specs.declared.lit.PickEnd.TheVariants.{NotACycle}
 use Rattle.diff_graph.specs.Literals.{IsPossible}
 use Rattle.ask_core.specs.declared.tree.Tok.TheVariants as token
 use Rattle.ask_core.specs.Trees.{Question, End, Impossible, Fits, tokens_of}
+use Rattle.ask_core.specs.Leading.{LeadTo}
 use Rattle.ask_core.specs.Questions.{QuestionList, no_questions, failing_at}
 use Rattle.ask_core.specs.TwoNames.{at_most, is_under, two_name_plan}
 
@@ -93,3 +94,7 @@ QuestionList-lax =
         refl,
       ),
     )
+
+-- both questions answered by yes lead to the end that fails
+yes_twice : LeadTo 7 (two_name_plan true) (at_most ∷ is_under true ∷ [])
+yes_twice = inl (refl, inl (refl, refl))

@@ -1,25 +1,38 @@
 -- A plan with a fitting tree holds at every valuation that meets the answers.
-use Rattle.std.proofs.Common.{◌≡◌, ℕ, ℤ, true, false, List, [], ◌∷◌, ◌++◌, arith, inl, inr, refl, Ok}
+use Rattle.std.proofs.Common.{◌≡◌, ◌↔◌, ℕ, ℤ, Bool, true, false, List, [], ◌∷◌, ◌++◌, arith, inl, inr, refl, Ok}
 use Rattle.std.proofs.lemmas.Bool.{cases_Bool}
 use Rattle.std.proofs.lemmas.Int.{ints}
 use Rattle.diff_graph.specs.declared.lit.Lit.{Lit}
-use Rattle.diff_graph.specs.Literals.{Meets, AreMet, is_met, negated}
+use Rattle.diff_graph.specs.Literals.{Meets, AreMet, is_met, answered_of}
 use Rattle.diff_graph.specs.Cycles.{pick_verdict}
 use Rattle.ask_core.specs.declared.tree.Tok.{Tok}
 use Rattle.ask_core.specs.Plans.{Plan, Ask, Holds, Fails, value}
 use Rattle.ask_core.specs.Trees.{AnswerTree, Question, End, Impossible, Fits, Branch, Completes, HoldsAt, with_answer}
 
--- a valuation that meets the answers and one more literal meets both together
-AreMet-push : (v : ℕ → ℤ) (w : List Lit) (l : Lit) → AreMet v w → Meets v l → AreMet v (w ++ l ∷ [])
-AreMet-push v [] l met last = (last, tt)
-AreMet-push v (x ∷ w) l met last = (met.0, AreMet-push v w l met.1 last)
+-- a valuation meets a list with one literal more exactly where it meets both
+AreMet-push : (v : ℕ → ℤ) (w : List Lit) (l : Lit) → AreMet v (w ++ l ∷ []) ↔ (AreMet v w × Meets v l)
+AreMet-push v [] l = (λ met. (tt, met.0), λ both. (both.1, tt))
+AreMet-push v (x ∷ w) l =
+    let later = AreMet-push v w l in (
+      λ met. ((met.0, (later.0 met.1).0), (later.0 met.1).1),
+      λ both. (both.0.0, later.1 (both.0.1, both.1)),
+    )
 
--- what the test of a literal tells
-Meets-is_met : (v : ℕ → ℤ) (l : Lit) → is_met v l ≡ true → Meets v l
-Meets-is_met v l passed = grind (arith, ints)
+-- a literal is met exactly where its test passes, and negated exactly where it fails
+Meets-answered : (v : ℕ → ℤ) (l : Lit) (yes_said : Bool) → Meets v (answered_of l yes_said) ↔ (is_met v l ≡ yes_said)
+Meets-answered v l true = (λ met. grind (arith, ints), λ passed. grind (arith, ints))
+Meets-answered v l false = (λ met. grind (arith, ints), λ failed. grind (arith, ints))
 
-Meets-negated : (v : ℕ → ℤ) (l : Lit) → is_met v l ≡ false → Meets v (negated l)
-Meets-negated v l failed = grind (arith, ints)
+-- a valuation meets the answers with one more exactly where it meets them and answers so
+pub AreMet-answered :
+    (v : ℕ → ℤ) (w : List Lit) (l : Lit) (yes_said : Bool)
+    → AreMet v (with_answer w l yes_said) ↔ (AreMet v w × (is_met v l ≡ yes_said))
+AreMet-answered v w l yes_said =
+    let both = AreMet-push v w (answered_of l yes_said) in
+    let last = Meets-answered v l yes_said in (
+      λ met. ((both.0 met).0, last.0 (both.0 met).1),
+      λ parts. both.1 (parts.0, last.1 parts.1),
+    )
 
 -- a question holds where both its parts do: the valuation leads to one of them, and meets its answer
 pub HoldsAt-question :
@@ -29,8 +42,8 @@ pub HoldsAt-question :
     → HoldsAt v (record { plan = Ask l on_yes on_no; answers = w })
 HoldsAt-question v l on_yes on_no w at_yes at_no met =
     elim (cases_Bool (is_met v l)) [
-      | inl passed ↦ rw passed (at_yes (AreMet-push v w l met (Meets-is_met v l passed)))
-      | inr failed ↦ rw failed (at_no (AreMet-push v w (negated l) met (Meets-negated v l failed)))
+      | inl passed ↦ rw passed (at_yes ((AreMet-answered v w l true).1 (met, passed)))
+      | inr failed ↦ rw failed (at_no ((AreMet-answered v w l false).1 (met, failed)))
     ]
 
 module _ (never_met : (v : ℕ → ℤ) (w : List Lit) (picks : List ℕ) → pick_verdict w picks ≡ Ok tt → ¬ AreMet v w) {W : Type 0} where

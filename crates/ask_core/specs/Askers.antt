@@ -1,5 +1,5 @@
 -- What an asker answers at a node, seen as a plan, and the limits of every plan.
-use Rattle.std.specs.Prelude.{◌≡◌, ℕ, ◌+◌, ◌≤◌, neg_ℤ, max, Bool, true, not, ◌&&◌, nat_eq, nat_lt, int_le, IsTrue}
+use Rattle.std.specs.Prelude.{◌≡◌, ◌↔◌, ℕ, ◌+◌, ◌≤◌, neg_ℤ, max, Bool, true, not, ◌&&◌, nat_eq, nat_lt, int_le, IsTrue}
 use Rattle.diff_graph.specs.declared.lit.Lit.{Lit}
 use Rattle.diff_graph.specs.declared.lit.TheConstants.{MAX_LITERAL_OFFSET}
 use Rattle.ask_core.specs.declared.asker.TheConstants.{MAX_QUESTIONS}
@@ -14,6 +14,11 @@ Begins is_own plan (turn.Ask lit on_yes on_no) p =
     is_own on_yes × is_own on_no × (p ≡ Ask lit (plan on_yes) (plan on_no))
 Begins is_own plan turn.Holds p = p ≡ Holds
 Begins is_own plan (turn.Fails why) p = p ≡ Fails why
+
+-- own nodes stay own, and stand for the same plans
+pub record SamePlans {N W : Type 0} (was_own is_own : N → Type 0) (old new : N → Plan W) : Type 0 where
+  pub own : (n : N) → was_own n ↔ is_own n
+  pub plans : (n : N) → was_own n → new n ≡ old n
 
 -- a literal over two different names below the count, with an offset that may be asked
 abbrev pub is_fine_literal : ℕ → Lit → Bool

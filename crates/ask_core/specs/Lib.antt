@@ -4,6 +4,8 @@ pub mod Trees
 pub mod Askers
 pub mod Paths
 pub mod Questions
+pub mod Premises
+pub mod Leading
 pub mod TwoNames
 pub use Rattle.diff_graph.specs.Literals
 pub use Rattle.diff_graph.specs.Cycles

@@ -19,6 +19,10 @@ end_of (Fails why) v = Some why
 abbrev pub value : {W : Type 0} → Plan W → (ℕ → ℤ) → Bool
 value p v = is_none (end_of p v)
 
+-- the plan behind a premise: it asks the literal, goes on with the plan at yes, and holds at no
+abbrev pub premised : {W : Type 0} → Lit → Plan W → Plan W
+premised l p = Ask l p Holds
+
 -- the plan that is left after an answer
 abbrev pub after_answer : {W : Type 0} → Plan W → Bool → Plan W
 after_answer (Ask l on_yes on_no) true = on_yes

@@ -1,7 +1,7 @@
 //! Askers: what asks the questions of a plan.
-ghost use Rattle.std.specs.Prelude.{◌≡◌, ℕ, ◌≤◌, ◌↔◌, IfOk};
+ghost use Rattle.std.specs.Prelude.{◌≡◌, ℕ, ◌≤◌, IfOk};
 ghost use Rattle.ask_core.specs.Plans.{Plan};
-ghost use Rattle.ask_core.specs.Askers.{Begins, IsFine};
+ghost use Rattle.ask_core.specs.Askers.{Begins, IsFine, SamePlans};
 
 use crate::NoMemory;
 use crate::turn::Turn;
@@ -39,8 +39,7 @@ pub trait Asker: Drop {
     /// A node that stands for the asker's own plan.
     fn start(&mut self) -> Result<Self::Node, NoMemory>
         ensures begins { IfOk result (λ n. is_own self.new n × (plan self.new n ≡ root self.new)) }
-        ensures own_kept { (n : Self.Node) → is_own self.old n ↔ is_own self.new n }
-        ensures plan_kept { (n : Self.Node) → is_own self.old n → plan self.new n ≡ plan self.old n }
+        ensures same { SamePlans (is_own self.old) (is_own self.new) (plan self.old) (plan self.new) }
         ensures root_kept { root self.new ≡ root self.old }
         ensures count_kept { name_count self.new ≡ name_count self.old };
 
@@ -48,14 +47,10 @@ pub trait Asker: Drop {
     fn turn(&mut self, node: Self::Node) -> Result<Turn<Self::Node, Self::Why>, NoMemory>
         requires { is_own self.old node }
         ensures begins { IfOk result (λ t. Begins (is_own self.new) (plan self.new) t (plan self.new node)) }
-        ensures own_kept { (n : Self.Node) → is_own self.old n ↔ is_own self.new n }
-        ensures plan_kept { (n : Self.Node) → is_own self.old n → plan self.new n ≡ plan self.old n }
+        ensures same { SamePlans (is_own self.old) (is_own self.new) (plan self.old) (plan self.new) }
         ensures root_kept { root self.new ≡ root self.old }
         ensures count_kept { name_count self.new ≡ name_count self.old };
 
     /// The plan of each node keeps the limits.
     ghost fine: { (a : Self) (n : Self.Node) → is_own a n → IsFine (name_count a) (plan a n) };
 }
-
-#[cfg(test)]
-mod tests;

@@ -1,7 +1,7 @@
 //! The open path through a plan, with the parts for no that still wait.
 ghost use Rattle.std.specs.Prelude.{◌≡◌, ◌↔◌, IsTrue, ◌<◌, [], ◌∷◌, Some, drop, length, slice_get, OnOk, OnErr};
 ghost use Rattle.std.specs.Option.{option_map};
-ghost use Rattle.ask_core.specs.Paths.{OpenPlace, after_question};
+ghost use Rattle.ask_core.specs.Paths.{OpenPlace, after_question, first_answers};
 
 use crate::NoMemory;
 use diff_graph::{Lit, answered};
@@ -68,7 +68,7 @@ impl<N: Copy> Path<N> {
     /// The answers that lead to the node to answer next, the first one first.
     pub fn answers(&self) -> &[Lit]
         requires { 0 < length self.now }
-        ensures { option_map (λ p. p.answers) (slice_get self.now 0) ≡ Some result.now }
+        ensures { result.now ≡ first_answers self.now }
     {
         let _ = &self.current;
         self.answers.as_slice()
@@ -114,6 +114,3 @@ impl<N: Copy> Path<N> {
         }
     }
 }
-
-#[cfg(test)]
-mod tests;

@@ -154,6 +154,3 @@ impl<'a> Tokens<'a> {
         }
     }
 }
-
-#[cfg(test)]
-mod tests;

@@ -2,6 +2,7 @@ pub mod CaseExamples
 pub mod Elements
 pub mod Examples
 pub mod FirstFault
+pub mod HubExamples
 pub mod Reading
 pub mod Readings
 pub mod ScriptExamples

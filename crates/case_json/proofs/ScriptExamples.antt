@@ -8,7 +8,8 @@ use Rattle.case_json.specs.DocText.{cells_within}
 use Rattle.case_json.specs.declared.fault.CaseFault.TheVariants.{Json, Field, Limit}
 use Rattle.case_json.specs.declared.fault.Name.TheVariants.{Doc, Sites, Events}
 use Rattle.case_json.specs.declared.script.Event.TheVariants.{Make, Take}
-use Rattle.case_json.specs.Scripts.{sites_from, script_in}
+use Rattle.case_json.specs.Parts.{sites_from}
+use Rattle.case_json.specs.Scripts.{script_in}
 
 one_site : sites_from (Some 1) ≡ Ok 1
 one_site = refl

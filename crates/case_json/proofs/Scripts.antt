@@ -4,7 +4,7 @@ use Rattle.std.proofs.lemmas.Bool.{leb-true}
 use Rattle.case_json.specs.declared.limits.TheConstants.{MAX_SITES}
 use Rattle.case_json.specs.declared.fault.CaseFault.TheVariants.{Field, Limit}
 use Rattle.case_json.specs.declared.fault.Name.TheVariants.{Sites}
-use Rattle.case_json.specs.Scripts.{sites_from}
+use Rattle.case_json.specs.Parts.{sites_from}
 
 -- there are some sites, and not too many
 pub sites_from-within : (found : Option ℕ) (sites : ℕ) → Ok sites ≡ sites_from found → (1 ≤ sites) × (sites ≤ MAX_SITES)

@@ -4,5 +4,7 @@ pub mod Json
 pub mod Operations
 pub mod Tests
 pub mod Cases
+pub mod Parts
 pub mod Scripts
+pub mod Hubs
 pub use Rattle.ot_model.specs.Cells

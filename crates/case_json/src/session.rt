@@ -3,13 +3,13 @@ ghost use Rattle.std.specs.Prelude.{◌≡◌, IfOk, map};
 ghost use Rattle.serde_json.specs.View.{view};
 ghost use Rattle.case_json.specs.Faults.{Reads};
 ghost use Rattle.case_json.specs.Json.{is_word};
-ghost use Rattle.case_json.specs.Scripts.{event_in, event_from, make_from, take_from, sites_in, script_from, script_in, IsPlayable};
+ghost use Rattle.case_json.specs.Scripts.{event_in, event_from, make_from, take_from, script_in, IsPlayable};
 
-use crate::case::{document, json_read};
-use crate::fault::{CaseFault, Name};
-use crate::json::{Element, elements, list_at, number};
-use crate::limits::{MAX_EVENTS, MAX_NUMBER, MAX_SITES};
+use crate::fault::CaseFault;
+use crate::json::{Element, elements, number};
+use crate::limits::MAX_NUMBER;
 use crate::operation::operation;
+use crate::parts::parts_read;
 use crate::script::{Event, Script};
 use serde_json::Value;
 use std::alloc::{AllocError, Global};
@@ -19,29 +19,12 @@ pub fn script_read(alloc: Global, bytes: &[u8]) -> Result<Script, CaseFault>
     ensures reading { Reads result (script_in bytes.now) }
     ensures limits { IfOk result IsPlayable }
 {
-    let json = json_read(alloc, bytes)?;
-    parts_read(alloc, &json)
-}
-
-fn parts_read(alloc: Global, json: &Value) -> Result<Script, CaseFault>
-    ensures reading { Reads result (script_from (view json.now)) }
-    ensures limits { IfOk result IsPlayable }
-{
-    let doc = document(alloc, json)?;
-    let sites = sites(json)?;
-    let events = list_at(alloc, json, "events", Name::Events, MAX_EVENTS)?;
-    Ok(Script { doc, sites, events })
-}
-
-/// The number of sites.
-fn sites(json: &Value) -> Result<u32, CaseFault>
-    ensures { result ≡ sites_in (view json.now) }
-{
-    match json.get("sites").and_then(Value::as_u64) {
-        None | Some(0) => Err(CaseFault::Field(Name::Sites)),
-        Some(sites) if sites <= u64::from(MAX_SITES) => Ok(sites as u32),
-        Some(_) => Err(CaseFault::Limit(Name::Sites)),
-    }
+    let parts = parts_read(alloc, bytes)?;
+    Ok(Script {
+        doc: parts.doc,
+        sites: parts.sites,
+        events: parts.events,
+    })
 }
 
 impl Element for Event {

@@ -1,11 +1,9 @@
 -- A checker, seen as its asker, the open places and its refusal.
 use Rattle.std.specs.Prelude.{◌≡◌, ℕ, ℤ, true, List, [], ◌∷◌, Option, Err, ◌↔◌, ◌⊎◌}
-use Rattle.std.specs.List.{AllByRecursion}
-use Rattle.diff_graph.specs.declared.lit.Lit.{Lit}
 use Rattle.ask_core.specs.Plans.{Plan, value}
 use Rattle.ask_core.specs.declared.tree.Tok.{Tok}
 use Rattle.ask_core.specs.Trees.{Branch, Completes}
-use Rattle.ask_core.specs.Paths.{OpenPlace, branches_at}
+use Rattle.ask_core.specs.Paths.{OpenPlace, AreOwn, branches_at}
 use Rattle.cert_check.specs.declared.verdict.CheckEnd.{CheckEnd}
 use Rattle.cert_check.specs.declared.verdict.CheckEnd.TheVariants.{NoMemory}
 use Rattle.cert_check.specs.declared.verdict.Progress.{Progress}
@@ -20,20 +18,6 @@ pub record Judging (A N : Type 0) : Type 0 where
 -- the open branches, given what an asker's nodes stand for
 abbrev pub open_branches : {A N W : Type 0} → (A → N → Plan W) → Judging A N → List (Branch W)
 open_branches plan c = branches_at (plan c.asker) c.places
-
--- the answers of the first place
-abbrev pub first_answers : {N : Type 0} → List (OpenPlace N) → List Lit
-first_answers [] = []
-first_answers (p ∷ places) = p.answers
-
--- the nodes of the places are the asker's own
-abbrev pub AreOwn : {N : Type 0} → (N → Type 0) → List (OpenPlace N) → Type 0
-AreOwn is_own places = AllByRecursion (λ p. is_own p.node) places
-
--- own nodes stay own, and stand for the same plans
-pub record SamePlans {N W : Type 0} (was_own is_own : N → Type 0) (old new : N → Plan W) : Type 0 where
-  pub own : (n : N) → was_own n ↔ is_own n
-  pub plans : (n : N) → was_own n → new n ≡ old n
 
 -- the places are the asker's own, and tokens that complete them show that the asker's plan holds
 pub record IsUnderWay {N W : Type 0} (is_own : N → Type 0) (plan : N → Plan W) (root : Plan W) (places : List (OpenPlace N)) : Type 0 where

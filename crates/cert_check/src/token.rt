@@ -3,12 +3,12 @@ ghost use Rattle.std.specs.Prelude.{◌≡◌, ◌<◌, ◌≤◌, length, drop,
 ghost use Rattle.diff_graph.specs.declared.lit.PickEnd.{PickEnd};
 ghost use Rattle.diff_graph.specs.Cycles.{pick_verdict};
 ghost use Rattle.ask_core.specs.declared.tree.Tok.TheVariants as token;
-ghost use Rattle.ask_core.specs.Paths.{branches_at};
+ghost use Rattle.ask_core.specs.Paths.{AreOwn, branches_at, first_answers};
 ghost use Rattle.cert_check.specs.Steps.{after, end_of_cycle, HasFewPicks};
-ghost use Rattle.cert_check.specs.Judging.{AreOwn, IsCauseOf, SamePlans, first_answers};
+ghost use Rattle.cert_check.specs.Judging.{IsCauseOf};
 
 use crate::verdict::CheckEnd;
-use ask_core::{Asker, MAX_PICKS, Path, Picks, Tok, Turn};
+use ask_core::{Asker, MAX_PICKS, Path, Picks, Tok, Turn, turn_at};
 use diff_graph::is_negative_cycle;
 
 /// Takes a cycle: it closes the first place where it is a negative cycle of the answers there.
@@ -29,14 +29,14 @@ pub fn take_cycle<N: Copy>(path: &mut Path<N>, picks: &Picks) -> Result<(), Chec
 pub fn take_end<A: Asker>(asker: &mut A, path: &mut Path<A::Node>) -> Result<(), CheckEnd>
     requires open { 0 < length path.old }
     requires own { AreOwn (A.is_own asker.old) path.old }
-    ensures ok { OnOk result (after token.Holds (branches_at (A.plan asker.new) path.old) ≡ Ok (branches_at (A.plan asker.new) path.new)) }
-    ensures closed { OnOk result (path.new ≡ drop 1 path.old) }
+    ensures ok { OnOk result (after token.Holds (branches_at (A.plan asker.old) path.old) ≡ Ok (branches_at (A.plan asker.new) path.new)) }
+    ensures own { AreOwn (A.is_own asker.new) path.new }
     ensures err { OnErr result (path.new ≡ path.old) }
-    ensures why { IfErr result (λ e. IsCauseOf e token.Holds (branches_at (A.plan asker.new) path.old)) }
-    ensures same { SamePlans (A.is_own asker.old) (A.is_own asker.new) (A.plan asker.old) (A.plan asker.new) }
+    ensures why { IfErr result (λ e. IsCauseOf e token.Holds (branches_at (A.plan asker.old) path.old)) }
+    ensures branches { branches_at (A.plan asker.new) path.old ≡ branches_at (A.plan asker.old) path.old }
     ensures root { A.root asker.new ≡ A.root asker.old }
 {
-    match asker.turn(path.node())? {
+    match turn_at(asker, path)? {
         Turn::Ask { .. } => Err(CheckEnd::NotDone),
         Turn::Holds => {
             path.close();
@@ -50,14 +50,14 @@ pub fn take_end<A: Asker>(asker: &mut A, path: &mut Path<A::Node>) -> Result<(),
 pub fn take_question<A: Asker>(asker: &mut A, path: &mut Path<A::Node>) -> Result<(), CheckEnd>
     requires open { 0 < length path.old }
     requires own { AreOwn (A.is_own asker.old) path.old }
-    ensures ok { OnOk result (after token.Ask (branches_at (A.plan asker.new) path.old) ≡ Ok (branches_at (A.plan asker.new) path.new)) }
+    ensures ok { OnOk result (after token.Ask (branches_at (A.plan asker.old) path.old) ≡ Ok (branches_at (A.plan asker.new) path.new)) }
     ensures own { AreOwn (A.is_own asker.new) path.new }
     ensures err { OnErr result (path.new ≡ path.old) }
-    ensures why { IfErr result (λ e. IsCauseOf e token.Ask (branches_at (A.plan asker.new) path.old)) }
-    ensures same { SamePlans (A.is_own asker.old) (A.is_own asker.new) (A.plan asker.old) (A.plan asker.new) }
+    ensures why { IfErr result (λ e. IsCauseOf e token.Ask (branches_at (A.plan asker.old) path.old)) }
+    ensures branches { branches_at (A.plan asker.new) path.old ≡ branches_at (A.plan asker.old) path.old }
     ensures root { A.root asker.new ≡ A.root asker.old }
 {
-    match asker.turn(path.node())? {
+    match turn_at(asker, path)? {
         Turn::Ask { lit, yes, no } => {
             path.ask(lit, yes, no)?;
             Ok(())
@@ -76,12 +76,12 @@ pub fn take_token<A: Asker>(
 ) -> Result<(), CheckEnd>
     requires open { 0 < length path.old }
     requires own { AreOwn (A.is_own asker.old) path.old }
-    ensures ok { OnOk result (after tok (branches_at (A.plan asker.new) path.old) ≡ Ok (branches_at (A.plan asker.new) path.new)) }
+    ensures ok { OnOk result (after tok (branches_at (A.plan asker.old) path.old) ≡ Ok (branches_at (A.plan asker.new) path.new)) }
     ensures few { OnOk result (HasFewPicks tok) }
     ensures own { AreOwn (A.is_own asker.new) path.new }
     ensures err { OnErr result (path.new ≡ path.old) }
-    ensures why { IfErr result (λ e. IsCauseOf e tok (branches_at (A.plan asker.new) path.old)) }
-    ensures same { SamePlans (A.is_own asker.old) (A.is_own asker.new) (A.plan asker.old) (A.plan asker.new) }
+    ensures why { IfErr result (λ e. IsCauseOf e tok (branches_at (A.plan asker.old) path.old)) }
+    ensures branches { branches_at (A.plan asker.new) path.old ≡ branches_at (A.plan asker.old) path.old }
     ensures root { A.root asker.new ≡ A.root asker.old }
 {
     match tok {

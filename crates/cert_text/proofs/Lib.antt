@@ -1,5 +1,6 @@
 pub mod CycleLemmas
 pub mod Digits
+pub mod Endings
 mod Examples
 pub mod LineLemmas
 pub mod NumberLists

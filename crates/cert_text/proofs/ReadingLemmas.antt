@@ -47,7 +47,7 @@ same_part place p q r s a b is =
     (fronts (part_text place p) r (part_text place q) s is)
 
 -- where no part goes on so, none does with more bytes
-more_has_no_part : (place : Place) (bytes rest : List ℕ) → HasNoPart place bytes → HasNoPart place (bytes ++ rest)
+pub more_has_no_part : (place : Place) (bytes rest : List ℕ) → HasNoPart place bytes → HasNoPart place (bytes ++ rest)
 more_has_no_part place bytes rest none p more stands = (
   λ is. (none p (rest ++ more) stands).0 (is ∙ append_assoc bytes rest more),
   λ is.

@@ -6,7 +6,8 @@ ghost use Rattle.fn_rules.specs.declared.function.ObName.{ObName};
 ghost use Rattle.ask_core.specs.Trees.{AnswerTree};
 ghost use Rattle.cert_text.specs.declared.item.Item.{Item};
 ghost use Rattle.cert_text.specs.Places.{Start, names_of};
-ghost use Rattle.cert_text.specs.Reading.{Reading, Reads};
+ghost use Rattle.cert_text.specs.declared.item.CertEnd.{CertEnd};
+ghost use Rattle.cert_text.specs.Reading.{Progress, Reading, Reads};
 ghost use Rattle.cert_text.specs.Certificates.{HasTrees, certificate_parts, certificate_text, placed};
 
 /// A law and no code: what the writers append for the whole list of a level, where that is not empty,
@@ -24,4 +25,9 @@ pub fn read_certificates_are_written()
         → (level : Level) × (trees : List AnswerTree) × (0 < length (names_of tp1 tp2 level)) × HasTrees (names_of tp1 tp2 level) trees
         × (bytes ≡ certificate_text (names_of tp1 tp2 level) level trees)
         × (items ≡ placed (Start tp1 tp2) 0 (certificate_parts level trees)) }
+{}
+
+/// A law and no code: whatever bytes are still to come, they give a reader some parts, and end in some way.
+pub fn all_bytes_are_read()
+    ensures { (reader : Progress) (bytes : List ℕ) → (items : List Item) × (end : Result (Unit {0}) CertEnd) × Reads reader bytes items end }
 {}

@@ -2,7 +2,7 @@
 ghost use Rattle.std.specs.Prelude.{◌≡◌, ◌↔◌, ℕ, ◌+◌, ◌^◌, ◌<◌, ◌≤◌, List, [], ◌∷◌, ◌++◌, Option, Some, None, Result, Ok, length, take, IfSome, IfNone};
 ghost use Rattle.cert_text.specs.declared.item.Item.{Item};
 ghost use Rattle.cert_text.specs.declared.item.CertEnd.{CertEnd};
-ghost use Rattle.cert_text.specs.Places.{Start};
+ghost use Rattle.cert_text.specs.Places.{Line, Start};
 ghost use Rattle.cert_text.specs.Stages.{refusal_of};
 ghost use Rattle.cert_text.specs.Reading.{Gives, Reading, Reads, ReadsOn, fed_to};
 ghost use Rattle.cert_text.specs.Pieces.{EndsWithin, GivesOf, IsUnderWay};
@@ -12,7 +12,7 @@ use crate::piece::{branches_behind, whole_token};
 use crate::stage::Stage;
 use crate::step::{Begun, Step, part_step};
 use crate::{CertEnd, Item, Part};
-use fn_rules::ObName;
+use fn_rules::{Level, ObName};
 use std::alloc::Global;
 use std::marker::Model;
 use std::mem;
@@ -58,6 +58,24 @@ impl Reader {
             tp2,
             stage: Stage::Header,
             offset: 0,
+            begun: Begun::Line(LineBytes::new(alloc)),
+            refused: None,
+        }
+    }
+
+    /// A reader that begins behind a first line that another one read: before the lines of these obligations, where so
+    /// many bytes of the file came. Offsets count from the file's beginning.
+    pub fn behind_header(alloc: Global, names: Vec<ObName>, offset: u64) -> Reader
+        requires few { length names.items < 2 ^ 32 }
+        requires offset { offset ≤ 2 ^ 63 }
+        ensures { result ≡ Reading (Line 0 names.items) offset [] }
+    {
+        Reader {
+            alloc,
+            tp1: names,
+            tp2: Vec::new(alloc),
+            stage: Stage::Line(Level::Tp1, 0),
+            offset,
             begun: Begun::Line(LineBytes::new(alloc)),
             refused: None,
         }

@@ -89,6 +89,3 @@ impl<const N: usize> Bounds<N> {
         Ok(cycle_at(alloc, &self.rows, lit, number)?)
     }
 }
-
-#[cfg(test)]
-mod tests;

@@ -67,6 +67,3 @@ fn sum_of(lits: &[Lit], picks: &[u32]) -> i128
     }
     sum
 }
-
-#[cfg(test)]
-mod tests;

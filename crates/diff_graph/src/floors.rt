@@ -163,6 +163,3 @@ fn least_of(hop: Option<Hop>) -> i32
         Some(hop) => -hop.k,
     }
 }
-
-#[cfg(test)]
-mod tests;

@@ -12,8 +12,6 @@
 mod adding;
 mod answer;
 mod cycle;
-#[cfg(test)]
-mod fixtures;
 mod floors;
 mod hop;
 mod laws;

@@ -109,6 +109,3 @@ fn lower_by(low: i32, cell: Option<Hop>) -> i32
         Some(hop) => { if hop.k < low { hop.k } else { low } }
     }
 }
-
-#[cfg(test)]
-mod tests;

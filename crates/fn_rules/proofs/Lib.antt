@@ -4,5 +4,6 @@ pub mod Forms
 pub mod KindPairs
 pub mod LevelLengths
 pub mod Naming
-pub mod Symmetry
+pub mod Positions
+pub mod Instances
 mod Examples

@@ -35,6 +35,10 @@ is_declared head Upd = head.upd
 abbrev pub is_declared_pair : Head → Kind → Kind → Bool
 is_declared_pair head k l = is_declared head k && is_declared head l
 
+-- the same of a pair of kinds
+abbrev pub is_declared_of : Head → Kind × Kind → Bool
+is_declared_of head pair = is_declared_pair head pair.0 pair.1
+
 -- a kind that the function is for, or none, as nop has it
 abbrev pub is_for_kind : Head → Option Kind → Bool
 is_for_kind head None = true

@@ -8,6 +8,7 @@ pub mod Transformation
 pub mod Conditions
 pub mod Shipped
 pub mod Properties
+pub mod Forms
 pub mod Orders
 pub mod Obligations
 pub use Rattle.ot_model.specs.Cells

@@ -3,16 +3,21 @@
 use Rattle.std.specs.Prelude.{Bool, ◌&&◌, List, [], ◌∷◌, ◌++◌, map, filter}
 use Rattle.ot_model.specs.declared.op.Kind.{Kind}
 use Rattle.ot_model.specs.declared.op.TheConstants.{KINDS}
+use Rattle.ot_model.specs.Kinds.{kind_pairs}
 use Rattle.fn_rules.specs.declared.function.Head.{Head}
 use Rattle.fn_rules.specs.declared.function.Level.{Level}
 use Rattle.fn_rules.specs.declared.function.Level.TheVariants.{Tp1, Tp2}
 use Rattle.fn_rules.specs.declared.function.ObName.{ObName}
 use Rattle.fn_rules.specs.declared.function.ObName.TheVariants.{Pair, Triple}
-use Rattle.fn_rules.specs.Functions.{is_declared}
+use Rattle.fn_rules.specs.Functions.{is_declared, is_declared_of}
 
 -- the kinds that the function is for, in canonical order
 abbrev pub declared_kinds : Head → List Kind
 declared_kinds head = filter (is_declared head) KINDS
+
+-- the ordered pairs of such kinds, for each of which the function has a block, in canonical order
+abbrev pub declared_pairs : Head → List (Kind × Kind)
+declared_pairs head = filter (is_declared_of head) kind_pairs
 
 -- the pairs of kinds: each kind with itself and with those behind it
 abbrev pub pairs_of : List Kind → List ObName

@@ -2,7 +2,8 @@
 -- R. Gunzenhäuser, "An Integrating, Transformation-Oriented Approach to Concurrency Control and Undo
 -- in Group Editors" (1996). What each says of one instance is defined once: a property says that it
 -- always holds, a counterexample that it fails.
-use Rattle.std.specs.Prelude.{◌≡◌, List, [], ◌∷◌, length, Some}
+use Rattle.std.specs.Prelude.{◌≡◌, ℕ, List, [], ◌∷◌, length, Some}
+use Rattle.std.proofs.Common.{sym}
 use Rattle.std.specs.List.{AllByRecursion}
 use Rattle.ot_model.specs.declared.cell.Cell.{Cell}
 use Rattle.ot_model.specs.declared.op.Op.{Op}
@@ -48,6 +49,34 @@ pub record CommutesAt (f : Function) (a b c : Op) : Type 0 where
   pub c_by_a_then_b : transform_of f c_after_a b_after_a ≡ Some c_after_both
   pub c_by_b_then_a : transform_of f c_after_b a_after_b ≡ Some c_after_both
 
+-- the same two ways with the two operations exchanged: TP1 is symmetric
+abbrev pub converges_exchanged : (f : Function) (d : List Cell) (a b : Op) → ConvergesAt f d a b → ConvergesAt f d b a
+converges_exchanged f d a b both = record {
+  b_after_a = both.a_after_b;
+  a_after_b = both.b_after_a;
+  b_transformed = both.a_transformed;
+  a_transformed = both.b_transformed;
+  b_enabled = both.a_enabled;
+  a_enabled = both.b_enabled;
+  one_document = sym both.one_document;
+}
+
+-- the same forms with the first two operations exchanged: TP2 is symmetric in these
+abbrev pub commutes_exchanged : (f : Function) (a b c : Op) → CommutesAt f a b c → CommutesAt f b a c
+commutes_exchanged f a b c both = record {
+  b_after_a = both.a_after_b;
+  a_after_b = both.b_after_a;
+  c_after_a = both.c_after_b;
+  c_after_b = both.c_after_a;
+  c_after_both = both.c_after_both;
+  b_transformed = both.a_transformed;
+  a_transformed = both.b_transformed;
+  c_by_a = both.c_by_b;
+  c_by_b = both.c_by_a;
+  c_by_a_then_b = both.c_by_b_then_a;
+  c_by_b_then_a = both.c_by_a_then_b;
+}
+
 -- the first transformation property
 abbrev pub HasTp1 : Function → Type 0
 HasTp1 f = (d : List Cell) (a b : Op) → AreConcurrent f d (a ∷ b ∷ []) → ConvergesAt f d a b
@@ -55,3 +84,11 @@ HasTp1 f = (d : List Cell) (a b : Op) → AreConcurrent f d (a ∷ b ∷ []) →
 -- the second transformation property
 abbrev pub HasTp2 : Function → Type 0
 HasTp2 f = (d : List Cell) (a b c : Op) → AreConcurrent f d (a ∷ b ∷ c ∷ []) → CommutesAt f a b c
+
+-- the first property on the documents of so many cells
+abbrev pub HasTp1At : Function → ℕ → Type 0
+HasTp1At f n = (d : List Cell) (a b : Op) → length d ≡ n → AreConcurrent f d (a ∷ b ∷ []) → ConvergesAt f d a b
+
+-- the second property of operations that were made on the documents of so many cells
+abbrev pub HasTp2At : Function → ℕ → Type 0
+HasTp2At f n = (d : List Cell) (a b c : Op) → length d ≡ n → AreConcurrent f d (a ∷ b ∷ c ∷ []) → CommutesAt f a b c

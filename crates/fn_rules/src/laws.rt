@@ -5,6 +5,7 @@ ghost use Rattle.ot_model.specs.declared.cell.Cell.{Cell};
 ghost use Rattle.ot_model.specs.declared.op.Kind.{Kind};
 ghost use Rattle.ot_model.specs.declared.op.Op.{Op};
 ghost use Rattle.ot_model.specs.declared.op.Op.TheVariants.{Nop};
+ghost use Rattle.ot_model.specs.Effect.{IsEnabled, is_enabled};
 ghost use Rattle.fn_rules.specs.declared.function.Head.{Head};
 ghost use Rattle.fn_rules.specs.declared.function.Level.{Level};
 ghost use Rattle.fn_rules.specs.declared.function.ObName.TheVariants.{Pair, Triple};
@@ -24,6 +25,7 @@ pub fn allowed_is_symmetric()
 /// What is tested of operations and orders is what the definitions say of them.
 pub fn tests_decide_their_facts()
     ensures allowed { (f : Function) (a b : Op) → (is_allowed f a b ≡ true) ↔ IsAllowed f a b }
+    ensures enabled { (cells : ℕ) (o : Op) → (is_enabled o cells ≡ true) ↔ IsEnabled o cells }
     ensures integrable { (f : Function) (cells : ℕ) (o : Op) → (is_integrable f cells o ≡ true) ↔ IsIntegrable f cells o }
     ensures once { (count : ℕ) (order : List ℕ) → names_each_once count order ≡ true → NamesEachOnce count order }
 {}

@@ -7,6 +7,7 @@
 //! The layers above rely on the definitions `transform_of`, `IsAllowed`, `HasTp1` and `HasTp2`.
 #![tactic(auto)]
 
+mod form_laws;
 mod function;
 mod guard;
 mod laws;
@@ -16,6 +17,10 @@ mod rules;
 mod transformation;
 mod truth;
 
+pub use form_laws::{
+    both_properties_hold_of_forms, enabled_operations_are_near, functions_keep_forms,
+    properties_hold_at_each_length, tp1_holds_of_forms,
+};
 pub use function::{Block, Case, Head, Level, ObName, Res};
 pub use guard::{Atom, Cmp, Guard, Side, Sort, Tightness};
 pub use laws::{
@@ -26,11 +31,8 @@ pub use laws::{
     transform_stays_near, undeclared_pairs_have_no_cases,
 };
 pub use limits::{MAX_ATOMS, MAX_CASES, MAX_NESTING, MAX_OFFSET};
-pub use obligation::{obligations, pairs, triples};
+pub use obligation::{blocks, obligations, pairs, triples};
 pub use rules::{Rules, is_within_limits};
 pub use std::alloc::AllocError as NoMemory;
 pub use transformation::{allowed, is_integrable, transform};
 pub use truth::holds;
-
-#[cfg(test)]
-mod tests;

@@ -1,7 +1,9 @@
 //! What has to be shown of a function.
-ghost use Rattle.std.specs.Prelude.{◌≡◌, ◌++◌, map, OnOk, IfOk};
+ghost use Rattle.std.specs.Prelude.{◌≡◌, ◌++◌, map, filter, OnOk, IfOk};
+ghost use Rattle.std.specs.List.{flat_map};
+ghost use Rattle.fn_rules.specs.Functions.{is_declared_of};
 ghost use Rattle.fn_rules.specs.declared.function.ObName.TheVariants.{Pair};
-ghost use Rattle.fn_rules.specs.Obligations.{declared_kinds, pairs_of, with_third, with_thirds, triples_of, obligations_of};
+ghost use Rattle.fn_rules.specs.Obligations.{declared_kinds, declared_pairs, pairs_of, with_third, with_thirds, triples_of, obligations_of};
 
 use crate::NoMemory;
 use crate::function::{Head, Level, ObName};
@@ -17,6 +19,46 @@ fn kinds_of(alloc: Global, head: &Head) -> Result<Vec<Kind>, NoMemory>
         .copied()
         .filter(|kind| head.declares(*kind))
         .collect(alloc)
+}
+
+// Puts the declared pairs of a kind with each of these kinds at the end.
+fn push_blocks_of(
+    head: &Head,
+    first: Kind,
+    kinds: &[Kind],
+    blocks: &mut Vec<(Kind, Kind)>,
+) -> Result<(), NoMemory>
+    ensures { OnOk result (blocks.new.items ≡ blocks.old.items ++ filter (is_declared_of head.now) (map (λ l. (first, l)) kinds.now)) }
+{
+    for second in kinds {
+        if head.declares_pair(first, *second) {
+            blocks.push((first, *second))?;
+        }
+    }
+    Ok(())
+}
+
+// Puts the declared pairs with these first kinds at the end.
+fn push_blocks(head: &Head, firsts: &[Kind], blocks: &mut Vec<(Kind, Kind)>) -> Result<(), NoMemory>
+    ensures { OnOk result (blocks.new.items ≡ blocks.old.items ++ filter (is_declared_of head.now) (flat_map (λ k. map (λ l. (k, l)) KINDS) firsts.now)) }
+{
+    match firsts {
+        [] => Ok(()),
+        [first, others @ ..] => {
+            push_blocks_of(head, *first, &KINDS, blocks)?;
+            push_blocks(head, others, blocks)
+        }
+    }
+}
+
+/// The ordered pairs of the function's kinds, for each of which it has a block, in canonical order: by the
+/// first kind, and then by the second.
+pub fn blocks(alloc: Global, head: &Head) -> Result<Vec<(Kind, Kind)>, NoMemory>
+    ensures { IfOk result (λ v. v.items ≡ declared_pairs head.now) }
+{
+    let mut blocks = Vec::new(alloc);
+    push_blocks(head, &KINDS, &mut blocks)?;
+    Ok(blocks)
 }
 
 // Puts the pairs of a kind with each of these kinds at the end.

@@ -4,4 +4,6 @@ pub mod MissingBlocks
 pub mod OpenCases
 pub mod GoesOn
 pub mod DeadEnds
+pub mod GoingOn
 pub mod Told
+pub mod Examples

@@ -5,6 +5,7 @@ pub mod Theorems
 pub mod Counting
 pub mod Causes
 pub mod Continuing
+pub mod GoingOn
 pub mod Refusals
 pub mod Print
 pub mod Offsets

@@ -30,5 +30,6 @@ pub use std::alloc::AllocError as NoMemory;
 pub use stop::ReadError;
 pub use theorems::{
     canonical_guards_have_the_fewest_parentheses, canonical_text_lexes_back,
-    canonical_texts_are_read_back, refusals_are_final, texts_of_functions_are_read,
+    canonical_texts_are_read_back, files_have_one_answer, refusals_are_final,
+    texts_of_functions_are_read,
 };

@@ -2,7 +2,8 @@
 //! contracts are the laws.
 ghost use Rattle.fn_text.specs.Theorems.{LexesBack, TextsAreRead, TextsAreUnique, PrintsAreTexts, PrintsAreRead};
 ghost use Rattle.fn_text.specs.Theorems.{PrintsHaveFewestParentheses};
-ghost use Rattle.fn_text.specs.Refusals.{RefusalsAreFinal};
+ghost use Rattle.fn_text.specs.GoingOn.{GoingTokensBegin};
+ghost use Rattle.fn_text.specs.Refusals.{RefusalsAreFinal, FilesHaveOneAnswer, AnswersAreRead};
 
 /// The text of a function is read as that function, so it is the text of no other one.
 pub fn texts_of_functions_are_read()
@@ -26,9 +27,17 @@ pub fn canonical_guards_have_the_fewest_parentheses()
     ensures { PrintsHaveFewestParentheses }
 {}
 
-/// A text that is refused is refused for its first wrong token: some file of the grammar begins with the
-/// tokens before it, and none with it too. Its cause is the first row that fits of those that are told by
-/// the tokens alone.
+/// A text that is refused is refused for its first wrong token: the tokens before it can go on, and with it they
+/// can not. Its cause is the first row that fits of those that are told by the tokens alone. Some file of the
+/// grammar begins with tokens that can go on, with two exceptions.
 pub fn refusals_are_final()
-    ensures { RefusalsAreFinal }
+    ensures first_wrong { RefusalsAreFinal }
+    ensures begins { GoingTokensBegin }
+{}
+
+/// Each file of bytes has exactly one answer: it is the text of one function, or it is refused for one fault, and
+/// never both. It is what is read.
+pub fn files_have_one_answer()
+    ensures one { FilesHaveOneAnswer }
+    ensures read { AnswersAreRead }
 {}

@@ -12,6 +12,3 @@ pub use lexer::{lex, tokens_end_files};
 pub use spelling::{lines_lex_back, spell};
 pub use std::alloc::AllocError as NoMemory;
 pub use token::{Placed, Sign, Token, Word};
-
-#[cfg(test)]
-mod tests;

@@ -4,9 +4,15 @@
 #[cfg(test)]
 mod askers;
 #[cfg(test)]
+mod blocks;
+#[cfg(test)]
 mod checks;
 #[cfg(test)]
 mod functions;
+#[cfg(test)]
+mod hubs;
+#[cfg(test)]
+mod outside;
 #[cfg(test)]
 mod plans;
 #[cfg(test)]

@@ -1,6 +1,6 @@
 //! What the search of a plan over two names comes to.
 use crate::two_names::TwoNames;
-use ask_core::{NoMemory, Tok, Tree};
+use ask_core::{NoMemory, Premised, Tok, Tree};
 use diff_graph::Lit;
 use ot_prove::{Answer, Outcome, prove};
 use std::alloc::Global;
@@ -52,6 +52,21 @@ fn a_failing_end_has_its_answers(rt: HostRuntime) -> Result<(), Fail> {
             assert_eq!(rt; answers.as_slice(), [yes(0, 1), yes(1, 0)].as_slice());
         }
         _ => assert!(rt; false, "the plan fails"),
+    }
+    Ok(())
+}
+
+#[test]
+fn a_premise_leaves_out_the_failing_end(rt: HostRuntime) -> Result<(), Fail> {
+    // Name 0 is below name 1, so name 1 is not at most name 0.
+    let premise = Lit { x: 0, y: 1, k: -1 };
+    let mut asker = Premised::new(premise, TwoNames { strict: false });
+    match prove(rt.alloc(), &mut asker, 3)? {
+        Outcome::Yes { tree, asked } => {
+            assert_eq!(rt; asked, 3);
+            assert_eq!(rt; word_of(rt.alloc(), &tree)?.as_str(), "???x.x.");
+        }
+        _ => assert!(rt; false, "the plan holds behind the premise"),
     }
     Ok(())
 }

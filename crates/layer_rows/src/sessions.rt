@@ -6,7 +6,7 @@ use std::alloc::{AllocError, Global};
 use std::process::Abort;
 use std::test::Fail;
 
-const fn ins(at: i64, ch: char, site: u32) -> Op {
+pub(crate) const fn ins(at: i64, ch: char, site: u32) -> Op {
     Op::Ins { at, ch, site }
 }
 
@@ -38,7 +38,7 @@ fn smaller_stays(alloc: Global) -> Result<Vec<Case>, AllocError> {
 }
 
 /// The function with tombstones that has both properties, or the one without, which lacks the second.
-fn rules_of(rt: &impl Abort, alloc: Global, mode: Mode) -> Result<Rules, AllocError> {
+pub(crate) fn rules_of(rt: &impl Abort, alloc: Global, mode: Mode) -> Result<Rules, AllocError> {
     let is_plain = mode == Mode::Plain;
     let head = Head {
         mode,

@@ -2,14 +2,14 @@
 use Rattle.std.proofs.Common.{◌≡◌, ℕ, suc, ◌<◌, false, List, length, Some, sym, ◌∙◌, arith}
 use Rattle.ot_model.specs.declared.cell.Cell.{Cell}
 use Rattle.fn_rules.specs.Functions.{Function}
-use Rattle.ot_integrate.proofs.Instances.{HasBothProperties}
+use Rattle.fn_rules.specs.Forms.{CarriesForms}
 use Rattle.ot_causal.specs.Past.{Past}
 use Rattle.ot_causal.specs.Sessions.{IsSoundPast, SessionData, IsSound}
 use Rattle.ot_causal.specs.Convergence.{HasOneCourse, Converges}
 use Rattle.ot_causal.proofs.Pairs.{HasFormOn}
 use Rattle.ot_causal.proofs.Induction.{Below, Below-all}
 
-pub HasOneCourse-both : (f : Function) → HasBothProperties f → f.head.chars_differ ≡ false
+pub HasOneCourse-both : (f : Function) → CarriesForms f → f.head.chars_differ ≡ false
     → (past : Past) (first : List Cell) → IsSoundPast f past first → HasOneCourse f past first
 HasOneCourse-both f both no_chars past first sound = record {
   documents = λ l closed. (up_to l).states l (longer l) closed;

@@ -3,13 +3,11 @@
 use Rattle.std.proofs.Common.{◌≡◌, ◌≢◌, ℕ, zero, suc, ◌<◌, false, List, [], ◌∷◌, length, Option, Some, None, refl, sym, ap, ap₂, ◌∙◌, subst, inl, inr, arith}
 use Rattle.std.proofs.lemmas.Bool.{cases_eq, false≢true}
 use Rattle.ot_model.specs.declared.cell.Cell.{Cell}
-use Rattle.ot_model.specs.Operations.{kind_of}
 use Rattle.ot_model.specs.Effect.{IsEnabled}
 use Rattle.fn_rules.specs.Functions.{Function}
 use Rattle.fn_rules.specs.Transformation.{IsAllowed}
-use Rattle.fn_rules.specs.Properties.{ConvergesAt, CommutesAt}
-use Rattle.fn_rules.proofs.Symmetry.{CommutesAt-sym}
-use Rattle.ot_integrate.proofs.Instances.{HasBothProperties, IsForKind-declared}
+use Rattle.fn_rules.specs.Properties.{ConvergesAt, CommutesAt, commutes_exchanged}
+use Rattle.fn_rules.specs.Forms.{CarriesForms}
 use Rattle.ot_causal.specs.Members.{has, without, HaveOneSet}
 use Rattle.ot_causal.specs.Past.{Past, IsNext, IsClosed, IsReady, IsOrderly, IsOpening}
 use Rattle.ot_causal.specs.Forms.{newest_open, transformed, form, state}
@@ -31,7 +29,7 @@ pub record Below (f : Function) (past : Past) (first : List Cell) (n : ℕ) : Ty
   pub same_forms : (o : ℕ) (l m : List ℕ) → length l < n → IsReady past o l → IsReady past o m → HaveOneSet l m
       → form f past o l ≡ form f past o m
 
-module _ (f : Function) (both : HasBothProperties f) (no_chars : f.head.chars_differ ≡ false)
+module _ (f : Function) (both : CarriesForms f) (no_chars : f.head.chars_differ ≡ false)
     (past : Past) (first : List Cell) (sound : IsSoundPast f past first) (n : ℕ) (below : Below f past first n) where
   order : IsOrderly past
   order = IsOrderly-sound f past first sound
@@ -124,7 +122,7 @@ module _ (f : Function) (both : HasBothProperties f) (no_chars : f.head.chars_di
         there = past.operation o;
         is = form-none_open f past o l none;
         integrable = record {
-          declared = IsForKind-declared f.head (kind_of (past.operation o)) born.declared;
+          declared = both.keeps.made (past.operation o) born.declared;
           enabled = subst (λ (document : List Cell). IsEnabled (past.operation o) (length document)) same_document born.enabled;
         };
         allowed = λ other allowed. allowed;
@@ -191,7 +189,7 @@ module _ (f : Function) (both : HasBothProperties f) (no_chars : f.head.chars_di
       (below.same_forms o (without x l) (y ∷ out) short (at_x.next, at_x.closed) (o_behind y at_y.differ, (diamond.next_y, diamond.closed)) diamond.left)
       (below.same_forms x (without x l) (y ∷ out) short (at_x.next_member, at_x.closed) (x_behind_y, (diamond.next_y, diamond.closed)) diamond.left)
       ∙ form-behind_two f both past y x o out there.document as_y as_x as_o
-      (CommutesAt-sym f as_x.there as_y.there as_o.there commutes) diamond.apart_back at_y.apart
+      (commutes_exchanged f as_x.there as_y.there as_o.there commutes) diamond.apart_back at_y.apart
       ∙ sym (form-behind_two f both past x y o out there.document as_x as_y as_o commutes diamond.apart at_x.apart)
       ∙ ap₂ (transformed f)
       (below.same_forms o (x ∷ out) (without y m) also_short (o_behind x at_x.differ, (diamond.next_x, diamond.closed)) (at_y.next, at_y.closed) diamond.right)
@@ -267,7 +265,7 @@ module _ (f : Function) (both : HasBothProperties f) (no_chars : f.head.chars_di
   Below-next = record { states = states_next; same_states = same_states_next; forms = forms_next; same_forms = same_forms_next }
 
 -- all of it, for every length
-pub Below-all : (f : Function) → HasBothProperties f → f.head.chars_differ ≡ false
+pub Below-all : (f : Function) → CarriesForms f → f.head.chars_differ ≡ false
     → (past : Past) (first : List Cell) → IsSoundPast f past first → (n : ℕ) → Below f past first n
 Below-all f both no_chars past first sound zero = record {
   states = λ l short. absurd (omega (arith, short));

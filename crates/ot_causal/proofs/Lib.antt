@@ -5,7 +5,6 @@ pub mod Forms
 pub mod Frames
 pub mod Members
 pub mod Openings
-pub mod Outcomes
 pub mod Pairs
 pub mod Induction
 pub mod Steps

@@ -1,11 +1,10 @@
 -- What forms keep of their operations, and how far they move.
-use Rattle.std.proofs.Common.{◌≡◌, ℕ, zero, suc, ◌+◌, ◌*◌, ◌<◌, List, length, Option, Some, None, refl, sym, ◌∙◌, subst, inl, inr, arith}
+use Rattle.std.proofs.Common.{◌≡◌, ℕ, zero, suc, ◌+◌, ◌*◌, ◌<◌, ◌≤◌, List, length, Option, Some, None, refl, sym, ◌∙◌, subst, inl, inr, arith}
 use Rattle.ot_model.specs.declared.op.Op.{Op}
 use Rattle.ot_model.specs.declared.op.Op.TheVariants.{Nop}
 use Rattle.fn_rules.specs.Functions.{Function}
 use Rattle.fn_rules.specs.Transformation.{transform_of}
 use Rattle.fn_rules.specs.Conditions.{IsWithin, IsFormOf}
-use Rattle.ot_integrate.proofs.Forms.{IsWithin-more}
 use Rattle.ot_causal.specs.Members.{without}
 use Rattle.ot_causal.specs.Past.{Past, AreMade}
 use Rattle.ot_causal.specs.Forms.{newest_open, transformed, form}
@@ -59,6 +58,7 @@ module _ (f : Function) (keeps : (a b form : Op) → transform_of f a b ≡ Some
   IsFormOf-form past o l p = IsFormOf-within past (suc (length l)) o l p (omega arith)
 
 module _ (f : Function) (near : (a b form : Op) (m : ℕ) → IsWithin m a → IsWithin m b → transform_of f a b ≡ Some form → IsWithin (m + 99) form)
+    (wider : (m n : ℕ) (o : Op) → m ≤ n → IsWithin m o → IsWithin n o)
     (past : Past) (m : ℕ) (all_near : (o : ℕ) → o < past.count → IsWithin m (past.operation o)) where
   IsWithin-within : (n o : ℕ) (l : List ℕ) (p : Op) → length l < n → o < past.count → AreMade past l → form f past o l ≡ Some p
       → IsWithin (m + 99 * length l) p
@@ -72,14 +72,14 @@ module _ (f : Function) (near : (a b form : Op) (m : ℕ) → IsWithin m a → I
           let itself : Some (past.operation o) ≡ Some p = sym (form-none_open f past o l none) ∙ is in
           let same : past.operation o ≡ p = cc in
           subst (λ (q : Op). IsWithin (m + 99 * length l) q) same
-          (IsWithin-more m (m + 99 * length l) (past.operation o) (omega arith) (all_near o made))
+          (wider m (m + 99 * length l) (past.operation o) (omega arith) (all_near o made))
       by (Some x) found below =
           let from : IsMadeFrom f (form f past o (without x l)) (form f past x (without x l)) p =
           IsMadeFrom-transformed f (form f past o (without x l)) (form f past x (without x l)) p
           (sym (form-newest_open f past o l x found) ∙ is) in
           let shorter : length l ≡ suc (length (without x l)) = length-without x l (has-newest_open past o l x found) in
           let rest : AreMade past (without x l) = AreMade-without past x l all in
-          IsWithin-more (m + 99 * length (without x l) + 99) (m + 99 * length l) p (omega (arith, shorter))
+          wider (m + 99 * length (without x l) + 99) (m + 99 * length l) p (omega (arith, shorter))
           (near from.own from.by p (m + 99 * length (without x l))
           (below o (without x l) from.own (omega (arith, short, shorter)) made rest from.own_is)
           (below x (without x l) from.by (omega (arith, short, shorter)) (all.at x (has-newest_open past o l x found)) rest from.by_is)

@@ -1,15 +1,12 @@
 -- What always holds of a session holds of a new one, and each step keeps it.
-use Rattle.std.proofs.Common.{◌≡◌, ◌≢◌, ◌⊎◌, ◌↔◌, ℕ, ◌<◌, true, List, ◌∷◌, length, Some, sym, ap, ◌∙◌, subst, inl, inr, arith}
+use Rattle.std.proofs.Common.{◌≡◌, ◌≢◌, ◌⊎◌, ℕ, ◌<◌, true, List, ◌∷◌, length, Some, sym, ap, ◌∙◌, subst, inl, inr, arith}
 use Rattle.std.specs.Prelude.{unwrap_or}
 use Rattle.std.proofs.lemmas.Bool.{cases_eq, false_from_ne_true}
 use Rattle.ot_model.specs.declared.cell.Cell.{Cell}
 use Rattle.ot_model.specs.declared.op.Op.{Op}
 use Rattle.ot_model.specs.Operations.{kind_of, site_of}
-use Rattle.ot_model.specs.Effect.{IsEnabled}
+use Rattle.ot_model.specs.Effect.{IsEnabled, is_enabled}
 use Rattle.fn_rules.specs.Functions.{Function, HasDeclaredKind}
-use Rattle.fn_rules.specs.Conditions.{is_integrable, IsIntegrable}
-use Rattle.ot_integrate.proofs.Outcomes.{is_enabled-true}
-use Rattle.ot_integrate.proofs.Instances.{IsForKind-declared}
 use Rattle.ot_causal.specs.Members.{has}
 use Rattle.ot_causal.specs.Past.{Past, maker, IsNext, IsClosed, AreMade, Extends}
 use Rattle.ot_causal.specs.Forms.{executed, state}
@@ -95,7 +92,7 @@ module _ (f : Function) (old new : SessionData) (s : ℕ) (keeps : KeepsOthers o
   ])
 
 -- making an operation
-module _ (f : Function) (tested : (cells : ℕ) (a : Op) → (is_integrable f cells a ≡ true) ↔ IsIntegrable f cells a)
+module _ (f : Function) (tested : (n : ℕ) (o : Op) → IsEnabled o n → is_enabled o n ≡ true)
     (old new : SessionData) (s : ℕ) (a : Op) (may : MayMake f old s a) (makes : Makes f old new s a) (sound : IsSound f old) where
   abbrev number : ℕ
   number = old.past.count
@@ -145,8 +142,7 @@ module _ (f : Function) (tested : (cells : ℕ) (a : Op) → (is_integrable f ce
       state-cons f new.past new.first number (old.seen s) (old.document s) leads_before
       ∙ ap (λ p. executed f p (old.document s)) (form-none_open f new.past number (old.seen s)
       (newest_open-none new.past number (old.seen s) (λ x member. makes.befores x ∙ member)) ∙ ap Some makes.operation)
-      ∙ rw (is_enabled-true f tested (length (old.document s)) a
-      (record { declared = IsForKind-declared f.head (kind_of a) may.declared; enabled = may.enabled })) (ap Some (sym makes.document))
+      ∙ rw (tested (length (old.document s)) a may.enabled) (ap Some (sym makes.document))
 
   -- its site knows each operation that it made itself
   knows_own : (x : ℕ) → x < number → maker new.past x ≡ s → new.past.before x number ≡ true

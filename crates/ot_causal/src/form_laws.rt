@@ -11,7 +11,9 @@ ghost use Rattle.ot_causal.specs.Past.{Past, IsNext, IsClosed, AreMade, Extends}
 ghost use Rattle.ot_causal.specs.Forms.{newest_open, transformed, form, executed, state};
 ghost use Rattle.ot_causal.specs.Counting.{sought, counted};
 
-use fn_rules::{transform_keeps_all_but_the_position, transform_stays_near};
+use fn_rules::{
+    enabled_operations_are_near, transform_keeps_all_but_the_position, transform_stays_near,
+};
 
 /// The form of an operation is the operation itself where all of the list is before it. Otherwise it is
 /// its form behind the list without the newest open member, transformed against that member's; so it is
@@ -34,6 +36,7 @@ pub fn forms_keep_all_but_the_position()
 {
     transform_keeps_all_but_the_position();
     transform_stays_near();
+    enabled_operations_are_near();
 }
 
 /// No list leads to the first document, and a longer one leads from where its older members lead.

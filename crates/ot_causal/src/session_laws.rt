@@ -9,11 +9,7 @@ ghost use Rattle.ot_causal.specs.Sessions.{IsSoundPast, SessionData, IsSound, Is
 ghost use Rattle.fn_rules.specs.Properties.{HasTp1, HasTp2};
 ghost use Rattle.ot_causal.specs.Convergence.{HasOneCourse, Converges};
 
-use fn_rules::{
-    allowed_is_symmetric, nop_changes_nothing, tests_decide_their_facts,
-    transform_keeps_all_but_the_position, transform_keeps_allowed,
-};
-use ot_model::operations_have_the_parts_of_their_kind;
+use fn_rules::{both_properties_hold_of_forms, functions_keep_forms};
 
 /// A new session is sound, and making an operation and integrating one keep a session sound, whatever the
 /// function.
@@ -22,7 +18,7 @@ pub fn steps_keep_sessions_sound()
     ensures made { (f : Function) (old new : SessionData) (s : ℕ) (a : Op) → IsSound f old → MayMake f old s a → Makes f old new s a → IsSound f new }
     ensures integrated { (f : Function) (old new : SessionData) (s o : ℕ) → IsSound f old → Integrates f old new s o → IsSound f new }
 {
-    tests_decide_their_facts();
+    functions_keep_forms();
 }
 
 /// Where a function has both properties and does not assume that characters differ, each closed list leads
@@ -33,12 +29,7 @@ pub fn both_properties_give_one_course()
     ensures { (f : Function) (past : Past) (first : List Cell) → HasTp1 f → HasTp2 f → f.head.chars_differ ≡ false
         → IsSoundPast f past first → HasOneCourse f past first }
 {
-    tests_decide_their_facts();
-    operations_have_the_parts_of_their_kind();
-    nop_changes_nothing();
-    transform_keeps_all_but_the_position();
-    transform_keeps_allowed();
-    allowed_is_symmetric();
+    both_properties_hold_of_forms();
 }
 
 /// So no site of a sound session is ever stuck, and two sites that have integrated the same set hold one

@@ -1,5 +1,5 @@
 -- The definitions on worked rows.
-use Rattle.std.proofs.Common.{◌≡◌, ℕ, ℤ, pos, true, false, Some, None, [], ◌∷◌, refl, inl}
+use Rattle.std.proofs.Common.{◌≡◌, ℕ, ℤ, pos, true, false, Some, None, [], ◌∷◌, refl}
 use Rattle.ot_model.specs.declared.op.Kind.TheVariants as kinds
 use Rattle.ot_model.specs.declared.op.Mode.TheVariants.{Plain}
 use Rattle.ot_model.specs.declared.op.Op.TheVariants as ops
@@ -11,16 +11,11 @@ use Rattle.fn_rules.specs.declared.guard.Side.TheVariants.{First}
 use Rattle.fn_rules.specs.Formulas.{Always}
 use Rattle.fn_rules.specs.Functions.{Function}
 use Rattle.diff_graph.specs.Solutions.{valuation_of}
-use Rattle.ask_core.specs.TwoNames.{at_most, is_under, two_name_plan}
 use Rattle.ot_questions.specs.declared.why.Why.TheVariants.{Cells, OutOfRange}
 use Rattle.ot_counter.specs.declared.counter.Side.TheVariants as sides
-use Rattle.ot_counter.specs.Leading.{LeadTo}
-use Rattle.ot_counter.specs.Values.{ops_at, document_at}
+use Rattle.ot_values.specs.Values.{ops_at}
+use Rattle.ot_counter.specs.Documents.{document_at}
 use Rattle.ot_counter.specs.Sides.{left_at, right_at}
-
--- both questions answered by yes lead to the end that fails
-yes_twice : LeadTo 7 (two_name_plan true) (at_most ∷ is_under true ∷ [])
-yes_twice = inl (refl, inl (refl, refl))
 
 -- updates and deletions that stay as and where they are, in plain text
 abbrev staying : Function

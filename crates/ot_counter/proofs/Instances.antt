@@ -13,7 +13,7 @@ use Rattle.fn_rules.specs.declared.function.ObName.TheVariants.{Pair, Triple}
 use Rattle.ot_questions.specs.declared.name.Who.{Who}
 use Rattle.ot_questions.specs.declared.name.Who.TheVariants.{A, B, C}
 use Rattle.ot_questions.specs.Names.{char_name}
-use Rattle.ot_counter.specs.Values.{floors_of, IsSmallAt}
+use Rattle.ot_values.specs.Values.{floors_of, IsSmallAt}
 use Rattle.fn_rules.specs.Functions.{Function, is_declared, IsForKind}
 use Rattle.fn_rules.specs.Obligations.{is_obligation}
 use Rattle.ot_questions.specs.declared.why.Why.{Why}

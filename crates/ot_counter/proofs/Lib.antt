@@ -1,12 +1,4 @@
-pub mod Sorts
-pub mod Asking
-pub mod Walk
-pub mod Alike
 pub mod Shown
-pub mod Leads
-pub mod Lowered
-pub mod Raised
-pub mod Named
 pub mod Counterexamples
 pub mod Near
 pub mod Instances

@@ -17,7 +17,7 @@ use Rattle.ot_questions.specs.Names.{char_name}
 use Rattle.ot_questions.specs.Places.{sym_op}
 use Rattle.ot_questions.specs.Meaning.{op_at}
 use Rattle.ot_questions.specs.Instances.{cell_in, TellsApart, Shows}
-use Rattle.ot_counter.specs.Values.{is_at, shown_cell, cells_by_place, document_at}
+use Rattle.ot_counter.specs.Documents.{is_at, shown_cell, cells_by_place, document_at}
 
 pub length-placed : (n : ℕ) (h : ℕ → Cell) → length (cells_by_place n h) ≡ n
 length-placed zero h = refl

@@ -13,7 +13,8 @@ use Rattle.fn_rules.specs.Properties.{AreConcurrent, ConvergesAt, CommutesAt}
 use Rattle.ot_questions.specs.declared.why.Why.{Why}
 use Rattle.ot_questions.specs.Instances.{PairFails, TripleFails}
 use Rattle.ot_counter.specs.declared.counter.Counter.{Counter}
-use Rattle.ot_counter.specs.Values.{floors_of, ops_at, document_at}
+use Rattle.ot_values.specs.Values.{floors_of, ops_at}
+use Rattle.ot_counter.specs.Documents.{document_at}
 use Rattle.ot_counter.specs.Sides.{left_at, right_at}
 
 -- a pair is of TP1, a triple of TP2

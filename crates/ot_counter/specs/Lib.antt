@@ -1,5 +1,4 @@
-pub mod Leading
-pub mod Values
+pub mod Documents
 pub mod Sides
 pub mod Counters
 pub use Rattle.ot_model.specs.Cells
@@ -9,7 +8,9 @@ pub use Rattle.fn_rules.specs.Transformation
 pub use Rattle.fn_rules.specs.Properties
 pub use Rattle.fn_rules.specs.Obligations
 pub use Rattle.ask_core.specs.Plans
+pub use Rattle.ask_core.specs.Leading
 pub use Rattle.diff_graph.specs.Literals
 pub use Rattle.diff_graph.specs.Solutions
 pub use Rattle.ot_questions.specs.Obligation
 pub use Rattle.ot_questions.specs.Instances
+pub use Rattle.ot_values.specs.Values

@@ -16,10 +16,6 @@ use Rattle.ot_questions.specs.Instances.{form_behind}
 use Rattle.ot_counter.specs.declared.counter.Side.{Side}
 use Rattle.ot_counter.specs.declared.counter.Side.TheVariants as sides
 
--- how far from 0 a position can be that is a value of 32 bits
-abbrev pub farthest : ℕ
-farthest = 4294967296
-
 -- an operation executed where it is enabled
 abbrev pub executed : Mode → List Cell → Op → Side
 executed mode d o = if is_enabled o (length d) then sides.Doc (document_after mode o d) else sides.OutOfRange

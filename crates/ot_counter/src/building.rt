@@ -5,25 +5,27 @@ ghost use Rattle.ot_questions.specs.declared.name.Who.{Who};
 ghost use Rattle.ot_questions.specs.declared.name.Who.TheVariants.{A, B, C};
 ghost use Rattle.ot_questions.specs.Names.{char_name};
 ghost use Rattle.diff_graph.specs.Solutions.{valuation_of};
-ghost use Rattle.ot_counter.specs.Values.{floors_of, ops_at, document_at as document_read, IsSmallAt};
+ghost use Rattle.ot_values.specs.Values.{floors_of, ops_at, IsSmallAt};
+ghost use Rattle.ot_counter.specs.Documents.{document_at as document_read};
 ghost use Rattle.fn_rules.specs.Obligations.{is_obligation};
 ghost use Rattle.fn_rules.specs.Properties.{AreConcurrent};
 ghost use Rattle.fn_rules.specs.Rules.{function_of};
 ghost use Rattle.diff_graph.specs.Literals.{IsPossible};
 ghost use Rattle.ot_questions.specs.Obligation.{plan_of};
-ghost use Rattle.ot_counter.specs.Leading.{LeadTo};
+ghost use Rattle.ask_core.specs.Leading.{LeadTo};
 ghost use Rattle.ot_counter.specs.Counters.{IsReadOff, IsCounter, Breaks, BreaksBy};
 
 use crate::NoMemory;
 use crate::counter::Counter;
-use crate::instance::{document_at, op_at};
+use crate::document::document_at;
 use crate::laws::failing_ends_have_counterexamples;
 use crate::sides::{document_way, operation_way};
-use crate::values::least_values;
+use ask_core::answers_lead_to_ends;
 use diff_graph::Lit;
 use fn_rules::{Level, ObName, Rules};
 use ot_model::{Kind, Op};
-use ot_questions::{Who, Why};
+use ot_questions::{Who, Why, plans_compare_like_with_like, plans_keep_limits};
+use ot_values::{least_values, op_at};
 use plain_list::List;
 use std::alloc::Global;
 
@@ -47,8 +49,11 @@ pub fn build(
 {
     // The contract of `head` tells that the function keeps the limits, which the laws want.
     let _head = rules.head();
+    plans_keep_limits();
+    plans_compare_like_with_like();
+    answers_lead_to_ends::<Why>();
     failing_ends_have_counterexamples();
-    let values = least_values(alloc, rules, ob, answers, why)?;
+    let values = least_values(alloc, ob, answers)?;
     let counter = read_off(alloc, rules, ob, &values, why)?;
     Ok(counter)
 }

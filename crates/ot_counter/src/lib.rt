@@ -10,10 +10,9 @@
 
 mod building;
 mod counter;
-mod instance;
+mod document;
 mod laws;
 mod sides;
-mod values;
 
 pub use building::build;
 pub use counter::{Counter, Side};

@@ -6,6 +6,7 @@ ghost use Rattle.fn_rules.specs.Functions.{IsForKind};
 ghost use Rattle.fn_rules.specs.Conditions.{IsWithin};
 ghost use Rattle.fn_rules.specs.Rules.{function_of};
 ghost use Rattle.ot_questions.specs.Instances as instances;
+ghost use Rattle.ot_values.specs.Values.{farthest};
 ghost use Rattle.ot_counter.specs.Sides as sides;
 
 use crate::NoMemory;
@@ -48,8 +49,8 @@ pub(crate) fn document_way(
     requires enabled { IsEnabled first.now (length doc.now) }
     requires first_declared { IsForKind (function_of rules.now).head (kind_of first.now) }
     requires other_declared { IsForKind (function_of rules.now).head (kind_of other.now) }
-    requires first_near { IsWithin sides.farthest first.now }
-    requires other_near { IsWithin sides.farthest other.now }
+    requires first_near { IsWithin farthest first.now }
+    requires other_near { IsWithin farthest other.now }
     ensures { IfOk result (λ side. side ≡ sides.document_way (function_of rules.now) doc.now first.now other.now) }
 {
     let mode = rules.head().mode;
@@ -65,9 +66,9 @@ fn form_behind(rules: &Rules, a: &Op, b: &Op, c: &Op) -> Option<Op>
     requires a_declared { IsForKind (function_of rules.now).head (kind_of a.now) }
     requires b_declared { IsForKind (function_of rules.now).head (kind_of b.now) }
     requires c_declared { IsForKind (function_of rules.now).head (kind_of c.now) }
-    requires a_near { IsWithin sides.farthest a.now }
-    requires b_near { IsWithin sides.farthest b.now }
-    requires c_near { IsWithin sides.farthest c.now }
+    requires a_near { IsWithin farthest a.now }
+    requires b_near { IsWithin farthest b.now }
+    requires c_near { IsWithin farthest c.now }
     ensures { result ≡ instances.form_behind (function_of rules.now) a.now b.now c.now }
 {
     // The contract of `head` tells that the function keeps the limits, which the laws below want.
@@ -84,9 +85,9 @@ pub(crate) fn operation_way(rules: &Rules, a: &Op, b: &Op, c: &Op) -> Side
     requires a_declared { IsForKind (function_of rules.now).head (kind_of a.now) }
     requires b_declared { IsForKind (function_of rules.now).head (kind_of b.now) }
     requires c_declared { IsForKind (function_of rules.now).head (kind_of c.now) }
-    requires a_near { IsWithin sides.farthest a.now }
-    requires b_near { IsWithin sides.farthest b.now }
-    requires c_near { IsWithin sides.farthest c.now }
+    requires a_near { IsWithin farthest a.now }
+    requires b_near { IsWithin farthest b.now }
+    requires c_near { IsWithin farthest c.now }
     ensures { result ≡ sides.operation_side (instances.form_behind (function_of rules.now) a.now b.now c.now) }
 {
     match form_behind(rules, a, b, c) {

@@ -2,9 +2,8 @@
 use Rattle.std.proofs.Common.{◌≡◌, ◌≢◌, ℕ, ◌+◌, ℤ, pos, ◌+ℤ◌, Some, refl, ap, sym, ◌∙◌, inl, inr, arith}
 use Rattle.ot_model.specs.declared.op.Op.{Op}
 use Rattle.ot_model.specs.declared.op.Op.TheVariants.{Ins, Del, Upd, Nop}
-use Rattle.fn_rules.specs.Properties.{CommutesAt, HasTp2}
+use Rattle.fn_rules.specs.Properties.{CommutesAt, commutes_exchanged, HasTp2}
 use Rattle.fn_rules.specs.Transformation.{transform_of, IsAllowed}
-use Rattle.fn_rules.proofs.Symmetry.{CommutesAt-sym}
 use Rattle.ot_drill.specs.Workload.{drill_function}
 use Rattle.ot_drill.proofs.Places.{IsBefore, place_behind, before_stays, behind_moves, one_is_before, place_behind-both}
 use Rattle.ot_drill.proofs.Behind.{IsDeclared, insertion_behind, deletion_behind, insertion_behind_deletion, deletion_behind_deletion}
@@ -101,17 +100,17 @@ by_kinds : (n : ℕ) (a b c : Op) → IsDeclared a → IsDeclared b → IsDeclar
     IsAllowed (drill_function n) a c → IsAllowed (drill_function n) b c → CommutesAt (drill_function n) a b c
 by_kinds n a (Del q t) c of_a of_b of_c ab ac bc = by_deletion n a c q t of_a of_c
 by_kinds n (Del p s) b c of_a of_b of_c ab ac bc =
-    CommutesAt-sym (drill_function n) b (Del p s) c (by_deletion n b c p s of_b of_c)
+    commutes_exchanged (drill_function n) b (Del p s) c (by_deletion n b c p s of_b of_c)
 by_kinds n (Ins p x s) (Ins q y t) (Ins r z u) of_a of_b of_c ab ac bc =
     elim (one_is_before p q s t (ab.sites refl)) [
       | inl before ↦ ordered_insertion n p q r x y z s t u before (λ e. ac.sites refl (sym e)) (λ e. bc.sites refl (sym e))
-      | inr behind ↦ CommutesAt-sym (drill_function n) (Ins q y t) (Ins p x s) (Ins r z u)
+      | inr behind ↦ commutes_exchanged (drill_function n) (Ins q y t) (Ins p x s) (Ins r z u)
           (ordered_insertion n q p r y x z t s u behind (λ e. bc.sites refl (sym e)) (λ e. ac.sites refl (sym e)))
     ]
 by_kinds n (Ins p x s) (Ins q y t) (Del r v) of_a of_b of_c ab ac bc =
     elim (one_is_before p q s t (ab.sites refl)) [
       | inl before ↦ ordered_deletion n p q r x y s t v before
-      | inr behind ↦ CommutesAt-sym (drill_function n) (Ins q y t) (Ins p x s) (Del r v) (ordered_deletion n q p r y x t s v behind)
+      | inr behind ↦ commutes_exchanged (drill_function n) (Ins q y t) (Ins p x s) (Del r v) (ordered_deletion n q p r y x t s v behind)
     ]
 by_kinds n a b c of_a of_b of_c ab ac bc = absurd (cc)
 

@@ -8,9 +8,8 @@ use Rattle.ot_model.specs.declared.op.Op.TheVariants.{Ins, Del, Upd, Nop}
 use Rattle.ot_model.specs.declared.op.Mode.TheVariants.{Tomb}
 use Rattle.ot_model.specs.Cells.{live_cell}
 use Rattle.ot_model.specs.Effect.{IsEnabled, document_after}
-use Rattle.fn_rules.specs.Properties.{ConvergesAt, HasTp1}
+use Rattle.fn_rules.specs.Properties.{ConvergesAt, converges_exchanged, HasTp1}
 use Rattle.fn_rules.specs.Transformation.{IsAllowed}
-use Rattle.fn_rules.proofs.Symmetry.{ConvergesAt-sym}
 use Rattle.ot_drill.specs.Workload.{drill_function}
 use Rattle.ot_drill.proofs.Places.{IsBefore, place_behind, before_stays, behind_moves, one_is_before}
 use Rattle.ot_drill.proofs.Edits.{put, mark, with_cells-put, with_cells-mark, length-put, length-mark, put-put, mark-put, mark-put_behind, mark-mark}
@@ -132,7 +131,7 @@ two_insertions : (n : ℕ) (d : List Cell) (p q c e s t : ℕ) → p ≤ length 
 two_insertions n d p q c e s t fits_p fits_q apart =
     elim (one_is_before (pos p) (pos q) s t apart) [
       | inl before ↦ ordered_insertions n d p q c e s t fits_p fits_q before
-      | inr behind ↦ ConvergesAt-sym (drill_function n) d (Ins (pos q) e t) (Ins (pos p) c s)
+      | inr behind ↦ converges_exchanged (drill_function n) d (Ins (pos q) e t) (Ins (pos p) c s)
           (ordered_insertions n d q p e c t s fits_q fits_p behind)
     ]
 
@@ -152,7 +151,7 @@ by_kinds n d (Ins (pos p) c s) (Ins (pos q) e t) of_a of_b at_a at_b ab =
 by_kinds n d (Ins (pos p) c s) (Del (pos q) t) of_a of_b at_a at_b ab =
     insertion_and_deletion n d p q c s t (omega (arith, ints, at_a.1)) (omega (arith, ints, at_b.1))
 by_kinds n d (Del (pos p) s) (Ins (pos q) e t) of_a of_b at_a at_b ab =
-    ConvergesAt-sym (drill_function n) d (Ins (pos q) e t) (Del (pos p) s)
+    converges_exchanged (drill_function n) d (Ins (pos q) e t) (Del (pos p) s)
     (insertion_and_deletion n d q p e t s (omega (arith, ints, at_b.1)) (omega (arith, ints, at_a.1)))
 by_kinds n d (Del (pos p) s) (Del (pos q) t) of_a of_b at_a at_b ab =
     two_deletions n d p q s t (omega (arith, ints, at_a.1)) (omega (arith, ints, at_b.1))

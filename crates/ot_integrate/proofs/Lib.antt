@@ -1,7 +1,6 @@
 pub mod Carried
 pub mod Examples
 pub mod Forms
-pub mod Instances
 pub mod OneOutcome
 pub mod Outcomes
 pub mod Permutations

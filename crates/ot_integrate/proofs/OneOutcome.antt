@@ -8,9 +8,9 @@ use Rattle.ot_model.specs.declared.op.Op.{Op}
 use Rattle.ot_model.specs.declared.op.Op.TheVariants.{Nop}
 use Rattle.fn_rules.specs.Functions.{Function}
 use Rattle.fn_rules.specs.Properties.{AreConcurrent, HasTp1, HasTp2}
+use Rattle.fn_rules.specs.Forms.{CarriesForms}
 use Rattle.fn_rules.specs.Orders.{Outcome, Document, outcome_from, operation_at, integrated, NamesEachOnce, HasOneOutcome}
 use Rattle.ot_integrate.specs.Ends.{listed_order, EndsAsListed}
-use Rattle.ot_integrate.proofs.Instances.{HasBothProperties}
 use Rattle.ot_integrate.proofs.Permutations.{IsReordered, IsReordered-map, IsReordered-names_each_once}
 use Rattle.ot_integrate.proofs.Swaps.{HasForm-concurrent, outcome_from-reordered, outcome_from-document}
 
@@ -25,15 +25,15 @@ IsReordered-named ops order once =
     (IsReordered-map (operation_at ops) (IsReordered-names_each_once (length ops) order once))
 
 -- a function with both properties gives one outcome
-pub HasOneOutcome-from_both : (f : Function) → HasBothProperties f → HasOneOutcome f
+pub HasOneOutcome-from_both : (f : Function) → CarriesForms f → HasOneOutcome f
 HasOneOutcome-from_both f has d ops order other concurrent once other_once = (listed.0, as_listed order once, as_listed other other_once)
   where
     listed : (end : List Cell) × (outcome_from f d [] 0 ops ≡ Document end)
-    listed = outcome_from-document f has d ops d [] 0 concurrent (HasForm-concurrent f d ops concurrent)
+    listed = outcome_from-document f has d ops d [] 0 concurrent (HasForm-concurrent f has.keeps d ops concurrent)
 
     as_listed : (numbers : List ℕ) → NamesEachOnce (length ops) numbers → integrated f d ops numbers ≡ Document listed.0
     as_listed numbers each =
-        sym (outcome_from-reordered f has d (IsReordered-named ops numbers each) d [] 0 concurrent (HasForm-concurrent f d ops concurrent))
+        sym (outcome_from-reordered f has d (IsReordered-named ops numbers each) d [] 0 concurrent (HasForm-concurrent f has.keeps d ops concurrent))
         ∙ listed.1
 
 -- the numbers in turn name each number once

@@ -1,41 +1,14 @@
 -- The outcome of integrating, one place of the order after the other.
-use Rattle.std.proofs.Common.{◌≡◌, ℕ, ◌+◌, ◌<◌, ◌≤◌, ◌↔◌, true, false, List, [], ◌∷◌, ◌++◌, length, map, drop, get_or, Some, None, refl}
-use Rattle.std.proofs.Common.{ap, subst, arith, length-append, length-drop, length-take, All, inl, inr}
+use Rattle.std.proofs.Common.{◌≡◌, ℕ, ◌+◌, ◌<◌, ◌≤◌, true, false, List, [], ◌∷◌, ◌++◌, length, map, drop, get_or, Some, None, refl}
+use Rattle.std.proofs.Common.{ap, subst, All, inl, inr}
 use Rattle.std.proofs.lemmas.Option.{slice_get_cases}
-use Rattle.std.proofs.lemmas.List.{drop_more, drop_all, length-map}
-use Rattle.std.specs.Cmp.Derive.{both_true}
-use Rattle.std.proofs.lemmas.Bool.{and_parts, cases_Bool}
+use Rattle.std.proofs.lemmas.List.{drop_more, drop_all}
 use Rattle.ot_model.specs.declared.cell.Cell.{Cell}
-use Rattle.ot_model.specs.declared.op.Mode.{Mode}
-use Rattle.ot_model.specs.declared.op.Mode.TheVariants.{Plain, Tomb}
 use Rattle.ot_model.specs.declared.op.Op.{Op}
-use Rattle.ot_model.specs.declared.op.Op.TheVariants.{Ins, Del, Upd, Nop}
-use Rattle.ot_model.specs.Operations.{kind_of}
-use Rattle.ot_model.specs.Effect.{IsEnabled, is_enabled, document_after}
-use Rattle.fn_rules.specs.Functions.{Function, is_for_kind, IsForKind}
-use Rattle.fn_rules.specs.Conditions.{is_integrable, IsIntegrable}
+use Rattle.ot_model.specs.declared.op.Op.TheVariants.{Nop}
+use Rattle.ot_model.specs.Effect.{is_enabled, document_after}
+use Rattle.fn_rules.specs.Functions.{Function}
 use Rattle.fn_rules.specs.Orders.{Document, StuckAt, through, outcome_from, operation_at}
-
--- what the test of an operation says that may be integrated
-module _ (f : Function) (tested : (cells : ℕ) (o : Op) → (is_integrable f cells o ≡ true) ↔ IsIntegrable f cells o) (n : ℕ) (o : Op) where
-  pub is_enabled-true : IsIntegrable f n o → is_enabled o n ≡ true
-  is_enabled-true integrable = (and_parts (is_for_kind f.head (kind_of o)) (is_enabled o n) ((tested n o).1 integrable)).1
-
-  -- and of one that is not enabled
-  pub is_enabled-false : IsForKind f.head (kind_of o) → ¬ (IsEnabled o n) → is_enabled o n ≡ false
-  is_enabled-false declared refused = elim (cases_Bool (is_enabled o n)) [
-    | inl is ↦ absurd (refused (((tested n o).0 (both_true declared is)).enabled))
-    | inr is ↦ is
-  ]
-
--- an operation makes a document longer by at most one cell
-pub length-document_after : (mode : Mode) (o : Op) (d : List Cell) → length (document_after mode o d) ≤ length d + 1
-length-document_after mode (Ins at ch site) d =
-    simp (length-append, length-take, length-drop) (omega arith)
-length-document_after Plain (Del at site) d = simp (length-append, length-take, length-drop) (omega arith)
-length-document_after Tomb (Del at site) d = simp (length-append, length-map, length-take, length-drop) (omega arith)
-length-document_after mode (Upd at ch site) d = simp (length-append, length-map, length-take, length-drop) (omega arith)
-length-document_after mode Nop d = omega arith
 
 -- a fact of all operations and of nop is one of what a number names
 pub operation_at-fact : (P : Op → Type 0) (ops : List Op) (number : ℕ) → All P ops → P Nop → P (operation_at ops number)

@@ -3,19 +3,14 @@ use Rattle.std.proofs.Common.{◌≡◌, ℕ, ◌+◌, List, [], ◌∷◌, ◌+
 use Rattle.std.specs.List.{AllByRecursion}
 use Rattle.ot_model.specs.declared.cell.Cell.{Cell}
 use Rattle.ot_model.specs.declared.op.Op.{Op}
-use Rattle.ot_model.specs.Operations.{kind_of}
 use Rattle.ot_model.specs.Effect.{document_after}
 use Rattle.fn_rules.specs.Functions.{Function}
 use Rattle.fn_rules.specs.Transformation.{IsAllowed}
-use Rattle.fn_rules.specs.Properties.{AreConcurrent, ConvergesAt, CommutesAt}
+use Rattle.fn_rules.specs.Properties.{AreConcurrent, ConvergesAt, CommutesAt, converges_exchanged, commutes_exchanged}
 use Rattle.fn_rules.specs.Orders.{Document, through, outcome_from}
 use Rattle.fn_rules.specs.Conditions.{IsIntegrable}
-use Rattle.ot_integrate.proofs.Forms.{IsForKind-form}
-use Rattle.ot_integrate.proofs.Outcomes.{is_enabled-true}
+use Rattle.fn_rules.specs.Forms.{KeepsForms, CarriesForms}
 use Rattle.ot_integrate.proofs.Carried.{through-push, through-push_two, one_form, outcome_from-same}
-use Rattle.fn_rules.proofs.Symmetry.{ConvergesAt-sym, CommutesAt-sym}
-use Rattle.ot_integrate.proofs.Instances.{HasBothProperties, IsForKind-declared}
-use Rattle.ot_integrate.proofs.Instances.{ConvergesAt-integrable, CommutesAt-integrable}
 use Rattle.ot_integrate.proofs.Permutations.{IsReordered, none, more, flip, chain, AllByRecursion-reordered}
 
 -- an operation has a form behind the executed ones, which may be integrated on the document as it is,
@@ -27,16 +22,16 @@ pub record HasForm (f : Function) (d : List Cell) (executed : List Op) (o : Op) 
   pub allowed : (other : Op) → IsAllowed f o other → IsAllowed f form other
 
 -- operations that are concurrent on a document have their forms there: they are as they are
-pub HasForm-concurrent : (f : Function) (d : List Cell) (os : List Op) → AreConcurrent f d os → AllByRecursion (HasForm f d []) os
-HasForm-concurrent f d [] all = tt
-HasForm-concurrent f d (o ∷ os) all = (
+pub HasForm-concurrent : (f : Function) → KeepsForms f → (d : List Cell) (os : List Op) → AreConcurrent f d os → AllByRecursion (HasForm f d []) os
+HasForm-concurrent f keeps d [] all = tt
+HasForm-concurrent f keeps d (o ∷ os) all = (
   record {
     form = o;
     is = refl;
-    integrable = record { declared = IsForKind-declared f.head (kind_of o) all.0; enabled = all.1 };
+    integrable = record { declared = keeps.made o all.0; enabled = all.1 };
     allowed = λ other allowed. allowed;
   },
-  HasForm-concurrent f d os all.3,
+  HasForm-concurrent f keeps d os all.3,
 )
 
 -- the document after an executed form
@@ -44,23 +39,23 @@ abbrev after : Function → Op → List Cell → List Cell
 after f p d = document_after f.head.mode p d
 
 -- forms on one document, behind the same executed operations
-module _ (f : Function) (has : HasBothProperties f) (d : List Cell) (executed : List Op) where
+module _ (f : Function) (has : CarriesForms f) (d : List Cell) (executed : List Op) where
   -- an operation with a form is executed
   outcome_from-executed : {o : Op} (as_o : HasForm f d executed o) (place : ℕ) (os : List Op)
       → outcome_from f d executed place (o ∷ os) ≡ outcome_from f (after f as_o.form d) (executed ++ as_o.form ∷ []) (place + 1) os
-  outcome_from-executed as_o place os = rw (as_o.is, is_enabled-true f has.integrable_is_tested (length d) as_o.form as_o.integrable) refl
+  outcome_from-executed as_o place os = rw (as_o.is, has.keeps.enabled_is_tested (length d) as_o.form as_o.integrable.enabled) refl
 
   -- where operations are allowed, so are their forms
   IsAllowed-forms : {a b : Op} (as_a : HasForm f d executed a) (as_b : HasForm f d executed b) → IsAllowed f a b
       → IsAllowed f as_a.form as_b.form
   IsAllowed-forms {a} {b} as_a as_b allowed =
-      has.allowed_is_symmetric as_b.form as_a.form (as_b.allowed as_a.form (has.allowed_is_symmetric as_a.form b (as_a.allowed b allowed)))
+      has.keeps.allowed_back as_b.form as_a.form (as_b.allowed as_a.form (has.keeps.allowed_back as_a.form b (as_a.allowed b allowed)))
 
   -- both ways of executing the forms of two operations
   ConvergesAt-forms : {a b : Op} (as_a : HasForm f d executed a) (as_b : HasForm f d executed b) → IsAllowed f a b
       → ConvergesAt f d as_a.form as_b.form
   ConvergesAt-forms as_a as_b allowed =
-      ConvergesAt-integrable f has d as_a.form as_b.form as_a.integrable as_b.integrable (IsAllowed-forms as_a as_b allowed)
+      has.converging d as_a.form as_b.form as_a.integrable as_b.integrable (IsAllowed-forms as_a as_b allowed)
 
   -- the form of a second operation behind the first one, too
   abbrev HasForm-next : {a b : Op} (as_a : HasForm f d executed a) (as_b : HasForm f d executed b)
@@ -69,12 +64,11 @@ module _ (f : Function) (has : HasBothProperties f) (d : List Cell) (executed : 
     form = converges.b_after_a;
     is = rw (through-push f b executed as_a.form, as_b.is) converges.b_transformed;
     integrable = record {
-      declared = IsForKind-form f.head as_b.form converges.b_after_a
-          (has.keeps_all_but_the_position as_b.form as_a.form converges.b_after_a converges.b_transformed) as_b.integrable.declared;
+      declared = has.keeps.declared as_b.form as_a.form converges.b_after_a converges.b_transformed as_b.integrable.declared;
       enabled = converges.b_enabled;
     };
     allowed = λ other with_b.
-        has.keeps_allowed as_b.form as_a.form converges.b_after_a other converges.b_transformed (as_b.allowed other with_b);
+        has.keeps.allowed as_b.form as_a.form converges.b_after_a other converges.b_transformed (as_b.allowed other with_b);
   }
 
   -- the forms of all others behind the first one
@@ -85,7 +79,7 @@ module _ (f : Function) (has : HasBothProperties f) (d : List Cell) (executed : 
       (HasForm-next as_a have.0 (ConvergesAt-forms as_a have.0 allowed.0), HasForm-all_next as_a os allowed.1 have.1)
 
 -- two neighbours with forms
-module _ (f : Function) (has : HasBothProperties f) (d : List Cell) (executed : List Op) {a b : Op}
+module _ (f : Function) (has : CarriesForms f) (d : List Cell) (executed : List Op) {a b : Op}
     (as_a : HasForm f d executed a) (as_b : HasForm f d executed b) (converges : ConvergesAt f d as_a.form as_b.form) where
   -- the forms executed, when both were
   abbrev both_executed : List Op
@@ -113,13 +107,13 @@ module _ (f : Function) (has : HasBothProperties f) (d : List Cell) (executed : 
       as_o.is commutes.c_by_a (rw same commutes.c_by_a_then_b)
 
 -- exchanging two neighbours
-module _ (f : Function) (has : HasBothProperties f) (d : List Cell) (executed : List Op) {a b : Op}
+module _ (f : Function) (has : CarriesForms f) (d : List Cell) (executed : List Op) {a b : Op}
     (as_a : HasForm f d executed a) (as_b : HasForm f d executed b) (a_with_b : IsAllowed f a b) where
   abbrev a_first : ConvergesAt f d as_a.form as_b.form
   a_first = ConvergesAt-forms f has d executed as_a as_b a_with_b
 
   abbrev b_first : ConvergesAt f d as_b.form as_a.form
-  b_first = ConvergesAt-sym f d as_a.form as_b.form a_first
+  b_first = converges_exchanged f d as_a.form as_b.form a_first
 
   -- carried through both in either order, every further operation is the same
   through-either_way : (os : List Op) → AllByRecursion (IsAllowed f a) os → AllByRecursion (IsAllowed f b) os
@@ -129,12 +123,12 @@ module _ (f : Function) (has : HasBothProperties f) (d : List Cell) (executed : 
   through-either_way [] with_a with_b have = tt
   through-either_way (o ∷ os) with_a with_b have = (
     through-both f has d executed as_a as_b a_first have.0 commutes
-        ∙ sym (through-both f has d executed as_b as_a b_first have.0 (CommutesAt-sym f as_a.form as_b.form have.0.form commutes)),
+        ∙ sym (through-both f has d executed as_b as_a b_first have.0 (commutes_exchanged f as_a.form as_b.form have.0.form commutes)),
     through-either_way os with_a.1 with_b.1 have.1,
   )
     where
       commutes : CommutesAt f as_a.form as_b.form have.0.form
-      commutes = CommutesAt-integrable f has d as_a.form as_b.form have.0.form as_a.integrable as_b.integrable have.0.integrable
+      commutes = has.commuting d as_a.form as_b.form have.0.form as_a.integrable as_b.integrable have.0.integrable
           (IsAllowed-forms f has d executed as_a as_b a_with_b)
           (IsAllowed-forms f has d executed as_a have.0 with_a.0)
           (IsAllowed-forms f has d executed as_b have.0 with_b.0)
@@ -153,14 +147,14 @@ module _ (f : Function) (has : HasBothProperties f) (d : List Cell) (executed : 
       ∙ sym (outcome_from-both f has d executed as_b as_a b_first place os)
 
 -- whole orders of operations that are concurrent on a document
-module _ (f : Function) (has : HasBothProperties f) (made_on : List Cell) where
+module _ (f : Function) (has : CarriesForms f) (made_on : List Cell) where
   -- concurrent operations in another order are concurrent
   AreConcurrent-reordered : {xs ys : List Op} → IsReordered xs ys → AreConcurrent f made_on xs → AreConcurrent f made_on ys
   AreConcurrent-reordered none all = tt
   AreConcurrent-reordered (more x xs ys tail) all =
       (all.0, all.1, AllByRecursion-reordered (IsAllowed f x) tail all.2, AreConcurrent-reordered tail all.3)
   AreConcurrent-reordered (flip x y xs) all =
-      (all.3.0, all.3.1, (has.allowed_is_symmetric x y all.2.0, all.3.2), (all.0, all.1, all.2.1, all.3.3))
+      (all.3.0, all.3.1, (has.keeps.allowed_back x y all.2.0, all.3.2), (all.0, all.1, all.2.1, all.3.3))
   AreConcurrent-reordered (chain xs ys zs first second) all = AreConcurrent-reordered second (AreConcurrent-reordered first all)
 
   -- integrating them in another order has the same outcome

@@ -12,10 +12,12 @@ ghost use Rattle.ot_integrate.specs.Ends.{outcome_of, EndsAsListed};
 use crate::end::End;
 use crate::one_outcome::both_properties_give_one_outcome;
 use fn_rules::{
-    Rules, is_integrable, tests_decide_their_facts, transform,
-    transform_keeps_all_but_the_position, transform_stays_near,
+    Rules, enabled_operations_are_near, functions_keep_forms, is_integrable,
+    tests_decide_their_facts, transform, transform_stays_near,
 };
-use ot_model::{Apply, Doc, MAX_CELLS, MAX_OPERATIONS, NoMemory, Op, apply};
+use ot_model::{
+    Apply, Doc, MAX_CELLS, MAX_OPERATIONS, NoMemory, Op, apply, documents_grow_by_one_cell_at_most,
+};
 use std::alloc::Global;
 
 /// Whether the operations may be integrated on a document of so many cells: each is of a kind that the
@@ -49,6 +51,8 @@ pub fn integrate(
 {
     both_properties_give_one_outcome();
     tests_decide_their_facts();
+    enabled_operations_are_near();
+    documents_grow_by_one_cell_at_most();
     let mode = rules.head().mode;
     let mut current = doc.try_clone()?;
     let mut executed = Vec::new(alloc);
@@ -85,13 +89,11 @@ fn form_behind(rules: &Rules, op: Op, executed: &[Op]) -> Option<Op>
     // The contract of `head` tells that the function keeps the limits, which the laws below want.
     let _head = rules.head();
     transform_stays_near();
-    transform_keeps_all_but_the_position();
+    functions_keep_forms();
+    enabled_operations_are_near();
     let mut form = op;
     for other in executed {
         form = transform(rules, &form, other)?;
     }
     Some(form)
 }
-
-#[cfg(test)]
-mod tests;

@@ -4,8 +4,9 @@ use Rattle.std.specs.Option.{ForSome}
 use Rattle.std.specs.Io.KnownBytes.{prepend_known, IsAtEnd}
 use Rattle.std.proofs.lemmas.List.{append-nil, length-take-le}
 use Rattle.std.proofs.Math.Seq.{take-length}
-use Rattle.std.proofs.Common.{◌≡◌, ℕ, ◌+◌, ◌≤◌, List, [], ◌∷◌, ◌++◌, length, take, Option, Some, None, Result, Ok, Err, arith, refl, sym, ap, subst, ◌∙◌, append_assoc, length-append}
+use Rattle.std.proofs.Common.{◌≡◌, ℕ, true, ◌+◌, ◌≤◌, List, [], ◌∷◌, ◌++◌, length, take, Option, Some, None, Result, Ok, Err, arith, refl, sym, ap, subst, ◌∙◌, append_assoc, length-append}
 use Rattle.cert_text.specs.declared.item.Item.{Item}
+use Rattle.cert_text.specs.declared.item.Part.{Part}
 use Rattle.cert_text.specs.declared.item.CertEnd.{CertEnd}
 use Rattle.cert_text.specs.declared.item.CertEnd.TheVariants as cert
 use Rattle.cert_text.specs.Places.{Place, Finish, Stands, part_text, place_after}
@@ -13,7 +14,7 @@ use Rattle.cert_text.specs.Reading.{Progress, Reading, Refused, EndsThere, Gives
 use Rattle.cert_text.specs.Pieces.{EndsWithin, GivesOf, GoesOn}
 use Rattle.ot_judge.specs.declared.refusal.JudgeEnd.{JudgeEnd}
 use Rattle.ot_judge.specs.Parts.{end_of_spelling}
-use Rattle.ot_judge.specs.Feeding.{Comes, IsMisspeltBehind, IsTruncated, MayGive, place_of, offset_of, begun_of}
+use Rattle.ot_judge.specs.Feeding.{Comes, IsTaken, IsMisspeltBehind, IsSpent, IsTruncated, MayGive, MayGiveOf, MayHave, place_of, offset_of, begun_of, Whole}
 
 -- told bytes begin with those that are given
 told_behind :
@@ -27,14 +28,9 @@ untold_behind : (given : List ℕ) (told left : Option (List ℕ)) → told ≡ 
 untold_behind given told None took is = refl
 untold_behind given told (Some bytes) took is = absurd (cc)
 
--- at the end none are told
-none_told : (told : Option (List ℕ)) → IsAtEnd told → ForSome told (λ known. [] ≡ known)
-none_told None over known is = absurd (cc)
-none_told (Some bytes) over known is = let same : bytes ≡ known = cc in sym over ∙ same
-
 module _ {F : Type 0} (left : F → Option (List ℕ)) (bound : F → ℕ) where
   -- a feed of which so many bytes at hand were taken gives these and then those that it may give behind them
-  pub given :
+  given :
       (old new : F) (hand : List ℕ) (count : ℕ) → count ≤ length hand → left old ≡ prepend_known (take count hand) (left new)
       → bound old ≡ bound new + count
       → (rest : List ℕ) → MayGive left bound new rest → MayGive left bound old (take count hand ++ rest)
@@ -46,19 +42,63 @@ module _ {F : Type 0} (left : F → Option (List ℕ)) (bound : F → ℕ) where
         omega (arith, fewer, few, length-append (take count hand) rest, length-take-le count hand within),
   )
 
-  -- one that is at its end may give none
-  pub none_given : (feed : F) → IsAtEnd (left feed) → MayGive left bound feed []
-  unfolding MayGive
-  none_given feed over = (none_told (left feed) over, λ none. omega arith)
+-- a feed that has no bytes, of which what does not speak of bytes may be shown
+pub no_bytes : Whole
+no_bytes = record { bytes = []; may = true }
 
-  -- each feed may give some bytes: those that it tells, or no more
-  some_given_of : (feed : F) (told : Option (List ℕ)) → left feed ≡ told → (bytes : List ℕ) × MayGive left bound feed bytes
-  unfolding MayGive
-  some_given_of feed None is = ([], (λ known told. absurd (cc), λ none. omega arith))
-  some_given_of feed (Some bytes) is = (bytes, (λ known told. cc, λ none. absurd (cc)))
+none_known : (told : Option (List ℕ)) (bytes : List ℕ) → IsAtEnd told → told ≡ Some bytes → bytes ≡ []
+none_known None bytes over is = cc
+none_known (Some known) bytes over is = let same : known ≡ bytes = cc in sym same ∙ over
 
-  pub some_given : (feed : F) → (bytes : List ℕ) × MayGive left bound feed bytes
-  some_given feed = some_given_of feed (left feed) refl
+module _ {F : Type 0} (left : F → Option (List ℕ)) (bound : F → ℕ) (gave hand : F → List ℕ) where
+  -- the same as `given`, of all bytes of the feed
+  pub given_of :
+      (old new : F) (piece : List ℕ) (count : ℕ) → count ≤ length piece → left old ≡ prepend_known (take count piece) (left new)
+      → bound old ≡ bound new + count → gave new ≡ gave old ++ take count piece
+      → (all : Whole) (rest : List ℕ) → MayGiveOf left bound gave new all rest → MayGiveOf left bound gave old all (take count piece ++ rest)
+  unfolding MayGiveOf
+  given_of old new piece count within took fewer more all rest may = (
+    λ t. given left bound old new piece count within took fewer rest (may.0 t),
+    may.1 ∙ ap (λ (l : List ℕ). l ++ rest) more ∙ append_assoc (gave old) (take count piece) rest,
+  )
+
+  -- a feed that stands as before may give what it might
+  same_given :
+      (old new : F) → left new ≡ left old → bound new ≡ bound old → gave new ≡ gave old
+      → (all : Whole) (rest : List ℕ) → MayGiveOf left bound gave new all rest → MayGiveOf left bound gave old all rest
+  unfolding MayGiveOf MayGive
+  same_given old new same_left same_bound same_gave all rest may = rw (← same_left, ← same_bound, ← same_gave) may
+
+  -- where nothing is left, what the feed gave is all
+  pub none_given_of :
+      (old new : F) → IsSpent left hand new → left new ≡ left old → bound new ≡ bound old → gave new ≡ gave old
+      → (all : Whole) → MayHave left bound gave hand new all → MayGiveOf left bound gave old all []
+  none_given_of old new spent same_left same_bound same_gave all have =
+      same_given old new same_left same_bound same_gave all []
+      (subst (λ (l : List ℕ). MayGiveOf left bound gave new all l) (have.2 spent) have.1)
+
+  -- nothing is left where no further byte was there
+  pub spent_by : (old new : F) → left new ≡ left old → IsAtEnd (left old) → hand new ≡ [] → IsSpent left hand new
+  spent_by old new same over none = record { end = rw same over; none = none }
+
+  -- each feed may have some bytes that it may give
+  some_all_of :
+      (feed : F) (told : Option (List ℕ)) → left feed ≡ told
+      → (all : Whole) × (all.may ≡ true) × MayHave left bound gave hand feed all
+  unfolding MayGiveOf MayGive
+  some_all_of feed None is = (
+    record { bytes = gave feed ++ []; may = true },
+    refl,
+    ([], (λ t. (λ known told. absurd (cc), λ none. omega arith), refl), λ spent. refl),
+  )
+  some_all_of feed (Some bytes) is = (
+    record { bytes = gave feed ++ bytes; may = true },
+    refl,
+    (bytes, (λ t. (λ known told. cc, λ none. absurd (cc)), refl), λ spent. none_known (left feed) bytes spent.end is),
+  )
+
+  pub some_all : (feed : F) → (all : Whole) × (all.may ≡ true) × MayHave left bound gave hand feed all
+  some_all feed = some_all_of feed (left feed) refl
 
 -- a reader that reads a part, behind an earlier one, and the bytes that are still to come
 pub record ReadsAt (was now : Progress) (Before After : List ℕ → Type 0) : Type 0 where
@@ -125,40 +165,56 @@ part_given (Reading p o begun) now place offset byte item at gives =
     × (now ≡ Reading (place_after p item.part) (n + length begun + 1) [])) same_offset gives)
 part_given (Refused e) now place offset byte item at gives = absurd (cc)
 
+-- a part comes, and its bytes are taken
+pub record Came (was : Progress) (Before : List ℕ → Type 0) (item : Item) (now : Progress) (After : List ℕ → Type 0) : Type 0 where
+  pub part : Comes was item now
+  pub bytes : (rest : List ℕ) → After rest → Before (part_text (place_of was) item.part ++ rest)
+
+pub came :
+    (was now : Progress) (item : Item) (Before After : Whole → List ℕ → Type 0) → Comes was item now
+    → IsTaken (place_of was) item.part Before After → (all : Whole) → Came was (Before all) item now (After all)
+came was now item Before After part bytes all = record { part = part; bytes = bytes all }
+
+-- the bytes of a part that is another by name are taken too
+pub taken_as :
+    (place : Place) (p q : Part) (Before After : Whole → List ℕ → Type 0) → p ≡ q → IsTaken place p Before After
+    → IsTaken place q Before After
+taken_as place p q Before After same taken = subst (λ (x : Part). IsTaken place x Before After) same taken
+
 -- a byte that ends a part
 part_comes_by :
     (was old now : Progress) (byte : ℕ) (item : Item) (Before Between After : List ℕ → Type 0) → ReadsAt was old Before Between
-    → ((rest : List ℕ) → After rest → Between (byte ∷ rest)) → (rest : List ℕ) × After rest → Gives old byte (Ok (Some item)) now
-    → Comes was Before item now After
-part_comes_by was old now byte item Before Between After h took some gives =
+    → ((rest : List ℕ) → After rest → Between (byte ∷ rest)) → Gives old byte (Ok (Some item)) now
+    → Came was Before item now After
+part_comes_by was old now byte item Before Between After h took gives =
     let given = part_given old now (place_of was) (offset_of was) byte item h.at gives in
     let count : length (part_text (place_of was) item.part) ≡ length (begun_of old) + 1 =
     sym (ap length given.2) ∙ length-append (begun_of old) (byte ∷ []) in
     let here : offset_of was + length (begun_of old) + 1 ≡ offset_of was + length (part_text (place_of was) item.part) =
     omega (arith, count) in
     record {
-      offset = given.0;
-      stands = given.1;
+      part = record {
+        offset = given.0;
+        stands = given.1;
+        behind = given.3 ∙ ap (λ (n : ℕ). Reading (place_after (place_of was) item.part) n []) here;
+      };
       bytes =
           λ rest may.
           subst Before
           (sym (append_assoc (begun_of old) (byte ∷ []) rest) ∙ ap (λ (l : List ℕ). l ++ rest) given.2)
           (h.bytes (byte ∷ rest) (took rest may));
-      some = some;
-      behind = given.3 ∙ ap (λ (n : ℕ). Reading (place_after (place_of was) item.part) n []) here;
     }
 
 -- bytes of which the last one ends a part
 pub part_comes :
     (was old now : Progress) (piece : List ℕ) (taken : ℕ) (item : Item) (Before Between After : List ℕ → Type 0)
     → ReadsAt was old Before Between → ((rest : List ℕ) → After rest → Between (take taken piece ++ rest))
-    → (rest : List ℕ) × After rest → EndsWithin old piece taken (Ok (Some item)) now → Comes was Before item now After
-part_comes was old now piece taken item Before Between After h took some (within, (front, byte, between, text, goes, gives)) =
+    → EndsWithin old piece taken (Ok (Some item)) now → Came was Before item now After
+part_comes was old now piece taken item Before Between After h took (within, (front, byte, between, text, goes, gives)) =
     let Further : List ℕ → Type 0 = λ rest. Between (front ++ rest) in
     part_comes_by was between now byte item Before Further After
     (reads_further was old between front Before Between Further h (λ rest may. may) goes)
-    (λ rest may. subst Between (ap (λ (l : List ℕ). l ++ rest) text ∙ append_assoc front (byte ∷ []) rest) (took rest may)) some
-    gives
+    (λ rest may. subst Between (ap (λ (l : List ℕ). l ++ rest) text ∙ append_assoc front (byte ∷ []) rest) (took rest may)) gives
 
 -- the bytes that are still to come end there
 ends_there :

@@ -14,7 +14,8 @@ use Rattle.cert_text.specs.Places.{Place, Start, Line, Tree, Finish, part_text, 
 use Rattle.cert_text.specs.Reading.{Progress, Reading}
 use Rattle.ot_judge.specs.declared.refusal.JudgeEnd.{JudgeEnd}
 use Rattle.ot_judge.specs.Parts.{Point, IsJudged, branches_behind, end_of_token, point_behind}
-use Rattle.ot_judge.specs.Feeding.{Comes, IsBetween, IsMisspeltBehind, IsRefused, IsRefusedBehind, IsTreeOf, Leads, place_of, offset_of, point_of, tree_with}
+use Rattle.ot_judge.specs.Feeding.{IsBetween, IsMisspeltBehind, IsRefused, IsRefusedBehind, IsTreeOf, Leads, place_of, offset_of, point_of, tree_with}
+use Rattle.ot_judge.proofs.Coming.{Came}
 use Rattle.ot_judge.proofs.Fitting.{judged_behind}
 use Rattle.ot_judge.proofs.Tokens.{open_as_counted}
 
@@ -33,16 +34,16 @@ module _ {W : Type 0} (plan : ObName → Plan W) where
   -- a part that comes leads behind it
   pub part_leads :
       (was now : Progress) (Before After : List ℕ → Type 0) (item : Item) (branches next : List (Branch W))
-      → Comes was Before item now After → branches_behind plan (point_of was branches) item.part ≡ Ok next
+      → Came was Before item now After → branches_behind plan (point_of was branches) item.part ≡ Ok next
       → Leads plan (point_of was branches) Before (point_of now next) After
   part_leads was now Before After item branches next comes opens rest may =
       let there : point_of now next ≡ point_behind (point_of was branches) item.part next =
-      ap (λ (r : Progress). point_of r next) comes.behind in (
+      ap (λ (r : Progress). point_of r next) comes.part.behind in (
         part_text (place_of was) item.part ++ rest,
         comes.bytes rest may,
         λ end judged.
             judged_behind plan end (point_of was branches) item.part (part_text (place_of was) item.part ++ rest) rest next
-            comes.stands refl opens
+            comes.part.stands refl opens
             (subst (λ (p : Point W). IsJudged plan end p rest) there judged),
       )
 
@@ -67,16 +68,15 @@ module _ {W : Type 0} (plan : ObName → Plan W) where
   -- so are bytes that begin with a token that is refused
   pub token_refused :
       (was now : Progress) (Before After : List ℕ → Type 0) (offset : ℕ) (t : Tok) (branches : List (Branch W)) (why : CheckEnd)
-      → Comes was Before (record { offset = offset; part = part.Tok t }) now After → IsCauseOf why t branches
-      → IsRefusedBehind plan (point_of was branches) Before (end_of_token offset why)
-  token_refused was now Before After offset t branches why comes (inl memory) refused =
+      → Came was Before (record { offset = offset; part = part.Tok t }) now After → (rest : List ℕ) × After rest
+      → IsCauseOf why t branches → IsRefusedBehind plan (point_of was branches) Before (end_of_token offset why)
+  token_refused was now Before After offset t branches why comes rest (inl memory) refused =
       absurd (want_is_no_refusal offset why memory refused)
-  token_refused was now Before After offset t branches why comes (inr cause) refused =
-      let rest = comes.some in (
-        part_text (place_of was) (part.Tok t) ++ rest.0,
-        comes.bytes rest.0 rest.1,
-        ([], inr (t, rest.0, why, comes.stands, refl, cause, ap (λ (n : ℕ). end_of_token n why) comes.offset)),
-      )
+  token_refused was now Before After offset t branches why comes rest (inr cause) refused = (
+    part_text (place_of was) (part.Tok t) ++ rest.0,
+    comes.bytes rest.0 rest.1,
+    ([], inr (t, rest.0, why, comes.part.stands, refl, cause, ap (λ (n : ℕ). end_of_token n why) comes.part.offset)),
+  )
 
 -- the place behind a token of a tree
 token_place :
@@ -90,20 +90,20 @@ token_place Finish t count is = absurd is
 
 -- a reader behind a part is between two parts
 pub between_parts :
-    (was now : Progress) (Before After : List ℕ → Type 0) (item : Item) → Comes was Before item now After → IsBetween now
+    (was now : Progress) (Before After : List ℕ → Type 0) (item : Item) → Came was Before item now After → IsBetween now
 between_parts was now Before After item comes =
-    comes.behind
-    ∙ ap (λ (r : Progress). Reading (place_of r) (offset_of r) []) (sym comes.behind)
+    comes.part.behind
+    ∙ ap (λ (r : Progress). Reading (place_of r) (offset_of r) []) (sym comes.part.behind)
 
 -- it is where the token leaves it, and in the same tree
 pub behind_token :
     {W : Type 0} (was now : Progress) (Before After : List ℕ → Type 0) (offset : ℕ) (t : Tok) (branches next : List (Branch W)) (count more : ℕ)
-    → Comes was Before (record { offset = offset; part = part.Tok t }) now After → IsTreeOf count (place_of was)
+    → Came was Before (record { offset = offset; part = part.Tok t }) now After → IsTreeOf count (place_of was)
     → count ≡ length branches → more ≡ length next → after t branches ≡ Ok next
     → IsTreeOf more (place_of now) × (tree_with 0 (place_of now) ≡ tree_with 0 (place_of was))
 behind_token was now Before After offset t branches next count more comes is counted counts taken =
     let place = token_place (place_of was) t count is in
-    let here : place_of now ≡ place_after (place_of was) (part.Tok t) = ap place_of comes.behind in
+    let here : place_of now ≡ place_after (place_of was) (part.Tok t) = ap place_of comes.part.behind in
     let number : open_after count t ≡ more =
     ap (λ (n : ℕ). open_after n t) counted ∙ sym (open_as_counted t branches next taken) ∙ sym counts in (
       subst (λ (n : ℕ). IsTreeOf n (place_of now)) number

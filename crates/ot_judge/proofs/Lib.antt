@@ -1,9 +1,11 @@
 mod Bounds
 mod Coming
 mod Examples
+mod FirstTriples
 mod Fitting
 mod Headers
 mod Leading
+mod Leaves
 mod Lines
 mod Listed
 mod Lists
@@ -12,6 +14,7 @@ mod Only
 mod SectionRun
 mod Settled
 mod Showing
+mod SomeJudgement
 mod Spelled
 mod Tokens
 mod TreeRun

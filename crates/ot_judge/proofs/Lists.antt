@@ -1,13 +1,18 @@
 -- The question lists of obligations: there is exactly one list of them.
-use Rattle.std.proofs.Common.{◌≡◌, ◌≤◌, List, [], ◌∷◌, length, Option, Some, None, MatchOption, arith, refl, sym, ap, subst, ◌∙◌}
+use Rattle.std.specs.Option.{option_or}
+use Rattle.std.proofs.Common.{◌≡◌, ◌≤◌, List, [], ◌∷◌, length, Option, Some, None, MatchOption, option_map, arith, refl, sym, ap, subst, ◌∙◌}
 use Rattle.diff_graph.specs.declared.lit.Lit.{Lit}
 use Rattle.fn_rules.specs.declared.function.ObName.{ObName}
 use Rattle.ask_core.specs.Plans.{Plan}
 use Rattle.ask_core.specs.Questions.{Questions, QuestionList, FailingEnd}
-use Rattle.ot_judge.specs.Verdicts.{ObQuestions, AreAsked, count_in}
+use Rattle.ot_judge.specs.Verdicts.{ObQuestions, FailingOb, AreAsked, count_in}
 
 abbrev pub asked_of : {W : Type 0} → ObName → Questions W → ObQuestions W
 asked_of ob q = record { ob = ob; questions = q }
+
+-- the failing end of an obligation, or else of the later ones
+abbrev pub first_failing : {W : Type 0} → ObName → Option (FailingEnd W) → Option (FailingOb W) → Option (FailingOb W)
+first_failing ob failing later = option_or (option_map (λ e. record { ob = ob; end = e }) failing) later
 
 module _ {W : Type 0} (plan : ObName → Plan W) where
   -- an obligation's question list, and then those of the later ones unless it has a failing end

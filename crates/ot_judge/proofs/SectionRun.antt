@@ -11,7 +11,8 @@ use Rattle.cert_text.specs.Places.{Place, Start, Line, Tree, Finish, Stands, par
 use Rattle.cert_text.specs.Reading.{Progress}
 use Rattle.ot_judge.specs.declared.refusal.JudgeEnd.{JudgeEnd}
 use Rattle.ot_judge.specs.Parts.{branches_behind}
-use Rattle.ot_judge.specs.Feeding.{Comes, Leads, LeadsAnyway, IsRefusedAnyway, IsRefusedBehind, IsMisspeltBehind, opened, place_of, offset_of, point_of, tree_with}
+use Rattle.ot_judge.specs.Feeding.{Leads, LeadsAnyway, IsRefusedAnyway, IsRefusedBehind, IsMisspeltBehind, opened, place_of, offset_of, point_of, tree_with}
+use Rattle.ot_judge.proofs.Coming.{Came}
 use Rattle.ot_judge.specs.Sections.{IsLineWith}
 use Rattle.ot_judge.proofs.Leading.{leads_on, part_leads, refused_through, misspelt_refused}
 
@@ -73,17 +74,17 @@ module _ {W : Type 0} (plan : ObName → Plan W) where
   newline_branches others Finish offset p tree stands = absurd tree
 
   module _ (was first second now : Progress) (Before Open Closed After : List ℕ → Type 0) (line newline : Item) (ob : ObName)
-      (others : List ObName) (at : IsLineWith (ob ∷ others) (place_of was)) (came : Comes was Before line first Open) where
+      (others : List ObName) (at : IsLineWith (ob ∷ others) (place_of was)) (came : Came was Before line first Open) where
     -- behind the line
     pub tree_begins : IsTreeWith others 1 (place_of first)
     tree_begins =
-        subst (λ (p : Place). IsTreeWith others 1 p) (sym (ap place_of came.behind))
-        (line_opens_tree ob others (place_of was) line.part at came.stands)
+        subst (λ (p : Place). IsTreeWith others 1 p) (sym (ap place_of came.part.behind))
+        (line_opens_tree ob others (place_of was) line.part at came.part.stands)
 
     pub line_leads : Leads plan (point_of was []) Before (point_of first (opened (plan ob))) Open
     line_leads =
         part_leads plan was first Before Open line [] (opened (plan ob)) came
-        (line_branches ob others (place_of was) (offset_of was) line.part at came.stands)
+        (line_branches ob others (place_of was) (offset_of was) line.part at came.part.stands)
 
     pub tree_refused :
         (e : JudgeEnd) → IsRefusedAnyway (point_of first (opened (plan ob))) Open e
@@ -107,17 +108,17 @@ module _ {W : Type 0} (plan : ObName → Plan W) where
           refused_through plan (point_of was []) (point_of second []) Before Closed e tree_leads
           (misspelt_refused plan second [] Closed e misspelt)
 
-      module _ (ended : Comes second Closed newline now After) where
+      module _ (ended : Came second Closed newline now After) where
         pub section_behind : IsLineWith others (place_of now)
         section_behind =
-            subst (λ (p : Place). IsLineWith others p) (sym (ap place_of ended.behind))
-            (newline_closes others (place_of second) newline.part tree_ends ended.stands)
+            subst (λ (p : Place). IsLineWith others p) (sym (ap place_of ended.part.behind))
+            (newline_closes others (place_of second) newline.part tree_ends ended.part.stands)
 
         pub section_leads : Leads plan (point_of was []) Before (point_of now []) After
         section_leads =
             leads_on plan (point_of was []) (point_of second []) (point_of now []) Before Closed After tree_leads
             (part_leads plan second now Closed After newline [] [] ended
-            (newline_branches others (place_of second) (offset_of second) newline.part tree_ends ended.stands))
+            (newline_branches others (place_of second) (offset_of second) newline.part tree_ends ended.part.stands))
 
 -- the text of the last line
 end_is : (place : Place) (p : Part) → IsLineWith [] place → Stands place p → part_text place p ≡ end_text
@@ -131,14 +132,14 @@ end_is Finish p line stands = absurd line
 -- where nothing stands behind it, the last line is all
 pub last_line_given :
     (was now : Progress) (Before After : List ℕ → Type 0) (item : Item) → IsLineWith [] (place_of was)
-    → Comes was Before item now After → After [] → Before end_text
+    → Came was Before item now After → After [] → Before end_text
 last_line_given was now Before After item at came over =
-    subst Before (append-nil (part_text (place_of was) item.part) ∙ end_is (place_of was) item.part at came.stands)
+    subst Before (append-nil (part_text (place_of was) item.part) ∙ end_is (place_of was) item.part at came.part.stands)
     (came.bytes [] over)
 
 -- the last line, and what is refused behind it
 module _ {W : Type 0} (was now : Progress) (Before After : List ℕ → Type 0) (item : Item) (at : IsLineWith [] (place_of was))
-    (came : Comes was Before item now After) where
+    (came : Came was Before item now After) where
   end_branches :
       (plan : ObName → Plan W) (place : Place) (offset : ℕ) (p : Part) → IsLineWith [] place → Stands place p
       → branches_behind plan (record { place = place; offset = offset; branches = [] }) p ≡ Ok []
@@ -153,5 +154,5 @@ module _ {W : Type 0} (was now : Progress) (Before After : List ℕ → Type 0) 
   trailing_refused e misspelt plan =
       refused_through plan (point_of was []) (point_of now []) Before After e
       (part_leads plan was now Before After item [] [] came
-      (end_branches plan (place_of was) (offset_of was) item.part at came.stands))
+      (end_branches plan (place_of was) (offset_of was) item.part at came.part.stands))
       (misspelt_refused plan now [] After e misspelt)

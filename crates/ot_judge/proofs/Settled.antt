@@ -1,8 +1,7 @@
 -- The verdict of an obligation and those behind it, by the search of the first.
 use Rattle.std.specs.Prelude.{IsTrue}
-use Rattle.std.specs.Option.{option_or}
 use Rattle.std.specs.declared.alloc.Global.{Global}
-use Rattle.std.proofs.Common.{◌≡◌, ℕ, ◌+◌, ◌-◌, ◌*◌, ◌≤◌, List, [], ◌∷◌, ◌++◌, length, Option, Some, None, MatchOption, option_map, Vec, arith, refl, sym, ap, subst, ◌∙◌, append_assoc}
+use Rattle.std.proofs.Common.{◌≡◌, ℕ, ◌+◌, ◌-◌, ◌*◌, ◌≤◌, List, [], ◌∷◌, ◌++◌, length, Option, Some, None, MatchOption, Vec, arith, refl, sym, ap, subst, ◌∙◌, append_assoc}
 use Rattle.std.proofs.lemmas.List.{append-nil}
 use Rattle.std.proofs.Math.ListN.{length-append}
 use Rattle.diff_graph.specs.Literals.{IsPossible}
@@ -10,28 +9,26 @@ use Rattle.fn_rules.specs.declared.function.Level.{Level}
 use Rattle.fn_rules.specs.declared.function.ObName.{ObName}
 use Rattle.fn_rules.specs.Functions.{Function}
 use Rattle.fn_rules.specs.Obligations.{is_obligation, obligations_of}
+use Rattle.ask_core.specs.declared.asker.TheConstants.{MAX_QUESTIONS}
 use Rattle.ask_core.specs.declared.tree.Tok.{Tok}
+use Rattle.ask_core.specs.Askers.{longest_path}
 use Rattle.ask_core.specs.Trees.{AnswerTree, Fits, tokens_of}
 use Rattle.ask_core.specs.Questions.{FailingEnd}
 use Rattle.cert_text.specs.Spelling.{AreSpellable, end_text, header_text, ob_text, tokens_text}
 use Rattle.cert_text.specs.Writing.{section_text}
 use Rattle.ot_prove.specs.declared.outcome.Answer.{Answer}
 use Rattle.ot_prove.specs.declared.outcome.Outcome.TheVariants as outcome
-use Rattle.ot_prove.specs.Outcomes.{asked_along}
+use Rattle.ot_prove.specs.Outcomes.{IsDecided, asked_along}
 use Rattle.ot_questions.specs.declared.why.Why.{Why}
 use Rattle.ot_questions.specs.Obligation.{plan_of}
 use Rattle.ot_judge.specs.declared.verdict.Verdict.{Verdict}
 use Rattle.ot_judge.specs.declared.verdict.Verdict.TheVariants as verdict
 use Rattle.ot_judge.specs.Certificates.{AreAnswers, sections_text}
-use Rattle.ot_judge.specs.Verdicts.{ObQuestions, FailingOb, AreAsked, IsDecidedAs, IsWithin, failing_in}
-use Rattle.ot_judge.specs.Proving.{IsOtherVerdict, IsSearched, AreProved, Settles, AreSettled}
+use Rattle.ot_judge.specs.Verdicts.{ObQuestions, AreAsked, IsDecidedAs, IsWithin, failing_in}
+use Rattle.ot_judge.specs.Proving.{IsOtherVerdict, AreProved, Settles, AreSettled}
 use Rattle.ot_judge.proofs.Lines.{header_text_few, ob_text_few, obligations_few}
-use Rattle.ot_judge.proofs.Lists.{Joins, asked_of, begins_with}
+use Rattle.ot_judge.proofs.Lists.{Joins, asked_of, begins_with, first_failing}
 use Rattle.ot_judge.proofs.Spelled.{tree_text_few, whole_spelled}
-
--- the failing end of an obligation, or else of the later ones
-abbrev first_failing : ObName → Option (FailingEnd Why) → Option (FailingOb Why) → Option (FailingOb Why)
-first_failing ob failing later = option_or (option_map (λ (e : FailingEnd Why). record { ob = ob; end = e }) failing) later
 
 section_joined :
     (line text more : List ℕ) → (line ++ text ++ 10 ∷ []) ++ more ≡ line ++ text ++ 10 ∷ more
@@ -40,12 +37,11 @@ section_joined line text more = simp append_assoc
 module _ (f : Function) where
   -- a searched obligation's tree can be spelled
   pub searched_spellable :
-      (ob : ObName) (budget asked : ℕ) (tree : List Tok) → IsSearched f ob budget (outcome.Yes tree asked)
-      → AreSpellable tree
-  searched_spellable ob budget asked tree searched =
+      (ob : ObName) (budget asked : ℕ) (tree : List Tok) → longest_path (plan_of f ob) ≤ MAX_QUESTIONS
+      → IsDecided (plan_of f ob) budget (outcome.Yes tree asked) → AreSpellable tree
+  searched_spellable ob budget asked tree short searched =
       let proof = searched.decided.3 in
-      subst (λ (x : List Tok). AreSpellable x) (sym proof.spelled)
-      (whole_spelled proof.tree (plan_of f ob) searched.short proof.fits)
+      subst (λ (x : List Tok). AreSpellable x) (sym proof.spelled) (whole_spelled proof.tree (plan_of f ob) short proof.fits)
 
   -- where no obligations are left, all of them hold
   pub none_left : (budget : ℕ) (before : List ℕ) → AreSettled f [] budget before before None
@@ -78,8 +74,8 @@ module _ (f : Function) where
       length-append (ob_text ob ++ tokens_text (tokens_of t)) (10 ∷ more) in
       omega arith
 
-  module _ (ob : ObName) (obs : List ObName) (budget asked : ℕ) (tree : List Tok)
-      (searched : IsSearched f ob budget (outcome.Yes tree asked)) where
+  module _ (ob : ObName) (obs : List ObName) (budget asked : ℕ) (tree : List Tok) (short : longest_path (plan_of f ob) ≤ MAX_QUESTIONS)
+      (searched : IsDecided (plan_of f ob) budget (outcome.Yes tree asked)) where
     abbrev behind : List (ObQuestions Why) → List (ObQuestions Why)
     behind later = asked_of ob searched.questions ∷ later
 
@@ -100,7 +96,7 @@ module _ (f : Function) where
         → AreProved f obs (budget - asked) later middle after → AreProved f (ob ∷ obs) budget (behind later) before after
     behind_proved later before middle after wrote proved =
         let proof = searched.decided.3 in
-        let spellable = whole_spelled proof.tree (plan_of f ob) searched.short proof.fits in
+        let spellable = whole_spelled proof.tree (plan_of f ob) short proof.fits in
         let more = sections_text obs proved.trees in
         let text = ob_text ob ++ tokens_text (tokens_of proof.tree) ++ 10 ∷ [] in
         let first : middle ≡ before ++ text =
@@ -147,7 +143,7 @@ module _ (f : Function) where
   -- an obligation that fails somewhere is the last that is searched
   pub settled_refuted :
       (ob : ObName) (obs : List ObName) (budget : ℕ) (answers : Vec Answer Global) (why : Why) (before after : List ℕ)
-      → IsTrue (is_obligation f.head ob) → IsSearched f ob budget (outcome.No answers why)
+      → IsTrue (is_obligation f.head ob) → IsDecided (plan_of f ob) budget (outcome.No answers why)
       → AreSettled f (ob ∷ obs) budget before after (Some (verdict.No ob answers why))
   settled_refuted ob obs budget answers why before after listed searched =
       let q = searched.questions in
@@ -174,7 +170,7 @@ module _ (f : Function) where
   -- where one has more questions than are left, so have all
   pub settled_spent :
       (ob : ObName) (obs : List ObName) (budget : ℕ) (before after : List ℕ)
-      → (lists : List (ObQuestions Why)) × AreAsked (plan_of f) obs lists → IsSearched f ob budget outcome.Spent
+      → (lists : List (ObQuestions Why)) × AreAsked (plan_of f) obs lists → IsDecided (plan_of f ob) budget outcome.Spent
       → AreSettled f (ob ∷ obs) budget before after (Some verdict.Spent)
   settled_spent ob obs budget before after later searched =
       let begins = begins_with (plan_of f) ob obs searched.questions searched.listed later in

@@ -76,20 +76,19 @@ numbers_few (n ∷ ns) some few short =
     length-append (decimal n) (more_numbers_text ns) in
     omega arith
 
-cycle_few : (picks : List ℕ) → IsSpellable (token.Cycle picks) → length (tokens_text (token.Cycle picks ∷ [])) ≤ 73
+-- a cycle has at most 73 bytes
+pub cycle_few : (picks : List ℕ) → IsSpellable (token.Cycle picks) → length (token_text (token.Cycle picks)) ≤ 73
 cycle_few picks spellable =
     let numbers = numbers_few picks spellable.0 spellable.1 spellable.2 in
     let closed : length (numbers_text picks ++ 59 ∷ []) ≡ length (numbers_text picks) + 1 =
     length-append (numbers_text picks) (59 ∷ []) in
-    let alone : length (tokens_text (token.Cycle picks ∷ [])) ≡ length (token_text (token.Cycle picks)) =
-    ap length (append-nil (token_text (token.Cycle picks))) in
     omega arith
 
-left_spellable : (ts us : List Tok) → AreSpellable (ts ++ us) → AreSpellable ts
+pub left_spellable : (ts us : List Tok) → AreSpellable (ts ++ us) → AreSpellable ts
 left_spellable [] us all = tt
 left_spellable (t ∷ ts) us all = (all.0, left_spellable ts us all.1)
 
-right_spellable : (ts us : List Tok) → AreSpellable (ts ++ us) → AreSpellable us
+pub right_spellable : (ts us : List Tok) → AreSpellable (ts ++ us) → AreSpellable us
 right_spellable [] us all = all
 right_spellable (t ∷ ts) us all = right_spellable ts us all.1
 
@@ -149,4 +148,8 @@ module _ {W : Type 0} where
   tree_text_few (Question t u) Holds w fits spellable = absurd fits
   tree_text_few (Question t u) (Fails why) w fits spellable = absurd fits
   tree_text_few End p w fits spellable = omega arith
-  tree_text_few (Impossible picks) p w fits spellable = let few = cycle_few picks spellable.0 in omega arith
+  tree_text_few (Impossible picks) p w fits spellable =
+      let few = cycle_few picks spellable.0 in
+      let alone : length (tokens_text (token.Cycle picks ∷ [])) ≡ length (token_text (token.Cycle picks)) =
+      ap length (append-nil (token_text (token.Cycle picks))) in
+      omega arith

@@ -14,7 +14,8 @@ use Rattle.cert_text.specs.Reading.{Progress}
 use Rattle.ot_outside.specs.Faults.{Rose}
 use Rattle.ot_judge.specs.declared.refusal.JudgeEnd.{JudgeEnd}
 use Rattle.ot_judge.specs.Parts.{Point, end_of_token}
-use Rattle.ot_judge.specs.Feeding.{Comes, IsKept, IsMisspeltBehind, IsRefusedAnyway, IsTreeOf, Leads, LeadsAnyway, opened, point_of, tree_with}
+use Rattle.ot_judge.specs.Feeding.{IsKept, IsMisspeltBehind, IsRefusedAnyway, IsTreeOf, Leads, LeadsAnyway, opened, point_of, tree_with}
+use Rattle.ot_judge.proofs.Coming.{Came}
 use Rattle.ot_judge.proofs.Leading.{leads_on, leads_same, misspelt_refused, part_leads, refused_through, token_refused}
 
 -- what is kept is kept over two calls
@@ -33,10 +34,6 @@ module _ {F : Type 0} (faults bound : F → ℕ) (held : F → Option ℕ) (keep
 
   pub rose_before : Rose (faults one) (faults two) → IsKept faults bound held keeps two three → Rose (faults one) (faults three)
   rose_before rose b = omega (arith, b.more_faults)
-
-pub kept_same : {F : Type 0} (faults bound : F → ℕ) (held : F → Option ℕ) (keeps : F → F → Type 0) (one : F) → IsKept faults bound held keeps one one
-kept_same faults bound held keeps one =
-    record { more_faults = omega arith; no_more_bytes = omega arith; same_object = refl; still_keeps = λ before h. h }
 
 module _ {N W : Type 0} (plan : N → Plan W) where
   -- as many places as branches are open
@@ -69,7 +66,7 @@ module _ {W : Type 0} where
     -- a token that is taken leads behind it
     pub leads_token :
         (offset : ℕ) (t : Tok) (next : List (Branch W))
-        → Comes was Between (record { offset = offset; part = part.Tok t }) now After → after t branches ≡ Ok next
+        → Came was Between (record { offset = offset; part = part.Tok t }) now After → after t branches ≡ Ok next
         → LeadsAnyway first Before (point_of now next) After
     leads_token offset t next comes taken plan =
         leads_on plan first (point_of was branches) (point_of now next) Before Between After (leads plan)
@@ -78,11 +75,11 @@ module _ {W : Type 0} where
     -- one that is refused, and bytes that are no token, are refused
     pub refused_token :
         (offset : ℕ) (t : Tok) (why : CheckEnd)
-        → Comes was Between (record { offset = offset; part = part.Tok t }) now After → IsCauseOf why t branches
-        → IsRefusedAnyway first Before (end_of_token offset why)
-    refused_token offset t why comes cause plan =
+        → Came was Between (record { offset = offset; part = part.Tok t }) now After → (rest : List ℕ) × After rest
+        → IsCauseOf why t branches → IsRefusedAnyway first Before (end_of_token offset why)
+    refused_token offset t why comes some cause plan =
         refused_through plan first (point_of was branches) Before Between (end_of_token offset why) (leads plan)
-        (token_refused plan was now Between After offset t branches why comes cause)
+        (token_refused plan was now Between After offset t branches why comes some cause)
 
     pub refused_bytes : (e : JudgeEnd) → IsMisspeltBehind was Between e → IsRefusedAnyway first Before e
     refused_bytes e misspelt plan =

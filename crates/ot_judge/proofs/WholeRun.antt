@@ -1,5 +1,5 @@
 -- A whole certificate, from its header to its last line.
-use Rattle.std.proofs.Common.{◌≡◌, ℕ, IsTrue, List, [], ◌++◌, Option, Some, Result, Ok, Err, ◌⊎◌, inl, inr, refl, sym, ap, subst, ◌∙◌}
+use Rattle.std.proofs.Common.{◌≡◌, ℕ, true, IsTrue, List, [], ◌++◌, Option, Some, Result, Ok, Err, ◌⊎◌, inl, inr, refl, sym, ap, subst, ◌∙◌}
 use Rattle.fn_rules.specs.declared.function.Head.{Head}
 use Rattle.fn_rules.specs.declared.function.Level.{Level}
 use Rattle.fn_rules.specs.declared.function.Level.TheVariants.{Tp1, Tp2}
@@ -18,7 +18,8 @@ use Rattle.ot_judge.specs.declared.refusal.JudgeEnd.{JudgeEnd}
 use Rattle.ot_judge.specs.declared.refusal.JudgeEnd.TheVariants as judge
 use Rattle.ot_judge.specs.Parts.{Point, IsJudged, point_behind}
 use Rattle.ot_judge.specs.Refusals.{IsJudgement, IsWant, IsWhole, start_of}
-use Rattle.ot_judge.specs.Feeding.{Comes, IsMisspeltBehind, IsRefusedBehind, Leads, MayGive, offset_of, place_of, point_of}
+use Rattle.ot_judge.specs.Feeding.{IsMisspeltBehind, IsRefusedBehind, Leads, MayGive, MayGiveOf, MayHave, offset_of, place_of, point_of, Whole}
+use Rattle.ot_judge.proofs.Coming.{Came}
 use Rattle.ot_judge.specs.Sections.{IsLineWith}
 use Rattle.ot_judge.proofs.Fitting.{last_line_fits}
 use Rattle.ot_judge.proofs.Leading.{leads_on, misspelt_refused, part_leads, refused_through}
@@ -41,6 +42,15 @@ line_of_level :
 line_of_level f Tp1 = refl
 line_of_level f Tp2 = refl
 
+-- an answer that is no certificate
+pub answered :
+    (f : Function) (Have : Whole → Type 0) (May : Whole → List ℕ → Type 0) (e : JudgeEnd)
+    → ((all : Whole) → Have all → IsRefusedBehind (plan_of f) (start_of f) (May all) e)
+    → IsWant (Err e) ⊎ ((all : Whole) → Have all → (bytes : List ℕ) × May all bytes × IsJudgement f bytes (Err e))
+answered f Have May (judge.Refused offset why) refused = inr (λ all have. refused all have tt)
+answered f Have May judge.Failed refused = inl (inl refl)
+answered f Have May judge.NoMemory refused = inl (inr refl)
+
 module _ (f : Function) (Before : List ℕ → Type 0) where
   abbrev pub reader_at_start : Progress
   reader_at_start = Reading (Start (obligations_of f.head Tp1) (obligations_of f.head Tp2)) 0 []
@@ -52,22 +62,14 @@ module _ (f : Function) (Before : List ℕ → Type 0) where
       is ∙ ap (λ (l : List ObName). Reading (Start l tp2) 0 []) (one ∙ ap (λ (h : Head). obligations_of h Tp1) same)
       ∙ ap (λ (l : List ObName). Reading (Start (obligations_of f.head Tp1) l) 0 []) (two ∙ ap (λ (h : Head). obligations_of h Tp2) same)
 
-  -- an answer that is no certificate
-  pub answered :
-      (e : JudgeEnd) → IsRefusedBehind (plan_of f) (start_of f) Before e
-      → IsWant (Err e) ⊎ ((bytes : List ℕ) × Before bytes × IsJudgement f bytes (Err e))
-  answered (judge.Refused offset why) refused = inr (refused tt)
-  answered judge.Failed refused = inl (inl refl)
-  answered judge.NoMemory refused = inl (inr refl)
-
   pub header_refused : (e : JudgeEnd) → IsMisspeltBehind reader_at_start Before e → IsRefusedBehind (plan_of f) (start_of f) Before e
   header_refused e misspelt = misspelt_refused (plan_of f) reader_at_start [] Before e misspelt
 
   module _ (level : Level) (first : Progress) (Between : List ℕ → Type 0)
-      (header : Comes reader_at_start Before (record { offset = 0; part = part.Header level }) first Between) where
+      (header : Came reader_at_start Before (record { offset = 0; part = part.Header level }) first Between) where
     pub first_line : IsLineWith (obligations_of f.head level) (place_of first)
     first_line =
-        subst (λ (p : Place). IsLineWith (obligations_of f.head level) p) (sym (ap place_of header.behind)) (line_of_level f level)
+        subst (λ (p : Place). IsLineWith (obligations_of f.head level) p) (sym (ap place_of header.part.behind)) (line_of_level f level)
 
     header_leads : Leads (plan_of f) (start_of f) Before (point_of first []) Between
     header_leads =
@@ -86,12 +88,25 @@ module _ (f : Function) (Before : List ℕ → Type 0) where
       whole line ends =
           let there = sections end_text ends in
           let judged : IsJudged (plan_of f) (Ok tt) (point_behind (start_of f) (part.Header level) []) there.0 =
-          subst (λ (p : Point Why). IsJudged (plan_of f) (Ok tt) p there.0) (ap (λ (r : Progress). point_of r []) header.behind)
+          subst (λ (p : Point Why). IsJudged (plan_of f) (Ok tt) p there.0) (ap (λ (r : Progress). point_of r []) header.part.behind)
           (there.2 (Ok tt) (last_judged (plan_of f) (place_of last) (offset_of last) line)) in (
             part_text (place_of reader_at_start) (part.Header level) ++ there.0,
             header.bytes there.0 there.1,
-            (judged.0, (header.stands, (there.0, [], refl, refl, judged.1))),
+            (judged.0, (header.part.stands, (there.0, [], refl, refl, judged.1))),
           )
+
+-- some bytes that a feed may give have the judgement
+module _ {F : Type 0} (left : F → Option (List ℕ)) (bound : F → ℕ) (gave hand : F → List ℕ) where
+  pub judged_some :
+      (f : Function) (old new : F) (answer : Result Level JudgeEnd)
+      → (all : Whole) × (all.may ≡ true) × MayHave left bound gave hand new all
+      → IsWant answer ⊎ ((all : Whole) → MayHave left bound gave hand new all
+      → (bytes : List ℕ) × MayGiveOf left bound gave old all bytes × IsJudgement f bytes answer)
+      → IsWant answer ⊎ ((bytes : List ℕ) × MayGive left bound old bytes × IsJudgement f bytes answer)
+  unfolding MayGiveOf
+  judged_some f old new answer some (inl want) = inl want
+  judged_some f old new answer (all, may, have) (inr judged) =
+      let there = judged all have in inr (there.0, there.1.0 may, there.2)
 
 -- no other answer is the judgement of bytes that are told
 module _ {F : Type 0} (left : F → Option (List ℕ)) (bound : F → ℕ) where

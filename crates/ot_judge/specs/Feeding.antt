@@ -1,10 +1,12 @@
 -- What a judge gets of a feed through a reader, and what no call does to a feed.
-use Rattle.std.specs.Prelude.{◌≡◌, ℕ, ◌+◌, ◌≤◌, List, [], ◌∷◌, ◌++◌, length, Option, Result, Err}
+use Rattle.std.specs.Prelude.{◌≡◌, ℕ, Bool, true, ◌+◌, ◌≤◌, List, [], ◌∷◌, ◌++◌, length, Option, Result, Err}
 use Rattle.std.specs.Option.{ForSome, ForNone}
+use Rattle.std.specs.Io.KnownBytes.{IsAtEnd}
 use Rattle.fn_rules.specs.declared.function.ObName.{ObName}
 use Rattle.ask_core.specs.Plans.{Plan}
 use Rattle.ask_core.specs.Trees.{Branch}
 use Rattle.cert_text.specs.declared.item.Item.{Item}
+use Rattle.cert_text.specs.declared.item.Part.{Part}
 use Rattle.cert_text.specs.declared.item.CertEnd.{CertEnd}
 use Rattle.cert_text.specs.Places.{Place, Start, Line, Tree, Finish, Stands, part_text, place_after}
 use Rattle.cert_text.specs.Reading.{Progress, Reading, Refused, EndsThere}
@@ -66,17 +68,39 @@ unfoldable pub MayGive : {F : Type 0} → (F → Option (List ℕ)) → (F → �
 MayGive left bound feed bytes =
     ForSome (left feed) (λ told. bytes ≡ told) × ForNone (left feed) (length bytes ≤ bound feed)
 
--- In what follows `Before` and `After` say which bytes a feed may give, at an earlier and at a later state.
+-- nothing is left of a feed, and nothing stands at hand
+pub record IsSpent {F : Type 0} (left : F → Option (List ℕ)) (hand : F → List ℕ) (feed : F) : Type 0 where
+  pub end : IsAtEnd (left feed)
+  pub none : hand feed ≡ []
 
--- a part comes of a reader between two parts: it stands there, its bytes are taken, some bytes may still be given, and the
--- reader is behind it
-pub record Comes (was : Progress) (Before : List ℕ → Type 0) (item : Item) (now : Progress) (After : List ℕ → Type 0) : Type 0 where
+-- bytes that a feed is taken to have in all, and whether those that it has not given are ones that it may give
+pub record Whole : Type 0 where
+  pub bytes : List ℕ
+  pub may : Bool
+
+-- a feed is taken to give these bytes and then to end: what it gave until then and these are all of it
+unfoldable pub MayGiveOf : {F : Type 0} → (F → Option (List ℕ)) → (F → ℕ) → (F → List ℕ) → F → Whole → List ℕ → Type 0
+MayGiveOf left bound gave feed all bytes = (all.may ≡ true → MayGive left bound feed bytes) × (all.bytes ≡ gave feed ++ bytes)
+
+-- these are all of a feed: what it gave, and then some bytes, of which there are none where nothing is left
+abbrev pub MayHave :
+    {F : Type 0} → (F → Option (List ℕ)) → (F → ℕ) → (F → List ℕ) → (F → List ℕ) → F → Whole → Type 0
+MayHave left bound gave hand feed all =
+    (rest : List ℕ) × MayGiveOf left bound gave feed all rest × (IsSpent left hand feed → rest ≡ [])
+
+-- a part comes of a reader between two parts: it stands there, and the reader is behind it
+pub record Comes (was : Progress) (item : Item) (now : Progress) : Type 0 where
   pub offset : item.offset ≡ offset_of was
   pub stands : Stands (place_of was) item.part
-  pub bytes : (rest : List ℕ) → After rest → Before (part_text (place_of was) item.part ++ rest)
-  pub some : (rest : List ℕ) × After rest
   pub behind :
       now ≡ Reading (place_after (place_of was) item.part) (offset_of was + length (part_text (place_of was) item.part)) []
+
+-- In what follows `Before` and `After` say which bytes a feed may give, at an earlier and at a later state: here by all bytes
+-- of the feed, and below by themselves.
+
+-- the bytes of a part are taken: before them it might give these and then what it may give behind them
+abbrev pub IsTaken : Place → Part → (Whole → List ℕ → Type 0) → (Whole → List ℕ → Type 0) → Type 0
+IsTaken place p Before After = (all : Whole) (rest : List ℕ) → After all rest → Before all (part_text place p ++ rest)
 
 -- the end is a refusal
 abbrev pub IsRefused : JudgeEnd → Type 0

@@ -4,6 +4,7 @@ pub mod Parts
 pub mod Proving
 pub mod Refusals
 pub mod Sections
+pub mod Sizes
 pub mod Verdicts
 pub use Rattle.cert_text.specs.Places
 pub use Rattle.cert_text.specs.Reading

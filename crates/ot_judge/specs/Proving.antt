@@ -1,27 +1,14 @@
--- The search of obligations one after another: what each search comes to, and what stands behind all of them.
-use Rattle.std.specs.Prelude.{◌≡◌, ℕ, ◌+◌, ◌*◌, ◌<◌, ◌≤◌, List, [], ◌++◌, length, Option, Some, None}
+-- The search of obligations one after another: what stands behind all of them.
+use Rattle.std.specs.Prelude.{◌≡◌, ℕ, ◌+◌, ◌*◌, ◌<◌, ◌≤◌, List, ◌++◌, length, Option, Some, None}
 use Rattle.fn_rules.specs.declared.function.ObName.{ObName}
 use Rattle.fn_rules.specs.Functions.{Function}
-use Rattle.ask_core.specs.declared.asker.TheConstants.{MAX_QUESTIONS}
-use Rattle.ask_core.specs.Askers.{longest_path}
 use Rattle.ask_core.specs.Trees.{AnswerTree}
-use Rattle.ask_core.specs.Questions.{Questions, QuestionList}
-use Rattle.ot_prove.specs.declared.outcome.Outcome.{Outcome}
-use Rattle.ot_prove.specs.Outcomes.{AreAllPossible, Decides}
 use Rattle.ot_questions.specs.declared.why.Why.{Why}
 use Rattle.ot_questions.specs.Obligation.{plan_of}
 use Rattle.ot_judge.specs.declared.verdict.Verdict.{Verdict}
 use Rattle.ot_judge.specs.declared.verdict.Verdict.TheVariants.{Yes, No, Spent}
 use Rattle.ot_judge.specs.Certificates.{AreAnswers, sections_text}
 use Rattle.ot_judge.specs.Verdicts.{ObQuestions, AreAsked, count_in, failing_in, AskTheQuestions, IsRefutation}
-
--- the outcome is that of the obligation's question list
-pub record IsSearched (f : Function) (ob : ObName) (budget : ℕ) (outcome : Outcome Why) : Type 0 where
-  pub short : longest_path (plan_of f ob) ≤ MAX_QUESTIONS
-  pub questions : Questions Why
-  pub listed : QuestionList (plan_of f ob) [] questions
-  pub possible : AreAllPossible questions
-  pub decided : Decides (plan_of f ob) budget questions outcome
 
 -- all obligations hold, and their trees, with exactly these questions, were written behind the bytes before: at most 74
 -- bytes a question and 89 an obligation

@@ -1,11 +1,10 @@
 //! Whether the bytes of a feed are a certificate of a function.
 ghost use Rattle.std.specs.Prelude.{◌≡◌, ◌⊎◌, ℕ, ◌^◌, ◌<◌, List, Some, Result, IfErr, IfOk};
-ghost use Rattle.std.specs.Io.KnownBytes.{IsAtEnd};
 ghost use Rattle.fn_rules.specs.declared.function.Level.{Level};
 ghost use Rattle.fn_rules.specs.Rules.{function_of};
 ghost use Rattle.ot_outside.specs.Faults.{Rose};
 ghost use Rattle.ot_judge.specs.declared.refusal.JudgeEnd.{JudgeEnd};
-ghost use Rattle.ot_judge.specs.Feeding.{IsKept, IsTruncated, MayGive};
+ghost use Rattle.ot_judge.specs.Feeding.{IsKept, IsSpent, IsTruncated, MayGive, MayGiveOf, MayHave, Whole};
 ghost use Rattle.ot_judge.specs.Refusals.{IsJudgement, IsWant};
 
 use crate::judge::judge_all;
@@ -26,10 +25,15 @@ pub fn check_all<F: Feed>(alloc: Global, rules: &Rules, feed: &mut F) -> Result<
     // Where the feed tells its bytes, these are the bytes.
     ensures judged { IsWant result ⊎ ((bytes : List ℕ) × MayGive F.left F.bound feed.old bytes
         × IsJudgement (function_of rules.now) bytes result) }
+    // Whether or not the feed tells its bytes: of all bytes that begin with those that it gave, and are no more where nothing
+    // is left, those that it had not given before the call have this judgement.
+    ensures given { IsWant result ⊎ ((all : Whole) → MayHave F.left F.bound F.gave F.hand feed.new all →
+        (bytes : List ℕ) × MayGiveOf F.left F.bound F.gave feed.old all bytes
+        × IsJudgement (function_of rules.now) bytes result) }
     ensures only { (bytes : List ℕ) (other : Result Level JudgeEnd) → F.left feed.old ≡ Some bytes
         → IsJudgement (function_of rules.now) bytes other → IsWant result ⊎ (result ≡ other) }
-    ensures nothing_left { IfOk result (λ _. IsAtEnd (F.left feed.new)) }
-    ensures truncated { IfErr result (λ e. IsTruncated e → IsAtEnd (F.left feed.new)) }
+    ensures nothing_left { IfOk result (λ _. IsSpent F.left F.hand feed.new) }
+    ensures truncated { IfErr result (λ e. IsTruncated e → IsSpent F.left F.hand feed.new) }
     ensures failed { IfErr result (λ e. e ≡ JudgeEnd.Failed → Rose (F.faults feed.old) (F.faults feed.new)) }
     ensures kept { IsKept F.faults F.bound F.held F.keeps feed.old feed.new }
 {

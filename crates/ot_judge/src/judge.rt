@@ -1,7 +1,6 @@
 //! The judge of certificates.
 ghost use Rattle.std.specs.Prelude.{◌≡◌, ◌⊎◌, ℕ, ◌+◌, ◌^◌, ◌<◌, ◌≤◌, true, List, [], ◌∷◌, Some, Ok, Err, Result, IfErr, IfOk, OnOk, IsTrue};
 ghost use Rattle.std.specs.List.{list_all};
-ghost use Rattle.std.specs.Io.KnownBytes.{IsAtEnd};
 ghost use Rattle.fn_rules.specs.declared.function.Level.{Level};
 ghost use Rattle.fn_rules.specs.declared.function.ObName.{ObName};
 ghost use Rattle.fn_rules.specs.Obligations.{is_obligation};
@@ -12,7 +11,7 @@ ghost use Rattle.ot_outside.specs.Faults.{Rose};
 ghost use Rattle.ot_questions.specs.declared.why.Why.{Why};
 ghost use Rattle.ot_questions.specs.Obligation.{plan_of};
 ghost use Rattle.ot_judge.specs.declared.refusal.JudgeEnd.{JudgeEnd};
-ghost use Rattle.ot_judge.specs.Feeding.{Comes, IsBetween, IsKept, IsMisspeltBehind, IsRefusedAnyway, IsRefusedBehind, IsTreeOf, IsTruncated, Leads, LeadsAnyway, MayGive, offset_of, opened, place_of, point_of, tree_with};
+ghost use Rattle.ot_judge.specs.Feeding.{Comes, IsBetween, IsKept, IsMisspeltBehind, IsRefusedAnyway, IsRefusedBehind, IsSpent, IsTaken, IsTreeOf, IsTruncated, Leads, LeadsAnyway, MayGiveOf, MayHave, offset_of, opened, place_of, point_of, tree_with, Whole};
 ghost use Rattle.ot_judge.specs.Refusals.{IsJudgement, IsWant};
 ghost use Rattle.ot_judge.specs.Sections.{IsLineWith, IsStart};
 
@@ -42,13 +41,14 @@ fn judge_in<'a, F: Feed>(
     requires tree { IsTreeOf 1 (place_of reader.old) }
     requires room { fed_to reader.old + F.bound feed.old < 2 ^ 63 }
     ensures closed { OnOk result (IsBetween reader.new × (place_of reader.new ≡ tree_with 0 (place_of reader.old))) }
-    ensures leads { OnOk result (LeadsAnyway
-        (point_of reader.old (opened (plan_of (function_of rules.now) ob))) (MayGive F.left F.bound feed.old)
-        (point_of reader.new []) (MayGive F.left F.bound feed.new)) }
-    ensures refused { IfErr result (IsRefusedAnyway
-        (point_of reader.old (opened (plan_of (function_of rules.now) ob))) (MayGive F.left F.bound feed.old)) }
+    ensures leads { OnOk result ((all : Whole) → LeadsAnyway
+        (point_of reader.old (opened (plan_of (function_of rules.now) ob))) (MayGiveOf F.left F.bound F.gave feed.old all)
+        (point_of reader.new []) (MayGiveOf F.left F.bound F.gave feed.new all)) }
+    ensures refused { IfErr result (λ e. (all : Whole) → MayHave F.left F.bound F.gave F.hand feed.new all →
+        IsRefusedAnyway
+        (point_of reader.old (opened (plan_of (function_of rules.now) ob))) (MayGiveOf F.left F.bound F.gave feed.old all) e) }
     ensures room { OnOk result (fed_to reader.new + F.bound feed.new ≤ fed_to reader.old + F.bound feed.old) }
-    ensures spent { IfErr result (λ e. IsTruncated e → IsAtEnd (F.left feed.new)) }
+    ensures spent { IfErr result (λ e. IsTruncated e → IsSpent F.left F.hand feed.new) }
     ensures failed { IfErr result (λ e. e ≡ JudgeEnd.Failed → Rose (F.faults feed.old) (F.faults feed.new)) }
     ensures kept { IsKept F.faults F.bound F.held F.keeps feed.old feed.new }
 {
@@ -69,12 +69,14 @@ fn judge_section<F: Feed>(
     requires room { fed_to reader.old + F.bound feed.old < 2 ^ 63 }
     ensures behind { OnOk result (IsBetween reader.new
         × ((others : List ObName) → IsLineWith (ob ∷ others) (place_of reader.old) → IsLineWith others (place_of reader.new))) }
-    ensures leads { OnOk result (Leads (plan_of (function_of rules.now))
-        (point_of reader.old []) (MayGive F.left F.bound feed.old) (point_of reader.new []) (MayGive F.left F.bound feed.new)) }
-    ensures refused { IfErr result (IsRefusedBehind (plan_of (function_of rules.now))
-        (point_of reader.old []) (MayGive F.left F.bound feed.old)) }
+    ensures leads { OnOk result ((all : Whole) → Leads (plan_of (function_of rules.now))
+        (point_of reader.old []) (MayGiveOf F.left F.bound F.gave feed.old all)
+        (point_of reader.new []) (MayGiveOf F.left F.bound F.gave feed.new all)) }
+    ensures refused { IfErr result (λ e. (all : Whole) → MayHave F.left F.bound F.gave F.hand feed.new all →
+        IsRefusedBehind (plan_of (function_of rules.now))
+        (point_of reader.old []) (MayGiveOf F.left F.bound F.gave feed.old all) e) }
     ensures room { OnOk result (fed_to reader.new + F.bound feed.new ≤ fed_to reader.old + F.bound feed.old) }
-    ensures spent { IfErr result (λ e. IsTruncated e → IsAtEnd (F.left feed.new)) }
+    ensures spent { IfErr result (λ e. IsTruncated e → IsSpent F.left F.hand feed.new) }
     ensures failed { IfErr result (λ e. e ≡ JudgeEnd.Failed → Rose (F.faults feed.old) (F.faults feed.new)) }
     ensures kept { IsKept F.faults F.bound F.held F.keeps feed.old feed.new }
 {
@@ -98,12 +100,14 @@ fn judge_sections<F: Feed>(
     requires lines { IsLineWith names.now (place_of reader.old) }
     requires room { fed_to reader.old + F.bound feed.old < 2 ^ 63 }
     ensures behind { OnOk result (IsBetween reader.new × IsLineWith [] (place_of reader.new)) }
-    ensures leads { OnOk result (Leads (plan_of (function_of rules.now))
-        (point_of reader.old []) (MayGive F.left F.bound feed.old) (point_of reader.new []) (MayGive F.left F.bound feed.new)) }
-    ensures refused { IfErr result (IsRefusedBehind (plan_of (function_of rules.now))
-        (point_of reader.old []) (MayGive F.left F.bound feed.old)) }
+    ensures leads { OnOk result ((all : Whole) → Leads (plan_of (function_of rules.now))
+        (point_of reader.old []) (MayGiveOf F.left F.bound F.gave feed.old all)
+        (point_of reader.new []) (MayGiveOf F.left F.bound F.gave feed.new all)) }
+    ensures refused { IfErr result (λ e. (all : Whole) → MayHave F.left F.bound F.gave F.hand feed.new all →
+        IsRefusedBehind (plan_of (function_of rules.now))
+        (point_of reader.old []) (MayGiveOf F.left F.bound F.gave feed.old all) e) }
     ensures room { OnOk result (fed_to reader.new + F.bound feed.new ≤ fed_to reader.old + F.bound feed.old) }
-    ensures spent { IfErr result (λ e. IsTruncated e → IsAtEnd (F.left feed.new)) }
+    ensures spent { IfErr result (λ e. IsTruncated e → IsSpent F.left F.hand feed.new) }
     ensures failed { IfErr result (λ e. e ≡ JudgeEnd.Failed → Rose (F.faults feed.old) (F.faults feed.new)) }
     ensures kept { IsKept F.faults F.bound F.held F.keeps feed.old feed.new }
 {
@@ -118,11 +122,14 @@ fn read_header<F: Feed>(reader: &mut Reader, feed: &mut F) -> Result<Level, Judg
     requires between { IsBetween reader.old }
     requires start { IsStart (place_of reader.old) }
     requires room { fed_to reader.old + F.bound feed.old < 2 ^ 63 }
-    ensures header { IfOk result (λ level. Comes reader.old (MayGive F.left F.bound feed.old)
-        (record { offset = offset_of reader.old; part = Part.Header level }) reader.new (MayGive F.left F.bound feed.new)) }
+    ensures header { IfOk result (λ level. Comes reader.old
+        (record { offset = offset_of reader.old; part = Part.Header level }) reader.new) }
+    ensures bytes { IfOk result (λ level. IsTaken (place_of reader.old) (Part.Header level)
+        (MayGiveOf F.left F.bound F.gave feed.old) (MayGiveOf F.left F.bound F.gave feed.new)) }
     ensures room { IfOk result (λ _. fed_to reader.new + F.bound feed.new ≤ fed_to reader.old + F.bound feed.old) }
-    ensures misspelt { IfErr result (IsMisspeltBehind reader.old (MayGive F.left F.bound feed.old)) }
-    ensures spent { IfErr result (λ e. IsTruncated e → IsAtEnd (F.left feed.new)) }
+    ensures misspelt { IfErr result (λ e. (all : Whole) → MayHave F.left F.bound F.gave F.hand feed.new all →
+        IsMisspeltBehind reader.old (MayGiveOf F.left F.bound F.gave feed.old all) e) }
+    ensures spent { IfErr result (λ e. IsTruncated e → IsSpent F.left F.hand feed.new) }
     ensures failed { IfErr result (λ e. e ≡ JudgeEnd.Failed → Rose (F.faults feed.old) (F.faults feed.new)) }
     ensures kept { IsKept F.faults F.bound F.held F.keeps feed.old feed.new }
 {
@@ -138,10 +145,12 @@ fn read_end<F: Feed>(reader: &mut Reader, feed: &mut F) -> Result<(), JudgeEnd>
     requires between { IsBetween reader.old }
     requires line { IsLineWith [] (place_of reader.old) }
     requires room { fed_to reader.old + F.bound feed.old < 2 ^ 63 }
-    ensures end { OnOk result (MayGive F.left F.bound feed.old end_text) }
-    ensures refused { IfErr result (IsRefusedAnyway {W = Why} (point_of reader.old []) (MayGive F.left F.bound feed.old)) }
-    ensures nothing_left { OnOk result (IsAtEnd (F.left feed.new)) }
-    ensures spent { IfErr result (λ e. IsTruncated e → IsAtEnd (F.left feed.new)) }
+    ensures end { OnOk result ((all : Whole) → MayHave F.left F.bound F.gave F.hand feed.new all →
+        MayGiveOf F.left F.bound F.gave feed.old all end_text) }
+    ensures refused { IfErr result (λ e. (all : Whole) → MayHave F.left F.bound F.gave F.hand feed.new all →
+        IsRefusedAnyway {W = Why} (point_of reader.old []) (MayGiveOf F.left F.bound F.gave feed.old all) e) }
+    ensures nothing_left { OnOk result (IsSpent F.left F.hand feed.new) }
+    ensures spent { IfErr result (λ e. IsTruncated e → IsSpent F.left F.hand feed.new) }
     ensures failed { IfErr result (λ e. e ≡ JudgeEnd.Failed → Rose (F.faults feed.old) (F.faults feed.new)) }
     ensures kept { IsKept F.faults F.bound F.held F.keeps feed.old feed.new }
 {
@@ -163,10 +172,11 @@ pub(crate) fn judge_all<F: Feed>(
     requires head { head.now ≡ (function_of rules.now).head }
     requires room { F.bound feed.old < 2 ^ 63 }
 
-    ensures judged { IsWant result ⊎ ((bytes : List ℕ) × MayGive F.left F.bound feed.old bytes
+    ensures judged { IsWant result ⊎ ((all : Whole) → MayHave F.left F.bound F.gave F.hand feed.new all →
+        (bytes : List ℕ) × MayGiveOf F.left F.bound F.gave feed.old all bytes
         × IsJudgement (function_of rules.now) bytes result) }
-    ensures nothing_left { IfOk result (λ _. IsAtEnd (F.left feed.new)) }
-    ensures truncated { IfErr result (λ e. IsTruncated e → IsAtEnd (F.left feed.new)) }
+    ensures nothing_left { IfOk result (λ _. IsSpent F.left F.hand feed.new) }
+    ensures truncated { IfErr result (λ e. IsTruncated e → IsSpent F.left F.hand feed.new) }
     ensures failed { IfErr result (λ e. e ≡ JudgeEnd.Failed → Rose (F.faults feed.old) (F.faults feed.new)) }
     ensures kept { IsKept F.faults F.bound F.held F.keeps feed.old feed.new }
 {

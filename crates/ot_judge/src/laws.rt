@@ -8,6 +8,7 @@ ghost use Rattle.ot_judge.specs.Certificates.{IsCertificate};
 ghost use Rattle.ot_judge.specs.Refusals.{IsWhole, IsJudgement};
 
 use ask_core::trees_are_judged_token_by_token;
+use cert_text::all_bytes_are_read;
 use ot_questions::Why;
 
 /// Bytes are a certificate of a function at a level exactly where they are made of parts that fit one after
@@ -26,4 +27,13 @@ pub fn bytes_have_one_judgement()
         → IsJudgement f bytes one → IsJudgement f bytes other → one ≡ other }
 {
     trees_are_judged_token_by_token::<Why>();
+}
+
+/// Any bytes have a judgement of any function: they are a certificate of it, or are refused at an offset for a cause. So
+/// with the law before, bytes have exactly one judgement of a function within the limits.
+pub fn all_bytes_have_a_judgement()
+    ensures { (f : Function) (bytes : List ℕ) → (judgement : Result Level JudgeEnd) × IsJudgement f bytes judgement }
+{
+    certificates_are_parts_that_fit();
+    all_bytes_are_read();
 }

@@ -16,9 +16,13 @@ mod verdicts;
 pub use ask_core::NoMemory;
 pub use bound::atoms_bound_the_budget;
 pub use check::check_all;
-pub use laws::{bytes_have_one_judgement, certificates_are_parts_that_fit};
+pub use laws::{
+    all_bytes_have_a_judgement, bytes_have_one_judgement, certificates_are_parts_that_fit,
+};
 pub use proving::prove_all;
 pub use refusal::{JudgeEnd, Refusal};
-pub use soundness::certificates_show_the_properties;
+pub use soundness::{certificates_show_the_properties, failing_triples_show_tp1};
 pub use verdict::Verdict;
-pub use verdicts::{obligations_have_one_question_list, proofs_are_certificates};
+pub use verdicts::{
+    certificates_have_few_leaves, obligations_have_one_question_list, proofs_are_certificates,
+};

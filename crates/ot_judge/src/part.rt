@@ -1,10 +1,9 @@
 //! The next part of a certificate.
 ghost use Rattle.std.specs.Prelude.{◌≡◌, ℕ, ◌+◌, ◌^◌, ◌<◌, ◌≤◌, List, [], IfOk, IfErr, IfSome, IfNone, Some, Ok, None};
-ghost use Rattle.std.specs.Io.KnownBytes.{IsAtEnd};
 ghost use Rattle.cert_text.specs.Places.{Finish};
 ghost use Rattle.cert_text.specs.Reading.{fed_to};
 ghost use Rattle.ot_outside.specs.Faults.{Rose};
-ghost use Rattle.ot_judge.specs.Feeding.{Comes, IsBetween, IsKept, IsMisspeltBehind, IsTruncated, MayGive, place_of};
+ghost use Rattle.ot_judge.specs.Feeding.{Comes, IsBetween, IsKept, IsMisspeltBehind, IsSpent, IsTaken, IsTruncated, MayGiveOf, MayHave, Whole, place_of};
 
 use crate::refusal::JudgeEnd;
 use cert_text::{Item, Reader};
@@ -19,18 +18,21 @@ pub(crate) fn next_part<F: Feed>(
     requires room { fed_to reader.old + F.bound feed.old < 2 ^ 63 }
 
     // A part that may stand there, and one with which the feed gives fewer bytes.
-    ensures part { IfOk result (λ o. IfSome o (λ item.
-        Comes reader.old (MayGive F.left F.bound feed.old) item reader.new (MayGive F.left F.bound feed.new))) }
+    ensures part { IfOk result (λ o. IfSome o (λ item. Comes reader.old item reader.new)) }
+    ensures bytes { IfOk result (λ o. IfSome o (λ item. IsTaken (place_of reader.old) item.part
+        (MayGiveOf F.left F.bound F.gave feed.old) (MayGiveOf F.left F.bound F.gave feed.new))) }
     ensures room { IfOk result (λ o. IfSome o (λ _. fed_to reader.new + F.bound feed.new ≤ fed_to reader.old + F.bound feed.old)) }
     ensures fewer { IfOk result (λ o. IfSome o (λ _. F.bound feed.new < F.bound feed.old)) }
 
     // None behind the last part, where nothing is left.
     ensures finish { IfOk result (λ o. IfNone o (place_of reader.old ≡ Finish)) }
-    ensures end { IfOk result (λ o. IfNone o (MayGive F.left F.bound feed.old [])) }
-    ensures nothing_left { IfOk result (λ o. IfNone o (IsAtEnd (F.left feed.new))) }
+    ensures end { IfOk result (λ o. IfNone o ((all : Whole) → MayHave F.left F.bound F.gave F.hand feed.new all →
+        MayGiveOf F.left F.bound F.gave feed.old all [])) }
+    ensures nothing_left { IfOk result (λ o. IfNone o (IsSpent F.left F.hand feed.new)) }
 
-    ensures misspelt { IfErr result (IsMisspeltBehind reader.old (MayGive F.left F.bound feed.old)) }
-    ensures spent { IfErr result (λ e. IsTruncated e → IsAtEnd (F.left feed.new)) }
+    ensures misspelt { IfErr result (λ e. (all : Whole) → MayHave F.left F.bound F.gave F.hand feed.new all →
+        IsMisspeltBehind reader.old (MayGiveOf F.left F.bound F.gave feed.old all) e) }
+    ensures spent { IfErr result (λ e. IsTruncated e → IsSpent F.left F.hand feed.new) }
     ensures failed { IfErr result (λ e. e ≡ JudgeEnd.Failed → Rose (F.faults feed.old) (F.faults feed.new)) }
     ensures kept { IsKept F.faults F.bound F.held F.keeps feed.old feed.new }
 {
@@ -50,12 +52,14 @@ pub(crate) fn expect_part<F: Feed>(reader: &mut Reader, feed: &mut F) -> Result<
     requires between { IsBetween reader.old }
     requires unfinished { place_of reader.old ≡ Finish → ⊥ }
     requires room { fed_to reader.old + F.bound feed.old < 2 ^ 63 }
-    ensures part { IfOk result (λ item.
-        Comes reader.old (MayGive F.left F.bound feed.old) item reader.new (MayGive F.left F.bound feed.new)) }
+    ensures part { IfOk result (λ item. Comes reader.old item reader.new) }
+    ensures bytes { IfOk result (λ item. IsTaken (place_of reader.old) item.part
+        (MayGiveOf F.left F.bound F.gave feed.old) (MayGiveOf F.left F.bound F.gave feed.new)) }
     ensures room { IfOk result (λ _. fed_to reader.new + F.bound feed.new ≤ fed_to reader.old + F.bound feed.old) }
     ensures fewer { IfOk result (λ _. F.bound feed.new < F.bound feed.old) }
-    ensures misspelt { IfErr result (IsMisspeltBehind reader.old (MayGive F.left F.bound feed.old)) }
-    ensures spent { IfErr result (λ e. IsTruncated e → IsAtEnd (F.left feed.new)) }
+    ensures misspelt { IfErr result (λ e. (all : Whole) → MayHave F.left F.bound F.gave F.hand feed.new all →
+        IsMisspeltBehind reader.old (MayGiveOf F.left F.bound F.gave feed.old all) e) }
+    ensures spent { IfErr result (λ e. IsTruncated e → IsSpent F.left F.hand feed.new) }
     ensures failed { IfErr result (λ e. e ≡ JudgeEnd.Failed → Rose (F.faults feed.old) (F.faults feed.new)) }
     ensures kept { IsKept F.faults F.bound F.held F.keeps feed.old feed.new }
 {

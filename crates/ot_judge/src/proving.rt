@@ -3,9 +3,11 @@ ghost use Rattle.std.specs.Prelude.{◌≡◌, ◌≤◌, true, IfOk, IsTrue};
 ghost use Rattle.std.specs.List.{list_all};
 ghost use Rattle.fn_rules.specs.Obligations.{is_obligation};
 ghost use Rattle.fn_rules.specs.Rules.{function_of};
+ghost use Rattle.ask_core.specs.declared.asker.TheConstants.{MAX_QUESTIONS};
+ghost use Rattle.ask_core.specs.Askers.{longest_path};
 ghost use Rattle.ot_questions.specs.Obligation.{plan_of};
 ghost use Rattle.ot_prove.specs.Outcomes.{IsDecided};
-ghost use Rattle.ot_judge.specs.Proving.{AreSettled, IsSearched};
+ghost use Rattle.ot_judge.specs.Proving.{AreSettled};
 ghost use Rattle.ot_judge.specs.Verdicts.{IsDecidedAs, IsWithin};
 
 use crate::verdict::Verdict;
@@ -15,7 +17,7 @@ use bumpalo::Bump;
 use cert_text::{write_end, write_header, write_ob};
 use fn_rules::{Level, ObName, Rules, obligations, obligations_are_those_of_the_kinds};
 use ot_paths::PathAsker;
-use ot_prove::{Outcome, plans_have_one_question_list, prove, question_lists_are_possible};
+use ot_prove::{Outcome, prove};
 use ot_questions::{Why, plans_keep_limits};
 use std::alloc::Global;
 
@@ -37,11 +39,10 @@ fn search_in<'a>(
 // Searches the plan of an obligation in an arena of its own.
 fn prove_ob(alloc: Global, rules: &Rules, ob: ObName, budget: u64) -> Result<Outcome<Why>, NoMemory>
     requires listed { IsTrue (is_obligation (function_of rules.now).head ob) }
-    ensures searched { IfOk result (IsSearched (function_of rules.now) ob budget) }
+    ensures decides { IfOk result (IsDecided (plan_of (function_of rules.now) ob) budget) }
+    ensures short { longest_path (plan_of (function_of rules.now) ob) ≤ MAX_QUESTIONS }
 {
     plans_keep_limits();
-    plans_have_one_question_list::<Why>();
-    question_lists_are_possible::<Why>();
     let _head = rules.head();
     let bump = Bump::new(alloc);
     search_in(alloc, &bump, rules, ob, budget)

@@ -1,5 +1,5 @@
 //! What verdicts are. These functions work nothing out: their contracts are the laws.
-ghost use Rattle.std.specs.Prelude.{◌≡◌, ℕ, IsTrue, List, Vec};
+ghost use Rattle.std.specs.Prelude.{◌≡◌, ◌≤◌, ℕ, IsTrue, List, Vec};
 ghost use Rattle.std.specs.declared.alloc.Global.{Global};
 ghost use Rattle.fn_rules.specs.declared.function.Level.{Level};
 ghost use Rattle.fn_rules.specs.declared.function.ObName.{ObName};
@@ -9,6 +9,7 @@ ghost use Rattle.ot_questions.specs.declared.why.Why.{Why};
 ghost use Rattle.ot_questions.specs.Obligation.{plan_of};
 ghost use Rattle.ot_judge.specs.declared.verdict.Verdict.TheVariants.{Yes};
 ghost use Rattle.ot_judge.specs.Certificates.{IsCertificate};
+ghost use Rattle.ot_judge.specs.Sizes.{HaveFewLeaves};
 ghost use Rattle.ot_judge.specs.Verdicts.{AreAsked, IsDecidedAs, ObQuestions};
 
 use ot_prove::plans_have_one_question_list;
@@ -30,4 +31,11 @@ pub fn obligations_have_one_question_list()
 pub fn proofs_are_certificates()
     ensures { (f : Function) (level : Level) (budget : ℕ) (bytes : Vec ℕ Global)
         → IsDecidedAs f level budget (Yes bytes) → IsCertificate bytes.items f level }
+{}
+
+/// The trees of a `Yes` by at most 1,000,000 questions have at most 1,000,024 leaves together, each of at most 73 bytes:
+/// one leaf more than questions in each tree, and at most 24 trees.
+pub fn certificates_have_few_leaves()
+    ensures { (f : Function) (level : Level) (budget : ℕ) (bytes : Vec ℕ Global) (decided : IsDecidedAs f level budget (Yes bytes))
+        → budget ≤ 1000000 → HaveFewLeaves 1000024 73 decided.2.2.trees }
 {}

@@ -1,5 +1,5 @@
 -- Kinds and operations, a row for each. What the other lemmas of this project say of all kinds rests on these.
-use Rattle.std.proofs.Common.{◌≡◌, ◌<◌, ℕ, ◌+◌, List, [], ◌∷◌, ◌++◌, length, map, refl, ap, sym, subst, lit<, arith}
+use Rattle.std.proofs.Common.{◌≡◌, ◌<◌, ℕ, List, [], ◌∷◌, length, map, refl, ap, sym, subst, lit<, arith}
 use Rattle.std.specs.Prelude.{zero, suc, slice_index_or}
 use Rattle.std.specs.List.{Contains, flat_map}
 use Rattle.std.proofs.lemmas.List.Elements.{Contains-append_left, Contains-append_right}

@@ -1,3 +1,4 @@
 pub mod Cells
 pub mod KindRows
+pub mod Lengths
 pub mod Examples

@@ -136,6 +136,3 @@ fn same_cells(left: &[Cell], right: &[Cell]) -> bool
 {
     left == right
 }
-
-#[cfg(test)]
-mod tests;

@@ -53,6 +53,3 @@ pub fn apply(mode: Mode, op: &Op, doc: &mut Doc) -> Result<(), Apply>
     }
     Ok(())
 }
-
-#[cfg(test)]
-mod tests;

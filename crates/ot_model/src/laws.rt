@@ -1,10 +1,13 @@
 //! Laws of kinds and operations, for the layers above. Each is the contract of a function that does nothing.
-ghost use Rattle.std.specs.Prelude.{◌≡◌, ◌≢◌, ◌↔◌, ℤ, Option, Some, None, slice_get, true, is_some};
+ghost use Rattle.std.specs.Prelude.{◌≡◌, ◌≢◌, ◌↔◌, ◌+◌, ◌≤◌, ℤ, List, Option, Some, None, length, slice_get, true, is_some};
 ghost use Rattle.std.specs.List.{Contains};
+ghost use Rattle.ot_model.specs.declared.cell.Cell.{Cell};
 ghost use Rattle.ot_model.specs.declared.op.Kind.{Kind};
+ghost use Rattle.ot_model.specs.declared.op.Mode.{Mode};
 ghost use Rattle.ot_model.specs.declared.op.Op.{Op};
 ghost use Rattle.ot_model.specs.declared.op.TheConstants.{KINDS};
 ghost use Rattle.ot_model.specs.Kinds.{kind_rank, is_same_kind, has_char, kind_pairs};
+ghost use Rattle.ot_model.specs.Effect.{document_after};
 ghost use Rattle.ot_model.specs.Operations.{kind_of, at_of, site_of, char_of, placed};
 
 /// Each kind stands in the list of kinds, at its place, and each pair of kinds in the list of pairs.
@@ -32,4 +35,9 @@ pub fn placing_changes_the_position_alone()
     ensures site { (o : Op) (to : ℤ) → site_of (placed o to) ≡ site_of o }
     ensures char { (o : Op) (to : ℤ) → char_of (placed o to) ≡ char_of o }
     ensures position { (o : Op) (to : ℤ) → o ≢ Op.Nop → at_of (placed o to) ≡ to }
+{}
+
+/// An operation makes a document longer by at most one cell.
+pub fn documents_grow_by_one_cell_at_most()
+    ensures { (mode : Mode) (o : Op) (d : List Cell) → length (document_after mode o d) ≤ length d + 1 }
 {}

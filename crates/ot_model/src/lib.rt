@@ -19,8 +19,8 @@ pub use cell::Cell;
 pub use doc::Doc;
 pub use effect::{apply, enabled};
 pub use laws::{
-    every_kind_is_listed, kinds_are_told_apart, operations_have_the_parts_of_their_kind,
-    placing_changes_the_position_alone,
+    documents_grow_by_one_cell_at_most, every_kind_is_listed, kinds_are_told_apart,
+    operations_have_the_parts_of_their_kind, placing_changes_the_position_alone,
 };
 pub use limits::{MAX_CELLS, MAX_OPERATIONS};
 pub use op::{Apply, KINDS, Kind, Mode, Op};

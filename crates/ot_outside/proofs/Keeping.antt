@@ -1,15 +1,17 @@
 -- What a feed of a shelf's file keeps over calls.
-use Rattle.std.proofs.Common.{◌≡◌, ℕ, List, Option, refl, ◌∙◌, arith}
+use Rattle.std.proofs.Common.{◌≡◌, ℕ, ◌+◌, List, length, Option, refl, ◌∙◌, arith}
 use Rattle.ot_outside.specs.declared.shelf.Shelf.{Ghosts}
 use Rattle.ot_outside.specs.declared.shelf_feed.ShelfFeed.{ShelfFeed}
+use Rattle.ot_outside.specs.Reads.{IsSameReading, Reads}
 use Rattle.ot_outside.specs.Unchanged.{Unchanged}
-use Rattle.ot_outside.specs.ShelfFeed.{KeepsShelf, beyond_limit, shelf_of}
+use Rattle.ot_outside.specs.ShelfFeed.{KeepsShelf, IsAllOfReads, beyond_limit, gave_by, room_of, shelf_of}
 
 pub kept_on :
     {S : Type 0} {shelf : Ghosts S} (before old new : ShelfFeed S shelf) → KeepsShelf before old
     → Unchanged shelf.holds shelf.offered shelf.faults (shelf_of old) (shelf_of new)
-    → beyond_limit new ≡ beyond_limit old → KeepsShelf before new
-kept_on before old new kept unchanged beyond =
+    → IsSameReading (shelf.reads (shelf_of old)) (shelf.reads (shelf_of new)) → (IsAllOfReads old → IsAllOfReads new)
+    → length (gave_by new) + room_of new ≡ length (gave_by old) + room_of old → beyond_limit new ≡ beyond_limit old → KeepsShelf before new
+kept_on before old new kept unchanged reading read limit beyond =
     record {
       unchanged = record {
         same_files = λ n. unchanged.same_files n ∙ kept.unchanged.same_files n;
@@ -19,6 +21,12 @@ kept_on before old new kept unchanged beyond =
         );
         more_faults = omega (arith, unchanged.more_faults, kept.unchanged.more_faults);
       };
+      reading = record {
+        same_name = reading.same_name ∙ kept.reading.same_name;
+        same_before = reading.same_before ∙ kept.reading.same_before;
+      };
+      read = λ all. read (kept.read all);
+      same_limit = limit ∙ kept.same_limit;
       beyond = beyond ∙ kept.beyond;
     }
 
@@ -28,3 +36,6 @@ pub unchanged_shelf :
     → Unchanged holds offered faults s s
 unchanged_shelf holds offered faults s =
     record { same_files = λ n. refl; same_offer = λ n. (λ h. h, λ h. h); more_faults = omega arith }
+
+pub same_reading : (reads : Reads) → IsSameReading reads reads
+same_reading reads = record { same_name = refl; same_before = refl }

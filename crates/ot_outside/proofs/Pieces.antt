@@ -1,12 +1,12 @@
 -- What is left of a file that is read in pieces.
-use Rattle.std.proofs.Common.{◌≡◌, ℕ, ◌+◌, ◌-◌, ◌≤◌, ◌<◌, zero, suc, List, [], ◌∷◌, ◌++◌, take, drop, length, get_or, Bool, true, false, ◌↔◌, IsTrue, Option, Some, None, Result, Ok, Err, IfOk, refl, sym, ap, ◌∙◌, arith, subst, drop-cons, add-one}
-use Rattle.std.proofs.lemmas.List.{drop-drop, drop-take, length-drop, length-take, length-take-le, get_or-take, take_all}
+use Rattle.std.proofs.Common.{◌≡◌, ℕ, ◌+◌, ◌-◌, ◌≤◌, ◌<◌, zero, suc, List, [], ◌∷◌, ◌++◌, take, drop, length, get_or, Bool, true, false, ◌↔◌, IsTrue, Option, Some, None, Result, Ok, Err, IfOk, refl, sym, ap, ◌∙◌, arith, subst, drop-cons, add-one, append_assoc, length-append}
+use Rattle.std.proofs.lemmas.List.{append-nil, drop-drop, drop-take, length-drop, length-take, length-take-le, get_or-take, take_all, take-append-drop}
 use Rattle.std.specs.Prelude.{option_map}
 use Rattle.std.specs.Option.{ForSome}
 use Rattle.std.specs.Io.KnownBytes.{IsAtEnd, prepend_known}
 
 -- nothing of the piece is left behind its last byte
-drop-take_same : (n : ℕ) (piece : List ℕ) → drop n (take n piece) ≡ []
+pub drop-take_same : (n : ℕ) (piece : List ℕ) → drop n (take n piece) ≡ []
 drop-take_same zero piece = refl
 drop-take_same (suc n) [] = refl
 drop-take_same (suc n) (b ∷ piece) = drop-take_same n piece
@@ -97,6 +97,15 @@ told_by_piece room at filled piece left file (Ok more) none is within there end 
     told room more bytes none (λ t. some_left at filled piece left bytes (there t) within (is ∙ file_is))
     (λ e. subst IsAtEnd file_is (end e))
 told_by_piece room at filled piece left file (Err e) none is within there end = tt
+
+-- one that is answered to follow was read
+pub follows_by_piece :
+    {E : Type 0} (room at filled : ℕ) (piece : List ℕ) (answer : Result Bool E) → room ≡ 0 → filled ≤ length piece
+    → IfOk answer (λ more. more ≡ true → at < filled)
+    → IfOk answer (λ more. more ≡ true → (room ≡ 0) × (0 < length (drop at (take filled piece))))
+follows_by_piece room at filled piece (Ok more) none within there =
+    λ t. (none, omega (arith, there t, length-drop at (take filled piece), length-take-le filled piece within))
+follows_by_piece room at filled piece (Err e) none within there = tt
 
 -- the first bytes of two lists
 take-over : (room : ℕ) (a b : List ℕ) → take room (a ++ b) ≡ take room a ++ take (room - length a) b
@@ -189,3 +198,63 @@ hand_behind room count at filled piece within =
     ap (take (room - count)) (sym (drop-drop count at (take filled piece)))
     ∙ sym (drop-take count (room - count) (drop at (take filled piece)))
     ∙ ap (λ n. drop count (take n (drop at (take filled piece)))) e
+
+-- fewer of the first bytes are the first bytes
+take_first : (n m : ℕ) (bytes : List ℕ) → n ≤ m → take n (take m bytes) ≡ take n bytes
+take_first zero m bytes few = refl
+take_first (suc n) zero bytes few = absurd (omega arith)
+take_first (suc n) (suc m) [] few = refl
+take_first (suc n) (suc m) (b ∷ bytes) few = ap (λ (l : List ℕ). b ∷ l) (take_first n m bytes (omega arith))
+
+-- so many of the bytes at hand are so many of the piece
+pub slice_of_hand :
+    (room count at filled : ℕ) (piece : List ℕ) → at ≤ filled → filled ≤ length piece → count ≤ length (take room (drop at (take filled piece)))
+    → take count (take room (drop at (take filled piece))) ≡ take count (drop at piece)
+slice_of_hand room count at filled piece ordered within few =
+    let read : length (drop at (take filled piece)) ≡ filled - at = length-drop at (take filled piece) ∙ ap (λ n. n - at) (length-take-le filled piece within) in
+    let taken = length-take room (drop at (take filled piece)) in
+    take_first count room (drop at (take filled piece)) (omega (arith, few, taken))
+    ∙ ap (take count) (sym (hand_is_part at filled piece ordered))
+    ∙ take_first count (filled - at) (drop at piece) (omega (arith, few, taken, read))
+
+-- what was read is what was given and what was not given yet: behind a byte that is given,
+pub read_given :
+    (at filled : ℕ) (piece given read : List ℕ) → at < filled → filled ≤ length piece → read ≡ given ++ drop at (take filled piece)
+    → read ≡ (given ++ get_or piece at 0 ∷ []) ++ drop (at + 1) (take filled piece)
+read_given at filled piece given read below within is =
+    is ∙ ap (λ (l : List ℕ). given ++ l) (next_of_piece at filled piece below within)
+    ∙ sym (append_assoc given (get_or piece at 0 ∷ []) (drop (at + 1) (take filled piece)))
+
+-- and behind some of those at hand
+pub read_taken :
+    (room count at filled : ℕ) (piece given read : List ℕ) → count ≤ length (take room (drop at (take filled piece)))
+    → read ≡ given ++ drop at (take filled piece)
+    → read ≡ (given ++ take count (take room (drop at (take filled piece)))) ++ drop (at + count) (take filled piece)
+read_taken room count at filled piece given read few is =
+    is ∙ ap (λ (l : List ℕ). given ++ l)
+    (sym (take-append-drop count (drop at (take filled piece)))
+    ∙ ap (λ (l : List ℕ). l ++ drop count (drop at (take filled piece)))
+    (sym (take_first count room (drop at (take filled piece)) (omega (arith, few, length-take room (drop at (take filled piece))))))
+    ∙ ap (λ (l : List ℕ). take count (take room (drop at (take filled piece))) ++ l) (drop-drop count at (take filled piece)))
+    ∙ sym (append_assoc given (take count (take room (drop at (take filled piece)))) (drop (at + count) (take filled piece)))
+
+-- what was given and what may be given make up the limit: behind a byte that is given,
+pub limit_given :
+    (before given after : List ℕ) (b was room : ℕ) → after ≡ given ++ b ∷ [] → given ≡ before → room ≡ was → 0 < room
+    → length after + (room - 1) ≡ length before + was
+limit_given before given after b was room more same left some =
+    omega (arith, ap length more, length-append given (b ∷ []), ap length same, left, some)
+
+-- and behind some of those at hand
+pub limit_taken :
+    (given after bytes : List ℕ) (count room : ℕ) → after ≡ given ++ take count (take room bytes) → count ≤ length (take room bytes)
+    → length after + (room - count) ≡ length given + room
+limit_taken given after bytes count room more few =
+    omega (
+      arith,
+      ap length more,
+      length-append given (take count (take room bytes)),
+      length-take-le count (take room bytes) few,
+      few,
+      length-take room bytes,
+    )

@@ -4,6 +4,7 @@ use Rattle.ot_outside.specs.declared.mem_shelf.MemShelf.{MemShelf}
 use Rattle.ot_outside.specs.declared.mem_shelf.OpenFile.{OpenFile}
 use Rattle.ot_outside.specs.Counts.{next_is_listed}
 use Rattle.ot_outside.specs.Files.{Files, contents_at, held}
+use Rattle.ot_outside.specs.Reads.{Reads, reads_of}
 
 -- what a name holds
 abbrev pub shelf_holds : MemShelf → List ℕ → Option (List ℕ)
@@ -33,3 +34,7 @@ fault_count shelf = shelf.counts.faults
 -- the next call is listed as one that fails
 abbrev pub fails_next : MemShelf → Bool
 fails_next shelf = next_is_listed shelf.counts
+
+-- what its calls gave
+abbrev pub reads_by : MemShelf → Reads
+reads_by shelf = reads_of shelf.noted

@@ -1,5 +1,5 @@
 //! Bytes one at a time or in pieces: of a slice, and of a shelf's open file.
-ghost use Rattle.std.specs.Prelude.{◌≡◌, ℕ, ◌+◌, ◌<◌, ◌≤◌, List, Option, None, [], ◌∷◌, length, take, drop, true, false, IfOk, OnErr, MatchOption};
+ghost use Rattle.std.specs.Prelude.{◌≡◌, ℕ, ◌++◌, ◌+◌, ◌<◌, ◌≤◌, List, Option, None, [], ◌∷◌, length, take, drop, true, false, IfOk, OnErr, MatchOption};
 ghost use Rattle.std.specs.Io.KnownBytes.{IsAtEnd, prepend_known};
 ghost use Rattle.ot_outside.specs.Faults.{Rose};
 
@@ -12,6 +12,9 @@ pub trait Feed {
 
     /// The bytes at hand: those that it gives next without a further read.
     ghost hand: { Self → List ℕ };
+
+    /// The bytes that it gave so far. They are always told.
+    ghost gave: { Self → List ℕ };
 
     /// How many bytes it can still give, at most. It is always told.
     ghost bound: { Self → ℕ };
@@ -37,18 +40,24 @@ pub trait Feed {
         ensures given { IfOk result (λ byte. MatchOption byte (bound self.new ≤ bound self.old) (λ _. bound self.old ≡ bound self.new + 1)) }
         ensures never_rises { bound self.new ≤ bound self.old }
 
+        ensures gave { IfOk result (λ byte. MatchOption byte (gave self.new ≡ gave self.old)
+            (λ b. gave self.new ≡ gave self.old ++ b ∷ [])) }
+        ensures gave_none { OnErr result (gave self.new ≡ gave self.old) }
+
         ensures faults { faults self.old ≤ faults self.new }
         ensures failed { OnErr result (Rose (faults self.old) (faults self.new)) }
         ensures held { held self.new ≡ held self.old }
         ensures keeps { (before : Self) → keeps before self.old → keeps before self.new };
 
-    /// Whether a byte is left. Where one is, the next bytes stand at hand, at least one. After `Failed`
-    /// nothing was taken.
+    /// Whether a byte is left. Where one is, the next bytes stand at hand, at least one, and otherwise none.
+    /// After `Failed` nothing was taken.
     fn more(&mut self) -> Result<bool, Failed>
         ensures there { IfOk result (λ more. more ≡ true → 0 < length (hand self.new)) }
         ensures end { IfOk result (λ more. more ≡ false → IsAtEnd (left self.old)) }
+        ensures none { IfOk result (λ more. more ≡ false → hand self.new ≡ []) }
         ensures left { left self.new ≡ left self.old }
         ensures bound { bound self.new ≡ bound self.old }
+        ensures gave { gave self.new ≡ gave self.old }
 
         ensures faults { faults self.old ≤ faults self.new }
         ensures failed { OnErr result (Rose (faults self.old) (faults self.new)) }
@@ -67,6 +76,7 @@ pub trait Feed {
         ensures hand { hand self.new ≡ drop count (hand self.old) }
         ensures left { left self.old ≡ prepend_known (take count (hand self.old)) (left self.new) }
         ensures bound { bound self.old ≡ bound self.new + count }
+        ensures gave { gave self.new ≡ gave self.old ++ take count (hand self.old) }
 
         ensures faults { faults self.new ≡ faults self.old }
         ensures held { held self.new ≡ held self.old }

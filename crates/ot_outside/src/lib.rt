@@ -13,6 +13,7 @@ mod feed;
 mod machine;
 mod mem_shelf;
 mod mem_sink;
+mod record;
 mod shelf;
 mod shelf_feed;
 mod sink;

@@ -3,7 +3,9 @@ ghost use Rattle.std.specs.Prelude.{◌≡◌, ◌<◌, ◌≤◌, ◌↔◌, �
 ghost use Rattle.std.specs.Io.KnownBytes.{IsAtEnd, append_known, prepend_known};
 ghost use Rattle.ot_outside.specs.Faults.{Rose, next_count};
 ghost use Rattle.ot_outside.specs.Machine.{left_of, machine_holds, machine_written};
+ghost use Rattle.ot_outside.specs.Reads.{after_reading, gone_on, no_reads, reads_of};
 
+use crate::record::Record;
 use crate::{Failed, Shelf, Sink};
 use std::fs::File;
 use std::io::Read;
@@ -11,13 +13,15 @@ use std::rt::Files;
 
 /// The files of the machine. It tells nothing of what they hold, and every name is on offer.
 ///
-/// An error of the machine, from any cause, is a fault that counts.
+/// An error of the machine, from any cause, is a fault that counts. What its calls gave it notes, and no proof
+/// says that it notes each of them.
 #[derive(Drop)]
 pub struct FileShelf<'a, R: Files> {
     rt: &'a R,
     file: Option<R::File>,
     faults: u64,
     calls: u64,
+    noted: Record,
 }
 
 impl<'a, R: Files> FileShelf<'a, R> {
@@ -26,12 +30,14 @@ impl<'a, R: Files> FileShelf<'a, R> {
         ensures left { ⟦<FileShelf<'a, R> as Shelf>⟧.left result ≡ Some [] }
         ensures faults { ⟦<FileShelf<'a, R> as Shelf>⟧.faults result ≡ 0 }
         ensures calls { ⟦<FileShelf<'a, R> as Shelf>⟧.calls result ≡ 0 }
+        ensures reads { ⟦<FileShelf<'a, R> as Shelf>⟧.reads result ≡ no_reads }
     {
         FileShelf {
             rt,
             file: None,
             faults: 0,
             calls: 0,
+            noted: Record::new(),
         }
     }
 }
@@ -47,6 +53,8 @@ impl<R: Files> Shelf for FileShelf<'_, R> {
 
     ghost calls = { λ shelf. shelf.calls };
 
+    ghost reads = { λ shelf. reads_of shelf.noted };
+
     fn open(&mut self, name: &str) -> Result<(), Failed>
         ensures ok { OnOk result (left_of self.new.file ≡ machine_holds name.now) }
         ensures err { OnErr result (left_of self.new.file ≡ Some []) }
@@ -57,11 +65,13 @@ impl<R: Files> Shelf for FileShelf<'_, R> {
 
         ensures failed { OnErr result (Rose self.old.faults self.new.faults) }
         ensures called { self.new.calls ≡ next_count self.old.calls }
+        ensures opened { reads_of self.new.noted ≡ after_reading name.now [] (reads_of self.old.noted) }
 
         // Each call that fails counts, and no other.
         ensures raised { self.new.faults ≡ (if is_err result then next_count self.old.faults else self.old.faults) }
     {
         self.calls = self.calls.saturating_add(1);
+        self.noted.begin(name.as_bytes());
         self.file = None;
         match File::open(self.rt, name) {
             Ok(file) => {
@@ -89,6 +99,8 @@ impl<R: Files> Shelf for FileShelf<'_, R> {
 
         ensures failed { OnErr result (Rose self.old.faults self.new.faults) }
         ensures called { self.new.calls ≡ next_count self.old.calls }
+        ensures given { IfOk result (λ n. reads_of self.new.noted ≡ gone_on (take n into.new) (reads_of self.old.noted)) }
+        ensures not_given { OnErr result (reads_of self.new.noted ≡ reads_of self.old.noted) }
 
         // Each call that fails counts, and no other.
         ensures raised { self.new.faults ≡ (if is_err result then next_count self.old.faults else self.old.faults) }
@@ -98,7 +110,10 @@ impl<R: Files> Shelf for FileShelf<'_, R> {
             return Ok(0);
         };
         match file.read(into) {
-            Ok(count) => Ok(count),
+            Ok(count) => {
+                self.noted.note(&into[..count]);
+                Ok(count)
+            }
             Err(_) => {
                 self.faults = self.faults.saturating_add(1);
                 Err(Failed)
@@ -153,6 +168,3 @@ impl<R: Print> Sink for StdSink<'_, R> {
         }
     }
 }
-
-#[cfg(test)]
-mod tests;

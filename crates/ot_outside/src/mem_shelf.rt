@@ -4,6 +4,7 @@ ghost use Rattle.ot_outside.specs.Faults.{Rose, next_count};
 ghost use Rattle.ot_outside.specs.Files.{contents_at, held};
 
 use crate::counts::Counts;
+use crate::record::Record;
 use crate::{Failed, Shelf};
 
 /// A list of files in memory, and a list of the calls that fail.
@@ -16,6 +17,7 @@ pub struct MemShelf {
     files: Vec<(String, Vec<u8>)>,
     counts: Counts,
     opened: Option<OpenFile>,
+    noted: Record,
 }
 
 // The open file, by its number in the list, and how many of its bytes were taken.
@@ -26,7 +28,8 @@ struct OpenFile {
 }
 
 impl MemShelf {
-    ghost use Rattle.ot_outside.specs.MemShelf.{call_count, failing_calls, fault_count, shelf_holds, shelf_left};
+    ghost use Rattle.ot_outside.specs.MemShelf.{call_count, failing_calls, fault_count, reads_by, shelf_holds, shelf_left};
+    ghost use Rattle.ot_outside.specs.Reads.{no_reads};
 
     /// A shelf with these files, of which none is open. It takes no memory.
     pub fn new(files: Vec<(String, Vec<u8>)>, failing: Vec<u32>) -> MemShelf
@@ -35,18 +38,21 @@ impl MemShelf {
         ensures failing { failing_calls result ≡ failing.items }
         ensures calls { call_count result ≡ 0 }
         ensures faults { fault_count result ≡ 0 }
+        ensures reads { reads_by result ≡ no_reads }
     {
         MemShelf {
             files,
             counts: Counts::new(failing),
             opened: None,
+            noted: Record::new(),
         }
     }
 }
 
 impl Shelf for MemShelf {
     ghost use Rattle.std.specs.Prelude.{Some};
-    ghost use Rattle.ot_outside.specs.MemShelf.{call_count, failing_calls, fails_next, fault_count, shelf_holds, shelf_left};
+    ghost use Rattle.ot_outside.specs.MemShelf.{call_count, failing_calls, fails_next, fault_count, reads_by, shelf_holds, shelf_left};
+    ghost use Rattle.ot_outside.specs.Reads.{after_reading, gone_on};
 
     ghost holds = { shelf_holds };
 
@@ -57,6 +63,8 @@ impl Shelf for MemShelf {
     ghost faults = { fault_count };
 
     ghost calls = { call_count };
+
+    ghost reads = { reads_by };
 
     fn open(&mut self, name: &str) -> Result<(), Failed>
         ensures ok { OnOk result (Some (shelf_left self.new) ≡ shelf_holds self.old name.now) }
@@ -72,8 +80,10 @@ impl Shelf for MemShelf {
         ensures fails { is_err result ≡ (fails_next self.old || is_none (shelf_holds self.old name.now)) }
         ensures raised { fault_count self.new ≡ (if is_err result then next_count (fault_count self.old) else fault_count self.old) }
         ensures called { call_count self.new ≡ next_count (call_count self.old) }
+        ensures opened { reads_by self.new ≡ after_reading name.now [] (reads_by self.old) }
         ensures failing { failing_calls self.new ≡ failing_calls self.old }
     {
+        self.noted.begin(name.as_bytes());
         self.opened = None;
         self.counts.call()?;
         match file_named(&self.files, name) {
@@ -103,6 +113,8 @@ impl Shelf for MemShelf {
         ensures fails { is_err result ≡ fails_next self.old }
         ensures raised { fault_count self.new ≡ (if is_err result then next_count (fault_count self.old) else fault_count self.old) }
         ensures called { call_count self.new ≡ next_count (call_count self.old) }
+        ensures given { IfOk result (λ n. reads_by self.new ≡ gone_on (take n into.new) (reads_by self.old)) }
+        ensures not_given { OnErr result (reads_by self.new ≡ reads_by self.old) }
         ensures failing { failing_calls self.new ≡ failing_calls self.old }
         ensures full { IfOk result (λ n. n ≡ min (length into.old) (length (shelf_left self.old))) }
     {
@@ -113,6 +125,7 @@ impl Shelf for MemShelf {
         let contents = contents(&self.files, place.file);
         let count = take_next(contents, &mut place.taken, into);
         self.opened = Some(place);
+        self.noted.note(&into[..count]);
         Ok(count)
     }
 }

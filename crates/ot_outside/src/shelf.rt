@@ -1,6 +1,7 @@
 ghost use Rattle.std.specs.Prelude.{◌≡◌, ◌<◌, ◌≤◌, ◌↔◌, ℕ, List, Option, [], take, length, IfOk, OnOk, OnErr};
 ghost use Rattle.std.specs.Io.KnownBytes.{IsAtEnd, prepend_known};
 ghost use Rattle.ot_outside.specs.Faults.{Rose, next_count};
+ghost use Rattle.ot_outside.specs.Reads.{Reads, after_reading, gone_on};
 
 /// The outside failed, and its count of faults rose.
 #[derive(Clone, Copy, Debug, PartialEq, Eq)]
@@ -29,6 +30,9 @@ pub trait Shelf {
     /// How often the shelf was called, by `open` and `read` together.
     ghost calls: { Self → ℕ };
 
+    /// What its calls gave, whether or not it tells what a name holds.
+    ghost reads: { Self → Reads };
+
     /// Opens a file, from its beginning, and leaves the one that was open. After `Failed` no file is
     /// open and nothing is left.
     fn open(&mut self, name: &str) -> Result<(), Failed>
@@ -42,7 +46,8 @@ pub trait Shelf {
         ensures faults { faults self.old ≤ faults self.new }
 
         ensures failed { OnErr result (Rose (faults self.old) (faults self.new)) }
-        ensures called { calls self.new ≡ next_count (calls self.old) };
+        ensures called { calls self.new ≡ next_count (calls self.old) }
+        ensures opened { reads self.new ≡ after_reading name.now [] (reads self.old) };
 
     /// Puts the next bytes of what is left at the front of `into` and answers how many they are: 0
     /// exactly where nothing is left. What `into` then holds behind them is not said. After `Failed`
@@ -60,5 +65,7 @@ pub trait Shelf {
         ensures faults { faults self.old ≤ faults self.new }
 
         ensures failed { OnErr result (Rose (faults self.old) (faults self.new)) }
-        ensures called { calls self.new ≡ next_count (calls self.old) };
+        ensures called { calls self.new ≡ next_count (calls self.old) }
+        ensures given { IfOk result (λ n. reads self.new ≡ gone_on (take n into.new) (reads self.old)) }
+        ensures not_given { OnErr result (reads self.new ≡ reads self.old) };
 }

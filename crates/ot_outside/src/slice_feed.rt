@@ -1,12 +1,16 @@
 //! The bytes of a slice.
-ghost use Rattle.std.specs.Prelude.{◌≡◌, None, Some, length};
+ghost use Rattle.std.specs.Prelude.{◌≡◌, [], None, Some, length};
 
+use crate::record::Record;
 use crate::{Failed, Feed};
 
 /// The bytes of a slice. It never fails, and holds no object.
 #[derive(Drop)]
 pub struct SliceFeed<'a> {
     bytes: &'a [u8],
+
+    // What was taken of them.
+    taken: Record,
 }
 
 impl<'a> SliceFeed<'a> {
@@ -14,8 +18,12 @@ impl<'a> SliceFeed<'a> {
     pub fn new(bytes: &'a [u8]) -> SliceFeed<'a>
         ensures left { ⟦<SliceFeed<'a> as Feed>⟧.left result ≡ Some bytes.now }
         ensures bound { ⟦<SliceFeed<'a> as Feed>⟧.bound result ≡ length bytes.now }
+        ensures gave { ⟦<SliceFeed<'a> as Feed>⟧.gave result ≡ [] }
     {
-        SliceFeed { bytes }
+        SliceFeed {
+            bytes,
+            taken: Record::new(),
+        }
     }
 }
 
@@ -25,6 +33,8 @@ impl Feed for SliceFeed<'_> {
     ghost hand = { λ feed. feed.bytes.now };
 
     ghost bound = { λ feed. length feed.bytes.now };
+
+    ghost gave = { λ feed. feed.taken.bytes };
 
     ghost faults = { λ _. 0 };
 
@@ -37,6 +47,7 @@ impl Feed for SliceFeed<'_> {
             return Ok(None);
         };
         self.bytes = rest;
+        self.taken.note(&[*byte]);
         Ok(Some(*byte))
     }
 
@@ -49,9 +60,7 @@ impl Feed for SliceFeed<'_> {
     }
 
     fn consume(&mut self, count: usize) {
+        self.taken.note(&self.bytes[..count]);
         self.bytes = &self.bytes[count..];
     }
 }
-
-#[cfg(test)]
-mod tests;

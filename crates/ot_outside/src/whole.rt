@@ -3,6 +3,7 @@ ghost use Rattle.std.specs.Prelude.{◌≡◌, ◌<◌, ◌≤◌, ◌+◌, ◌�
 ghost use Rattle.std.specs.Option.{ForSome};
 ghost use Rattle.std.specs.Io.KnownBytes.{append_known};
 ghost use Rattle.ot_outside.specs.Faults.{Rose};
+ghost use Rattle.ot_outside.specs.Reads.{after_reading};
 ghost use Rattle.ot_outside.specs.Whole.{AppendsFront, IsFront};
 ghost use Rattle.ot_outside.specs.declared.whole.ReadEnd.TheVariants as end;
 
@@ -55,7 +56,11 @@ pub fn read_all<H: Shelf>(
     ensures ok { OnOk result (ForSome (H.holds shelf.old name.now) (λ contents. into.new.items ≡ contents)) }
     ensures front { ForSome (H.holds shelf.old name.now) (IsFront into.new.items) }
 
-    // Whether or not the shelf tells what the name holds.
+    // Whether or not the shelf tells what the name holds: what its calls gave is what `into` holds, or goes on behind it.
+    ensures read { H.reads shelf.new ≡ after_reading name.now (H.reads shelf.new).bytes (H.reads shelf.old) }
+    ensures given { OnOk result ((H.reads shelf.new).bytes ≡ into.new.items) }
+    ensures given_front { IsFront into.new.items (H.reads shelf.new).bytes }
+    ensures given_more { IsErrOf result ReadEnd.TooLong → limit < length (H.reads shelf.new).bytes }
     ensures within { length into.new.items ≤ limit }
 
     ensures holds { (n : List ℕ) → H.holds shelf.new n ≡ H.holds shelf.old n }
@@ -98,6 +103,3 @@ pub fn write_all<S: Sink>(sink: &mut S, bytes: &[u8]) -> Result<(), Failed>
     }
     Ok(())
 }
-
-#[cfg(test)]
-mod tests;

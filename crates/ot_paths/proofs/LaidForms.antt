@@ -20,7 +20,7 @@ pub alike_on : (f : Function) (g h i : GoalTree) → StandsAlike f g h → Stand
 alike_on f g h i first next =
     record { asked = next.asked ∙ first.asked; belongs = λ ob is_goal. next.belongs ob (first.belongs ob is_goal) }
 
-IsPlace-before : (count : ℕ) (y : Place) → IsLowerable count y → IsPlace count (plus y (negsuc 0))
+pub IsPlace-before : (count : ℕ) (y : Place) → IsLowerable count y → IsPlace count (plus y (negsuc 0))
 IsPlace-before count y h =
     record { name = h.name; near = record { low = omega (arith, ints); high = omega (arith, ints) } }
 

@@ -1,3 +1,5 @@
+mod Conditions
+mod GivenGoals
 mod LaidForms
 mod LaidGoals
 mod Questions

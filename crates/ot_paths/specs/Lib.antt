@@ -1,3 +1,4 @@
+pub mod Given
 pub mod Nodes
 pub mod Sharing
 pub use Rattle.ot_terms.specs.Belonging

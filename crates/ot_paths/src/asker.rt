@@ -1,5 +1,5 @@
-//! The asker of one obligation.
-ghost use Rattle.std.specs.Prelude.{◌≡◌, IsTrue};
+//! The asker of one obligation, or of one goal.
+ghost use Rattle.std.specs.Prelude.{◌≡◌, IsTrue, IfOk};
 ghost use Rattle.fn_rules.specs.Obligations.{is_obligation};
 ghost use Rattle.fn_rules.specs.Rules.{function_of};
 ghost use Rattle.ask_core.specs.Askers.{Begins};
@@ -9,8 +9,10 @@ ghost use Rattle.ot_terms.specs.Standing.{ask_goal};
 ghost use Rattle.ot_rewrite.specs.Fronts.{is_at_front, is_question};
 ghost use Rattle.ot_rewrite.specs.Steps.{front_tree};
 ghost use Rattle.ot_questions.specs.Nears.{IsNear};
+ghost use Rattle.ot_questions.specs.Obligation.{plan_of};
 ghost use Rattle.ot_paths.specs.Nodes as nodes;
 ghost use Rattle.ot_paths.specs.Nodes.{IsNode};
+ghost use Rattle.ot_paths.specs.Given.{IsGiven, IsGiven-prop, own_plan, has_conditions_alone};
 
 use crate::laying::laid_out;
 use ask_core::{Asker, NoMemory, Turn};
@@ -51,15 +53,30 @@ fn literal(x: Place, y: Place) -> Lit
     }
 }
 
-/// What an obligation of a function asks. Its nodes are goals in an arena that stands outside. `start` lays the
-/// questions out there, and what is asked after equal results is there once: a turn looks at its goal. What there
-/// was no room for is rewritten when its turn is asked for.
+// What an obligation begins with, its questions laid out in the arena.
+fn laid_obligation<'a>(bump: &'a Bump, rules: &Rules, ob: ObName) -> Result<&'a Goal<'a>, NoMemory>
+    requires { IsTrue (is_obligation (function_of rules.now).head ob) }
+    ensures node { IfOk result (λ g. IsNode (function_of rules.now) ob (goal_tree g.now)) }
+    ensures plan { IfOk result (λ g. ask_goal (function_of rules.now) (goal_tree g.now) ≡ plan_of (function_of rules.now) ob) }
+{
+    plans_keep_limits();
+    let _head = rules.head();
+    let start = start_goal(bump, rules, ob)?;
+    let mut known = Vec::new(bump);
+    Ok(laid_out(bump, rules, &mut known, start)?)
+}
+
+/// What an obligation of a function asks, or a goal that is given. Its nodes are goals in an arena that stands outside.
+/// `start` lays the questions of the obligation out there, and what is asked after equal results is there once: a turn
+/// looks at its goal. What there was no room for is rewritten when its turn is asked for, and so is a goal that is given.
 #[derive(Drop)]
 pub struct PathAsker<'a> {
     bump: &'a Bump,
     rules: &'a Rules,
     ob: ObName,
+    goal: Option<&'a Goal<'a>>,
     ghost listed: { IsTrue (is_obligation (function_of rules.now).head ob) },
+    ghost given: { IsGiven (function_of rules.now) ob goal } by { IsGiven-prop (function_of rules.now) ob goal },
 }
 
 impl<'a> PathAsker<'a> {
@@ -68,8 +85,31 @@ impl<'a> PathAsker<'a> {
         requires { IsTrue (is_obligation (function_of rules.now).head ob) }
         ensures rules { result.rules.now ≡ rules.now }
         ensures obligation { result.ob ≡ ob }
+        ensures root { own_plan (function_of result.rules.now) result.ob result.goal ≡ plan_of (function_of rules.now) ob }
     {
-        PathAsker { bump, rules, ob }
+        PathAsker {
+            bump,
+            rules,
+            ob,
+            goal: None,
+        }
+    }
+
+    /// The asker of a goal of conditions and ends alone. The goal is not laid out: of a large condition few parts are
+    /// asked.
+    pub fn over(bump: &'a Bump, rules: &'a Rules, ob: ObName, goal: &'a Goal<'a>) -> PathAsker<'a>
+        requires node { IsNode (function_of rules.now) ob (goal_tree goal.now) }
+        requires conditions { IsTrue (has_conditions_alone (goal_tree goal.now)) }
+        ensures rules { result.rules.now ≡ rules.now }
+        ensures obligation { result.ob ≡ ob }
+        ensures root { own_plan (function_of result.rules.now) result.ob result.goal ≡ ask_goal (function_of rules.now) (goal_tree goal.now) }
+    {
+        PathAsker {
+            bump,
+            rules,
+            ob,
+            goal: Some(goal),
+        }
     }
 
     // How the plan of a question begins, with a goal for each answer.
@@ -120,9 +160,9 @@ impl<'a> PathAsker<'a> {
 impl<'a> Asker for PathAsker<'a> {
     ghost use Rattle.fn_rules.specs.Rules.{function_of};
     ghost use Rattle.ot_questions.specs.Names as names;
-    ghost use Rattle.ot_questions.specs.Obligation.{plan_of};
     ghost use Rattle.ot_terms.specs.Goals.{goal_tree};
     ghost use Rattle.ot_terms.specs.Standing.{ask_goal};
+    ghost use Rattle.ot_paths.specs.Given.{own_plan};
     ghost use Rattle.ot_paths.specs.Nodes.{IsNode};
 
     type Node = &'a Goal<'a>;
@@ -133,7 +173,7 @@ impl<'a> Asker for PathAsker<'a> {
 
     ghost plan = { λ a n. ask_goal (function_of a.rules.now) (goal_tree n.now) };
 
-    ghost root = { λ a. plan_of (function_of a.rules.now) a.ob };
+    ghost root = { λ a. own_plan (function_of a.rules.now) a.ob a.goal };
 
     ghost name_count = { λ a. names.name_count a.ob };
 
@@ -145,11 +185,10 @@ impl<'a> Asker for PathAsker<'a> {
     }
 
     fn start(&mut self) -> Result<&'a Goal<'a>, NoMemory> {
-        plans_keep_limits();
-        let _head = self.rules.head();
-        let start = start_goal(self.bump, self.rules, self.ob)?;
-        let mut known = Vec::new(self.bump);
-        Ok(laid_out(self.bump, self.rules, &mut known, start)?)
+        match self.goal {
+            Some(goal) => Ok(goal),
+            None => Ok(laid_obligation(self.bump, self.rules, self.ob)?),
+        }
     }
 
     #[inline]

@@ -1,14 +1,17 @@
-//! The askers of obligations.
+//! The askers of obligations, and of goals.
 //!
 //! A node of a `PathAsker` is a goal in an arena, and stands for the plan that the goal stands for. The
-//! asker's own plan is that of its obligation. So whatever is checked or proved over an asker is checked or
-//! proved of the obligation. Its questions are laid out when it starts, so that a turn has nothing to work out.
+//! asker's own plan is that of its obligation, or of the goal that it is over. So whatever is checked or proved over an
+//! asker is checked or proved of the obligation, or of the goal. The questions of an obligation are laid out when the
+//! asker starts, so that a turn has nothing to work out.
 #![tactic(auto)]
 
 mod asker;
 mod behind;
 mod kept;
+mod laws;
 mod laying;
 
 pub use ask_core::NoMemory;
 pub use asker::PathAsker;
+pub use laws::conditions_are_nodes;

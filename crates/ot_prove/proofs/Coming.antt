@@ -9,8 +9,8 @@ use Rattle.ask_core.specs.Plans.{Plan, Ask, Holds, Fails}
 use Rattle.ask_core.specs.Trees.{Branch, IsCycleAmong, tokens_of}
 use Rattle.ask_core.specs.Questions.{Questions, FailingEnd, QuestionList, no_questions, failing_at}
 use Rattle.ot_prove.specs.declared.outcome.Outcome.TheVariants.{Yes, Spent}
-use Rattle.ot_prove.specs.Outcomes.{IsProof, IsDecided, asked_along}
-use Rattle.ot_prove.specs.Searching.{joined, Listed, Answered, whole, HasCome}
+use Rattle.ot_prove.specs.Outcomes.{IsProof, asked_along}
+use Rattle.ot_prove.specs.Searching.{joined, Listed, Answered, whole, HasCome, AgreesWithLists}
 use Rattle.ot_prove.proofs.Listing.{ListedBehind, Listed-impossible, Listed-holds, Listed-fails, Listed-question, parts_of}
 use Rattle.ot_prove.proofs.Answering.{Answered-question, Answered-holds, Answered-cycle}
 
@@ -83,10 +83,10 @@ module _ {W : Type 0} where
         (λ q listed. (q, Listed-impossible b branches q never listed, refl)) come
 
     -- a question that the budget does not allow
-    pub IsDecided-spent :
+    pub AgreesWithLists-spent :
         (l : Lit) (on_yes on_no : Plan W) (budget : ℕ) → b.plan ≡ Ask l on_yes on_no → IsPossible b.answers → length asked ≡ budget
-        → IsDecided root budget Spent
-    IsDecided-spent l on_yes on_no budget asks possible count q list =
+        → AgreesWithLists root budget Spent
+    AgreesWithLists-spent l on_yes on_no budget asks possible count q list =
         let found = come.lists q list in
         let behind = Listed-question b branches found.0 l on_yes on_no asks possible found.1 in
         let asked_is : q.asked ≡ asked ++ (b.answers ∷ behind.0.asked) =
@@ -121,10 +121,10 @@ module _ {W : Type 0} where
         ∙ append-nil (asked_along t root []);
   }
 
-  pub IsDecided-yes :
+  pub AgreesWithLists-yes :
       (root : Plan W) (tokens : List Tok) (asked : List (List Lit)) (count budget : ℕ) → HasCome root tokens asked []
-      → count ≡ length asked → count ≤ budget → IsDecided root budget (Yes tokens count)
-  IsDecided-yes root tokens asked count budget come is_count within q list =
+      → count ≡ length asked → count ≤ budget → AgreesWithLists root budget (Yes tokens count)
+  AgreesWithLists-yes root tokens asked count budget come is_count within q list =
       let found = come.lists q list in
       let is : q ≡ record { asked = asked ++ []; failing = None } =
       found.2 ∙ ap (λ (x : Questions W). record { asked = asked ++ x.asked; failing = x.failing }) found.1 in

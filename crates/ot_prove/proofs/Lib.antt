@@ -9,4 +9,5 @@ pub mod Steps
 pub mod OneList
 pub mod ShortCycles
 pub mod AllPossible
+pub mod Telling
 mod Examples

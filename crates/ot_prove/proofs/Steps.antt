@@ -1,5 +1,5 @@
 -- What each step keeps of a search.
-use Rattle.std.proofs.Common.{◌≡◌, ◌≢◌, ◌↔◌, ℕ, ◌+◌, ◌-◌, ◌<◌, ◌≤◌, max, Bool, true, false, List, [], ◌∷◌, ◌++◌, length, take, drop, get_or, reverse, Option, Some, None, option_map, slice_get, IsTrue, arith, refl, sym, ap, ◌∙◌, subst}
+use Rattle.std.proofs.Common.{◌≡◌, ◌≢◌, ◌↔◌, ℕ, ◌+◌, ◌-◌, ◌<◌, ◌≤◌, max, Bool, true, false, List, [], ◌∷◌, ◌++◌, length, take, drop, get_or, reverse, Option, Some, None, IsTrue, arith, refl, sym, ap, ◌∙◌, subst}
 use Rattle.std.proofs.lemmas.List.{append-nil, length-append, length_push, get_or_push, take_at}
 use Rattle.diff_graph.specs.declared.lit.Lit.{Lit}
 use Rattle.diff_graph.specs.Literals.{IsPossible, negated}
@@ -8,38 +8,21 @@ use Rattle.ask_core.specs.declared.asker.TheConstants.{MAX_QUESTIONS}
 use Rattle.ask_core.specs.declared.tree.Tok.{Tok}
 use Rattle.ask_core.specs.declared.tree.Tok.TheVariants as token
 use Rattle.ask_core.specs.Plans.{Plan, Ask, Holds, Fails}
-use Rattle.ask_core.specs.Askers.{IsFine, has_fine_literals, longest_path}
+use Rattle.ask_core.specs.Askers.{IsFine, SamePlans, has_fine_literals, longest_path}
 use Rattle.ask_core.specs.Trees.{Branch, with_answer}
 use Rattle.ask_core.specs.Questions.{Questions, QuestionList}
-use Rattle.ask_core.specs.Paths.{OpenPlace, branch_at, branches_at, after_question}
+use Rattle.ask_core.specs.Paths.{OpenPlace, AreOwn, branch_at, branches_at, after_question, first_answers, first_plan}
 use Rattle.ot_prove.specs.declared.split.TheConstants.{MAX_NAMES}
+use Rattle.ot_prove.specs.declared.outcome.Outcome.{Outcome}
 use Rattle.ot_prove.specs.declared.outcome.Outcome.TheVariants.{Yes, Spent}
+use Rattle.ot_prove.specs.Outcomes.{AreAllPossible, IsDecided}
 use Rattle.ot_prove.specs.Sides.{Rows, IsTableOf, IsAsked, StandsForSome, AreJudged, JudgesSides}
-use Rattle.ot_prove.specs.Outcomes.{IsDecided}
-use Rattle.ot_prove.specs.Searching.{plan_weight, weight_of, HasCome, first_answers, answers_at, AreShort, LeadsTo, AreReached, AreOwn, SamePlans, IsSearching}
+use Rattle.ot_prove.specs.Searching.{plan_weight, weight_of, HasCome, answers_at, AgreesWithLists, AreShort, LeadsTo, AreReached, IsSearching}
 use Rattle.ot_prove.proofs.Literals.{fine_question}
-use Rattle.ot_prove.proofs.Coming.{HasCome-begun, HasCome-question, HasCome-holds, HasCome-cycle, IsDecided-spent, fails_here, IsDecided-yes}
+use Rattle.ot_prove.proofs.Coming.{HasCome-begun, HasCome-question, HasCome-holds, HasCome-cycle, AgreesWithLists-spent, fails_here, AgreesWithLists-yes}
 use Rattle.ot_prove.proofs.Possible.{AreNeverMet, IsPossible-by_table, impossible_by_cycle}
 use Rattle.ot_prove.proofs.Ways.{LeadsTo-yes, LeadsTo-no}
 use Rattle.ot_prove.proofs.Judged.{last_of, reverse-push}
-
--- the node of the first place
-first_node :
-    {N : Type 0} (p : OpenPlace N) (places : List (OpenPlace N)) (n : N) → option_map (λ p. p.node) (slice_get (p ∷ places) 0) ≡ Some n
-    → p.node ≡ n
-first_node p places n first = cc
-
-pub first_is_own :
-    {N : Type 0} (is_own : N → Type 0) (places : List (OpenPlace N)) (n : N)
-    → option_map (λ p. p.node) (slice_get places 0) ≡ Some n → AreOwn is_own places → is_own n
-first_is_own is_own [] n first own = absurd (cc)
-first_is_own is_own (p ∷ places) n first own = let e : p.node ≡ n = cc in rw (← e) own.0
-
-pub first_answers-get :
-    {N : Type 0} (places : List (OpenPlace N)) (w : List Lit)
-    → option_map (λ p. p.answers) (slice_get places 0) ≡ Some w → first_answers places ≡ w
-first_answers-get [] w first = absurd (cc)
-first_answers-get (p ∷ places) w first = cc
 
 -- ---- the table of the first place
 -- a vector's length is that of its items
@@ -93,25 +76,6 @@ module _ {W : Type 0} where
 
 module _ {N W : Type 0} where
   -- ---- what stays when own nodes keep their plans
-  branches_at-same :
-      (was_own is_own : N → Type 0) (old new : N → Plan W) (places : List (OpenPlace N))
-      → SamePlans was_own is_own old new → AreOwn was_own places → branches_at new places ≡ branches_at old places
-  branches_at-same was_own is_own old new [] same own = refl
-  branches_at-same was_own is_own old new (p ∷ places) same own =
-      let here : new p.node ≡ old p.node = same.plans p.node own.0 in
-      let later : branches_at new places ≡ branches_at old places = branches_at-same was_own is_own old new places same own.1 in
-      cc
-
-  AreOwn-same :
-      (was_own is_own : N → Type 0) (old new : N → Plan W) (places : List (OpenPlace N))
-      → SamePlans was_own is_own old new → AreOwn was_own places → AreOwn is_own places
-  AreOwn-same was_own is_own old new [] same own = tt
-  AreOwn-same was_own is_own old new (p ∷ places) same own =
-      ((same.own p.node).0 own.0, AreOwn-same was_own is_own old new places same own.1)
-
-  pub SamePlans-refl : (is_own : N → Type 0) (plan : N → Plan W) → SamePlans is_own is_own plan plan
-  SamePlans-refl is_own plan = record { own = λ n. (λ x. x, λ x. x); plans = λ n own. refl }
-
   pub SamePlans-trans :
       (a b c : N → Type 0) (p q r : N → Plan W) → SamePlans a b p q → SamePlans b c q r → SamePlans a c p r
   SamePlans-trans a b c p q r first second = record {
@@ -119,29 +83,27 @@ module _ {N W : Type 0} where
     plans = λ n own. second.plans n ((first.own n).0 own) ∙ first.plans n own;
   }
 
-  module _ (was_own is_own : N → Type 0) (old new : N → Plan W) (was_root root : Plan W) (budget : ℕ) (places : List (OpenPlace N))
-      (cycles : List (Option (List ℕ))) (tables : List Rows) (tree : List Tok) (asked : ℕ)
-      (same : SamePlans was_own is_own old new) (s : IsSearching was_own old was_root budget places cycles tables tree asked) where
-    pub IsSearching-same : root ≡ was_root → IsSearching is_own new root budget places cycles tables tree asked
-    IsSearching-same same_root =
-        let branches = branches_at-same was_own is_own old new places same s.own in
-        record {
-          own = AreOwn-same was_own is_own old new places same s.own;
-          short = subst (λ (x : List (Branch W)). AreShort x) (sym branches) s.short;
-          reached =
-              subst (λ (x : List (Branch W)). AreReached root x) (sym branches)
-              (subst (λ (x : Plan W). AreReached x (branches_at old places)) (sym same_root) s.reached);
-          judged = s.judged;
-          so_far = s.so_far;
-          come =
-              subst (λ (x : List (Branch W)). HasCome root tree s.so_far x) (sym branches)
-              (subst (λ (x : Plan W). HasCome x tree s.so_far (branches_at old places)) (sym same_root) s.come);
-          count = s.count;
-          within = s.within;
-        }
-
-    pub weight_of-same : weight_of (branches_at new places) ≡ weight_of (branches_at old places)
-    weight_of-same = ap weight_of (branches_at-same was_own is_own old new places same s.own)
+  -- a search of the same branches
+  pub IsSearching-same :
+      {was_own is_own : N → Type 0} {old new : N → Plan W} {was_root root : Plan W} {budget : ℕ} {places : List (OpenPlace N)}
+      {cycles : List (Option (List ℕ))} {tables : List Rows} {tree : List Tok} {asked : ℕ}
+      → IsSearching was_own old was_root budget places cycles tables tree asked
+      → AreOwn is_own places → branches_at new places ≡ branches_at old places → root ≡ was_root
+      → IsSearching is_own new root budget places cycles tables tree asked
+  IsSearching-same {old = old} {root = root} {places = places} {tree = tree} s own branches same_root = record {
+    own = own;
+    short = subst (λ (x : List (Branch W)). AreShort x) (sym branches) s.short;
+    reached =
+        subst (λ (x : List (Branch W)). AreReached root x) (sym branches)
+        (subst (λ (x : Plan W). AreReached x (branches_at old places)) (sym same_root) s.reached);
+    judged = s.judged;
+    so_far = s.so_far;
+    come =
+        subst (λ (x : List (Branch W)). HasCome root tree s.so_far x) (sym branches)
+        (subst (λ (x : Plan W). HasCome x tree s.so_far (branches_at old places)) (sym same_root) s.come);
+    count = s.count;
+    within = s.within;
+  }
 
   module _ (is_own : N → Type 0) (plan : N → Plan W) (root : Plan W) (budget : ℕ) where
     pub IsSearching-begun :
@@ -220,9 +182,9 @@ module _ {N W : Type 0} where
       }
 
       spent_here :
-          (l : Lit) (on_yes on_no : Plan W) → plan p.node ≡ Ask l on_yes on_no → asked ≡ budget → IsDecided root budget Spent
+          (l : Lit) (on_yes on_no : Plan W) → plan p.node ≡ Ask l on_yes on_no → asked ≡ budget → AgreesWithLists root budget Spent
       spent_here l on_yes on_no asks spent =
-          IsDecided-spent root tree s.so_far (branch_at plan p) (branches_at plan places) s.come l on_yes on_no budget asks
+          AgreesWithLists-spent root tree s.so_far (branch_at plan p) (branches_at plan places) s.come l on_yes on_no budget asks
           possible_here (sym s.count ∙ spent)
 
       failing_here :
@@ -251,66 +213,60 @@ module _ {N W : Type 0} where
       within = s.within;
     }
 
-  -- ---- the same by the first node, as a path gives it
-  module _ (is_own : N → Type 0) (plan : N → Plan W) (root : Plan W) (budget : ℕ) (n : N) where
+  -- ---- the same by the plan at the first place
+  module _ (is_own : N → Type 0) (plan : N → Plan W) (root : Plan W) (budget : ℕ) where
     pub IsSearching-question :
         (places : List (OpenPlace N)) (cycles : List (Option (List ℕ))) (tables : List Rows) (tree : List Tok) (asked : ℕ)
         (l : Lit) (on_yes on_no : N) (new_cycles : List (Option (List ℕ))) (new_tables : List Rows)
-        → option_map (λ p. p.node) (slice_get places 0) ≡ Some n
         → IsSearching is_own plan root budget places (None ∷ cycles) (reverse tables) tree asked
-        → is_own on_yes × is_own on_no × (plan n ≡ Ask l (plan on_yes) (plan on_no)) → asked ≢ budget
+        → is_own on_yes × is_own on_no × (first_plan plan places ≡ Ask l (plan on_yes) (plan on_no)) → asked ≢ budget
         → JudgesSides l (length (first_answers places)) cycles (reverse tables) new_cycles new_tables
         → IsSearching is_own plan root budget (after_question l on_yes on_no places) new_cycles new_tables
         (tree ++ token.Ask ∷ []) (asked + 1)
-    IsSearching-question [] cycles tables tree asked l on_yes on_no new_cycles new_tables first s begins fits judges = absurd (cc)
-    IsSearching-question (p ∷ places) cycles tables tree asked l on_yes on_no new_cycles new_tables first s begins fits judges =
-        question_here is_own plan root budget p places cycles tables tree asked s l on_yes on_no new_cycles new_tables
-        (begins.0, begins.1, ap plan (first_node p places n first) ∙ begins.2) fits judges
+    IsSearching-question [] cycles tables tree asked l on_yes on_no new_cycles new_tables s begins fits judges =
+        let asks : Holds ≡ Ask l (plan on_yes) (plan on_no) = begins.2 in absurd (cc)
+    IsSearching-question (p ∷ places) cycles tables tree asked l on_yes on_no new_cycles new_tables s begins fits judges =
+        question_here is_own plan root budget p places cycles tables tree asked s l on_yes on_no new_cycles new_tables begins fits
+        judges
 
     pub IsSearching-holds :
         (places : List (OpenPlace N)) (cycles : List (Option (List ℕ))) (tables new_tables : List Rows) (tree : List Tok) (asked : ℕ)
-        → option_map (λ p. p.node) (slice_get places 0) ≡ Some n
+        → 0 < length places
         → IsSearching is_own plan root budget places (None ∷ cycles) (reverse tables) tree asked
-        → plan n ≡ Holds → new_tables ≡ take (length tables - 1) tables
+        → first_plan plan places ≡ Holds → new_tables ≡ take (length tables - 1) tables
         → IsSearching is_own plan root budget (drop 1 places) cycles (reverse new_tables) (tree ++ token.Holds ∷ []) asked
-    IsSearching-holds [] cycles tables new_tables tree asked first s holds less = absurd (cc)
-    IsSearching-holds (p ∷ places) cycles tables new_tables tree asked first s holds less =
+    IsSearching-holds [] cycles tables new_tables tree asked some s holds less = absurd (omega arith)
+    IsSearching-holds (p ∷ places) cycles tables new_tables tree asked some s holds less =
         subst (λ (xs : List Rows). IsSearching is_own plan root budget places cycles (reverse xs) (tree ++ token.Holds ∷ []) asked)
         (sym less)
-        (holds_here is_own plan root budget p places cycles tables tree asked s (ap plan (first_node p places n first) ∙ holds))
+        (holds_here is_own plan root budget p places cycles tables tree asked s holds)
 
-    pub IsDecided-spent_at :
+    pub spent_at_first :
         (places : List (OpenPlace N)) (cycles : List (Option (List ℕ))) (tables : List Rows) (tree : List Tok) (asked : ℕ)
         (l : Lit) (on_yes on_no : Plan W)
-        → option_map (λ p. p.node) (slice_get places 0) ≡ Some n
         → IsSearching is_own plan root budget places (None ∷ cycles) (reverse tables) tree asked
-        → plan n ≡ Ask l on_yes on_no → asked ≡ budget → IsDecided root budget Spent
-    IsDecided-spent_at [] cycles tables tree asked l on_yes on_no first s asks spent = absurd (cc)
-    IsDecided-spent_at (p ∷ places) cycles tables tree asked l on_yes on_no first s asks spent =
-        spent_here is_own plan root budget p places cycles tables tree asked s l on_yes on_no
-        (ap plan (first_node p places n first) ∙ asks) spent
+        → first_plan plan places ≡ Ask l on_yes on_no → asked ≡ budget → AgreesWithLists root budget Spent
+    spent_at_first [] cycles tables tree asked l on_yes on_no s asks spent = absurd (cc)
+    spent_at_first (p ∷ places) cycles tables tree asked l on_yes on_no s asks spent =
+        spent_here is_own plan root budget p places cycles tables tree asked s l on_yes on_no asks spent
 
     pub failing_at_first :
         (places : List (OpenPlace N)) (cycles : List (Option (List ℕ))) (tables : List Rows) (tree : List Tok) (asked : ℕ)
         (why : W) (q : Questions W)
-        → option_map (λ p. p.node) (slice_get places 0) ≡ Some n
         → IsSearching is_own plan root budget places (None ∷ cycles) (reverse tables) tree asked
-        → plan n ≡ Fails why → QuestionList root [] q
+        → first_plan plan places ≡ Fails why → QuestionList root [] q
         → (length q.asked ≤ budget) × (q.failing ≡ Some (record { answers = first_answers places; why = why }))
-    failing_at_first [] cycles tables tree asked why q first s fails list = absurd (cc)
-    failing_at_first (p ∷ places) cycles tables tree asked why q first s fails list =
-        failing_here is_own plan root budget p places cycles tables tree asked s why q
-        (ap plan (first_node p places n first) ∙ fails) list
+    failing_at_first [] cycles tables tree asked why q s fails list = absurd (cc)
+    failing_at_first (p ∷ places) cycles tables tree asked why q s fails list =
+        failing_here is_own plan root budget p places cycles tables tree asked s why q fails list
 
-  module _ (is_own : N → Type 0) (plan : N → Plan W) (root : Plan W) (budget : ℕ) where
     -- ---- what a step needs to know of the first place
     pub first_is_reached :
-        (n : N) (places : List (OpenPlace N)) (cycles : List (Option (List ℕ))) (tables : List Rows) (tree : List Tok) (asked : ℕ)
-        → option_map (λ p. p.node) (slice_get places 0) ≡ Some n
-        → IsSearching is_own plan root budget places cycles tables tree asked → LeadsTo root (first_answers places) (plan n)
-    first_is_reached n [] cycles tables tree asked first s = absurd (cc)
-    first_is_reached n (p ∷ places) cycles tables tree asked first s =
-        subst (λ (x : N). LeadsTo root p.answers (plan x)) (first_node p places n first) s.reached.0
+        (places : List (OpenPlace N)) (cycles : List (Option (List ℕ))) (tables : List Rows) (tree : List Tok) (asked : ℕ)
+        → 0 < length places → IsSearching is_own plan root budget places cycles tables tree asked
+        → LeadsTo root (first_answers places) (first_plan plan places)
+    first_is_reached [] cycles tables tree asked some s = absurd (omega arith)
+    first_is_reached (p ∷ places) cycles tables tree asked some s = s.reached.0
 
     pub first_is_short :
         (places : List (OpenPlace N)) (cycles : List (Option (List ℕ))) (tables : List Rows) (tree : List Tok) (asked : ℕ)
@@ -346,13 +302,11 @@ module _ {N W : Type 0} where
   -- ---- weights
   module _ (plan : N → Plan W) where
     pub weight_of-question :
-        (n : N) (places : List (OpenPlace N)) (l : Lit) (on_yes on_no : N) → option_map (λ p. p.node) (slice_get places 0) ≡ Some n
-        → plan n ≡ Ask l (plan on_yes) (plan on_no)
+        (places : List (OpenPlace N)) (l : Lit) (on_yes on_no : N) → first_plan plan places ≡ Ask l (plan on_yes) (plan on_no)
         → weight_of (branches_at plan (after_question l on_yes on_no places)) < weight_of (branches_at plan places)
-    weight_of-question n [] l on_yes on_no first asks = absurd (cc)
-    weight_of-question n (p ∷ places) l on_yes on_no first asks =
-        let here : plan_weight (plan p.node) ≡ 1 + (plan_weight (plan on_yes) + plan_weight (plan on_no)) =
-        ap plan_weight (ap plan (first_node p places n first) ∙ asks) in
+    weight_of-question [] l on_yes on_no asks = absurd (cc)
+    weight_of-question (p ∷ places) l on_yes on_no asks =
+        let here : plan_weight (plan p.node) ≡ 1 + (plan_weight (plan on_yes) + plan_weight (plan on_no)) = ap plan_weight asks in
         omega (arith, here)
 
     pub weight_of-close :
@@ -363,12 +317,21 @@ module _ {N W : Type 0} where
 
   -- ---- the end of a search
   module _ (is_own : N → Type 0) (plan : N → Plan W) (root : Plan W) (budget : ℕ) where
-    pub IsDecided-done :
+    pub AgreesWithLists-done :
         (places : List (OpenPlace N)) (cycles : List (Option (List ℕ))) (tables : List Rows) (tree : List Tok) (asked : ℕ)
         (is_open : Bool) → is_open ≡ false → (IsTrue is_open ↔ (0 < length places))
-        → IsSearching is_own plan root budget places cycles tables tree asked → IsDecided root budget (Yes tree asked)
-    IsDecided-done [] cycles tables tree asked is_open closed opened s =
-        IsDecided-yes root tree s.so_far asked budget s.come s.count s.within
-    IsDecided-done (p ∷ places) cycles tables tree asked is_open closed opened s =
+        → IsSearching is_own plan root budget places cycles tables tree asked → AgreesWithLists root budget (Yes tree asked)
+    AgreesWithLists-done [] cycles tables tree asked is_open closed opened s =
+        AgreesWithLists-yes root tree s.so_far asked budget s.come s.count s.within
+    AgreesWithLists-done (p ∷ places) cycles tables tree asked is_open closed opened s =
         let some : 0 < length (p ∷ places) = omega arith in
         let e : is_open ≡ true = opened.1 some in absurd (cc)
+
+module _ {W : Type 0} where
+  -- an outcome that agrees with every list is that of the one there is
+  pub IsDecided-by_list :
+      (root : Plan W) (budget : ℕ) (o : Outcome W)
+      → ((p : Plan W) (w : List Lit) (q : Questions W) → QuestionList p w q → AreAllPossible q)
+      → (q : Questions W) × QuestionList root [] q → AgreesWithLists root budget o → IsDecided root budget o
+  IsDecided-by_list root budget o possible (q, list) agrees =
+      record { questions = q; listed = list; possible = possible root [] q list; decided = agrees q list }

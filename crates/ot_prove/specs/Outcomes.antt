@@ -1,12 +1,12 @@
 -- What the prover answers of a plan, by the question list of the plan.
-use Rattle.std.specs.Prelude.{◌≡◌, ℕ, ◌<◌, ◌≤◌, true, false, List, [], ◌∷◌, ◌++◌, length, map, Some, None, MatchOption}
+use Rattle.std.specs.Prelude.{◌≡◌, ℕ, ℤ, ◌<◌, ◌≤◌, true, false, List, [], ◌∷◌, ◌++◌, length, map, Some, None, MatchOption}
 use Rattle.std.specs.List.{AllByRecursion}
 use Rattle.diff_graph.specs.declared.lit.Lit.{Lit}
-use Rattle.diff_graph.specs.Literals.{answered_of, IsPossible}
+use Rattle.diff_graph.specs.Literals.{answered_of, AreMet, IsPossible}
 use Rattle.ask_core.specs.declared.tree.Tok.{Tok}
-use Rattle.ask_core.specs.Plans.{Plan, Ask, Holds, Fails, after_answer}
+use Rattle.ask_core.specs.Plans.{Plan, Ask, Holds, Fails, after_answer, end_of, value}
 use Rattle.ask_core.specs.Trees.{AnswerTree, Question, End, Impossible, Fits, tokens_of, with_answer}
-use Rattle.ask_core.specs.Questions.{Questions, QuestionList}
+use Rattle.ask_core.specs.Questions.{Questions, FailingEnd, QuestionList}
 use Rattle.ot_prove.specs.declared.outcome.Answer.{Answer}
 use Rattle.ot_prove.specs.declared.outcome.Outcome.{Outcome}
 use Rattle.ot_prove.specs.declared.outcome.Outcome.TheVariants.{Yes, No, Spent}
@@ -56,6 +56,18 @@ Decides p budget q Spent = budget < length q.asked
 abbrev pub AreAllPossible : {W : Type 0} → Questions W → Type 0
 AreAllPossible q = AllByRecursion IsPossible q.asked × MatchOption q.failing (Unit {0}) (λ e. IsPossible e.answers)
 
--- the outcome is that of the plan's question list after no answers
-abbrev pub IsDecided : {W : Type 0} → Plan W → ℕ → Outcome W → Type 0
-IsDecided {W = W} p budget o = (q : Questions W) → QuestionList p [] q → Decides p budget q o
+-- the plan holds at every valuation
+abbrev pub HoldsEverywhere : {W : Type 0} → Plan W → Type 0
+HoldsEverywhere p = (v : ℕ → ℤ) → value p v ≡ true
+
+-- some integers meet the answers, and each valuation that meets them ends in the cause
+abbrev pub FailsAt : {W : Type 0} → Plan W → FailingEnd W → Type 0
+FailsAt p e = IsPossible e.answers × ((v : ℕ → ℤ) → AreMet v e.answers → end_of p v ≡ Some e.why)
+
+-- the outcome is that of the plan's question list after no answers, at each of whose questions some integers meet
+-- the answers
+pub record IsDecided {W : Type 0} (p : Plan W) (budget : ℕ) (o : Outcome W) : Type 0 where
+  pub questions : Questions W
+  pub listed : QuestionList p [] questions
+  pub possible : AreAllPossible questions
+  pub decided : Decides p budget questions o

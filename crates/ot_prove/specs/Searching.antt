@@ -1,5 +1,5 @@
 -- How far a search of a plan has come: the open branches, the tokens written and the questions asked.
-use Rattle.std.specs.Prelude.{◌≡◌, ◌↔◌, ◌⊎◌, ℕ, true, false, ◌+◌, ◌<◌, ◌≤◌, List, [], ◌∷◌, ◌++◌, length, map, reverse, Option, MatchOption}
+use Rattle.std.specs.Prelude.{◌≡◌, ◌⊎◌, ℕ, true, false, ◌+◌, ◌<◌, ◌≤◌, List, [], ◌∷◌, ◌++◌, length, map, reverse, Option, MatchOption}
 use Rattle.std.specs.List.{AllByRecursion}
 use Rattle.diff_graph.specs.declared.lit.Lit.{Lit}
 use Rattle.diff_graph.specs.Literals.{answered_of}
@@ -9,8 +9,8 @@ use Rattle.ask_core.specs.Plans.{Plan, Ask, Holds, Fails}
 use Rattle.ask_core.specs.Askers.{longest_path}
 use Rattle.ask_core.specs.Trees.{AnswerTree, Fits, tokens_of, Branch}
 use Rattle.ask_core.specs.Questions.{Questions, QuestionList, no_questions}
-use Rattle.ask_core.specs.Paths.{OpenPlace, branches_at}
-use Rattle.ot_prove.specs.Outcomes.{asked_along, IsDecided}
+use Rattle.ask_core.specs.Paths.{OpenPlace, AreOwn, branches_at}
+use Rattle.ot_prove.specs.Outcomes.{asked_along, Decides}
 use Rattle.ot_prove.specs.declared.outcome.Outcome.{Outcome}
 use Rattle.ot_prove.specs.declared.search.Search.{Search}
 use Rattle.ot_prove.specs.Sides.{Rows, AreJudged}
@@ -59,11 +59,7 @@ pub record HasCome {W : Type 0} (root : Plan W) (tokens : List Tok) (asked : Lis
       (q : Questions W) → QuestionList root [] q
       → (later : Questions W) × Listed open_ones later × (q ≡ joined (record { asked = asked; failing = later.failing }) later)
 
--- the answers of the first place
-abbrev pub first_answers : {N : Type 0} → List (OpenPlace N) → List Lit
-first_answers [] = []
-first_answers (p ∷ places) = p.answers
-
+-- the answers of each place
 abbrev pub answers_at : {N : Type 0} → List (OpenPlace N) → List (List Lit)
 answers_at places = map (λ p. p.answers) places
 
@@ -86,14 +82,6 @@ IsShort b = length b.answers + longest_path b.plan ≤ MAX_QUESTIONS
 abbrev pub AreShort : {W : Type 0} → List (Branch W) → Type 0
 AreShort branches = AllByRecursion IsShort branches
 
-abbrev pub AreOwn : {N : Type 0} → (N → Type 0) → List (OpenPlace N) → Type 0
-AreOwn is_own places = AllByRecursion (λ p. is_own p.node) places
-
--- own nodes stay own, and stand for the same plans
-pub record SamePlans {N W : Type 0} (was_own is_own : N → Type 0) (old new : N → Plan W) : Type 0 where
-  pub own : (n : N) → was_own n ↔ is_own n
-  pub plans : (n : N) → was_own n → new n ≡ old n
-
 -- a search of the asker's plan under way: its open places, what is known of each, the tree so far and how
 -- many questions it has
 pub record IsSearching {N W : Type 0} (is_own : N → Type 0) (plan : N → Plan W) (root : Plan W) (budget : ℕ)
@@ -112,10 +100,14 @@ abbrev pub IsUnderWay : {N W : Type 0} → (N → Type 0) → (N → Plan W) →
 IsUnderWay is_own plan root budget s =
     IsSearching is_own plan root budget s.path (reverse s.cycles.items) (reverse s.tables.items) s.tree s.asked
 
--- a step leaves a search under way, or an outcome that is decided
+-- the outcome is that of every question list that the plan may have
+abbrev pub AgreesWithLists : {W : Type 0} → Plan W → ℕ → Outcome W → Type 0
+AgreesWithLists {W = W} p budget o = (q : Questions W) → QuestionList p [] q → Decides p budget q o
+
+-- a step leaves a search under way, or the outcome
 abbrev pub IsUnderWayOr : {N W : Type 0} → (N → Type 0) → (N → Plan W) → Plan W → ℕ → Search N → Option (Outcome W) → Type 0
 IsUnderWayOr is_own plan root budget s r =
-    MatchOption r (IsUnderWay is_own plan root budget s) (λ o. IsDecided root budget o)
+    MatchOption r (IsUnderWay is_own plan root budget s) (λ o. AgreesWithLists root budget o)
 
 -- where it leaves a search, the plans that are open weigh less than before
 abbrev pub WeighsLess : {N W : Type 0} → (N → Plan W) → (N → Plan W) → Search N → Search N → Option (Outcome W) → Type 0

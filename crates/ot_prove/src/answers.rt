@@ -1,8 +1,9 @@
 //! The answers on the way to a place.
 ghost use Rattle.std.specs.Prelude.{◌≡◌, IfOk, if◌then◌else◌};
 ghost use Rattle.ask_core.specs.Plans.{Plan};
+ghost use Rattle.ask_core.specs.Askers.{SamePlans};
 ghost use Rattle.ot_prove.specs.Outcomes.{answered_by, AreAnswersTo};
-ghost use Rattle.ot_prove.specs.Searching.{LeadsTo, SamePlans};
+ghost use Rattle.ot_prove.specs.Searching.{LeadsTo};
 
 use crate::NoMemory;
 use crate::outcome::Answer;

@@ -5,7 +5,8 @@
 //! whoever is handed it: nothing here need be trusted.
 //!
 //! The layers above rely on the clause `decides` of `prove`, which says each outcome by the question list
-//! of the asker's own plan, and on the law that there is exactly one such list.
+//! of the asker's own plan, and on the laws that there is exactly one such list and that it tells where the
+//! plan fails.
 #![tactic(auto)]
 
 mod answers;
@@ -18,6 +19,7 @@ mod split;
 pub use ask_core::NoMemory;
 pub use laws::{
     impossible_places_have_short_cycles, plans_have_one_question_list, question_lists_are_possible,
+    question_lists_tell_where_plans_fail,
 };
 pub use outcome::{Answer, Outcome};
 pub use proving::prove;

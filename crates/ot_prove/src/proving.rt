@@ -1,18 +1,20 @@
 //! The call that searches a plan.
-ghost use Rattle.std.specs.Prelude.{◌≡◌, ◌↔◌, ◌≤◌, IfOk};
+ghost use Rattle.std.specs.Prelude.{◌≡◌, ◌≤◌, IfOk};
+ghost use Rattle.ask_core.specs.Askers.{SamePlans};
 ghost use Rattle.ot_prove.specs.declared.split.TheConstants.{MAX_NAMES};
 ghost use Rattle.ot_prove.specs.Outcomes.{IsDecided};
 
 use crate::NoMemory;
+use crate::laws::{plans_have_one_question_list, question_lists_are_possible};
 use crate::outcome::Outcome;
 use crate::search::{Search, step};
 use ask_core::Asker;
 use std::alloc::Global;
 
-/// Decides an asker's own plan by at most `budget` questions, each of which some integers meet: their
-/// answers stand in the order of the plan, yes before no, up to the first failing end. `Spent` comes
-/// exactly where there are more, `No` exactly where there are not and the plan fails somewhere that some
-/// integers meet, and else `Yes`. The error is want of memory.
+/// Decides an asker's own plan by at most `budget` questions, before each of which some integers meet the
+/// answers: the one question list of the plan, yes before no, up to the first failing end. `Spent` comes
+/// exactly where it is longer, `No` exactly where it is not and has a failing end, and else `Yes`. The
+/// error is want of memory.
 pub fn prove<A: Asker>(
     alloc: Global,
     asker: &mut A,
@@ -22,11 +24,12 @@ pub fn prove<A: Asker>(
     ensures decides { IfOk result (λ o. IsDecided (A.root asker.old) budget o) }
 
     // The asker is as it was.
-    ensures own_kept { (n : A.Node) → A.is_own asker.old n ↔ A.is_own asker.new n }
-    ensures plan_kept { (n : A.Node) → A.is_own asker.old n → A.plan asker.new n ≡ A.plan asker.old n }
+    ensures same { SamePlans (A.is_own asker.old) (A.is_own asker.new) (A.plan asker.old) (A.plan asker.new) }
     ensures root_kept { A.root asker.new ≡ A.root asker.old }
     ensures count_kept { A.name_count asker.new ≡ A.name_count asker.old }
 {
+    plans_have_one_question_list::<A::Why>();
+    question_lists_are_possible::<A::Why>();
     let first = asker.start()?;
     let mut search = Search::begin(alloc, first)?;
     'places: while search.path.is_open() {

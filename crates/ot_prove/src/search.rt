@@ -3,16 +3,17 @@ ghost use Rattle.std.specs.Prelude.{◌≡◌, ◌+◌, ◌-◌, ◌<◌, ◌≤
 ghost use Rattle.diff_graph.specs.Tables.{IsNamed, StandsFor, kept_of};
 ghost use Rattle.diff_graph.specs.declared.lit.Lit.{Lit};
 ghost use Rattle.ask_core.specs.declared.tree.Tok.TheVariants as token;
-ghost use Rattle.ask_core.specs.Paths.{OpenPlace, after_question};
+ghost use Rattle.ask_core.specs.Askers.{SamePlans};
+ghost use Rattle.ask_core.specs.Paths.{OpenPlace, after_question, first_answers};
 ghost use Rattle.ot_prove.specs.declared.split.TheConstants.{MAX_NAMES};
 ghost use Rattle.ot_prove.specs.Sides.{IsAsked, JudgesSides, StandsForSome};
-ghost use Rattle.ot_prove.specs.Searching.{IsSearching, IsUnderWay, IsUnderWayOr, WeighsLess, SamePlans, first_answers};
+ghost use Rattle.ot_prove.specs.Searching.{IsSearching, IsUnderWay, IsUnderWayOr, WeighsLess};
 
 use crate::NoMemory;
 use crate::answers::answers_along;
 use crate::outcome::Outcome;
 use crate::split::{MAX_NAMES, judge_sides};
-use ask_core::{Asker, Path, Picks, Tok, Tree, Turn};
+use ask_core::{Asker, Path, Picks, Tok, Tree, Turn, turn_at};
 use diff_bounds::Bounds;
 use diff_graph::{Lit, negative_cycles_are_never_met};
 use std::alloc::Global;
@@ -101,7 +102,7 @@ fn take_turn<A: Asker>(
     ensures root { A.root asker.new ≡ A.root asker.old }
     ensures count { A.name_count asker.new ≡ A.name_count asker.old }
 {
-    match asker.turn(search.path.node())? {
+    match turn_at(asker, &search.path)? {
         Turn::Ask { lit, yes, no } => {
             if search.asked == budget {
                 return Ok(Some(Outcome::Spent));

@@ -43,6 +43,10 @@ Decides-allowed v f a b ca cb = (IsAllowed-test v f a b ca cb, sym_allowed-true 
 pub length_test : (v : ℕ → ℤ) (n : ℕ) → v 0 ≡ pos 0 → v 1 ≡ pos n → int_le (v 0 +ℤ pos 0) (v 1 +ℤ pos 0) ≡ true
 length_test v n z e = (Decides-int_le (v 0 +ℤ pos 0) (v 1 +ℤ pos 0)).1 (omega (arith, ints))
 
+pub int_cases : (x : ℤ) → ((n : ℕ) × (x ≡ pos n)) ⊎ ((n : ℕ) × (x ≡ negsuc n))
+int_cases (pos n) = inl (n, refl)
+int_cases (negsuc n) = inr (n, refl)
+
 pub negative_length : (v : ℕ → ℤ) (n : ℕ) → v 0 ≡ pos 0 → v 1 ≡ negsuc n → int_le (v 0 +ℤ pos 0) (v 1 +ℤ pos 0) ≡ false
 negative_length v n z e = ap (λ x. int_le (x +ℤ pos 0) (v 1 +ℤ pos 0)) z ∙ ap (λ y. int_le (pos 0) y) (plus-zero (v 1) ∙ e)
 

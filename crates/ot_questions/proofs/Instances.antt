@@ -20,10 +20,13 @@ use Rattle.ot_questions.specs.declared.why.Why.{Why}
 use Rattle.ot_questions.specs.Names.{site_name, char_name}
 use Rattle.ot_questions.specs.Places.{sym_op}
 use Rattle.ot_questions.specs.Meaning.{op_at}
+use Rattle.ot_questions.specs.Instances.{StandsFor, NamesAll}
 use Rattle.ot_questions.proofs.Tests.{int_le-like}
 use Rattle.ot_questions.proofs.Operations.{IsCount, IsCounted}
-use Rattle.ot_questions.proofs.Placed.{sort_name, site_sort, char_sort}
-use Rattle.ot_questions.proofs.Walks.{IsGood, AllAsked}
+use Rattle.ot_questions.specs.Sorts.{sort_name}
+use Rattle.ot_questions.specs.Asked.{IsGood, AllAsked}
+use Rattle.ot_questions.proofs.Standing.{standing-named}
+use Rattle.ot_questions.proofs.Placed.{site_sort, char_sort}
 
 -- the valuation that names these operations
 abbrev pub valued : ℕ → ℤ → Op → Op → Op → ℕ → ℤ
@@ -41,6 +44,21 @@ valued n i a b c x =
     else (if nat_eq x 11 then thing_of Char c
     else pos 0))))))))))
 
+-- it names all of them
+pub all_named : (n : ℕ) (i : ℤ) (made : Who → Op) → (v : ℕ → ℤ) × NamesAll v n i made
+all_named n i made =
+    let v = valued n i (made A) (made B) (made C) in (
+      v,
+      record { zero = refl; cells = refl; index = refl; operations = stand },
+    )
+  where
+    stand :
+        (who : Who) (k : Kind) → kind_of (made who) ≡ Some k
+        → StandsFor (valued n i (made A) (made B) (made C)) (sym_op k who) (made who)
+    stand A k e = standing-named (valued n i (made A) (made B) (made C)) k A (made A) e refl refl refl
+    stand B k e = standing-named (valued n i (made A) (made B) (made C)) k B (made B) e refl refl refl
+    stand C k e = standing-named (valued n i (made A) (made B) (made C)) k C (made C) e refl refl refl
+
 pub kind_of-op_at-sym_op : (v : ℕ → ℤ) (k : Kind) (who : Who) → kind_of (op_at v (sym_op k who)) ≡ Some k
 kind_of-op_at-sym_op v kinds.Ins who = refl
 kind_of-op_at-sym_op v kinds.Del who = refl
@@ -57,7 +75,7 @@ raised v s c x = v x +ℤ raise s c (sort_name x)
 
 met_raised : (count : ℕ) (v : ℕ → ℤ) (s c : ℕ) (l : Lit) → IsGood count l → is_met (raised v s c) l ≡ is_met v l
 met_raised count v s c l good =
-    let e : raise s c (sort_name l.x) ≡ raise s c (sort_name l.y) = ap (raise s c) good.sorts in
+    let e : raise s c (sort_name l.x) ≡ raise s c (sort_name l.y) = ap (raise s c) good.like.sorts in
     shifted (v l.x) (v l.y) l.k (raise s c (sort_name l.x)) (raise s c (sort_name l.y)) e
   where
     shifted : (x y k r t : ℤ) → r ≡ t → int_le (x +ℤ r) ((y +ℤ t) +ℤ k) ≡ int_le x (y +ℤ k)

@@ -13,15 +13,16 @@ use Rattle.fn_rules.proofs.AtomCounts.{block_atoms-function, block_atoms-valid}
 use Rattle.ask_core.specs.Plans.{Plan, Ask, Holds, Fails}
 use Rattle.ask_core.specs.Askers.{has_fine_literals, longest_path, IsFine}
 use Rattle.ask_core.specs.Questions.{Questions, QuestionList}
-use Rattle.ot_questions.specs.declared.name.Who.TheVariants.{A, B, C}
 use Rattle.ot_questions.specs.declared.why.Why.{Why}
 use Rattle.ot_questions.specs.Names.{name_count}
-use Rattle.ot_questions.specs.Places.{sym_op}
 use Rattle.ot_questions.specs.Obligation.{plan_of}
-use Rattle.ot_questions.proofs.Placed.{OpStands-sym_op}
-use Rattle.ot_questions.proofs.Walks.{AllAsked, IsKept, walk_pair, walk_triple}
+use Rattle.ot_questions.specs.Asked.{AllAsked, IsKept}
+use Rattle.ot_questions.proofs.Found.{AsksOfKnown, known_at_first}
+use Rattle.ot_questions.proofs.Walks.{IsWalked, walked_more}
+use Rattle.ot_questions.proofs.WholePlans.{pair_walked, triple_walked}
 
-fine_questions : (count : ℕ) (p : Plan Why) → AllAsked count p → has_fine_literals count p ≡ true
+-- good questions are fine
+pub fine_questions : (count : ℕ) (p : Plan Why) → AllAsked count p → has_fine_literals count p ≡ true
 fine_questions count (Ask lit on_yes on_no) h =
     and_from _ _ (and_from _ _ h.0.fine (fine_questions count on_yes h.1)) (fine_questions count on_no h.2)
 fine_questions count Holds h = refl
@@ -33,18 +34,35 @@ most_asked : ObName → ℕ → ℕ
 most_asked (Pair k l) atoms = 4 * atoms + 25
 most_asked (Triple k l m) atoms = 12 * atoms + 21
 
--- what is kept of the plan of an obligation, by the atoms of the blocks
+-- what is shown of the plan of an obligation, by the atoms of the blocks
+plan_walked :
+    (f : Function) (ob : ObName) (atoms : ℕ) → is_valid f ≡ true → ((k l : Kind) → block_atoms (cases_of f k l) ≤ atoms)
+    → IsWalked (name_count ob) known_at_first (most_asked ob atoms) (plan_of f ob)
+unfolding most_asked
+plan_walked f (Pair k l) atoms valid few =
+    walked_more 9 known_at_first (4 * atoms + 16 + 4 + 1 + 1 + 1 + 1 + 1) (4 * atoms + 25) (plan_of f (Pair k l)) (omega arith)
+    (pair_walked f valid atoms few k l)
+plan_walked f (Triple k l m) atoms valid few =
+    walked_more 12 known_at_first (2 + 6 * atoms + 6 * atoms + 4 + 4 + 4 + 1 + 1 + 1 + 1 + 1 + 1 + 1) (12 * atoms + 21)
+    (plan_of f (Triple k l m)) (omega arith) (triple_walked f valid atoms few k l m)
+
+-- no block has more atoms than the function
+pub blocks_within : (f : Function) (k l : Kind) → block_atoms (cases_of f k l) ≤ function_atoms f
+blocks_within f k l = block_atoms-function f k l
+
+-- each of its questions is good, and is asked of names that are known
+pub plan_asked :
+    (f : Function) (ob : ObName) → is_valid f ≡ true
+    → (count : ℕ) × AllAsked count (plan_of f ob) × AsksOfKnown known_at_first (plan_of f ob)
+plan_asked f ob valid =
+    let walked = plan_walked f ob (function_atoms f) valid (blocks_within f) in
+    (name_count ob, walked.kept.asked, walked.of_known)
+
+-- what is kept of it
 kept_by_atoms :
     (f : Function) (ob : ObName) (atoms : ℕ) → is_valid f ≡ true → ((k l : Kind) → block_atoms (cases_of f k l) ≤ atoms)
     → IsKept (name_count ob) (most_asked ob atoms) (plan_of f ob)
-unfolding plan_of most_asked
-kept_by_atoms f (Pair k l) atoms valid few =
-    walk_pair 9 (lit< tt) f valid atoms few (sym_op k A) (sym_op l B)
-    (OpStands-sym_op 9 k A (lit< tt) (lit< tt) (lit< tt)) (OpStands-sym_op 9 l B (lit< tt) (lit< tt) (lit< tt))
-kept_by_atoms f (Triple k l m) atoms valid few =
-    walk_triple 12 (lit< tt) f valid atoms few (sym_op k A) (sym_op l B) (sym_op m C)
-    (OpStands-sym_op 12 k A (lit< tt) (lit< tt) (lit< tt)) (OpStands-sym_op 12 l B (lit< tt) (lit< tt) (lit< tt))
-    (OpStands-sym_op 12 m C (lit< tt) (lit< tt) (lit< tt))
+kept_by_atoms f ob atoms valid few = (plan_walked f ob atoms valid few).kept
 
 most_within_limits : (ob : ObName) → most_asked ob 1024 ≤ 12309
 unfolding most_asked
@@ -67,7 +85,7 @@ plan_kept f ob valid =
 pub short_by_atoms :
     (f : Function) (ob : ObName) → is_valid f ≡ true → longest_path (plan_of f ob) ≤ 12 * function_atoms f + 40
 short_by_atoms f ob valid =
-    let kept = kept_by_atoms f ob (function_atoms f) valid (block_atoms-function f) in
+    let kept = kept_by_atoms f ob (function_atoms f) valid (blocks_within f) in
     let short = kept.short in
     let most = most_by_atoms ob (function_atoms f) in
     omega arith

@@ -16,9 +16,12 @@ pub mod PairEnds
 pub mod Answered
 pub mod PairFailures
 pub mod Placed
+pub mod Found
 pub mod Walks
+pub mod WholePlans
 pub mod Instances
 pub mod Listed
+pub mod Lengths
 pub mod PairMeaning
 pub mod PairValuations
 pub mod Triples
@@ -26,3 +29,5 @@ pub mod TripleMeaning
 pub mod TripleValuations
 pub mod QuestionValuations
 pub mod Laws
+pub mod AskedLaws
+pub mod PieceLaws

@@ -1,6 +1,6 @@
 -- The plan of a pair means TP1 for its kinds.
-use Rattle.std.proofs.Common.{◌≡◌, ℕ, ℤ, pos, negsuc, ◌+ℤ◌, true, if◌then◌else◌, int_le, Option, Some, None, List, [], ◌∷◌, length, refl, ap, sym, ◌∙◌, subst, inl, inr, ◌⊎◌}
-use Rattle.std.specs.List.{AllByRecursion}
+use Rattle.std.proofs.Common.{◌≡◌, ℕ, ℤ, pos, ◌+ℤ◌, true, int_le, Option, Some, None, List, [], ◌∷◌, length, refl, ap, sym, ◌∙◌, subst, inl, inr, ◌⊎◌}
+use Rattle.std.specs.List.{AllByRecursion, Contains}
 use Rattle.std.proofs.lemmas.Bool.{false≢true}
 use Rattle.ot_model.specs.declared.cell.Cell.{Cell}
 use Rattle.ot_model.specs.declared.op.Kind.{Kind}
@@ -10,22 +10,19 @@ use Rattle.ot_model.specs.declared.op.Op.TheVariants as ops
 use Rattle.ot_model.specs.Operations.{kind_of}
 use Rattle.ot_model.specs.Effect.{IsEnabled}
 use Rattle.fn_rules.specs.declared.function.Head.{Head}
-use Rattle.fn_rules.specs.declared.function.ObName.{ObName}
 use Rattle.fn_rules.specs.declared.function.ObName.TheVariants.{Pair}
 use Rattle.fn_rules.specs.Functions.{Function, is_declared, HasDeclaredKind}
-use Rattle.fn_rules.specs.Properties.{HasTp1}
+use Rattle.fn_rules.specs.Transformation.{IsAllowed}
+use Rattle.fn_rules.specs.Properties.{converges_exchanged, HasTp1, HasTp1At}
 use Rattle.fn_rules.specs.Obligations.{declared_kinds, pairs_of}
 use Rattle.fn_rules.specs.Validity.{is_valid}
-use Rattle.fn_rules.proofs.Forms.{IsAllowed-sym}
-use Rattle.fn_rules.proofs.Symmetry.{ConvergesAt-sym}
-use Rattle.fn_rules.proofs.KindPairs.{Contains-declared_pair}
 use Rattle.ask_core.specs.Plans.{end_of}
 use Rattle.ot_questions.specs.declared.name.Who.TheVariants.{A, B}
 use Rattle.ot_questions.specs.declared.place.SymOp.{SymOp}
 use Rattle.ot_questions.specs.Names.{site_name, char_name}
 use Rattle.ot_questions.specs.Places.{sym_op}
 use Rattle.ot_questions.specs.Obligation.{ask_converge, ask_pair, plan_of}
-use Rattle.ot_questions.specs.Meaning.{op_at, HasPair, HoldsAtLength, HoldsEverywhere, AllHold}
+use Rattle.ot_questions.specs.Meaning.{op_at, HasPair, HoldsAtLength, AllHold, AllHoldAtLength}
 use Rattle.ot_questions.specs.Instances.{StandsFor, EndWith, AgreeAt}
 use Rattle.ot_questions.proofs.Tests.{plus-zero}
 use Rattle.ot_questions.proofs.Values.{sym_allowed}
@@ -35,9 +32,10 @@ use Rattle.ot_questions.proofs.Laws.{plan_kept}
 use Rattle.ot_questions.proofs.Instances.{valued, kind_of-op_at-sym_op, raised, enough, counted_raised, end-raised, none_from_value, value_from_none}
 use Rattle.ot_questions.proofs.Pairs.{all_enabled, end-pair}
 use Rattle.ot_questions.proofs.PairEnds.{PairSays, converge_says}
-use Rattle.ot_questions.proofs.Answered.{Answered, begins_answered, Decides-all_enabled, Decides-allowed, length_test, negative_length}
+use Rattle.ot_questions.proofs.Answered.{Answered, begins_answered, Decides-all_enabled, Decides-allowed, length_test}
 use Rattle.ot_questions.proofs.PairFailures.{PairPosed, agrees_at_each, converges_by_indices, no_cause_left}
 use Rattle.ot_questions.proofs.Listed.{of_contained, each_kept, each_pair}
+use Rattle.ot_questions.proofs.Lengths.{from_each_length, at_each_length}
 
 -- what the plan of a pair says of the operations at the valuation
 answered_at :
@@ -126,63 +124,57 @@ declared_kind head (Some k) h = (k, refl, h)
 pub declared_from : (head : Head) (o : Option Kind) (k : Kind) → o ≡ Some k → is_declared head k ≡ true → HasDeclaredKind head o
 declared_from head o k e h = subst (λ x. HasDeclaredKind head x) (sym e) h
 
-pub at_length : (f : Function) (ob : ObName) (n : ℕ) → HoldsEverywhere f ob → HoldsAtLength f ob n
-at_length f ob n h v z e = h v z
+-- Why pairs of kinds are enough, as TP1 does not depend on the order of two operations: nor does with whom
+-- one may be, and of each two declared kinds the pair is listed in one of its two orders.
+pub record ArePairsEnough (f : Function) : Type 0 where
+  pub allowed : (a b : Op) → IsAllowed f a b → IsAllowed f b a
+  pub listed :
+      (k l : Kind) → is_declared f.head k ≡ true → is_declared f.head l ≡ true
+      → Contains (pairs_of (declared_kinds f.head)) (Pair k l) ⊎ Contains (pairs_of (declared_kinds f.head)) (Pair l k)
 
--- of each two declared kinds the pair is listed in one of its two orders
-pub all_pairs_mean : (f : Function) → AllHold f (pairs_of (declared_kinds f.head)) → HasTp1 f
-all_pairs_mean f h d a b (da, ea, ok, rest) =
+pub pairs_mean_at :
+    (f : Function) → ArePairsEnough f → (n : ℕ) → AllHoldAtLength f (pairs_of (declared_kinds f.head)) n → HasTp1At f n
+pairs_mean_at f enough n h d a b len (da, ea, ok, rest) =
     let k = declared_kind f.head (kind_of a) da in
     let l = declared_kind f.head (kind_of b) rest.0 in
-    elim (Contains-declared_pair f.head k.0 l.0 k.2 l.2) [
+    let a_enabled : IsEnabled a n = subst (λ m. IsEnabled a m) len ea in
+    let b_enabled : IsEnabled b n = subst (λ m. IsEnabled b m) len rest.1 in
+    elim (enough.listed k.0 l.0 k.2 l.2) [
       | inl listed ↦
-          pair_holds_means f k.0 l.0 (length d) (at_length f (Pair k.0 l.0) (length d)
-          (of_contained (HoldsEverywhere f) _ (Pair k.0 l.0) h listed))
-          d a b refl k.1 l.1 ea rest.1 ok.0
+          pair_holds_means f k.0 l.0 n (of_contained (λ ob. HoldsAtLength f ob n) _ (Pair k.0 l.0) h listed)
+          d a b len k.1 l.1 a_enabled b_enabled ok.0
       | inr listed ↦
-          ConvergesAt-sym f d b a
-          (pair_holds_means f l.0 k.0 (length d) (at_length f (Pair l.0 k.0) (length d)
-          (of_contained (HoldsEverywhere f) _ (Pair l.0 k.0) h listed))
-          d b a refl l.1 k.1 rest.1 ea (IsAllowed-sym f a b ok.0))
+          converges_exchanged f d b a
+          (pair_holds_means f l.0 k.0 n (of_contained (λ ob. HoldsAtLength f ob n) _ (Pair l.0 k.0) h listed)
+          d b a len l.1 k.1 b_enabled a_enabled (enough.allowed a b ok.0))
     ]
 
-pub int_cases : (x : ℤ) → ((n : ℕ) × (x ≡ pos n)) ⊎ ((n : ℕ) × (x ≡ negsuc n))
-int_cases (pos n) = inl (n, refl)
-int_cases (negsuc n) = inr (n, refl)
+pub all_pairs_mean : (f : Function) → ArePairsEnough f → AllHold f (pairs_of (declared_kinds f.head)) → HasTp1 f
+all_pairs_mean f enough h d a b posed =
+    pairs_mean_at f enough (length d) (at_each_length f _ h (length d)) d a b refl posed
 
--- a plan holds where it holds at each length, since at a negative length there is nothing to show
-pair_everywhere : (f : Function) (k l : Kind) → ((n : ℕ) → HoldsAtLength f (Pair k l) n) → HoldsEverywhere f (Pair k l)
-unfolding plan_of
-pair_everywhere f k l h v z =
-    let x = sym_op k A in
-    let y = sym_op l B in
-    elim (int_cases (v 1)) [
-      | inl found ↦ h found.0 v z found.1
-      | inr found ↦
-          value_from_none (end_of (ask_pair f x y) v)
-          (end-pair v f x y z
-          ∙ ap (λ t. if t then (if all_enabled v (x ∷ y ∷ [])
-          then (if sym_allowed v f.head x y then end_of (ask_converge f x y) v else None) else None) else None)
-          (negative_length v found.0 z found.1))
-    ]
-
-pair_holds :
-    (f : Function) → is_valid f ≡ true → HasTp1 f → (k l : Kind) → is_declared f.head k ≡ true → is_declared f.head l ≡ true
-    → HoldsEverywhere f (Pair k l)
-pair_holds f valid has k l dk dl =
-    pair_everywhere f k l
-    (λ n. pair_meaning_holds f k l n valid
+pair_holds_at :
+    (f : Function) (n : ℕ) → is_valid f ≡ true → HasTp1At f n → (k l : Kind) → is_declared f.head k ≡ true
+    → is_declared f.head l ≡ true → HoldsAtLength f (Pair k l) n
+pair_holds_at f n valid has k l dk dl =
+    pair_meaning_holds f k l n valid
     (λ d a b len ka kb ea eb ok.
-    has d a b (
+    has d a b len (
       declared_from f.head (kind_of a) k ka dk,
       subst (λ m. IsEnabled a m) (sym len) ea,
       (ok, tt),
       (declared_from f.head (kind_of b) l kb dl, subst (λ m. IsEnabled b m) (sym len) eb, tt, tt),
-    )))
+    ))
 
 pub all_declared : (head : Head) → AllByRecursion (λ k. is_declared head k ≡ true) (declared_kinds head)
 all_declared head = each_kept (is_declared head) KINDS
 
+pub tp1_holds_pairs_at :
+    (f : Function) (n : ℕ) → is_valid f ≡ true → HasTp1At f n → AllHoldAtLength f (pairs_of (declared_kinds f.head)) n
+tp1_holds_pairs_at f n valid has =
+    each_pair (λ k. is_declared f.head k ≡ true) (λ ob. HoldsAtLength f ob n) (pair_holds_at f n valid has)
+    (declared_kinds f.head) (all_declared f.head)
+
 pub tp1_holds_all_pairs : (f : Function) → is_valid f ≡ true → HasTp1 f → AllHold f (pairs_of (declared_kinds f.head))
 tp1_holds_all_pairs f valid has =
-    each_pair (λ k. is_declared f.head k ≡ true) (HoldsEverywhere f) (pair_holds f valid has) (declared_kinds f.head) (all_declared f.head)
+    from_each_length f _ (λ n. tp1_holds_pairs_at f n valid (λ d a b len posed. has d a b posed))

@@ -1,8 +1,11 @@
--- Places of one sort: positions (with zero, the length and the index), sites, or characters. Each name is
--- below a count, each offset small, and a transformation keeps that.
-use Rattle.std.proofs.Common.{◌≡◌, ℕ, ◌+◌, ◌<◌, ◌≤◌, ℤ, pos, ◌||◌, true, if◌then◌else◌, nat_eq, Option, Some, refl, ap, sym, ◌∙◌, subst}
+-- Places of one sort: positions (with zero, the length and the index), sites, or characters. Each name may
+-- be used, each offset is small, and a transformation keeps that.
+use Rattle.std.proofs.Common.{◌≡◌, ℕ, ◌+◌, ◌≤◌, ℤ, pos, ◌+ℤ◌, Bool, true, Option, Some, List, [], ◌∷◌, refl, ap, sym, ◌∙◌, subst, arith}
 use Rattle.std.specs.Ordering.{int_eq}
+use Rattle.std.specs.List.{AllByRecursion}
 use Rattle.std.proofs.lemmas.Bool.{and_parts, false≢true}
+use Rattle.std.proofs.lemmas.Bool.Decides.{Decides-int_eq}
+use Rattle.std.proofs.lemmas.Int.{ints}
 use Rattle.ot_model.specs.declared.op.Kind.{Kind}
 use Rattle.ot_model.specs.declared.op.Kind.TheVariants as kinds
 use Rattle.ot_model.specs.Kinds.{has_char}
@@ -19,14 +22,10 @@ use Rattle.ot_questions.specs.declared.place.SymOp.{SymOp}
 use Rattle.ot_questions.specs.declared.place.SymOp.TheVariants.{Ins, Del, Upd, Nop}
 use Rattle.ot_questions.specs.Names.{position_name, site_name, char_name}
 use Rattle.ot_questions.specs.Nears.{IsNear}
+use Rattle.ot_questions.specs.Sorts.{sort_name}
+use Rattle.ot_questions.specs.Asked.{IsSteady, Stands, OpStands}
 use Rattle.ot_questions.specs.Places.{place, plus, sym_op, sym_at, sym_kind, sym_site, sym_char, sym_placed, sym_result, sym_thing, place_of_name}
 use Rattle.ot_questions.proofs.Nears.{IsNear-more, IsNear-plus, IsNear-zero, IsNear-res}
-
--- the sort of what a name stands for
-abbrev pub sort_name : ℕ → Sort
-sort_name x =
-    if nat_eq x 4 || nat_eq x 7 || nat_eq x 10 then Site
-    else (if nat_eq x 5 || nat_eq x 8 || nat_eq x 11 then Char else Pos)
 
 pub position_sort : (who : Who) → sort_name (position_name who) ≡ Pos
 position_sort A = refl
@@ -42,18 +41,6 @@ pub char_sort : (who : Who) → sort_name (char_name who) ≡ Char
 char_sort A = refl
 char_sort B = refl
 char_sort C = refl
-
--- a place of a sort, below the count of names, with an offset of at most n either way
-pub record Stands (count n : ℕ) (sort : Sort) (p : Place) : Type 0 where
-  pub is : sort_name p.var ≡ sort
-  pub below : p.var < count
-  pub near : IsNear n p.off
-
--- an operation whose parts are so
-pub record OpStands (count n : ℕ) (o : SymOp) : Type 0 where
-  pub at : Stands count n Pos (sym_at o)
-  pub site : (s : ℕ) → sym_site o ≡ Some s → Stands count n Site (place s (pos 0))
-  pub ch : (c : ℕ) → sym_char o ≡ Some c → Stands count n Char (place c (pos 0))
 
 -- an operation of this kind has a thing of this sort
 abbrev pub HasThing : Sort → SymOp → Type 0
@@ -89,19 +76,37 @@ things_there Char k l a b off ea eb h =
 some_equal : (x y : ℕ) → Some x ≡ Some y → x ≡ y
 some_equal x y e = cc
 
-module _ (count : ℕ) where
-  pub Stands-more : (m n : ℕ) (sort : Sort) (p : Place) → m ≤ n → Stands count m sort p → Stands count n sort p
-  Stands-more m n sort p h g = record { is = g.is; below = g.below; near = IsNear-more m n p.off h g.near }
+-- sites and characters have no offset, nor has an atom that compares them
+steady-zero : (sort : Sort) → IsSteady sort (pos 0)
+steady-zero Pos = tt
+steady-zero Site = refl
+steady-zero Char = refl
+
+steady-plus : (sort : Sort) (j k : ℤ) → IsSteady sort j → IsSteady sort k → IsSteady sort (j +ℤ k)
+steady-plus Pos j k h g = tt
+steady-plus Site j k h g = omega (arith, ints)
+steady-plus Char j k h g = omega (arith, ints)
+
+pub steady-offset : (chars : Bool) (sort : Sort) (k : ℤ) → is_offset_for chars sort k ≡ true → IsSteady sort k
+steady-offset chars Pos k e = tt
+steady-offset chars Site k e = (Decides-int_eq k (pos 0)).0 e
+steady-offset chars Char k e = (Decides-int_eq k (pos 0)).0 (and_parts chars (int_eq k (pos 0)) e).1
+
+module _ (Free : ℕ → Type 0) where
+  pub Stands-more : (m n : ℕ) (sort : Sort) (p : Place) → m ≤ n → Stands Free m sort p → Stands Free n sort p
+  Stands-more m n sort p h g = record { is = g.is; free = g.free; steady = g.steady; near = IsNear-more m n p.off h g.near }
 
   pub Stands-plus :
-      (m n : ℕ) (sort : Sort) (p : Place) (off : ℤ) → Stands count m sort p → IsNear n off → Stands count (m + n) sort (plus p off)
-  Stands-plus m n sort p off g h = record { is = g.is; below = g.below; near = IsNear-plus m n p.off off g.near h }
+      (m n : ℕ) (sort : Sort) (p : Place) (off : ℤ) → Stands Free m sort p → IsSteady sort off → IsNear n off
+      → Stands Free (m + n) sort (plus p off)
+  Stands-plus m n sort p off g still h =
+      record { is = g.is; free = g.free; steady = steady-plus sort p.off off g.steady still; near = IsNear-plus m n p.off off g.near h }
 
   -- a name itself has no offset
-  pub Stands-name : (m n : ℕ) (sort : Sort) (x : ℕ) → Stands count m sort (place x (pos 0)) → Stands count n sort (place x (pos 0))
-  Stands-name m n sort x h = record { is = h.is; below = h.below; near = IsNear-zero n }
+  pub Stands-name : (m n : ℕ) (sort : Sort) (x : ℕ) → Stands Free m sort (place x (pos 0)) → Stands Free n sort (place x (pos 0))
+  Stands-name m n sort x h = record { is = h.is; free = h.free; steady = steady-zero sort; near = IsNear-zero n }
 
-  pub OpStands-more : (m n : ℕ) (o : SymOp) → m ≤ n → OpStands count m o → OpStands count n o
+  pub OpStands-more : (m n : ℕ) (o : SymOp) → m ≤ n → OpStands Free m o → OpStands Free n o
   OpStands-more m n o h g = record {
     at = Stands-more m n Pos (sym_at o) h g.at;
     site = λ s e. Stands-name m n Site s (g.site s e);
@@ -109,25 +114,25 @@ module _ (count : ℕ) where
   }
 
   Stands-some :
-      (n : ℕ) (sort : Sort) (o : Option ℕ) (x : ℕ) → o ≡ Some x → Stands count n sort (place x (pos 0))
-      → Stands count n sort (place_of_name o)
-  Stands-some n sort o x e h = subst (λ r. Stands count n sort (place_of_name r)) (sym e) h
+      (n : ℕ) (sort : Sort) (o : Option ℕ) (x : ℕ) → o ≡ Some x → Stands Free n sort (place x (pos 0))
+      → Stands Free n sort (place_of_name o)
+  Stands-some n sort o x e h = subst (λ r. Stands Free n sort (place_of_name r)) (sym e) h
 
-  pub Stands-thing : (n : ℕ) (sort : Sort) (o : SymOp) → OpStands count n o → HasThing sort o → Stands count n sort (sym_thing sort o)
+  pub Stands-thing : (n : ℕ) (sort : Sort) (o : SymOp) → OpStands Free n o → HasThing sort o → Stands Free n sort (sym_thing sort o)
   Stands-thing n Pos o h there = h.at
   Stands-thing n Site o h there = Stands-some n Site (sym_site o) there.0 there.1 (h.site there.0 there.1)
   Stands-thing n Char o h there = Stands-some n Char (sym_char o) there.0 there.1 (h.ch there.0 there.1)
 
-  pub OpStands-nop : (n : ℕ) → 0 < count → OpStands count n Nop
+  pub OpStands-nop : (n : ℕ) → Free 0 → OpStands Free n Nop
   OpStands-nop n low = record {
-    at = record { is = refl; below = low; near = IsNear-zero n };
+    at = record { is = refl; free = low; steady = tt; near = IsNear-zero n };
     site = λ s e. absurd (cc);
     ch = λ c e. absurd (cc);
   }
 
   -- an operation that stands, at another place that does
   OpStands-placed :
-      (n m : ℕ) (o : SymOp) (p : Place) → 0 < count → OpStands count n o → Stands count m Pos p → OpStands count m (sym_placed o p)
+      (n m : ℕ) (o : SymOp) (p : Place) → Free 0 → OpStands Free n o → Stands Free m Pos p → OpStands Free m (sym_placed o p)
   OpStands-placed n m (Ins q c s) p low h g =
       record { at = g; site = λ t e. Stands-name n m Site t (h.site t e); ch = λ t e. Stands-name n m Char t (h.ch t e) }
   OpStands-placed n m (Del q s) p low h g =
@@ -137,26 +142,26 @@ module _ (count : ℕ) where
   OpStands-placed n m Nop p low h g = OpStands-nop m low
 
   pub OpStands-result :
-      (n : ℕ) (res : Res) (a b : SymOp) → 0 < count → is_valid_res res ≡ true → OpStands count n a → OpStands count n b
-      → OpStands count (n + 99) (sym_result res a b)
+      (n : ℕ) (res : Res) (a b : SymOp) → Free 0 → is_valid_res res ≡ true → OpStands Free n a → OpStands Free n b
+      → OpStands Free (n + 99) (sym_result res a b)
   OpStands-result n (results.Keep First off) a b low h ha hb =
       OpStands-placed n (n + 99) a (plus (sym_at a) off) low ha
-      (Stands-plus n 99 Pos (sym_at a) off ha.at (IsNear-res (results.Keep First off) h))
+      (Stands-plus n 99 Pos (sym_at a) off ha.at tt (IsNear-res (results.Keep First off) h))
   OpStands-result n (results.Keep Second off) a b low h ha hb =
       OpStands-placed n (n + 99) a (plus (sym_at b) off) low ha
-      (Stands-plus n 99 Pos (sym_at b) off hb.at (IsNear-res (results.Keep Second off) h))
+      (Stands-plus n 99 Pos (sym_at b) off hb.at tt (IsNear-res (results.Keep Second off) h))
   OpStands-result n results.Nop a b low h ha hb = OpStands-nop (n + 99) low
 
-  name_stands : (sort : Sort) (x : ℕ) → sort_name x ≡ sort → x < count → Stands count 0 sort (place x (pos 0))
-  name_stands sort x e h = record { is = e; below = h; near = IsNear-zero 0 }
+  name_stands : (sort : Sort) (x : ℕ) → sort_name x ≡ sort → Free x → Stands Free 0 sort (place x (pos 0))
+  name_stands sort x e h = record { is = e; free = h; steady = steady-zero sort; near = IsNear-zero 0 }
 
-  name_of : (sort : Sort) (x y : ℕ) → Some x ≡ Some y → Stands count 0 sort (place x (pos 0)) → Stands count 0 sort (place y (pos 0))
-  name_of sort x y e h = subst (λ z. Stands count 0 sort (place z (pos 0))) (some_equal x y e) h
+  name_of : (sort : Sort) (x y : ℕ) → Some x ≡ Some y → Stands Free 0 sort (place x (pos 0)) → Stands Free 0 sort (place y (pos 0))
+  name_of sort x y e h = subst (λ z. Stands Free 0 sort (place z (pos 0))) (some_equal x y e) h
 
   -- the operations of an obligation
   pub OpStands-sym_op :
-      (k : Kind) (who : Who) → position_name who < count → site_name who < count → char_name who < count
-      → OpStands count 0 (sym_op k who)
+      (k : Kind) (who : Who) → Free (position_name who) → Free (site_name who) → Free (char_name who)
+      → OpStands Free 0 (sym_op k who)
   OpStands-sym_op kinds.Ins who hp hs hc = record {
     at = name_stands Pos (position_name who) (position_sort who) hp;
     site = λ s e. name_of Site _ s e (name_stands Site (site_name who) (site_sort who) hs);
@@ -172,3 +177,19 @@ module _ (count : ℕ) where
     site = λ s e. name_of Site _ s e (name_stands Site (site_name who) (site_sort who) hs);
     ch = λ c e. name_of Char _ c e (name_stands Char (char_name who) (char_sort who) hc);
   }
+
+-- where more names may be used
+module _ (Free Freer : ℕ → Type 0) (more : (x : ℕ) → Free x → Freer x) where
+  Stands-freer : (n : ℕ) (sort : Sort) (p : Place) → Stands Free n sort p → Stands Freer n sort p
+  Stands-freer n sort p h = record { is = h.is; free = more p.var h.free; steady = h.steady; near = h.near }
+
+  OpStands-freer : (n : ℕ) (o : SymOp) → OpStands Free n o → OpStands Freer n o
+  OpStands-freer n o h = record {
+    at = Stands-freer n Pos (sym_at o) h.at;
+    site = λ s e. Stands-freer n Site (place s (pos 0)) (h.site s e);
+    ch = λ c e. Stands-freer n Char (place c (pos 0)) (h.ch c e);
+  }
+
+  pub AllStand-freer : (n : ℕ) (os : List SymOp) → AllByRecursion (OpStands Free n) os → AllByRecursion (OpStands Freer n) os
+  AllStand-freer n [] h = tt
+  AllStand-freer n (o ∷ os) h = (OpStands-freer n o h.0, AllStand-freer n os h.1)

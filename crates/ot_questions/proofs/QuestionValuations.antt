@@ -12,12 +12,12 @@ use Rattle.fn_rules.specs.Transformation.{transform_of, is_allowed, IsAllowed}
 use Rattle.ask_core.specs.Plans.{Plan, end_of}
 use Rattle.ot_questions.specs.declared.place.SymOp.{SymOp}
 use Rattle.ot_questions.specs.declared.why.Why.{Why}
-use Rattle.ot_questions.specs.Questions.{ask_guard, ask_transform, ask_enabled, ask_allowed}
+use Rattle.ot_questions.specs.Questions.{ask_guard, ask_result, or_undefined, ask_transform, ask_enabled, ask_allowed}
 use Rattle.ot_questions.specs.declared.why.Why.TheVariants.{Operations}
 use Rattle.ot_questions.specs.Obligation.{ask_same_form}
 use Rattle.ot_questions.specs.Meaning.{op_at}
-use Rattle.ot_questions.specs.Instances.{StandsFor, ComesTo}
-use Rattle.ot_questions.proofs.Values.{by_test, end-guard, end-transform, end-enabled, end-allowed, sym_transformed, sym_allowed, goes_on, enabled_to}
+use Rattle.ot_questions.specs.Instances.{StandsFor, GoesOnWith, ComesTo}
+use Rattle.ot_questions.proofs.Values.{by_test, end-guard, end-result, end-enabled, end-allowed, sym_transformed, sym_allowed, enabled_to}
 use Rattle.ot_questions.proofs.Operations.{IsCounted, holds_of-op_at, transform_of-op_at}
 use Rattle.ot_questions.proofs.Forms.{counted_form}
 use Rattle.ot_questions.proofs.Standing.{counted_by_standing, op_at-standing, standing-op_at}
@@ -39,24 +39,37 @@ guard_ends g v x y a b p q z sx sy =
     (end-guard g x y p q v
     ∙ ap (λ t. by_test t p q v) (sym (holds_of-op_at v z x y (counted_by_standing v x a sx) (counted_by_standing v y b sy) g)))
 
-comes_to :
+goes_on_with :
     (v : ℕ → ℤ) (f : Function) (x y : SymOp) (o : Option SymOp) → v 0 ≡ pos 0 → IsCounted v x → sym_transformed v f x y ≡ o
-    → ComesTo v (ask_transform f x y) (option_map (op_at v) o)
-comes_to v f x y None z cx e = λ go. end-transform f x y go v ∙ ap (λ o. goes_on o (λ r. end_of (go r) v)) e
-comes_to v f x y (Some r) z cx e = (
+    → GoesOnWith v (ask_result f x y) (option_map (op_at v) o)
+goes_on_with v f x y None z cx e = λ go. end-result f x y go v ∙ ap (λ o. end_of (go o) v) e
+goes_on_with v f x y (Some r) z cx e = (
   r,
   standing-op_at v r z (counted_form v f x y r cx e),
-  λ go. end-transform f x y go v ∙ ap (λ o. goes_on o (λ r. end_of (go r) v)) e,
+  λ go. end-result f x y go v ∙ ap (λ o. end_of (go o) v) e,
 )
+
+pub result_goes_on :
+    (f : Function) (v : ℕ → ℤ) (x y : SymOp) (a b : Op) → v 0 ≡ pos 0 → StandsFor v x a → StandsFor v y b
+    → GoesOnWith v (ask_result f x y) (transform_of f a b)
+result_goes_on f v x y a b z sx sy =
+    at_both v x y a b (λ c d. GoesOnWith v (ask_result f x y) (transform_of f c d)) z sx sy
+    (subst (λ o. GoesOnWith v (ask_result f x y) o)
+    (sym (transform_of-op_at v z x y (counted_by_standing v x a sx) (counted_by_standing v y b sy) f))
+    (goes_on_with v f x y (sym_transformed v f x y) z (counted_by_standing v x a sx) refl))
+
+-- where it is a cause that there is no result
+comes_to :
+    (v : ℕ → ℤ) (f : Function) (x y : SymOp) (o : Option Op) → GoesOnWith v (ask_result f x y) o
+    → ComesTo v (ask_transform f x y) o
+unfolding ask_transform
+comes_to v f x y None h = λ go. h (or_undefined go)
+comes_to v f x y (Some r) h = (h.0, h.1, λ go. h.2 (or_undefined go))
 
 pub transform_comes_to :
     (f : Function) (v : ℕ → ℤ) (x y : SymOp) (a b : Op) → v 0 ≡ pos 0 → StandsFor v x a → StandsFor v y b
     → ComesTo v (ask_transform f x y) (transform_of f a b)
-transform_comes_to f v x y a b z sx sy =
-    at_both v x y a b (λ c d. ComesTo v (ask_transform f x y) (transform_of f c d)) z sx sy
-    (subst (λ o. ComesTo v (ask_transform f x y) o)
-    (sym (transform_of-op_at v z x y (counted_by_standing v x a sx) (counted_by_standing v y b sy) f))
-    (comes_to v f x y (sym_transformed v f x y) z (counted_by_standing v x a sx) refl))
+transform_comes_to f v x y a b z sx sy = comes_to v f x y (transform_of f a b) (result_goes_on f v x y a b z sx sy)
 
 enabled_to-is_enabled : (a : Op) (n : ℕ) → enabled_to a (pos n) ≡ is_enabled a n
 enabled_to-is_enabled (ops.Ins at ch site) n = refl

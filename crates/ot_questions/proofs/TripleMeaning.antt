@@ -1,5 +1,6 @@
 -- The plan of a triple means TP2 for its kinds.
-use Rattle.std.proofs.Common.{◌≡◌, ℕ, ℤ, pos, ◌+ℤ◌, true, if◌then◌else◌, int_le, Option, Some, None, [], ◌∷◌, length, refl, ap, sym, ◌∙◌, subst, inl, inr}
+use Rattle.std.proofs.Common.{◌≡◌, ℕ, ℤ, pos, ◌+ℤ◌, true, int_le, Option, Some, None, [], ◌∷◌, length, refl, sym, ◌∙◌, subst, inl, inr, ◌⊎◌}
+use Rattle.std.specs.List.{Contains}
 use Rattle.std.proofs.lemmas.Bool.Decides.{Decides-and}
 use Rattle.ot_model.specs.declared.op.Kind.{Kind}
 use Rattle.ot_model.specs.declared.op.Op.{Op}
@@ -9,12 +10,9 @@ use Rattle.fn_rules.specs.declared.function.Level.TheVariants.{Tp2}
 use Rattle.fn_rules.specs.declared.function.ObName.TheVariants.{Triple}
 use Rattle.fn_rules.specs.Functions.{Function, is_declared}
 use Rattle.fn_rules.specs.Transformation.{IsAllowed}
-use Rattle.fn_rules.specs.Properties.{CommutesAt, HasTp1, HasTp2}
+use Rattle.fn_rules.specs.Properties.{CommutesAt, commutes_exchanged, HasTp1, HasTp2, HasTp1At, HasTp2At}
 use Rattle.fn_rules.specs.Obligations.{declared_kinds, pairs_of, triples_of, obligations_of}
 use Rattle.fn_rules.specs.Validity.{is_valid}
-use Rattle.fn_rules.proofs.Forms.{IsAllowed-sym}
-use Rattle.fn_rules.proofs.Symmetry.{CommutesAt-sym}
-use Rattle.fn_rules.proofs.KindPairs.{Contains-declared_triple}
 use Rattle.ask_core.specs.Plans.{end_of}
 use Rattle.ot_questions.specs.declared.name.Who.TheVariants.{A, B, C}
 use Rattle.ot_questions.specs.declared.place.SymOp.{SymOp}
@@ -22,7 +20,7 @@ use Rattle.ot_questions.specs.declared.why.Why.{Why}
 use Rattle.ot_questions.specs.Names.{site_name, char_name}
 use Rattle.ot_questions.specs.Places.{sym_op}
 use Rattle.ot_questions.specs.Obligation.{ask_commute, ask_triple, plan_of}
-use Rattle.ot_questions.specs.Meaning.{op_at, HasTriple, HoldsAtLength, HoldsEverywhere, AllHold}
+use Rattle.ot_questions.specs.Meaning.{op_at, HasTriple, HoldsAtLength, HoldsEverywhere, AllHold, AllHoldAtLength}
 use Rattle.ot_questions.specs.Instances.{StandsFor}
 use Rattle.ot_questions.proofs.Tests.{plus-zero}
 use Rattle.ot_questions.proofs.Operations.{IsCounted}
@@ -32,9 +30,10 @@ use Rattle.ot_questions.proofs.Instances.{valued, kind_of-op_at-sym_op, raised, 
 use Rattle.ot_questions.proofs.Pairs.{all_enabled}
 use Rattle.ot_questions.proofs.Triples.{TripleSays, commute_says, all_allowed, end-triple, triple_fails_breaks}
 use Rattle.ot_questions.proofs.TellingDocument.{made, length-made}
-use Rattle.ot_questions.proofs.Answered.{Answered, begins_answered, Decides-all_enabled, Decides-allowed, length_test, negative_length}
+use Rattle.ot_questions.proofs.Answered.{Answered, begins_answered, Decides-all_enabled, Decides-allowed, length_test}
 use Rattle.ot_questions.proofs.Listed.{of_contained, each_appended, each_of_both, each_triple}
-use Rattle.ot_questions.proofs.PairMeaning.{declared_kind, declared_from, at_length, int_cases, all_declared, all_pairs_mean, tp1_holds_all_pairs}
+use Rattle.ot_questions.proofs.Lengths.{from_each_length, at_each_length}
+use Rattle.ot_questions.proofs.PairMeaning.{ArePairsEnough, declared_kind, declared_from, all_declared, pairs_mean_at, all_pairs_mean, tp1_holds_pairs_at, tp1_holds_all_pairs}
 
 -- three operations that are enabled and pairwise allowed
 pub record TriplePosed (f : Function) (n : ℕ) (a b c : Op) : Type 0 where
@@ -142,55 +141,64 @@ triple_meaning_holds f k l m n valid has v z e =
     has first second third (kind_of-op_at-sym_op w k A) (kind_of-op_at-sym_op w l B) (kind_of-op_at-sym_op w m C)
     posed.a_enabled posed.b_enabled posed.c_enabled posed.a_and_b posed.a_and_c posed.b_and_c))
 
--- of each three declared kinds the triple is listed in one of the two orders of its first two kinds
-pub triples_mean : (f : Function) → AllHold f (triples_of (declared_kinds f.head)) → HasTp2 f
-triples_mean f h d a b c (da, ea, ok, rest) =
+-- Why triples of kinds are enough, as TP2 does not depend on the order of its first two operations: of each
+-- three declared kinds the triple is listed in one of the two orders of its first two kinds.
+pub record AreTriplesEnough (f : Function) : Type 0 where
+  pub pairs : ArePairsEnough f
+  pub listed :
+      (k l m : Kind) → is_declared f.head k ≡ true → is_declared f.head l ≡ true → is_declared f.head m ≡ true
+      → Contains (triples_of (declared_kinds f.head)) (Triple k l m)
+      ⊎ Contains (triples_of (declared_kinds f.head)) (Triple l k m)
+
+pub triples_mean_at :
+    (f : Function) → AreTriplesEnough f → (n : ℕ) → AllHoldAtLength f (triples_of (declared_kinds f.head)) n
+    → HasTp2At f n
+triples_mean_at f enough n h d a b c len (da, ea, ok, rest) =
     let k = declared_kind f.head (kind_of a) da in
     let l = declared_kind f.head (kind_of b) rest.0 in
     let m = declared_kind f.head (kind_of c) rest.3.0 in
-    elim (Contains-declared_triple f.head k.0 l.0 m.0 k.2 l.2 m.2) [
+    let a_enabled : IsEnabled a n = subst (λ i. IsEnabled a i) len ea in
+    let b_enabled : IsEnabled b n = subst (λ i. IsEnabled b i) len rest.1 in
+    let c_enabled : IsEnabled c n = subst (λ i. IsEnabled c i) len rest.3.1 in
+    elim (enough.listed k.0 l.0 m.0 k.2 l.2 m.2) [
       | inl listed ↦
-          triple_holds_means f k.0 l.0 m.0 (length d)
-          (at_length f (Triple k.0 l.0 m.0) (length d) (of_contained (HoldsEverywhere f) _ (Triple k.0 l.0 m.0) h listed))
-          a b c k.1 l.1 m.1 ea rest.1 rest.3.1 ok.0 ok.1.0 rest.2.0
+          triple_holds_means f k.0 l.0 m.0 n (of_contained (λ ob. HoldsAtLength f ob n) _ (Triple k.0 l.0 m.0) h listed)
+          a b c k.1 l.1 m.1 a_enabled b_enabled c_enabled ok.0 ok.1.0 rest.2.0
       | inr listed ↦
-          CommutesAt-sym f b a c
-          (triple_holds_means f l.0 k.0 m.0 (length d)
-          (at_length f (Triple l.0 k.0 m.0) (length d) (of_contained (HoldsEverywhere f) _ (Triple l.0 k.0 m.0) h listed))
-          b a c l.1 k.1 m.1 rest.1 ea rest.3.1 (IsAllowed-sym f a b ok.0) rest.2.0 ok.1.0)
+          commutes_exchanged f b a c
+          (triple_holds_means f l.0 k.0 m.0 n
+          (of_contained (λ ob. HoldsAtLength f ob n) _ (Triple l.0 k.0 m.0) h listed)
+          b a c l.1 k.1 m.1 b_enabled a_enabled c_enabled (enough.pairs.allowed a b ok.0) rest.2.0 ok.1.0)
     ]
 
-pub all_plans_mean : (f : Function) → AllHold f (obligations_of f.head Tp2) → HasTp1 f × HasTp2 f
-all_plans_mean f h =
-    let both = each_of_both (HoldsEverywhere f) (pairs_of (declared_kinds f.head)) (triples_of (declared_kinds f.head)) h in
-    (all_pairs_mean f both.0, triples_mean f both.1)
+pub triples_mean : (f : Function) → AreTriplesEnough f → AllHold f (triples_of (declared_kinds f.head)) → HasTp2 f
+triples_mean f enough h d a b c posed =
+    triples_mean_at f enough (length d) (at_each_length f _ h (length d)) d a b c refl posed
 
-triple_everywhere : (f : Function) (k l m : Kind) → ((n : ℕ) → HoldsAtLength f (Triple k l m) n) → HoldsEverywhere f (Triple k l m)
-unfolding plan_of
-triple_everywhere f k l m h v z =
-    let x = sym_op k A in
-    let y = sym_op l B in
-    let w = sym_op m C in
-    elim (int_cases (v 1)) [
-      | inl found ↦ h found.0 v z found.1
-      | inr found ↦
-          value_from_none (end_of (ask_triple f x y w) v)
-          (end-triple v f x y w z
-          ∙ ap (λ t. if t then (if all_enabled v (x ∷ y ∷ w ∷ [])
-          then (if all_allowed v f x y w then end_of (ask_commute f x y w) v else None) else None) else None)
-          (negative_length v found.0 z found.1))
-    ]
+pub all_plans_mean_at :
+    (f : Function) → AreTriplesEnough f → (n : ℕ) → AllHoldAtLength f (obligations_of f.head Tp2) n
+    → HasTp1At f n × HasTp2At f n
+all_plans_mean_at f enough n h =
+    let kinds = declared_kinds f.head in
+    let both = each_of_both (λ ob. HoldsAtLength f ob n) (pairs_of kinds) (triples_of kinds) h in
+    (pairs_mean_at f enough.pairs n both.0, triples_mean_at f enough n both.1)
 
-triple_holds :
-    (f : Function) → is_valid f ≡ true → HasTp2 f → (k l m : Kind)
-    → is_declared f.head k ≡ true → is_declared f.head l ≡ true → is_declared f.head m ≡ true → HoldsEverywhere f (Triple k l m)
-triple_holds f valid has k l m dk dl dm =
-    triple_everywhere f k l m
-    (λ n. triple_meaning_holds f k l m n valid
+pub all_plans_mean : (f : Function) → AreTriplesEnough f → AllHold f (obligations_of f.head Tp2) → HasTp1 f × HasTp2 f
+all_plans_mean f enough h =
+    let kinds = declared_kinds f.head in
+    let both = each_of_both (HoldsEverywhere f) (pairs_of kinds) (triples_of kinds) h in
+    (all_pairs_mean f enough.pairs both.0, triples_mean f enough both.1)
+
+triple_holds_at :
+    (f : Function) (n : ℕ) → is_valid f ≡ true → HasTp2At f n → (k l m : Kind)
+    → is_declared f.head k ≡ true → is_declared f.head l ≡ true → is_declared f.head m ≡ true
+    → HoldsAtLength f (Triple k l m) n
+triple_holds_at f n valid has k l m dk dl dm =
+    triple_meaning_holds f k l m n valid
     (λ a b c ka kb kc ea eb ec ab ac bc.
     let d = made n (λ t. record { ch = 0; live = true }) in
     let len : length d ≡ n = length-made n (λ t. record { ch = 0; live = true }) in
-    has d a b c (
+    has d a b c len (
       declared_from f.head (kind_of a) k ka dk,
       subst (λ i. IsEnabled a i) (sym len) ea,
       (ab, (ac, tt)),
@@ -200,12 +208,24 @@ triple_holds f valid has k l m dk dl dm =
         (bc, tt),
         (declared_from f.head (kind_of c) m kc dm, subst (λ i. IsEnabled c i) (sym len) ec, tt, tt),
       ),
-    )))
+    ))
+
+pub tp2_holds_triples_at :
+    (f : Function) (n : ℕ) → is_valid f ≡ true → HasTp2At f n → AllHoldAtLength f (triples_of (declared_kinds f.head)) n
+tp2_holds_triples_at f n valid has =
+    each_triple (λ k. is_declared f.head k ≡ true) (λ ob. HoldsAtLength f ob n) (triple_holds_at f n valid has)
+    (declared_kinds f.head) (all_declared f.head)
 
 pub tp2_holds_triples : (f : Function) → is_valid f ≡ true → HasTp2 f → AllHold f (triples_of (declared_kinds f.head))
 tp2_holds_triples f valid has =
-    each_triple (λ k. is_declared f.head k ≡ true) (HoldsEverywhere f) (triple_holds f valid has) (declared_kinds f.head)
-    (all_declared f.head)
+    from_each_length f _ (λ n. tp2_holds_triples_at f n valid (λ d a b c len posed. has d a b c posed))
+
+pub tp2_holds_all_at :
+    (f : Function) (n : ℕ) → is_valid f ≡ true → HasTp1At f n × HasTp2At f n
+    → AllHoldAtLength f (obligations_of f.head Tp2) n
+tp2_holds_all_at f n valid has =
+    each_appended (λ ob. HoldsAtLength f ob n) (pairs_of (declared_kinds f.head)) (triples_of (declared_kinds f.head))
+    (tp1_holds_pairs_at f n valid has.0) (tp2_holds_triples_at f n valid has.1)
 
 pub tp2_holds_all : (f : Function) → is_valid f ≡ true → HasTp1 f × HasTp2 f → AllHold f (obligations_of f.head Tp2)
 tp2_holds_all f valid has =

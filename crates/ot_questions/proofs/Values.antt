@@ -23,7 +23,7 @@ use Rattle.ot_questions.specs.declared.place.SymOp.TheVariants.{Ins, Del, Upd, N
 use Rattle.ot_questions.specs.declared.why.Why.{Why}
 use Rattle.ot_questions.specs.declared.why.Why.TheVariants.{Undefined}
 use Rattle.ot_questions.specs.Places.{place, plus, zero_place, length_and, index_and, integer_at, sym_kind, sym_site, sym_char, sym_result, sym_thing}
-use Rattle.ot_questions.specs.Questions.{ask_le, ask_lt, ask_eq, ask_compared, ask_atom, ask_guard, ask_cases, ask_by_kinds, ask_transform, ask_enabled, ask_differ, ask_allowed}
+use Rattle.ot_questions.specs.Questions.{ask_le, ask_lt, ask_eq, ask_compared, ask_atom, ask_guard, ask_first_result, ask_result_by_kinds, ask_result, or_undefined, ask_transform, ask_enabled, ask_differ, ask_allowed}
 use Rattle.ot_questions.specs.Reading.{base_cell, put_cell, buried_cell, replaced_cell, ask_cell}
 use Rattle.ot_questions.specs.Meaning.{op_at}
 use Rattle.ot_questions.proofs.Tests.{int_le-same_name, int_le-shifted, int_le-before, if_and, if_or, if_not, if_through, if_eq}
@@ -125,35 +125,40 @@ abbrev pub goes_on : Option SymOp → (SymOp → Option Why) → Option Why
 goes_on None go = Some Undefined
 goes_on (Some r) go = go r
 
-if_goes :
-    (b : Bool) (r : SymOp) (o : Option SymOp) (go : SymOp → Option Why)
-    → (if b then go r else goes_on o go) ≡ goes_on (if b then Some r else o) go
-if_goes true r o go = refl
-if_goes false r o go = refl
+end-first_result :
+    (cs : List GuardedCase) (a b : SymOp) (go : Option SymOp → Plan Why) (v : ℕ → ℤ)
+    → end_of (ask_first_result cs a b go) v ≡ end_of (go (sym_first v cs a b)) v
+end-first_result [] a b go v = refl
+end-first_result (c ∷ cs) a b go v =
+    end-guard c.guard a b (go (Some (sym_result c.res a b))) (ask_first_result cs a b go) v
+    ∙ (ap (λ e. if sym_holds v c.guard a b then end_of (go (Some (sym_result c.res a b))) v else e)
+    (end-first_result cs a b go v)
+    ∙ if_through (λ o. end_of (go o) v) (sym_holds v c.guard a b) (Some (sym_result c.res a b)) (sym_first v cs a b))
 
-end-cases :
-    (cs : List GuardedCase) (a b : SymOp) (go : SymOp → Plan Why) (v : ℕ → ℤ)
-    → end_of (ask_cases cs a b go) v ≡ goes_on (sym_first v cs a b) (λ r. end_of (go r) v)
-unfolding ask_cases
-end-cases [] a b go v = refl
-end-cases (c ∷ cs) a b go v =
-    end-guard c.guard a b (go (sym_result c.res a b)) (ask_cases cs a b go) v
-    ∙ (ap (λ e. if sym_holds v c.guard a b then end_of (go (sym_result c.res a b)) v else e) (end-cases cs a b go v)
-    ∙ if_goes (sym_holds v c.guard a b) (sym_result c.res a b) (sym_first v cs a b) (λ r. end_of (go r) v))
+end-result_by_kinds :
+    (f : Function) (a b : SymOp) (j k : Option Kind) (go : Option SymOp → Plan Why) (v : ℕ → ℤ)
+    → end_of (ask_result_by_kinds f a b j k go) v ≡ end_of (go (sym_by_kinds v f a b j k)) v
+end-result_by_kinds f a b None other go v = refl
+end-result_by_kinds f a b (Some k) None go v = refl
+end-result_by_kinds f a b (Some k) (Some l) go v = end-first_result (cases_of f k l) a b go v
 
-end-by_kinds :
-    (f : Function) (a b : SymOp) (j k : Option Kind) (go : SymOp → Plan Why) (v : ℕ → ℤ)
-    → end_of (ask_by_kinds f a b j k go) v ≡ goes_on (sym_by_kinds v f a b j k) (λ r. end_of (go r) v)
-unfolding ask_by_kinds
-end-by_kinds f a b None other go v = refl
-end-by_kinds f a b (Some k) None go v = refl
-end-by_kinds f a b (Some k) (Some l) go v = end-cases (cases_of f k l) a b go v
+-- a plan goes on with the result at the valuation, or with none
+pub end-result :
+    (f : Function) (a b : SymOp) (go : Option SymOp → Plan Why) (v : ℕ → ℤ)
+    → end_of (ask_result f a b go) v ≡ end_of (go (sym_transformed v f a b)) v
+end-result f a b go v = end-result_by_kinds f a b (sym_kind a) (sym_kind b) go v
+
+end-or_undefined :
+    (go : SymOp → Plan Why) (o : Option SymOp) (v : ℕ → ℤ)
+    → end_of (or_undefined go o) v ≡ goes_on o (λ r. end_of (go r) v)
+end-or_undefined go None v = refl
+end-or_undefined go (Some r) v = refl
 
 pub end-transform :
     (f : Function) (a b : SymOp) (go : SymOp → Plan Why) (v : ℕ → ℤ)
     → end_of (ask_transform f a b go) v ≡ goes_on (sym_transformed v f a b) (λ r. end_of (go r) v)
 unfolding ask_transform
-end-transform f a b go v = end-by_kinds f a b (sym_kind a) (sym_kind b) go v
+end-transform f a b go v = end-result f a b (or_undefined go) v ∙ end-or_undefined go (sym_transformed v f a b) v
 
 -- whether an operation is enabled on a document of so many cells
 abbrev pub enabled_to : Op → ℤ → Bool

@@ -11,11 +11,12 @@ use Rattle.fn_rules.specs.Functions.{Function}
 use Rattle.fn_rules.specs.Obligations.{is_obligation}
 use Rattle.fn_rules.specs.Transformation.{transform_of}
 use Rattle.ask_core.specs.Plans.{Plan, end_of}
+use Rattle.ot_questions.specs.declared.name.Who.{Who}
 use Rattle.ot_questions.specs.declared.name.Who.TheVariants.{A, B, C}
 use Rattle.ot_questions.specs.declared.place.SymOp.{SymOp}
 use Rattle.ot_questions.specs.declared.why.Why.{Why}
 use Rattle.ot_questions.specs.declared.why.Why.TheVariants.{Undefined, OutOfRange, Lengths, Cells, Operations}
-use Rattle.ot_questions.specs.Names.{zero_name, length_name}
+use Rattle.ot_questions.specs.Names.{zero_name, length_name, index_name}
 use Rattle.ot_questions.specs.Places.{integer_at, sym_op, sym_kind, sym_at, sym_site, sym_char}
 
 -- the parts of a symbolic operation stand for those of an operation
@@ -42,11 +43,24 @@ pub record NamesTriple (f : Function) (k l m : Kind) (v : ℕ → ℤ) (n : ℕ)
   pub second : StandsFor v (sym_op l B) b
   pub third : StandsFor v (sym_op m C) c
 
+-- the names stand for a length, an index and three operations, each by its kind
+pub record NamesAll (v : ℕ → ℤ) (n : ℕ) (i : ℤ) (made : Who → Op) : Type 0 where
+  pub zero : v zero_name ≡ pos 0
+  pub cells : v length_name ≡ pos n
+  pub index : v index_name ≡ i
+  pub operations : (who : Who) (k : Kind) → kind_of (made who) ≡ Some k → StandsFor v (sym_op k who) (made who)
+
 -- asking for a form comes to a symbolic operation that stands for it, or to the cause that there is none
 abbrev pub ComesTo : (ℕ → ℤ) → ((SymOp → Plan Why) → Plan Why) → Option Op → Type 0
 ComesTo v ask None = (go : SymOp → Plan Why) → end_of (ask go) v ≡ Some Undefined
 ComesTo v ask (Some r) =
     (z : SymOp) × StandsFor v z r × ((go : SymOp → Plan Why) → end_of (ask go) v ≡ end_of (go z) v)
+
+-- asking for a result comes to a symbolic operation that stands for it, or to none where there is none
+abbrev pub GoesOnWith : (ℕ → ℤ) → ((Option SymOp → Plan Why) → Plan Why) → Option Op → Type 0
+GoesOnWith v ask None = (go : Option SymOp → Plan Why) → end_of (ask go) v ≡ end_of (go None) v
+GoesOnWith v ask (Some r) =
+    (z : SymOp) × StandsFor v z r × ((go : Option SymOp → Plan Why) → end_of (ask go) v ≡ end_of (go (Some z)) v)
 
 -- the forms of two operations, each behind the other
 pub record Forms (f : Function) (a b : Op) : Type 0 where

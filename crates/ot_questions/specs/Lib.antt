@@ -5,6 +5,8 @@ pub mod Reading
 pub mod Obligation
 pub mod Nexts
 pub mod Nears
+pub mod Sorts
+pub mod Asked
 pub mod Meaning
 pub mod Instances
 pub use Rattle.ot_model.specs.Cells

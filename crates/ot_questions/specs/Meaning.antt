@@ -11,9 +11,10 @@ use Rattle.fn_rules.specs.declared.function.ObName.{ObName}
 use Rattle.fn_rules.specs.Functions.{Function}
 use Rattle.fn_rules.specs.Transformation.{IsAllowed}
 use Rattle.fn_rules.specs.Properties.{ConvergesAt, CommutesAt}
-use Rattle.ask_core.specs.Plans.{value}
+use Rattle.ask_core.specs.Plans.{Plan, value}
 use Rattle.ot_questions.specs.declared.place.SymOp.{SymOp}
 use Rattle.ot_questions.specs.declared.place.SymOp.TheVariants.{Ins, Del, Upd, Nop}
+use Rattle.ot_questions.specs.declared.why.Why.{Why}
 use Rattle.ot_questions.specs.Places.{integer_at}
 use Rattle.ot_questions.specs.Obligation.{plan_of}
 
@@ -41,10 +42,18 @@ HasTriple f k l m n =
 abbrev pub HoldsAtLength : Function → ObName → ℕ → Type 0
 HoldsAtLength f ob n = (v : ℕ → ℤ) → v 0 ≡ pos 0 → v 1 ≡ pos n → IsTrue (value (plan_of f ob) v)
 
--- the plan holds at every valuation
+-- a plan holds at every valuation
+abbrev pub AlwaysHolds : Plan Why → Type 0
+AlwaysHolds p = (v : ℕ → ℤ) → v 0 ≡ pos 0 → IsTrue (value p v)
+
+-- that of an obligation does
 abbrev pub HoldsEverywhere : Function → ObName → Type 0
-HoldsEverywhere f ob = (v : ℕ → ℤ) → v 0 ≡ pos 0 → IsTrue (value (plan_of f ob) v)
+HoldsEverywhere f ob = AlwaysHolds (plan_of f ob)
 
 -- each of the plans does
 abbrev pub AllHold : Function → List ObName → Type 0
 AllHold f obs = AllByRecursion (HoldsEverywhere f) obs
+
+-- each of the plans holds at every valuation at which the document has so many cells
+abbrev pub AllHoldAtLength : Function → List ObName → ℕ → Type 0
+AllHoldAtLength f obs n = AllByRecursion (λ ob. HoldsAtLength f ob n) obs

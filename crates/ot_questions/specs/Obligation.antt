@@ -1,18 +1,19 @@
 -- The plan of an obligation: what has to be asked of two or three operations of its kinds to decide
 -- whether the property holds for them.
-use Rattle.std.specs.Prelude.{ℤ, pos, ◌+ℤ◌, if◌then◌else◌, List, [], ◌∷◌, Option, Some, None}
+use Rattle.std.specs.Prelude.{ℕ, ℤ, pos, ◌+ℤ◌, ◌-ℤ◌, if◌then◌else◌, List, [], ◌∷◌, Option, Some, None}
 use Rattle.std.specs.Ordering.{int_eq}
 use Rattle.ot_model.specs.declared.op.Kind.{Kind}
 use Rattle.ot_model.specs.declared.op.Mode.{Mode}
 use Rattle.fn_rules.specs.declared.function.ObName.{ObName}
 use Rattle.fn_rules.specs.declared.function.ObName.TheVariants.{Pair, Triple}
 use Rattle.fn_rules.specs.Functions.{Function}
-use Rattle.ask_core.specs.Plans.{Plan, Holds, Fails}
+use Rattle.ask_core.specs.Plans.{Plan, Ask, Holds, Fails}
 use Rattle.ot_questions.specs.declared.name.Who.TheVariants.{A, B, C}
 use Rattle.ot_questions.specs.declared.place.Place.{Place}
 use Rattle.ot_questions.specs.declared.place.SymOp.{SymOp}
 use Rattle.ot_questions.specs.declared.why.Why.{Why}
 use Rattle.ot_questions.specs.declared.why.Why.TheVariants.{OutOfRange, Lengths, Operations}
+use Rattle.ot_questions.specs.Names.{zero_name, length_name}
 use Rattle.ot_questions.specs.Places.{zero_place, length_and, index_and, sym_op, sym_kind, sym_at, growth}
 use Rattle.ot_questions.specs.Questions.{ask_le, ask_lt, ask_eq, ask_transform, ask_enabled, ask_allowed}
 use Rattle.ot_questions.specs.Reading.{ask_cell, ask_same}
@@ -93,3 +94,10 @@ ask_triple f a b c =
 unfoldable pub plan_of : Function → ObName → Plan Why
 plan_of f (Pair k l) = ask_pair f (sym_op k A) (sym_op l B)
 plan_of f (Triple k l m) = ask_triple f (sym_op k A) (sym_op l B) (sym_op m C)
+
+-- what is asked of an obligation on the documents of fewer cells than a bound, if there is one: first whether
+-- the length is below it, and where it is not, nothing is to be shown
+abbrev pub plan_below : Function → Option ℕ → ObName → Plan Why
+plan_below f None ob = plan_of f ob
+plan_below f (Some bound) ob =
+    Ask (record { x = length_name; y = zero_name; k = pos bound -ℤ pos 1 }) (plan_of f ob) Holds

@@ -52,21 +52,31 @@ ask_guard (And g h) a b on_yes on_no = ask_guard g a b (ask_guard h a b on_yes o
 ask_guard (Or g h) a b on_yes on_no = ask_guard g a b on_yes (ask_guard h a b on_yes on_no)
 ask_guard (Not g) a b on_yes on_no = ask_guard g a b on_no on_yes
 
--- the guards in their order, until one is true; goes on with its result
-unfoldable pub ask_cases : List GuardedCase → SymOp → SymOp → (SymOp → Plan Why) → Plan Why
-ask_cases [] a b go = Fails Undefined
-ask_cases (c ∷ cs) a b go = ask_guard c.guard a b (go (sym_result c.res a b)) (ask_cases cs a b go)
+-- the guards in their order, until one is true; goes on with its result, or with none where no guard is true
+abbrev pub ask_first_result : List GuardedCase → SymOp → SymOp → (Option SymOp → Plan Why) → Plan Why
+ask_first_result [] a b go = go None
+ask_first_result (c ∷ cs) a b go =
+    ask_guard c.guard a b (go (Some (sym_result c.res a b))) (ask_first_result cs a b go)
 
 -- by the kinds of the two operations, which nop has not: where one is nop, nothing is asked
-unfoldable pub ask_by_kinds :
-    Function → SymOp → SymOp → Option Kind → Option Kind → (SymOp → Plan Why) → Plan Why
-ask_by_kinds f a b None other go = go Nop
-ask_by_kinds f a b (Some k) None go = go a
-ask_by_kinds f a b (Some k) (Some l) go = ask_cases (cases_of f k l) a b go
+abbrev pub ask_result_by_kinds :
+    Function → SymOp → SymOp → Option Kind → Option Kind → (Option SymOp → Plan Why) → Plan Why
+ask_result_by_kinds f a b None other go = go (Some Nop)
+ask_result_by_kinds f a b (Some k) None go = go (Some a)
+ask_result_by_kinds f a b (Some k) (Some l) go = ask_first_result (cases_of f k l) a b go
 
--- what the first operation becomes behind the second
+-- what the first operation becomes after the second; goes on with none where no guard is true
+abbrev pub ask_result : Function → SymOp → SymOp → (Option SymOp → Plan Why) → Plan Why
+ask_result f a b go = ask_result_by_kinds f a b (sym_kind a) (sym_kind b) go
+
+-- goes on with a result that there is; that there is none is a cause
+abbrev pub or_undefined : (SymOp → Plan Why) → Option SymOp → Plan Why
+or_undefined go None = Fails Undefined
+or_undefined go (Some r) = go r
+
+-- the same where it is a cause that no guard is true
 unfoldable pub ask_transform : Function → SymOp → SymOp → (SymOp → Plan Why) → Plan Why
-ask_transform f a b go = ask_by_kinds f a b (sym_kind a) (sym_kind b) go
+ask_transform f a b go = ask_result f a b (or_undefined go)
 
 -- whether an operation is enabled on a document of the length plus an offset
 unfoldable pub ask_enabled : SymOp → ℤ → Plan Why → Plan Why → Plan Why

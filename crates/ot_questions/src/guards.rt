@@ -1,5 +1,5 @@
 //! The questions of guards, of cases and of a transformation.
-ghost use Rattle.std.specs.Prelude.{◌≡◌, map, IfOk};
+ghost use Rattle.std.specs.Prelude.{◌≡◌, map, Option, IfOk, IfSome};
 ghost use Rattle.std.specs.List.{AllByRecursion};
 ghost use Rattle.std.specs.Slice.Iter.{iter_rest};
 ghost use Rattle.ask_core.specs.Plans.{Plan};
@@ -76,29 +76,60 @@ fn ask_guard(guard: &Guard, a: SymOp, b: SymOp, answers: &mut Answers<'_>) -> Re
     }
 }
 
-// The result of the first case whose guard is true.
-#[tactic(auto, using(crate::proofs::Ends::next_after_fails), unfolding(crate::specs::Questions::ask_cases))]
-fn ask_cases(cases: &[Case], a: SymOp, b: SymOp, answers: &mut Answers<'_>) -> Result<SymOp, Stop>
+// The result of the first case whose guard is true, if one is.
+fn ask_first_result(
+    cases: &[Case],
+    a: SymOp,
+    b: SymOp,
+    answers: &mut Answers<'_>,
+) -> Result<Option<SymOp>, Stop>
     requires a_near { IsNearOp 200 a }
     requires b_near { IsNearOp 200 b }
     requires cases_near { AllByRecursion IsNearCase (map case_of cases.now) }
-    ensures next { (go : SymOp → Plan Why) → next_after (plans.ask_cases (map case_of cases.now) a b go) (iter_rest answers.old)
+    ensures next { (go : Option SymOp → Plan Why)
+        → next_after (plans.ask_first_result (map case_of cases.now) a b go) (iter_rest answers.old)
         ≡ found result (iter_rest answers.new) go }
-    ensures near { IfOk result (IsResultOf a b) }
+    ensures near { IfOk result (λ found. IfSome found (IsResultOf a b)) }
 {
     match cases {
-        [] => Err(Stop::Fails(Why::Undefined)),
+        [] => Ok(None),
         [case, others @ ..] => {
             if ask_guard(&case.guard, a, b, answers)? {
-                return Ok(a.result(case.res, b));
+                return Ok(Some(a.result(case.res, b)));
             }
-            ask_cases(others, a, b, answers)
+            ask_first_result(others, a, b, answers)
         }
     }
 }
 
-// What the first operation becomes behind the second.
-#[tactic(auto, using(crate::proofs::Nears::may_come_out), unfolding(crate::specs::Questions::ask_transform, crate::specs::Questions::ask_by_kinds))]
+// What the first operation becomes after the second, if a guard is true.
+#[tactic(auto, using(crate::proofs::Nears::may_come_out))]
+fn ask_result(
+    rules: &Rules,
+    a: SymOp,
+    b: SymOp,
+    answers: &mut Answers<'_>,
+) -> Result<Option<SymOp>, Stop>
+    requires a_near { IsNearOp 100 a }
+    requires b_near { IsNearOp 100 b }
+    requires a_declared { IsDeclaredOp (function_of rules.now).head a }
+    requires b_declared { IsDeclaredOp (function_of rules.now).head b }
+    ensures next { (go : Option SymOp → Plan Why)
+        → next_after (plans.ask_result (function_of rules.now) a b go) (iter_rest answers.old)
+        ≡ found result (iter_rest answers.new) go }
+    ensures near { IfOk result (λ found. IfSome found (IsResultOf a b)) }
+{
+    let Some(k) = a.kind() else {
+        return Ok(Some(SymOp::Nop));
+    };
+    let Some(l) = b.kind() else {
+        return Ok(Some(a));
+    };
+    ask_first_result(rules.cases(k, l), a, b, answers)
+}
+
+// The same where it is a cause that no guard is true.
+#[tactic(auto, using(crate::proofs::Ends::next_after_fails), unfolding(crate::specs::Questions::ask_transform))]
 pub(crate) fn ask_transform(
     rules: &Rules,
     a: SymOp,
@@ -109,15 +140,13 @@ pub(crate) fn ask_transform(
     requires b_near { IsNearOp 100 b }
     requires a_declared { IsDeclaredOp (function_of rules.now).head a }
     requires b_declared { IsDeclaredOp (function_of rules.now).head b }
-    ensures next { (go : SymOp → Plan Why) → next_after (plans.ask_transform (function_of rules.now) a b go) (iter_rest answers.old)
+    ensures next { (go : SymOp → Plan Why)
+        → next_after (plans.ask_transform (function_of rules.now) a b go) (iter_rest answers.old)
         ≡ found result (iter_rest answers.new) go }
     ensures near { IfOk result (IsResultOf a b) }
 {
-    let Some(k) = a.kind() else {
-        return Ok(SymOp::Nop);
-    };
-    let Some(l) = b.kind() else {
-        return Ok(a);
-    };
-    ask_cases(rules.cases(k, l), a, b, answers)
+    match ask_result(rules, a, b, answers)? {
+        Some(result) => Ok(result),
+        None => Err(Stop::Fails(Why::Undefined)),
+    }
 }

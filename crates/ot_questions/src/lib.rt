@@ -11,6 +11,7 @@
 #![tactic(auto)]
 
 mod ask;
+mod asked;
 mod cell;
 mod conditions;
 mod guards;
@@ -23,15 +24,18 @@ mod reading;
 mod valuation;
 mod why;
 
+pub use asked::{names_stand_for_operations, plans_compare_like_with_like, questions_keep_limits};
 pub use cell::{Finished, Flag, Source};
 pub use meaning::{
-    atoms_bound_questions, pair_plans_mean_tp1, plans_keep_limits, triple_plans_mean_tp2,
+    atoms_bound_questions, bounded_plans_mean_shorter_documents, pair_plans_mean_tp1,
+    plans_keep_limits, triple_plans_mean_tp2,
 };
 pub use name::{INDEX, LENGTH, Who, ZERO, char_name, position_name, site_name};
 pub use next::Next;
 pub use obligation::next_question;
 pub use place::{Place, SymOp};
 pub use valuation::{
-    pair_ends_at_valuations, questions_mean_the_interpreter, triple_ends_at_valuations,
+    any_operations_have_names, pair_ends_at_valuations, questions_mean_the_interpreter,
+    triple_ends_at_valuations,
 };
 pub use why::Why;

@@ -1,6 +1,6 @@
 //! Where the plans of obligations end at one valuation. These functions do nothing: their contracts are
 //! the laws.
-ghost use Rattle.std.specs.Prelude.{◌≡◌, ◌≢◌, ◌↔◌, ◌⊎◌, ℕ, ℤ, pos, ◌+ℤ◌, if◌then◌else◌, IsTrue, IsSome, List, [], ◌∷◌, length, Option, Some, None};
+ghost use Rattle.std.specs.Prelude.{◌≡◌, ◌≢◌, ◌↔◌, ◌⊎◌, ℕ, ℤ, pos, ◌+ℤ◌, int_le, if◌then◌else◌, IsTrue, IsSome, List, [], ◌∷◌, length, Option, Some, None};
 ghost use Rattle.ot_model.specs.declared.cell.Cell.{Cell};
 ghost use Rattle.ot_model.specs.declared.op.Kind.{Kind};
 ghost use Rattle.ot_model.specs.declared.op.Op.{Op};
@@ -12,13 +12,16 @@ ghost use Rattle.fn_rules.specs.Conditions.{IsFormOf};
 ghost use Rattle.fn_rules.specs.Properties.{AreConcurrent, ConvergesAt, CommutesAt};
 ghost use Rattle.fn_rules.specs.Transformation.{is_allowed, transform_of};
 ghost use Rattle.ask_core.specs.Plans.{Plan, end_of};
+ghost use Rattle.ot_questions.specs.declared.name.Who.{Who};
+ghost use Rattle.ot_questions.specs.declared.place.Place.{Place};
 ghost use Rattle.ot_questions.specs.declared.place.SymOp.{SymOp};
 ghost use Rattle.ot_questions.specs.declared.why.Why.{Why};
 ghost use Rattle.ot_questions.specs.declared.why.Why.TheVariants.{Cells, Operations};
 ghost use Rattle.ot_questions.specs.Names.{zero_name, length_name, index_name};
-ghost use Rattle.ot_questions.specs.Questions.{ask_guard, ask_transform, ask_enabled, ask_allowed};
+ghost use Rattle.ot_questions.specs.Places.{integer_at};
+ghost use Rattle.ot_questions.specs.Questions.{ask_le, ask_guard, ask_result, ask_transform, ask_enabled, ask_allowed};
 ghost use Rattle.ot_questions.specs.Obligation.{plan_of, ask_same_form};
-ghost use Rattle.ot_questions.specs.Instances.{StandsFor, NamesPair, NamesTriple, ComesTo, EndWith, AgreeAt, cell_in, PairFails, Shows, EndsBy, TripleFails};
+ghost use Rattle.ot_questions.specs.Instances.{StandsFor, NamesPair, NamesTriple, NamesAll, GoesOnWith, ComesTo, EndWith, AgreeAt, cell_in, PairFails, Shows, EndsBy, TripleFails};
 
 use fn_rules::tests_decide_their_facts;
 
@@ -55,11 +58,16 @@ pub fn triple_ends_at_valuations()
     ensures breaks { (f : Function) (a b c : Op) (why : Why) → TripleFails f a b c why → CommutesAt f a b c → ⊥ }
 {}
 
-/// At a valuation each question about operations goes on as the interpreter answers it for the operations
-/// that the names and places stand for. Two forms of one operation are found equal exactly where they are.
+/// At a valuation each question goes on as the integers and the interpreter answer it for the operations
+/// that the names and places stand for. A result goes on as the first true guard says, and with none where
+/// no guard is true. Two forms of one operation are found equal exactly where they are.
 pub fn questions_mean_the_interpreter()
+    ensures at_most { (v : ℕ → ℤ) (x y : Place) (p q : Plan Why)
+        → end_of (ask_le x y p q) v ≡ (if int_le (integer_at v x) (integer_at v y) then end_of p v else end_of q v) }
     ensures guard { (g : Formula) (v : ℕ → ℤ) (x y : SymOp) (a b : Op) (p q : Plan Why) → v zero_name ≡ pos 0 → StandsFor v x a
         → StandsFor v y b → end_of (ask_guard g x y p q) v ≡ (if holds_of g a b then end_of p v else end_of q v) }
+    ensures result { (f : Function) (v : ℕ → ℤ) (x y : SymOp) (a b : Op) → v zero_name ≡ pos 0 → StandsFor v x a
+        → StandsFor v y b → GoesOnWith v (ask_result f x y) (transform_of f a b) }
     ensures transform { (f : Function) (v : ℕ → ℤ) (x y : SymOp) (a b : Op) → v zero_name ≡ pos 0 → StandsFor v x a → StandsFor v y b
         → ComesTo v (ask_transform f x y) (transform_of f a b) }
     ensures enabled { (v : ℕ → ℤ) (x : SymOp) (a : Op) (off : ℤ) (n : ℕ) (p q : Plan Why) → v zero_name ≡ pos 0
@@ -72,3 +80,9 @@ pub fn questions_mean_the_interpreter()
 {
     tests_decide_their_facts();
 }
+
+/// Any three operations, any length and any index have names: at some valuation each operation is what the
+/// names of its kind stand for.
+pub fn any_operations_have_names()
+    ensures { (n : ℕ) (i : ℤ) (made : Who → Op) → (v : ℕ → ℤ) × NamesAll v n i made }
+{}

@@ -14,7 +14,7 @@ use Rattle.ot_questions.specs.declared.why.Why.{Why}
 use Rattle.ot_questions.specs.Names.{name_count}
 use Rattle.ot_questions.specs.Nears.{IsNearCase}
 use Rattle.ot_questions.specs.Places.{sym_kind, sym_result}
-use Rattle.ot_questions.specs.Questions.{ask_guard, ask_cases, ask_by_kinds, ask_transform}
+use Rattle.ot_questions.specs.Questions.{ask_guard, ask_first_result, ask_result_by_kinds, or_undefined, ask_transform}
 use Rattle.ot_terms.specs.declared.goal.Progress.{Progress}
 use Rattle.ot_terms.specs.Goals.{Choose}
 use Rattle.ot_terms.specs.Placing.{guard_form}
@@ -72,22 +72,23 @@ module _ (f : Function) (a b : SymOp) (k l : Kind) (there : sym_kind a ≡ Some 
 
   -- what is asked is what the cases that are left ask
   ask_from_case :
-      (n : ℕ) (go : SymOp → Plan Why) → ask_transform (from_case n f) a b go ≡ ask_cases (drop n (f.cases k l)) a b go
-  unfolding ask_transform ask_by_kinds
+      (n : ℕ) (go : SymOp → Plan Why)
+      → ask_transform (from_case n f) a b go ≡ ask_first_result (drop n (f.cases k l)) a b (or_undefined go)
+  unfolding ask_transform
   ask_from_case n go =
-      ap (λ t. ask_by_kinds (from_case n f) a b t (sym_kind b) go) there
-      ∙ ap (λ t. ask_by_kinds (from_case n f) a b (Some k) t go) other
+      ap (λ t. ask_result_by_kinds (from_case n f) a b t (sym_kind b) (or_undefined go)) there
+      ∙ ap (λ t. ask_result_by_kinds (from_case n f) a b (Some k) t (or_undefined go)) other
 
   asked_of_cases :
       (cs : List GuardedCase) (n : ℕ) (plan : Progress) → drop n (f.cases k l) ≡ cs
-      → ask_goal f (choose_case cs n a b plan) ≡ ask_cases cs a b (ask_with f plan)
-  unfolding ask_goal ask_cases
+      → ask_goal f (choose_case cs n a b plan) ≡ ask_first_result cs a b (or_undefined (ask_with f plan))
+  unfolding ask_goal
   asked_of_cases [] n plan e = refl
   asked_of_cases (c ∷ cs) n plan e =
       ask_form_guard_form c.guard a b (ask_with f plan (sym_result c.res a b)) (ask_transform (from_case (suc n) f) a b (ask_with f plan))
       ∙ ap (λ p. ask_guard c.guard a b (ask_with f plan (sym_result c.res a b)) p)
       (ask_from_case (suc n) (ask_with f plan)
-      ∙ ap (λ t. ask_cases t a b (ask_with f plan)) (drop_next (f.cases k l) n c cs e))
+      ∙ ap (λ t. ask_first_result t a b (or_undefined (ask_with f plan))) (drop_next (f.cases k l) n c cs e))
 
   lighter_of_cases :
       (cs : List GuardedCase) (n : ℕ) (plan : Progress) → drop n (f.cases k l) ≡ cs
@@ -133,12 +134,12 @@ module _ (f : Function) (ob : ObName) (case : ℕ) (a b : SymOp) (plan : Progres
   asked_of_kinds :
       (ka kb : Option Kind) → sym_kind a ≡ ka → sym_kind b ≡ kb
       → ask_goal f (choose_by_kinds f case a b ka kb plan) ≡ ask_goal f (Choose case a b plan)
-  unfolding ask_goal ask_transform ask_by_kinds
+  unfolding ask_goal ask_transform
   asked_of_kinds None kb there other =
-      ap (λ t. ask_by_kinds (from_case case f) a b t (sym_kind b) (ask_with f plan)) (sym there)
+      ap (λ t. ask_result_by_kinds (from_case case f) a b t (sym_kind b) (or_undefined (ask_with f plan))) (sym there)
   asked_of_kinds (Some k) None there other =
-      ap (λ t. ask_by_kinds (from_case case f) a b (Some k) t (ask_with f plan)) (sym other)
-      ∙ ap (λ t. ask_by_kinds (from_case case f) a b t (sym_kind b) (ask_with f plan)) (sym there)
+      ap (λ t. ask_result_by_kinds (from_case case f) a b (Some k) t (or_undefined (ask_with f plan))) (sym other)
+      ∙ ap (λ t. ask_result_by_kinds (from_case case f) a b t (sym_kind b) (or_undefined (ask_with f plan))) (sym there)
   asked_of_kinds (Some k) (Some l) there other =
       asked_of_cases f a b k l there other (drop case (f.cases k l)) case plan refl
       ∙ sym (ask_from_case f a b k l there other case (ask_with f plan))

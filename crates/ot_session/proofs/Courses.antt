@@ -1,14 +1,12 @@
 -- Taking an operation at a site, as steps of what the definitions of sessions speak of.
-use Rattle.std.proofs.Common.{◌≡◌, ◌≢◌, ◌↔◌, ◌<◌, ◌+◌, ◌-◌, ◌∷◌, [], ℕ, zero, suc, Bool, true, List, length, Some, None, Result, Ok, Err, refl, sym, ap, ◌∙◌, subst, inl, inr, arith}
+use Rattle.std.proofs.Common.{◌≡◌, ◌≢◌, ◌<◌, ◌+◌, ◌-◌, ◌∷◌, [], ℕ, zero, suc, Bool, true, List, length, Some, None, Result, Ok, Err, refl, sym, ap, ◌∙◌, subst, inl, inr, arith}
 use Rattle.std.specs.Prelude.{slice_get, slice_set}
 use Rattle.std.proofs.lemmas.Bool.{cases_eq}
 use Rattle.std.proofs.lemmas.List.{length-set}
 use Rattle.ot_model.specs.declared.cell.Cell.{Cell}
 use Rattle.ot_model.specs.declared.op.Op.{Op}
 use Rattle.ot_model.specs.Effect.{IsEnabled, is_enabled, document_after}
-use Rattle.ot_causal.proofs.Outcomes.{is_enabled-true}
 use Rattle.fn_rules.specs.Functions.{Function}
-use Rattle.fn_rules.specs.Conditions.{is_integrable, IsIntegrable, IsFormOf}
 use Rattle.ot_causal.specs.Past.{IsNext}
 use Rattle.ot_causal.specs.Forms.{form, executed}
 use Rattle.ot_causal.specs.Counting.{counted}
@@ -19,11 +17,10 @@ use Rattle.ot_session.specs.declared.answer.Took.TheVariants.{Done, Held, Repeat
 use Rattle.ot_session.specs.declared.answer.Take.{Take}
 use Rattle.ot_session.specs.declared.answer.Take.TheVariants.{NoSite, NoOp, Stuck, Spent, NoMemory}
 use Rattle.ot_session.specs.declared.made.Made.{Made}
-use Rattle.ot_session.specs.Past.{past_of, AreUsable}
+use Rattle.ot_session.specs.Past.{past_of}
 use Rattle.ot_session.specs.Sites.{SiteView, document_in, seen_in, data_of}
 use Rattle.ot_session.specs.Taking.{Standing, HasIntegrated, IsCourse, start, then, Takes}
 use Rattle.ot_session.proofs.Lists.{slice_get-set_same, slice_get-set_other}
-use Rattle.ot_session.proofs.Reaches.{IsForKind-form}
 
 -- a place that is given what it has
 pub slice_set-same : {X : Type 0} (xs : List X) (i : ℕ) (x : X) → slice_get xs i ≡ Some x → slice_set xs i x ≡ xs
@@ -163,11 +160,9 @@ module _ (f : Function) (first : List Cell) (made : List Made) (sites : List Sit
 
     -- where the sites converge, no operation is stuck
     pub never-stuck : ((session : SessionData) → IsSound f session → Converges f session)
-        → ((cells : ℕ) (p : Op) → (is_integrable f cells p ≡ true) ↔ IsIntegrable f cells p)
-        → ((o : ℕ) (l : List ℕ) (p : Op) → form f (past_of made) o l ≡ Some p → IsFormOf ((past_of made).operation o) p)
-        → AreUsable f (past_of made)
+        → ((n : ℕ) (p : Op) → IsEnabled p n → is_enabled p n ≡ true)
         → (n o : ℕ) (old new : Standing) → IsSound f (with old.site) → ¬ (Takes f (past_of made) n old new (Err (Stuck o)))
-    never-stuck converges tested kept usable n o old new sound takes =
+    never-stuck converges tested n o old new sound takes =
         let mid : SiteView = takes.mid.site in
         let all : Converges f (with mid) = converges (with mid) (Follows-course n old takes.done takes.mid sound takes.integrates.course).sound in
         let there = all.never_stuck t o (site_with mid) (subst (λ (l : List ℕ). IsNext (past_of made) l o) (sym (seen_with mid)) takes.stuck.next) in
@@ -175,10 +170,7 @@ module _ (f : Function) (first : List Cell) (made : List Made) (sites : List Sit
         let is : form f (past_of made) o mid.seen ≡ Some p =
         ap (λ (l : List ℕ). form f (past_of made) o l) (sym (seen_with mid)) ∙ there.is in
         let enabled : is_enabled p (length mid.document) ≡ true =
-        is_enabled-true f tested (length mid.document) p (record {
-          declared = IsForKind-form f.head ((past_of made).operation o) p (kept o mid.seen p is) (usable.declared o);
-          enabled = subst (λ (d : List Cell). IsEnabled p (length d)) (document_with mid) there.enabled;
-        }) in
+        tested (length mid.document) p (subst (λ (d : List Cell). IsEnabled p (length d)) (document_with mid) there.enabled) in
         let some : executed f (form f (past_of made) o mid.seen) mid.document ≡ Some (document_after f.head.mode p mid.document) =
         rw (is, enabled) refl in
         let both : None ≡ Some (document_after f.head.mode p mid.document) = sym takes.stuck.document ∙ some in

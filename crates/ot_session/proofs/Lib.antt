@@ -1,4 +1,6 @@
+pub mod AfterTake
 pub mod Beginning
+pub mod BothParts
 pub mod Clocks
 pub mod Courses
 pub mod Examples
@@ -8,6 +10,7 @@ pub mod Lists
 pub mod Making
 pub mod Marks
 pub mod OneAnswer
+pub mod OneCourse
 pub mod OneView
 pub mod Reaches
 pub mod Seeking

@@ -1,5 +1,5 @@
 -- A session at one of whose sites an operation was taken.
-use Rattle.std.proofs.Common.{◌≡◌, ◌↔◌, ◌<◌, ◌≤◌, ◌+◌, ◌-◌, ◌*◌, ◌++◌, ◌∷◌, [], ℕ, zero, suc, Bool, true, List, length, map, Option, Some, Result, Ok, Err, refl, sym, ap, ◌∙◌, subst, reverse, inl, inr, arith, is_ok, OnOk, IfSome, None}
+use Rattle.std.proofs.Common.{◌≡◌, ◌<◌, ◌≤◌, ◌+◌, ◌-◌, ◌*◌, ◌++◌, ◌∷◌, [], ℕ, zero, suc, Bool, true, List, length, map, Option, Some, Result, Ok, Err, refl, sym, ap, ◌∙◌, subst, reverse, inl, inr, arith, is_ok, OnOk, IfSome, None}
 use Rattle.std.specs.Prelude.{slice_get, slice_set}
 use Rattle.std.specs.Option.{option_map}
 use Rattle.std.specs.List.{AllByRecursion}
@@ -8,10 +8,9 @@ use Rattle.std.proofs.lemmas.List.{length-map, length-set, map-set}
 use Rattle.std.proofs.lemmas.Option.{slice_get-map}
 use Rattle.ot_model.specs.declared.cell.Cell.{Cell}
 use Rattle.ot_model.specs.declared.op.Op.{Op}
+use Rattle.ot_model.specs.Effect.{IsEnabled, is_enabled}
 use Rattle.fn_rules.specs.Functions.{Function}
-use Rattle.fn_rules.specs.Conditions.{is_integrable, IsIntegrable, IsFormOf}
 use Rattle.ot_causal.specs.Past.{Past, IsNext, IsOrderly}
-use Rattle.ot_causal.specs.Forms.{form}
 use Rattle.ot_causal.specs.Counting.{FormName, sought, counted, count_sought, most_forms}
 use Rattle.ot_causal.specs.Sessions.{SessionData, IsSite, IsSound, Integrates, counted_to, all_counted}
 use Rattle.ot_causal.specs.Convergence.{Converges}
@@ -141,11 +140,10 @@ module _ (f : Function) (first : List Cell) (made : List Made) (sites new_sites 
 
     -- no operation is stuck where the sites converge
     pub never-stuck-taken : ((session : SessionData) → IsSound f session → Converges f session)
-        → ((cells : ℕ) (p : Op) → (is_integrable f cells p ≡ true) ↔ IsIntegrable f cells p)
-        → ((o : ℕ) (l : List ℕ) (p : Op) → form f (past_of made) o l ≡ Some p → IsFormOf ((past_of made).operation o) p)
-        → AreUsable f (past_of made) → (o : ℕ) → answer ≡ Err (Stuck o) → ⊥
-    never-stuck-taken converges tested kept usable o is =
-        never-stuck f first made (map view_site sites) t site sound_law count_law converges tested kept usable n o (standing step.before total)
+        → ((n : ℕ) (p : Op) → IsEnabled p n → is_enabled p n ≡ true)
+        → (o : ℕ) → answer ≡ Err (Stuck o) → ⊥
+    never-stuck-taken converges tested o is =
+        never-stuck f first made (map view_site sites) t site sound_law count_law converges tested n o (standing step.before total)
         (standing step.after new_total) sound_before
         (subst (λ (a : Result Took Take). Takes f (past_of made) n (standing step.before total) (standing step.after new_total) a)
         is step.takes)

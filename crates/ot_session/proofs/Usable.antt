@@ -5,12 +5,12 @@ use Rattle.std.proofs.lemmas.Int.{ints}
 use Rattle.std.proofs.lemmas.Bool.{cases_Bool, cases_lt}
 use Rattle.ot_model.specs.declared.limits.TheConstants.{MAX_CELLS}
 use Rattle.ot_model.specs.declared.cell.Cell.{Cell}
+use Rattle.ot_model.specs.declared.op.Mode.{Mode}
 use Rattle.ot_model.specs.declared.op.Op.{Op}
 use Rattle.ot_model.specs.declared.op.Op.TheVariants.{Ins, Del, Upd, Nop}
 use Rattle.ot_model.specs.declared.op.Kind.{Kind}
 use Rattle.ot_model.specs.Operations.{kind_of}
 use Rattle.ot_model.specs.Effect.{IsEnabled, is_enabled, document_after}
-use Rattle.ot_causal.proofs.Outcomes.{length-document_after}
 use Rattle.fn_rules.specs.declared.function.Head.{Head}
 use Rattle.fn_rules.specs.Functions.{Function, IsForKind, HasDeclaredKind}
 use Rattle.fn_rules.specs.Conditions.{IsWithin}
@@ -22,33 +22,37 @@ use Rattle.ot_session.specs.declared.made.Made.{Made}
 use Rattle.ot_session.specs.Past.{past_of, most_cells, AreUsable}
 use Rattle.ot_session.proofs.Reaches.{IsWithin-more}
 
+-- no operation makes a document longer by more than one cell
+abbrev pub GrowByOne : Type 0
+GrowByOne = (mode : Mode) (o : Op) (d : List Cell) → length (document_after mode o d) ≤ length d + 1
+
 IsWithin-enabled : (n : ℕ) (o : Op) → IsEnabled o n → IsWithin n o
 IsWithin-enabled n (Ins at ch site) enabled = (omega (arith, ints), omega (arith, ints))
 IsWithin-enabled n (Del at site) enabled = (omega (arith, ints), omega (arith, ints))
 IsWithin-enabled n (Upd at ch site) enabled = (omega (arith, ints), omega (arith, ints))
 IsWithin-enabled n Nop enabled = (omega (arith, ints), omega (arith, ints))
 
-length-executed : (f : Function) (p : Option Op) (d e : List Cell) → executed f p d ≡ Some e → length e ≤ length d + 1
-length-executed f None d e is = cc
-length-executed f (Some p) d e is = elim (cases_Bool (is_enabled p (length d))) [
+length-executed : (f : Function) → GrowByOne → (p : Option Op) (d e : List Cell) → executed f p d ≡ Some e → length e ≤ length d + 1
+length-executed f grow None d e is = cc
+length-executed f grow (Some p) d e is = elim (cases_Bool (is_enabled p (length d))) [
   | inl enabled ↦ (let same : document_after f.head.mode p d ≡ e = let some = rw enabled at is in cc in
-      omega (arith, length-document_after f.head.mode p d, ap length same))
+      omega (arith, grow f.head.mode p d, ap length same))
   | inr refused ↦ absurd (let none = rw refused at is in cc)
 ]
 
 -- each member of a list makes the document longer by at most one cell
-length-state : (f : Function) (past : Past) (first : List Cell) (l : List ℕ) (d : List Cell) → state f past first l ≡ Some d
+length-state : (f : Function) → GrowByOne → (past : Past) (first : List Cell) (l : List ℕ) (d : List Cell) → state f past first l ≡ Some d
     → length d ≤ length first + length l
 unfolding state
-length-state f past first [] d is = let same : first ≡ d = cc in omega (arith, ap length same)
-length-state f past first (o ∷ l) d is = by (state f past first l) refl is (λ e. length-state f past first l e)
+length-state f grow past first [] d is = let same : first ≡ d = cc in omega (arith, ap length same)
+length-state f grow past first (o ∷ l) d is = by (state f past first l) refl is (λ e. length-state f grow past first l e)
   where
     by : (older : Option (List Cell)) → state f past first l ≡ older
         → option_and_then (λ e. executed f (form f past o l) e) older ≡ Some d
         → ((e : List Cell) → state f past first l ≡ Some e → length e ≤ length first + length l)
         → length d ≤ length first + length (o ∷ l)
     by None none is below = cc
-    by (Some e) some is below = omega (arith, length-executed f (form f past o l) e d is, below e some)
+    by (Some e) some is below = omega (arith, length-executed f grow (form f past o l) e d is, below e some)
 
 for_kind : (head : Head) (k : Option Kind) → HasDeclaredKind head k → IsForKind head k
 for_kind head None is = cc
@@ -60,7 +64,7 @@ unmade [] o outside = refl
 unmade (m ∷ made) zero outside = absurd (omega (arith, outside))
 unmade (m ∷ made) (suc o) outside = unmade made o (omega (arith, outside))
 
-module _ (f : Function) (made : List Made) (first : List Cell) (few : length made ≤ MAX_MADE) (small : length first ≤ MAX_CELLS)
+module _ (f : Function) (grow : GrowByOne) (made : List Made) (first : List Cell) (few : length made ≤ MAX_MADE) (small : length first ≤ MAX_CELLS)
     (short : (l : List ℕ) → IsClosed (past_of made) l → length l ≤ length made)
     (sound : IsSoundPast f (past_of made) first) (sites : ℕ) (most : sites ≤ MAX_SITES)
     (owned : (o : ℕ) → o < length made → IsSite sites (maker (past_of made) o)) where
@@ -68,7 +72,7 @@ module _ (f : Function) (made : List Made) (first : List Cell) (few : length mad
   near o = elim (cases_lt o (length made)) [
     | inl inside ↦ (let born = sound.born o inside in
         IsWithin-more (length born.document) most_cells ((past_of made).operation o)
-        (omega (arith, length-state f (past_of made) first born.known born.document born.is, short born.known born.closed, few, small))
+        (omega (arith, length-state f grow (past_of made) first born.known born.document born.is, short born.known born.closed, few, small))
         (IsWithin-enabled (length born.document) ((past_of made).operation o) born.enabled))
     | inr outside ↦ subst (λ (p : Op). IsWithin most_cells p) (sym (unmade made o outside)) (omega (arith, ints), omega (arith, ints))
   ]

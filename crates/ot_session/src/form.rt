@@ -24,7 +24,7 @@ use ot_model::Op;
 use std::alloc::{AllocError, Global};
 
 /// Why there is no form.
-#[derive(Clone, Copy, Debug, PartialEq, Eq)]
+#[derive(Clone, Copy)]
 pub(crate) enum Refusal {
     /// A transformation has no result.
     NoForm,

@@ -7,7 +7,7 @@ use ot_model::Op;
 use plain_list::List;
 
 /// An operation that was made, and what its site had integrated when it was made there.
-#[derive(Debug, Drop)]
+#[derive(Drop)]
 pub(crate) struct Made {
     /// The operation.
     pub op: Op,

@@ -16,12 +16,12 @@ use crate::steps::{execute_at, fresh_sites, has_declared_kind, is_made_at};
 use crate::taking::take_at;
 use fn_rules::{Rules, tests_decide_their_facts};
 use ot_causal::{
-    both_properties_give_one_document, counted_forms_need_not_be_sought,
-    forms_are_sought_before_they_are_made, forms_keep_all_but_the_position,
+    both_properties_give_one_course, both_properties_give_one_document,
+    counted_forms_need_not_be_sought, forms_are_sought_before_they_are_made,
     making_more_changes_nothing, members_were_made, open_members_may_be_taken_out,
     sites_count_no_more_than_the_bound, steps_count_what_they_seek, steps_keep_sessions_sound,
 };
-use ot_model::{Doc, NoMemory, Op, enabled};
+use ot_model::{Doc, NoMemory, Op, documents_grow_by_one_cell_at_most, enabled};
 use std::alloc::Global;
 
 /// A session of some sites.
@@ -51,6 +51,7 @@ impl Session {
     ghost use Rattle.ot_causal.specs.Members.{HaveOneSet};
     ghost use Rattle.ot_causal.specs.Past.{IsClosed};
     ghost use Rattle.ot_causal.specs.Forms.{state};
+    ghost use Rattle.ot_causal.specs.Convergence.{HasOneCourse};
     ghost use Rattle.fn_rules.specs.Properties.{HasTp1, HasTp2};
     ghost use Rattle.ot_session.specs.Views.{view_of, data_in, closed, IsBegun, HasMade, HasTaken};
     ghost use Rattle.ot_session.specs.declared.answer.Take.TheVariants as takes;
@@ -67,8 +68,8 @@ impl Session {
         Ok(Session {
             rules: rules.try_clone()?,
             first: doc.try_clone()?,
-            made: Vec::new(alloc),
             sites: fresh_sites(alloc, doc, sites)?,
+            made: Vec::new(alloc),
             counted: 0,
             is_open: true,
         })
@@ -193,7 +194,7 @@ impl Session {
         members_were_made();
         both_properties_give_one_document();
         tests_decide_their_facts();
-        forms_keep_all_but_the_position();
+        documents_grow_by_one_cell_at_most();
         sites_count_no_more_than_the_bound();
         if !self.has_site(site) {
             return Err(Take::NoSite);
@@ -233,6 +234,17 @@ impl Session {
             → (data_in (view_of self.now)).document s ≡ (data_in (view_of self.now)).document t }
     {
         both_properties_give_one_document();
+    }
+
+    /// A law: where the function has both properties and characters need not differ, each closed list of operations made
+    /// so far leads to a document, on which each operation that the list is ready for has an enabled form, and documents
+    /// and forms depend on sets alone; also for lists that no site has integrated.
+    pub fn past_has_one_course(&self)
+        ensures { HasTp1 (view_of self.now).function → HasTp2 (view_of self.now).function
+            → (view_of self.now).function.head.chars_differ ≡ false
+            → HasOneCourse (view_of self.now).function (data_in (view_of self.now)).past (view_of self.now).first }
+    {
+        both_properties_give_one_course();
     }
 
     /// A law: what a site counts is at most the sum, over the operations made, of the product, over the other sites, of

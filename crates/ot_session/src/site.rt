@@ -39,11 +39,14 @@ impl Site {
     pub fn new(alloc: Global, doc: &Doc) -> Result<Site, AllocError>
         ensures { IfOk result (λ site. IsFresh doc.now site) }
     {
+        let integrated = no_marks(alloc)?;
+        let held = no_marks(alloc)?;
+        let doc = doc.try_clone()?;
         Ok(Site {
-            doc: doc.try_clone()?,
+            doc,
             seen: Vec::new(alloc),
-            integrated: no_marks(alloc)?,
-            held: no_marks(alloc)?,
+            integrated,
+            held,
             table: Table::new(alloc),
         })
     }

@@ -16,7 +16,7 @@ use Rattle.ot_questions.specs.declared.why.Why.TheVariants.{Undefined}
 use Rattle.ot_questions.specs.Nexts.{next_after}
 use Rattle.ot_questions.specs.Obligation.{ask_converge, ask_ways, ask_lengths, ask_documents}
 use Rattle.ot_questions.specs.Places.{place, index_and, sym_op}
-use Rattle.ot_questions.specs.Questions.{ask_le, ask_lt, ask_eq, ask_compared, ask_atom, ask_guard, ask_cases, ask_by_kinds, ask_transform, ask_enabled}
+use Rattle.ot_questions.specs.Questions.{ask_le, ask_lt, ask_eq, ask_compared, ask_atom, ask_guard, ask_transform, ask_enabled}
 use Rattle.ot_questions.specs.Reading.{ask_cell, ask_same, ask_same_source}
 use Rattle.ot_terms.specs.Forms.{FormTree, form_holds}
 use Rattle.ot_terms.specs.declared.goal.Progress.{Progress}
@@ -72,13 +72,13 @@ placed_fails_at_yes = refl
 -- two insertions, transformed from the case behind the last one on: none is left
 no_case_left : ask_goal ties (goals.Choose 2 (sym_op kinds.Ins B) (sym_op kinds.Ins A)
     (record { ob = Pair kinds.Ins kinds.Ins; ops = []; got = []; count = 0 })) ≡ plans.Fails Undefined
-unfolding ask_goal ask_transform ask_by_kinds ask_cases
+unfolding ask_goal ask_transform
 no_case_left = refl
 
 -- from the second case on, its guard is asked
 second_case : next_after (ask_goal ties (goals.Choose 1 (sym_op kinds.Ins B) (sym_op kinds.Ins A)
     (record { ob = Pair kinds.Ins kinds.Ins; ops = []; got = []; count = 0 }))) [] ≡ Asked (lit 3 6 (negsuc 0))
-unfolding ask_goal ask_transform ask_by_kinds ask_cases ask_guard ask_atom ask_compared ask_lt ask_le
+unfolding ask_goal ask_transform ask_guard ask_atom ask_compared ask_lt ask_le
 second_case = refl
 
 -- an insertion of the character 8 at name 6, of a document in which the cell at name 3 was made dead
@@ -137,5 +137,5 @@ marks_begin : asked_along (ask_goal marks (start_of marks.head (Pair kinds.Del k
     ≡ lit 0 1 (pos 0) ∷ lit 0 3 (pos 0) ∷ lit 3 1 (negsuc 0) ∷ lit 0 6 (pos 0) ∷ lit 6 1 (negsuc 0) ∷ lit 0 6 (pos 0)
     ∷ lit 6 1 (negsuc 0) ∷ lit 0 3 (pos 0) ∷ lit 3 1 (negsuc 0) ∷ lit 0 2 (pos 0) ∷ lit 2 1 (negsuc 0) ∷ []
 unfolding ask_goal ask_form ask_after ask_pair_after ask_converge ask_ways ask_lengths ask_documents ask_le ask_lt ask_eq ask_compared
-    ask_atom ask_guard ask_cases ask_by_kinds ask_transform ask_enabled ask_cell ask_same ask_same_source
+    ask_atom ask_guard ask_transform ask_enabled ask_cell ask_same ask_same_source
 marks_begin = refl

@@ -12,8 +12,8 @@ use Rattle.ot_questions.specs.declared.name.Who.TheVariants.{A, B, C}
 use Rattle.ot_questions.specs.declared.place.SymOp.TheVariants.{Nop}
 use Rattle.ot_questions.specs.Places.{sym_op}
 use Rattle.ot_questions.specs.Meaning.{HoldsAtLength}
-use Rattle.ot_questions.proofs.Answered.{negative_length}
-use Rattle.ot_questions.proofs.PairMeaning.{pair_holds_means, pair_meaning_holds, int_cases}
+use Rattle.ot_questions.proofs.Answered.{int_cases, negative_length}
+use Rattle.ot_questions.proofs.PairMeaning.{pair_holds_means, pair_meaning_holds}
 use Rattle.ot_questions.proofs.TripleMeaning.{triple_holds_means, triple_meaning_holds}
 use Rattle.ot_terms.specs.Goals.{GoalTree}
 use Rattle.ot_terms.specs.Starting.{if_allowed, if_all_enabled, if_length, first_choice, start_of}

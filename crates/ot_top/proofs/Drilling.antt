@@ -24,8 +24,9 @@ use Rattle.ot_judge.specs.Certificates.{IsCertificate}
 use Rattle.ot_judge.specs.Refusals.{IsWant}
 use Rattle.ot_judge.specs.Verdicts.{ObQuestions, AreAsked, IsDecidedAs, IsWithin, count_in}
 use Rattle.ot_counter.specs.Counters.{Breaks, level_of}
-use Rattle.ot_counter.specs.Leading.{LeadTo}
-use Rattle.ot_counter.specs.Values.{document_at, floors_of, ops_at}
+use Rattle.ask_core.specs.Leading.{LeadTo}
+use Rattle.ot_values.specs.Values.{floors_of, ops_at}
+use Rattle.ot_counter.specs.Documents.{document_at}
 use Rattle.ot_replies.specs.declared.reply.FileKind.TheVariants as files
 use Rattle.ot_replies.specs.declared.reply.Reply.{Reply}
 use Rattle.ot_replies.specs.declared.reply.Reply.TheVariants.{Proved, Spent}

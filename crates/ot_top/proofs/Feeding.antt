@@ -2,6 +2,7 @@
 use Rattle.std.proofs.Common.{ℕ, List, Option, ◌∙◌, refl, arith}
 use Rattle.ot_outside.specs.declared.shelf.Shelf.{Ghosts}
 use Rattle.ot_outside.specs.declared.shelf_feed.ShelfFeed.{ShelfFeed}
+use Rattle.ot_outside.specs.Reads.{IsSameReading, Reads}
 use Rattle.ot_outside.specs.ShelfFeed.{KeepsShelf}
 use Rattle.ot_outside.specs.Unchanged.{Unchanged}
 
@@ -12,8 +13,14 @@ pub kept_since :
 kept_since old new still =
     still old (record {
       unchanged = record { same_files = λ n. refl; same_offer = λ n. (λ h. h, λ h. h); more_faults = omega arith };
+      reading = record { same_name = refl; same_before = refl };
+      read = λ all. all;
+      same_limit = refl;
       beyond = refl;
     })
+
+pub reading_on : (one two three : Reads) → IsSameReading one two → IsSameReading two three → IsSameReading one three
+reading_on one two three a b = record { same_name = b.same_name ∙ a.same_name; same_before = b.same_before ∙ a.same_before }
 
 -- what two calls do not change
 pub unchanged_on :

@@ -22,12 +22,12 @@ use Rattle.ot_top.specs.Judgements.{IsReplyToCertificate, Tells, is_truncated, r
 use Rattle.ot_replies.specs.Limits.{limit_of}
 
 -- a told judgement is no want
-not_want : (judgement : Result Level JudgeEnd) (r : Reply) → Tells judgement r → IsWant judgement → ⊥
+pub not_want : (judgement : Result Level JudgeEnd) (r : Reply) → Tells judgement r → IsWant judgement → ⊥
 not_want judgement r tells (inl failed) = subst (λ j. Tells j r) failed tells
 not_want judgement r tells (inr wanting) = subst (λ j. Tells j r) wanting tells
 
 -- a judgement that rests on the end is no want
-sure : (judgement : Result Level JudgeEnd) → rests_on_the_end judgement ≡ true → IsWant judgement → ⊥
+pub sure : (judgement : Result Level JudgeEnd) → rests_on_the_end judgement ≡ true → IsWant judgement → ⊥
 sure judgement rests (inl failed) = let clash : false ≡ true = sym (ap (λ j. rests_on_the_end j) failed) ∙ rests in cc
 sure judgement rests (inr wanting) = let clash : false ≡ true = sym (ap (λ j. rests_on_the_end j) wanting) ∙ rests in cc
 
@@ -51,7 +51,7 @@ at_its_end (Err (judge.Refused offset cause)) P rests ok err = err (offset, ap (
 at_its_end (Err judge.Failed) P rests ok err = cc
 at_its_end (Err judge.NoMemory) P rests ok err = cc
 
-nothing_taken : (n : ℕ) (bytes : List ℕ) → take (suc n) bytes ≡ [] → bytes ≡ []
+pub nothing_taken : (n : ℕ) (bytes : List ℕ) → take (suc n) bytes ≡ [] → bytes ≡ []
 nothing_taken n [] e = refl
 nothing_taken n (b ∷ bytes) e = cc
 

@@ -5,7 +5,7 @@ use Rattle.diff_graph.specs.Literals.{answered_of, negated}
 use Rattle.ask_core.specs.Plans.{Plan, Ask, Holds, Fails, after_answer}
 use Rattle.ot_prove.specs.declared.outcome.Answer.{Answer}
 use Rattle.ot_prove.specs.Outcomes.{answered_by, AreAnswersTo}
-use Rattle.ot_counter.specs.Leading.{LeadTo}
+use Rattle.ask_core.specs.Leading.{LeadTo}
 
 -- an answer to a literal stands for it or for its negation, by the way that it leads to
 by_answer :

@@ -5,6 +5,7 @@ mod Drilling
 mod Ending
 mod Ends
 mod Feeding
+mod Given
 mod Judged
 mod Leads
 mod OneDrill
@@ -14,9 +15,11 @@ mod OneOutcome
 mod OneReply
 mod OneVerdict
 mod Proving
+mod ReadCertificate
 mod Refusing
 mod Running
 mod Showing
+mod Shows
 mod Steady
 mod Told
 mod Unread

@@ -16,7 +16,7 @@ use Rattle.ot_judge.specs.declared.verdict.Verdict.TheVariants as verdicts
 use Rattle.ot_judge.specs.Verdicts.{AreAsked, FailingOb, IsVerdict, ObQuestions, failing_in}
 use Rattle.ot_counter.specs.declared.counter.Counter.{Counter}
 use Rattle.ot_counter.specs.Counters.{IsCounter, IsReadOff}
-use Rattle.ot_counter.specs.Values.{floors_of}
+use Rattle.ot_values.specs.Values.{floors_of}
 use Rattle.ot_replies.specs.declared.reply.Reply.{Reply}
 use Rattle.ot_replies.specs.declared.reply.Reply.TheVariants.{Broken}
 use Rattle.ot_words.specs.Commands.{Prove}

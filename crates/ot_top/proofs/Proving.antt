@@ -6,16 +6,19 @@ use Rattle.std.proofs.lemmas.List.{take_all}
 use Rattle.diff_graph.specs.declared.lit.Lit.{Lit}
 use Rattle.diff_graph.specs.Solutions.{AreLeast, valuation_of}
 use Rattle.ot_model.specs.declared.cell.Cell.{Cell}
+use Rattle.ot_model.specs.declared.op.Kind.{Kind}
 use Rattle.fn_rules.specs.declared.function.Level.{Level}
+use Rattle.fn_rules.specs.declared.function.Level.TheVariants.{Tp1, Tp2}
 use Rattle.fn_rules.specs.declared.function.ObName.{ObName}
 use Rattle.fn_rules.specs.declared.function.ObName.TheVariants.{Pair, Triple}
 use Rattle.fn_rules.specs.Functions.{Function}
 use Rattle.fn_rules.specs.Obligations.{is_obligation, obligations_of}
+use Rattle.fn_rules.specs.Properties.{HasTp1}
 use Rattle.fn_rules.specs.Validity.{is_valid}
 use Rattle.fn_text.specs.Grammar.{IsTextOf}
 use Rattle.fn_text.specs.Reading.{function_in}
 use Rattle.ask_core.specs.Plans.{Plan}
-use Rattle.ask_core.specs.Questions.{Questions, QuestionList}
+use Rattle.ask_core.specs.Questions.{FailingEnd, Questions, QuestionList}
 use Rattle.ot_prove.specs.Outcomes.{answered_by}
 use Rattle.ot_questions.specs.declared.name.Who.TheVariants.{A, B, C}
 use Rattle.ot_questions.specs.declared.why.Why.{Why}
@@ -27,12 +30,13 @@ use Rattle.ot_judge.specs.declared.verdict.Verdict.{Verdict}
 use Rattle.ot_judge.specs.declared.verdict.Verdict.TheVariants as verdicts
 use Rattle.ot_judge.specs.Certificates.{IsCertificate}
 use Rattle.ot_judge.specs.Refusals.{IsJudgement}
-use Rattle.ot_judge.specs.Verdicts.{ObQuestions, IsDecidedAs, IsVerdict, IsWithin, count_in, failing_in}
+use Rattle.ot_judge.specs.Verdicts.{AreAsked, ObQuestions, IsDecidedAs, IsVerdict, IsWithin, count_in, failing_in}
 use Rattle.ot_counter.specs.declared.counter.Counter.{Counter}
 use Rattle.ot_counter.specs.Counters.{Breaks, BreaksBy, IsCounter, level_of}
-use Rattle.ot_counter.specs.Leading.{LeadTo}
+use Rattle.ask_core.specs.Leading.{LeadTo}
 use Rattle.ot_counter.specs.Sides.{left_at, right_at}
-use Rattle.ot_counter.specs.Values.{document_at, floors_of, ops_at}
+use Rattle.ot_values.specs.Values.{floors_of, ops_at}
+use Rattle.ot_counter.specs.Documents.{document_at}
 use Rattle.ot_replies.specs.declared.reply.FileKind.TheVariants as files
 use Rattle.ot_replies.specs.declared.reply.Reply.{Reply}
 use Rattle.ot_replies.specs.declared.reply.Reply.TheVariants.{Proved, Broken, Accepted, Usage}
@@ -40,7 +44,7 @@ use Rattle.ot_words.specs.Commands.{Asked, Prove}
 use Rattle.ot_top.specs.Judgements.{IsReplyToCertificate, IsReplyToJudgement}
 use Rattle.ot_replies.specs.Limits.{limit_of}
 use Rattle.ot_top.specs.Replies.{IsReadAs, IsReply, IsReplyTo, IsReplyToFunction}
-use Rattle.ot_top.specs.Shown.{AreBothWays, HasLevel, IsAcceptedAt, IsAskedAt, IsBroken, IsComplete, IsProved, status_by}
+use Rattle.ot_top.specs.Shown.{AreBothWays, HasBefore, HasLevel, IsAcceptedAt, IsAskedAt, IsBroken, IsComplete, IsProved, status_by}
 use Rattle.ot_replies.specs.Texts.{status_of, text_of}
 use Rattle.ot_top.specs.Verdicts.{IsReplyToProof, TellsVerdict}
 use Rattle.ot_words.specs.Words.{asked_by, most_questions}
@@ -154,7 +158,7 @@ module _ (is_text : (bytes : List ℕ) (f : Function) → function_in bytes ≡ 
   -- a counterexample breaks the property, and shows what the interpreter gives
   abbrev IsBrokenBy : Function → Level → Counter → Type 0
   IsBrokenBy f level counter =
-      IsAskedAt counter.level level × Breaks f counter.level counter.doc counter.ops
+      IsAskedAt counter.level level × HasBefore f counter.level × Breaks f counter.level counter.doc counter.ops
       × BreaksBy f counter.level counter.doc counter.ops counter.why
       × AreBothWays f counter.level counter.doc counter.ops counter.left counter.right
 
@@ -165,12 +169,25 @@ module _ (is_text : (bytes : List ℕ) (f : Function) → function_in bytes ≡ 
       (by_the_cause :
       (f : Function) (ob : ObName) (w : List Lit) (why : Why) (values : List ℤ) → IsTrue (is_valid f) → IsTrue (is_obligation f.head ob)
       → LeadTo why (plan_of f ob) w → AreLeast w (floors_of ob) values
-      → BreaksBy f (level_of ob) (document_at (valuation_of values) why) (ops_at (valuation_of values) ob) why) where
+      → BreaksBy f (level_of ob) (document_at (valuation_of values) why) (ops_at (valuation_of values) ob) why)
+      (tp1_before :
+      (f : Function) (lists : List (ObQuestions Why)) (k l m : Kind) (end : FailingEnd Why)
+      → AreAsked (plan_of f) (obligations_of f.head Tp2) lists
+      → failing_in lists ≡ Some (record { ob = Triple k l m; end = end }) → HasTp1 f) where
+    -- where a triple fails, the pairs before it did not
+    has_before :
+        (f : Function) (level : Level) (lists : List (ObQuestions Why)) (ob : ObName) (end : FailingEnd Why)
+        → AreAsked (plan_of f) (obligations_of f.head level) lists → failing_in lists ≡ Some (record { ob = ob; end = end })
+        → IsAskedAt (level_of ob) level → HasBefore f (level_of ob)
+    has_before f level lists (Pair k l) end asked fails at = tt
+    has_before f Tp1 lists (Triple k l m) end asked fails at = absurd at
+    has_before f Tp2 lists (Triple k l m) end asked fails at = tp1_before f lists k l m end asked fails
+
     counter_breaks :
         (f : Function) (level : Level) (ob : ObName) (w : List Lit) (why : Why) (counter : Counter) → IsTrue (is_valid f)
-        → IsTrue (is_obligation f.head ob) → LeadTo why (plan_of f ob) w → IsAskedAt (level_of ob) level
+        → IsTrue (is_obligation f.head ob) → LeadTo why (plan_of f ob) w → IsAskedAt (level_of ob) level → HasBefore f (level_of ob)
         → IsCounter f ob w why counter → IsBrokenBy f level counter
-    counter_breaks f level ob w why counter valid declared leads asked is =
+    counter_breaks f level ob w why counter valid declared leads asked before is =
         let v : ℕ → ℤ = valuation_of is.values in
         let property : counter.level ≡ level_of ob = is.read.level in
         let doc : counter.doc ≡ document_at v why = is.read.doc in
@@ -179,6 +196,7 @@ module _ (is_text : (bytes : List ℕ) (f : Function) → function_in bytes ≡ 
         let left : counter.left ≡ left_at f v (document_at v why) ob = is.read.left in
         let right : counter.right ≡ right_at f v (document_at v why) ob = is.read.right in (
           rw property asked,
+          rw property before,
           rw (property, doc, ops) (broken_there f ob w why is.values valid declared leads is.least),
           rw (property, doc, ops, cause) (by_the_cause f ob w why is.values valid declared leads is.least),
           rw (property, doc, ops, left, right) (both_ways f v (document_at v why) ob),
@@ -193,10 +211,11 @@ module _ (is_text : (bytes : List ℕ) (f : Function) → function_in bytes ≡ 
         absurd (let zero : 1 ≡ 0 = is ∙ ap (λ x. status_of x) tells in omega (arith, zero))
     broken_verdict f level budget r (verdicts.No ob answers why) is valid decided tells =
         let refuted = decided.2.1 in
-        let w : List Lit = answered_by answers.items in (
+        let w : List Lit = answered_by answers.items in
+        let at = asked_at (plan_of f) f.head level decided.0 _ decided.1 refuted.first in (
           tells.0,
-          counter_breaks f level ob w why tells.0 valid refuted.listed (literals_lead why (plan_of f ob) answers.items refuted.way)
-              (asked_at (plan_of f) f.head level decided.0 _ decided.1 refuted.first) tells.1,
+          counter_breaks f level ob w why tells.0 valid refuted.listed (literals_lead why (plan_of f ob) answers.items refuted.way) at
+              (has_before f level decided.0 ob _ decided.1 refuted.first at) tells.1,
           tells.2,
         )
     broken_verdict f level budget r verdicts.Spent is valid decided tells =
@@ -219,6 +238,7 @@ module _ (is_text : (bytes : List ℕ) (f : Function) → function_in bytes ≡ 
           found.1.1,
           found.1.2,
           found.1.3,
+          found.1.4,
           subst IsWritten (ap (λ x. text_of x) found.2) written,
         )
 

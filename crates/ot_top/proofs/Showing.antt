@@ -1,6 +1,7 @@
 -- Status 0 of `check` is that of an accepted certificate, which shows what its level says.
-use Rattle.std.proofs.Common.{◌≡◌, ℕ, ◌<◌, ◌≤◌, List, length, take, Option, Some, Result, Ok, Err, refl, ap, subst, ◌∙◌, inl, inr, arith}
+use Rattle.std.proofs.Common.{◌≡◌, ℕ, ◌<◌, ◌≤◌, List, length, take, Option, Result, Ok, Err, refl, ap, subst, ◌∙◌, inl, inr, arith}
 use Rattle.std.specs.Prelude.{IsTrue, MatchOption}
+use Rattle.std.specs.Option.{ForSome}
 use Rattle.std.proofs.lemmas.List.{take_all}
 use Rattle.fn_rules.specs.declared.function.Level.{Level}
 use Rattle.fn_rules.specs.declared.function.Level.TheVariants.{Tp1, Tp2}
@@ -57,41 +58,44 @@ module _ (r : Reply) (is_zero : 0 ≡ status_of r) where
   contents_accepted f told contents (judgement, judged, inr h) = accepted_bytes f contents judgement judged h.0 h.1
 
   file_accepted :
-      (f : Function) (told : Option (List ℕ)) (contents : List ℕ) → told ≡ Some contents → IsReplyToCertificate f told r
-      → (level : Level) × IsCertificate contents f level × (r ≡ Accepted level)
-  file_accepted f told contents is (some, are, h) =
-      contents_accepted f told contents
-      (subst (λ (b : List ℕ). IsReplyToContents f told b r) (are contents is) h)
+      (f : Function) (told : Option (List ℕ)) → IsReplyToCertificate f told r
+      → (level : Level) × (contents : List ℕ) × ForSome told (λ known. contents ≡ known) × IsCertificate contents f level × (r ≡ Accepted level)
+  file_accepted f told (contents, are, h) =
+      let found = contents_accepted f told contents h in (found.0, contents, are, found.1, found.2)
 
-  -- the function is read, and the certificate is one of it
+  -- the function is read, and there is a certificate of it
   accepted :
-      (holds : List ℕ → Option (List ℕ)) (name certificate contents : List ℕ) → holds certificate ≡ Some contents
-      → IsReplyTo holds (Check name certificate) r
-      → (f : Function) × IsReadAs (Ok f) (holds name) × ((level : Level) × IsCertificate contents f level × (r ≡ Accepted level))
-  accepted holds name certificate contents is (inl h) = absurd (not_refused (holds name) h)
-  accepted holds name certificate contents is (inr (f, read, h)) = (f, read, file_accepted f (holds certificate) contents is h)
+      (holds : List ℕ → Option (List ℕ)) (name certificate : List ℕ) → IsReplyTo holds (Check name certificate) r
+      → (f : Function) × IsReadAs (Ok f) (holds name)
+      × ((level : Level) × (contents : List ℕ) × ForSome (holds certificate) (λ known. contents ≡ known) × IsCertificate contents f level × (r ≡ Accepted level))
+  accepted holds name certificate (inl h) = absurd (not_refused (holds name) h)
+  accepted holds name certificate (inr (f, read, h)) = (f, read, file_accepted f (holds certificate) h)
 
 module _ (tp1 : (bytes : List ℕ) (f : Function) → IsCertificate bytes f Tp1 → HasTp1 f)
     (tp2 : (bytes : List ℕ) (f : Function) → IsCertificate bytes f Tp2 → HasTp1 f × HasTp2 f)
-    (one_outcome : (bytes : List ℕ) (f : Function) → IsCertificate bytes f Tp2 → HasOneOutcome f)
-    (is_text : (bytes : List ℕ) (f : Function) → function_in bytes ≡ Ok f → IsTextOf bytes f) where
+    (one_outcome : (bytes : List ℕ) (f : Function) → IsCertificate bytes f Tp2 → HasOneOutcome f) where
   pub has_level : (bytes : List ℕ) (f : Function) (level : Level) → IsCertificate bytes f level → HasLevel f level
   has_level bytes f Tp1 h = tp1 bytes f h
   has_level bytes f Tp2 h = let both = tp2 bytes f h in (both.0, both.1, one_outcome bytes f h)
 
+module _ (has_level : (bytes : List ℕ) (f : Function) (level : Level) → IsCertificate bytes f level → HasLevel f level)
+    (is_text : (bytes : List ℕ) (f : Function) → function_in bytes ≡ Ok f → IsTextOf bytes f) where
   pub shown :
       (words : List (List ℕ)) (holds : List ℕ → Option (List ℕ)) (r : Reply) (IsWritten : List ℕ → Type 0)
       → 0 ≡ status_of r → IsReply words holds r → IsWritten (text_of r) → IsShown words holds IsWritten
-  shown words holds r IsWritten is_zero is_reply written name certificate_name bytes certificate named told certificate_told =
+  shown words holds r IsWritten is_zero is_reply written name certificate_name bytes named told =
       let reply : IsReplyTo holds (Check name certificate_name) r =
       subst (λ (o : Option Asked). MatchOption o (r ≡ Usage) (λ asked. IsReplyTo holds asked r)) named is_reply in
-      let found = accepted r is_zero holds name certificate_name certificate certificate_told reply in
+      let found = accepted r is_zero holds name certificate_name reply in
       let text = is_text bytes found.0 (found.1 bytes told).1 in
-      let level = found.2.0 in (
+      let level = found.2.0 in
+      let certificate = found.2.1 in (
         found.0,
         level,
+        certificate,
         text,
-        found.2.1,
-        has_level certificate found.0 level found.2.1,
-        subst IsWritten (ap (λ x. text_of x) found.2.2) written,
+        found.2.3,
+        found.2.2,
+        has_level certificate found.0 level found.2.3,
+        subst IsWritten (ap (λ x. text_of x) found.2.4) written,
       )

@@ -161,11 +161,17 @@ module _ (texts_are_read : (bytes : List ℕ) (f : Function) → IsTextOf bytes 
       by_reply same (inr h) = judgement_status found r h.1 ∙ ap (λ (j : Result Level JudgeEnd). if is_ok j then 0 else 2) same
 
   pub judged :
-      (words : List (List ℕ)) (holds : List ℕ → Option (List ℕ)) (status : ℕ) (IsWritten : List ℕ → Type 0)
+      ((f : Function) (bytes : List ℕ) → (judgement : Result Level JudgeEnd) × IsJudgement f bytes judgement)
+      → (words : List (List ℕ)) (holds : List ℕ → Option (List ℕ)) (status : ℕ) (IsWritten : List ℕ → Type 0)
       → IsAnswered words holds status IsWritten → IsJudgedAs words holds status
-  judged words holds status IsWritten (r, reply, steady, is, written) name certificate_name bytes certificate f judgement named told certificate_told
-      small text within judged_so =
+  judged some_judgement words holds status IsWritten (r, reply, steady, is, written) name certificate_name bytes certificate f named told
+      certificate_told small text within =
       let gives = reply_to_asked words holds r (Check name certificate_name) named reply in
       let got : IsReplyToCertificate f (holds certificate_name) r =
       gets (holds name) bytes f told small (texts_are_read bytes f text) (λ g. IsReplyToCertificate g (holds certificate_name) r) r gives in
-      is ∙ file_judged f (holds certificate_name) certificate judgement r (is_valid_text bytes f text) certificate_told within judged_so got
+      let found = some_judgement f certificate in (
+        found.0,
+        found.1,
+        is
+            ∙ file_judged f (holds certificate_name) certificate found.0 r (is_valid_text bytes f text) certificate_told within found.1 got,
+      )

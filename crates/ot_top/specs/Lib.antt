@@ -3,5 +3,7 @@ pub mod Verdicts
 pub mod Sessions
 pub mod Drills
 pub mod Replies
+pub mod Given
 pub mod Shown
+pub mod Shows
 pub mod Steady

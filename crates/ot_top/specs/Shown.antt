@@ -1,5 +1,6 @@
--- What the statuses 0 and 1 show of a function whose file is told.
+-- What the statuses show of a function whose file is told.
 use Rattle.std.specs.Prelude.{◌≡◌, ◌⊎◌, ◌↔◌, ℕ, ◌≤◌, if◌then◌else◌, nat_lt, is_some, is_ok, List, [], ◌∷◌, length, Option, Some, None, Result}
+use Rattle.std.specs.Option.{ForSome}
 use Rattle.ot_model.specs.declared.cell.Cell.{Cell}
 use Rattle.ot_model.specs.declared.op.Op.{Op}
 use Rattle.fn_rules.specs.declared.function.Level.{Level}
@@ -39,16 +40,16 @@ abbrev pub HasLevel : Function → Level → Type 0
 HasLevel f Tp1 = HasTp1 f
 HasLevel f Tp2 = HasTp1 f × HasTp2 f × HasOneOutcome f
 
--- the words ask to judge a certificate; where both files are told, the first one is the text of a function
--- by the grammar, the second is a certificate of it at a level, the function has what the level says, and the
--- text of the level was written
+-- the words ask to judge a certificate; where the function's file is told, it is the text of a function by the grammar,
+-- there is a certificate of it at a level, which is the second file where that is told, the function has what the level
+-- says, and the text of the level was written
 abbrev pub IsShown : List (List ℕ) → (List ℕ → Option (List ℕ)) → (List ℕ → Type 0) → Type 0
 IsShown words holds IsWritten =
-    (name certificate_name bytes certificate : List ℕ)
-    → asked_by words ≡ Some (Check name certificate_name)
-    → holds name ≡ Some bytes → holds certificate_name ≡ Some certificate
-    → (f : Function) × (level : Level)
-    × IsTextOf bytes f × IsCertificate certificate f level × HasLevel f level × IsWritten (accepted_text level)
+    (name certificate_name bytes : List ℕ)
+    → asked_by words ≡ Some (Check name certificate_name) → holds name ≡ Some bytes
+    → (f : Function) × (level : Level) × (certificate : List ℕ)
+    × IsTextOf bytes f × IsCertificate certificate f level × ForSome (holds certificate_name) (λ told. certificate ≡ told)
+    × HasLevel f level × IsWritten (accepted_text level)
 
 -- `check` accepts: wherever a shelf tells these bytes of a function and of a certificate, every reply says the level
 abbrev pub IsAcceptedAt : List ℕ → List ℕ → Level → Type 0
@@ -82,15 +83,20 @@ AreBothWays f Tp2 d ops left right =
     (a b c : Op) × (ops ≡ a ∷ b ∷ c ∷ [])
     × (left ≡ operation_side (form_behind f a b c)) × (right ≡ operation_side (form_behind f b a c))
 
+-- what holds of a function that breaks a property: TP2 is looked at where TP1 holds
+abbrev pub HasBefore : Function → Level → Type 0
+HasBefore f Tp1 = Unit {0}
+HasBefore f Tp2 = HasTp1 f
+
 -- the words ask to prove a function; where its file is told, it is the text of a function by the grammar, and a
 -- counterexample was written: the function breaks the property there, which is asked at the level, by the cause that is
--- written, and the sides that are written are what the interpreter gives
+-- written, and the sides that are written are what the interpreter gives; where that property is TP2, the function has TP1
 abbrev pub IsBroken : List (List ℕ) → (List ℕ → Option (List ℕ)) → (List ℕ → Type 0) → Type 0
 IsBroken words holds IsWritten =
     (level : Level) (budget : ℕ) (name bytes : List ℕ)
     → asked_by words ≡ Some (Prove level budget name) → holds name ≡ Some bytes
     → (f : Function) × (counter : Counter)
-    × IsTextOf bytes f × IsAskedAt counter.level level
+    × IsTextOf bytes f × IsAskedAt counter.level level × HasBefore f counter.level
     × Breaks f counter.level counter.doc counter.ops × BreaksBy f counter.level counter.doc counter.ops counter.why
     × AreBothWays f counter.level counter.doc counter.ops counter.left counter.right × IsWritten (counter_text counter)
 
@@ -108,15 +114,15 @@ IsComplete words holds status =
     → length bytes ≤ limit_of files.Function → IsTextOf bytes f
     → AreAsked (plan_of f) (obligations_of f.head level) lists → status ≡ status_by budget lists
 
--- the words ask to judge a certificate; where both files are told and within their limits, the first one is the text of a
--- function by the grammar, and this is the judgement of the second: the status is that of the judgement
+-- the words ask to judge a certificate; where both files are told and within their limits, and the first one is the text of
+-- a function by the grammar, the second one has a judgement, whose status it is
 abbrev pub IsJudgedAs : List (List ℕ) → (List ℕ → Option (List ℕ)) → ℕ → Type 0
 IsJudgedAs words holds status =
-    (name certificate_name bytes certificate : List ℕ) (f : Function) (judgement : Result Level JudgeEnd)
+    (name certificate_name bytes certificate : List ℕ) (f : Function)
     → asked_by words ≡ Some (Check name certificate_name) → holds name ≡ Some bytes → holds certificate_name ≡ Some certificate
     → length bytes ≤ limit_of files.Function → IsTextOf bytes f
-    → length certificate ≤ limit_of files.Certificate → IsJudgement f certificate judgement
-    → status ≡ (if is_ok judgement then 0 else 2)
+    → length certificate ≤ limit_of files.Certificate
+    → (judgement : Result Level JudgeEnd) × IsJudgement f certificate judgement × (status ≡ (if is_ok judgement then 0 else 2))
 
 -- the name of the function's file, which every command but one has
 abbrev pub function_name : Asked → Option (List ℕ)

@@ -3,6 +3,7 @@ ghost use Rattle.std.specs.Prelude.{◌≡◌, map, Err, IfOk, IfSome, IsErrOf, 
 ghost use Rattle.ot_outside.specs.Faults.{Rose};
 ghost use Rattle.ot_outside.specs.Unchanged.{Unchanged};
 ghost use Rattle.ot_words.specs.Commands.{asked_of};
+ghost use Rattle.ot_top.specs.Given.{IsAnswerOfGiven, IsReplyOfGiven};
 ghost use Rattle.ot_top.specs.Replies.{AreOffered, IsReply, IsReplyTo};
 ghost use Rattle.ot_top.specs.Steady.{AreSteady, IsSteadyReply};
 ghost use Rattle.ot_words.specs.Words.{IsWithinBounds, asked_by};
@@ -27,6 +28,9 @@ fn reply_to<H: Shelf>(alloc: Global, shelf: &mut H, command: &Command<'_>) -> Re
     ensures replied { (r : Reply) → result ≡ Err (Stop.Replied r) → IsReplyTo (H.holds shelf.old) (asked_of command.now) r }
     ensures steady { IfOk result (λ reply. IsSteadyReply (H.holds shelf.old) (asked_of command.now) reply) }
     ensures steady_replied { (r : Reply) → result ≡ Err (Stop.Replied r) → IsSteadyReply (H.holds shelf.old) (asked_of command.now) r }
+    ensures given { IfOk result (IsReplyOfGiven (H.reads shelf.old) (H.reads shelf.new) (asked_of command.now)) }
+    ensures given_replied { (r : Reply) → result ≡ Err (Stop.Replied r)
+        → IsReplyOfGiven (H.reads shelf.old) (H.reads shelf.new) (asked_of command.now) r }
     ensures shelf { IsErrOf result Stop.Shelf → Rose (H.faults shelf.old) (H.faults shelf.new) }
     ensures unchanged { Unchanged H.holds H.offered H.faults shelf.old shelf.new }
 {
@@ -58,6 +62,9 @@ pub(crate) fn answer<H: Shelf>(
     ensures replied { (r : Reply) → result ≡ Err (Stop.Replied r) → IsReply (map string_bytes words.now) (H.holds shelf.old) r }
     ensures steady { IfOk result (λ reply. AreSteady (map string_bytes words.now) (H.holds shelf.old) reply) }
     ensures steady_replied { (r : Reply) → result ≡ Err (Stop.Replied r) → AreSteady (map string_bytes words.now) (H.holds shelf.old) r }
+    ensures given { IfOk result (IsAnswerOfGiven (map string_bytes words.now) (H.reads shelf.old) (H.reads shelf.new)) }
+    ensures given_replied { (r : Reply) → result ≡ Err (Stop.Replied r)
+        → IsAnswerOfGiven (map string_bytes words.now) (H.reads shelf.old) (H.reads shelf.new) r }
     ensures shelf { IsErrOf result Stop.Shelf → Rose (H.faults shelf.old) (H.faults shelf.new) }
     ensures unchanged { Unchanged H.holds H.offered H.faults shelf.old shelf.new }
 {

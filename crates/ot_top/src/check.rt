@@ -1,11 +1,13 @@
 //! `check FUNCTION CERTIFICATE`: whether the certificate is one of the function.
-ghost use Rattle.std.specs.Prelude.{◌≡◌, Err, IfOk, IsErrOf};
+ghost use Rattle.std.specs.Prelude.{◌≡◌, [], Some, Err, IfOk, IsErrOf};
 ghost use Rattle.fn_rules.specs.Rules.{function_of};
 ghost use Rattle.ot_judge.specs.declared.refusal.JudgeEnd.TheVariants as judge;
 ghost use Rattle.ot_outside.specs.Faults.{Rose};
-ghost use Rattle.ot_outside.specs.ShelfFeed.{file_left, held_by, room_of, shelf_of};
+ghost use Rattle.ot_outside.specs.Reads.{IsSameReading, after_reading};
+ghost use Rattle.ot_outside.specs.ShelfFeed.{IsAllOfReads, file_left, gave_by, held_by, room_of, shelf_of};
 ghost use Rattle.ot_outside.specs.Unchanged.{Unchanged};
 ghost use Rattle.ot_words.specs.Commands.{Check};
+ghost use Rattle.ot_top.specs.Given.{IsReplyOfGiven};
 ghost use Rattle.ot_top.specs.Judgements.{IsReplyToCertificate, Tells, is_truncated, rests_on_the_end};
 ghost use Rattle.ot_top.specs.Replies.{GoesOn, IsReplyTo};
 ghost use Rattle.ot_replies.specs.Limits.{limit_of};
@@ -52,19 +54,24 @@ fn told(judgement: Result<Level, JudgeEnd>) -> Result<Reply, Stop>
     }
 }
 
-// The reply to the bytes of a feed that gives as many as a certificate may have.
+// The reply to the bytes of a new feed that gives as many as a certificate may have.
 fn reply_to_feed<H: Shelf>(
     alloc: Global,
     rules: &Rules,
     feed: &mut ShelfFeed<'_, H>,
 ) -> Result<Reply, Stop>
-    requires { room_of feed.old ≡ limit_of files.Certificate }
+    requires limit { room_of feed.old ≡ limit_of files.Certificate }
+    requires begins { gave_by feed.old ≡ [] }
+    requires read { IsAllOfReads feed.old }
 
     ensures ok { IfOk result (λ reply. IsReplyToCertificate (function_of rules.now) (file_left feed.old) reply) }
     ensures replied { (r : Reply) → result ≡ Err (Stop.Replied r) → ⊥ }
     ensures shelf { IsErrOf result Stop.Shelf → Rose (H.faults (shelf_of feed.old)) (H.faults (shelf_of feed.new)) }
     ensures unchanged { Unchanged H.holds H.offered H.faults (shelf_of feed.old) (shelf_of feed.new) }
     ensures held { held_by feed.new ≡ held_by feed.old }
+    ensures given { IfOk result (λ reply.
+        IsReplyToCertificate (function_of rules.now) (Some (H.reads (shelf_of feed.new)).bytes) reply) }
+    ensures reading { IsSameReading (H.reads (shelf_of feed.old)) (H.reads (shelf_of feed.new)) }
 {
     let judgement = check_all(alloc, rules, feed);
     if rests_on_the_end(&judgement) && feed.too_long()? {
@@ -84,6 +91,9 @@ fn reply_to_certificate<H: Shelf>(
 
     ensures ok { IfOk result (λ reply. IsReplyToCertificate (function_of rules.now) (H.holds shelf.old name.now) reply) }
     ensures replied { (r : Reply) → result ≡ Err (Stop.Replied r) → ⊥ }
+    ensures given { IfOk result (λ reply.
+        IsReplyToCertificate (function_of rules.now) (Some (H.reads shelf.new).bytes) reply) }
+    ensures read { H.reads shelf.new ≡ after_reading name.now (H.reads shelf.new).bytes (H.reads shelf.old) }
     ensures shelf { IsErrOf result Stop.Shelf → Rose (H.faults shelf.old) (H.faults shelf.new) }
     ensures unchanged { Unchanged H.holds H.offered H.faults shelf.old shelf.new }
 {
@@ -105,6 +115,9 @@ pub(crate) fn check<H: Shelf>(
     ensures ok { IfOk result (λ reply. IsReplyTo (H.holds shelf.old) (Check function.now certificate.now) reply) }
     ensures replied { (r : Reply) → result ≡ Err (Stop.Replied r)
         → IsReplyTo (H.holds shelf.old) (Check function.now certificate.now) r }
+    ensures given { IfOk result (IsReplyOfGiven (H.reads shelf.old) (H.reads shelf.new) (Check function.now certificate.now)) }
+    ensures given_replied { (r : Reply) → result ≡ Err (Stop.Replied r)
+        → IsReplyOfGiven (H.reads shelf.old) (H.reads shelf.new) (Check function.now certificate.now) r }
     ensures shelf { IsErrOf result Stop.Shelf → Rose (H.faults shelf.old) (H.faults shelf.new) }
     ensures unchanged { Unchanged H.holds H.offered H.faults shelf.old shelf.new }
 {

@@ -8,6 +8,7 @@ ghost use Rattle.ot_outside.specs.Faults.{Rose};
 ghost use Rattle.ot_outside.specs.Unchanged.{Unchanged};
 ghost use Rattle.ot_words.specs.Commands.{Integrate};
 ghost use Rattle.ot_replies.specs.Limits.{limit_of};
+ghost use Rattle.ot_top.specs.Given.{IsReplyOfGiven};
 ghost use Rattle.ot_top.specs.Replies.{GoesOn, HaveOneEnd, IsReplyTo, IsReplyToCase, TellsOutcomes, outcomes_of};
 ghost use Rattle.ot_replies.specs.declared.reply.FileKind.TheVariants as files;
 
@@ -107,6 +108,9 @@ pub(crate) fn integrate<H: Shelf>(
     ensures ok { IfOk result (λ reply. IsReplyTo (H.holds shelf.old) (Integrate function.now case.now) reply) }
     ensures replied { (r : Reply) → result ≡ Err (Stop.Replied r)
         → IsReplyTo (H.holds shelf.old) (Integrate function.now case.now) r }
+    ensures given { IfOk result (IsReplyOfGiven (H.reads shelf.old) (H.reads shelf.new) (Integrate function.now case.now)) }
+    ensures given_replied { (r : Reply) → result ≡ Err (Stop.Replied r)
+        → IsReplyOfGiven (H.reads shelf.old) (H.reads shelf.new) (Integrate function.now case.now) r }
     ensures shelf { IsErrOf result Stop.Shelf → Rose (H.faults shelf.old) (H.faults shelf.new) }
     ensures unchanged { Unchanged H.holds H.offered H.faults shelf.old shelf.new }
 {

@@ -1,7 +1,8 @@
 //! Files as they are read, and what stops a command before its work is done.
-ghost use Rattle.std.specs.Prelude.{◌≡◌, Ok, Err, IfOk, IsErrOf};
+ghost use Rattle.std.specs.Prelude.{◌≡◌, Some, Ok, Err, IfOk, IsErrOf};
 ghost use Rattle.fn_rules.specs.Rules.{function_of};
 ghost use Rattle.ot_outside.specs.Faults.{Rose};
+ghost use Rattle.ot_outside.specs.Reads.{after_reading};
 ghost use Rattle.ot_outside.specs.Unchanged.{Unchanged};
 ghost use Rattle.ot_replies.specs.Limits.{limit_of, IsTooLong};
 ghost use Rattle.ot_top.specs.Replies.{Holds, IsFunctionRefusal, IsReadAs};
@@ -68,6 +69,12 @@ pub(crate) fn read_file<H: Shelf>(
 
     ensures ok { IfOk result (λ bytes. Holds kind bytes.items (H.holds shelf.old name.now)) }
     ensures replied { (r : Reply) → result ≡ Err (Stop.Replied r) → IsTooLong kind (H.holds shelf.old name.now) r }
+
+    // Of what the calls gave, whether or not the shelf tells what the name holds.
+    ensures read { H.reads shelf.new ≡ after_reading name.now (H.reads shelf.new).bytes (H.reads shelf.old) }
+    ensures given { IfOk result (λ bytes. Holds kind bytes.items (Some (H.reads shelf.new).bytes)) }
+    ensures given_replied { (r : Reply) → result ≡ Err (Stop.Replied r) → IsTooLong kind (Some (H.reads shelf.new).bytes) r }
+
     ensures shelf { IsErrOf result Stop.Shelf → Rose (H.faults shelf.old) (H.faults shelf.new) }
     ensures unchanged { Unchanged H.holds H.offered H.faults shelf.old shelf.new }
 {
@@ -90,6 +97,12 @@ pub(crate) fn load_function<H: Shelf>(
 
     ensures ok { IfOk result (λ rules. IsReadAs (Ok (function_of rules)) (H.holds shelf.old name.now)) }
     ensures replied { (r : Reply) → result ≡ Err (Stop.Replied r) → IsFunctionRefusal (H.holds shelf.old name.now) r }
+
+    // Of what the calls gave, whether or not the shelf tells what the name holds.
+    ensures read { H.reads shelf.new ≡ after_reading name.now (H.reads shelf.new).bytes (H.reads shelf.old) }
+    ensures given { IfOk result (λ rules. IsReadAs (Ok (function_of rules)) (Some (H.reads shelf.new).bytes)) }
+    ensures given_replied { (r : Reply) → result ≡ Err (Stop.Replied r) → IsFunctionRefusal (Some (H.reads shelf.new).bytes) r }
+
     ensures shelf { IsErrOf result Stop.Shelf → Rose (H.faults shelf.old) (H.faults shelf.new) }
     ensures unchanged { Unchanged H.holds H.offered H.faults shelf.old shelf.new }
 {

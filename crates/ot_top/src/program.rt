@@ -1,12 +1,14 @@
 //! The call that does all that the program does.
-ghost use Rattle.std.specs.Prelude.{◌≡◌, ◌≢◌, ◌≤◌, ◌⊎◌, map, IfSome, string_bytes};
+ghost use Rattle.std.specs.Prelude.{◌≡◌, ◌≢◌, ◌≤◌, ◌⊎◌, ℕ, List, Option, map, IfSome, string_bytes};
 ghost use Rattle.std.specs.Io.KnownBytes.{append_known};
 ghost use Rattle.ot_outside.specs.Faults.{Rose};
 ghost use Rattle.ot_outside.specs.Whole.{AppendsFront};
 ghost use Rattle.ot_outside.specs.Unchanged.{Unchanged};
+ghost use Rattle.ot_top.specs.Given.{IsAnswerOfGiven};
 ghost use Rattle.ot_top.specs.Replies.{AreOffered, IsReply};
-ghost use Rattle.ot_top.specs.Shown.{IsBroken, IsComplete, IsGoneThrough, IsJudgedAs, IsProved, IsShown, IsUnread};
-ghost use Rattle.ot_top.specs.Steady.{AreSteady, IsSteady};
+ghost use Rattle.ot_top.specs.Shown.{IsGoneThrough};
+ghost use Rattle.ot_top.specs.Shows.{AreKnown, Shows};
+ghost use Rattle.ot_top.specs.Steady.{AreSteady};
 ghost use Rattle.ot_replies.specs.Texts.{status_of, text_of};
 ghost use Rattle.ot_words.specs.Words.{asked_by};
 
@@ -14,7 +16,10 @@ use crate::answer::answer;
 use crate::load::Stop;
 use fn_text::{texts_of_functions_are_read, what_is_read_is_in_the_grammar};
 use ot_counter::failing_ends_have_counterexamples;
-use ot_judge::{bytes_have_one_judgement, certificates_show_the_properties};
+use ot_judge::{
+    all_bytes_have_a_judgement, bytes_have_one_judgement, certificates_show_the_properties,
+    failing_triples_show_tp1,
+};
 use ot_outside::{Shelf, Sink, write_all};
 use ot_prove::plans_have_one_question_list;
 use ot_questions::Why;
@@ -41,7 +46,8 @@ fn write_answer<H: Shelf, S: Sink>(
 
     ensures replied { result ≢ SHELF_FAULT → result ≢ SINK_FAULT → result ≢ NO_MEMORY →
         (reply : Reply) × IsReply (map string_bytes words.now) (H.holds shelf.old) reply
-        × AreSteady (map string_bytes words.now) (H.holds shelf.old) reply × (result ≡ status_of reply)
+        × AreSteady (map string_bytes words.now) (H.holds shelf.old) reply
+        × IsAnswerOfGiven (map string_bytes words.now) (H.reads shelf.old) (H.reads shelf.new) reply × (result ≡ status_of reply)
         × (S.written out.new ≡ append_known (S.written out.old) (text_of reply)) }
     ensures shelf_fault { result ≡ SHELF_FAULT → Rose (H.faults shelf.old) (H.faults shelf.new) × (S.written out.new ≡ S.written out.old) }
     ensures sink_fault { result ≡ SINK_FAULT →
@@ -77,35 +83,17 @@ fn write_answer<H: Shelf, S: Sink>(
 pub fn run<H: Shelf, S: Sink>(alloc: Global, words: &[String], shelf: &mut H, out: &mut S) -> u8
     requires { IfSome (asked_by (map string_bytes words.now)) (AreOffered (H.holds shelf.old) (H.offered shelf.old)) }
 
-    // Every other status is that of the reply, whose text was appended.
+    // Every other status is that of the reply, whose text was appended: the one that the files get where the shelf tells
+    // them, and whether or not it does, the one that those bytes get that its calls gave.
     ensures replied { result ≢ SHELF_FAULT → result ≢ SINK_FAULT → result ≢ NO_MEMORY →
-        (reply : Reply) × IsReply (map string_bytes words.now) (H.holds shelf.old) reply × (result ≡ status_of reply)
+        (reply : Reply) × IsReply (map string_bytes words.now) (H.holds shelf.old) reply
+        × IsAnswerOfGiven (map string_bytes words.now) (H.reads shelf.old) (H.reads shelf.new) reply × (result ≡ status_of reply)
         × (S.written out.new ≡ append_known (S.written out.old) (text_of reply)) }
 
-    // What is accepted has the properties of the level that is written, where the shelf tells both files.
-    ensures sound { result ≡ 0 → IsShown (map string_bytes words.now) (H.holds shelf.old)
-        (λ text. S.written out.new ≡ append_known (S.written out.old) text) }
-
-    // What is proved has a certificate, which is written and which `check` accepts; what is broken fails at the instance
-    // that is written.
-    ensures proved { result ≡ 0 → IsProved (map string_bytes words.now) (H.holds shelf.old)
-        (λ text. S.written out.new ≡ append_known (S.written out.old) text) }
-    ensures broken { result ≡ 1 → IsBroken (map string_bytes words.now) (H.holds shelf.old)
-        (λ text. S.written out.new ≡ append_known (S.written out.old) text) }
-
-    // Where the function's file is told, the status of `prove` is the one that the questions of the function give.
-    ensures complete { result ≢ SHELF_FAULT → result ≢ SINK_FAULT → result ≢ NO_MEMORY
-        → IsComplete (map string_bytes words.now) (H.holds shelf.old) result }
-
-    // Where both files are told, the status of `check` is that of the one judgement that the certificate has, and where the
-    // function's file is told, 3 comes exactly where it is the text of no function.
-    ensures judged { result ≢ SHELF_FAULT → result ≢ SINK_FAULT → result ≢ NO_MEMORY
-        → IsJudgedAs (map string_bytes words.now) (H.holds shelf.old) result }
-    ensures unread { result ≢ SHELF_FAULT → result ≢ SINK_FAULT → result ≢ NO_MEMORY
-        → IsUnread (map string_bytes words.now) (H.holds shelf.old) result }
-
-    // Where the function's file is told and the function makes sites agree, `replay` never finds them apart.
-    ensures steady { IsSteady (map string_bytes words.now) (H.holds shelf.old) result }
+    // What the status shows, whether the files are known as what the shelf tells or as what its calls gave.
+    ensures shows { (holds : List ℕ → Option (List ℕ))
+        → AreKnown (map string_bytes words.now) (H.holds shelf.old) (H.reads shelf.old) (H.reads shelf.new) holds
+        → Shows (map string_bytes words.now) holds (λ text. S.written out.new ≡ append_known (S.written out.old) text) result }
 
     // No event of a workload is refused, no site of it is stuck, and no two sites of it differ.
     ensures gone_through { result ≢ SHELF_FAULT → result ≢ SINK_FAULT → result ≢ NO_MEMORY
@@ -130,6 +118,8 @@ pub fn run<H: Shelf, S: Sink>(alloc: Global, words: &[String], shelf: &mut H, ou
 {
     certificates_show_the_properties();
     bytes_have_one_judgement();
+    all_bytes_have_a_judgement();
+    failing_triples_show_tp1();
     failing_ends_have_counterexamples();
     plans_have_one_question_list::<Why>();
     texts_of_functions_are_read();

@@ -10,6 +10,7 @@ ghost use Rattle.ot_outside.specs.Unchanged.{Unchanged};
 ghost use Rattle.ot_prove.specs.Outcomes.{AreAnswersTo, answered_by};
 ghost use Rattle.ot_questions.specs.Obligation.{plan_of};
 ghost use Rattle.ot_words.specs.Commands.{Prove};
+ghost use Rattle.ot_top.specs.Given.{IsReplyOfGiven};
 ghost use Rattle.ot_top.specs.Replies.{IsReplyTo};
 ghost use Rattle.ot_top.specs.Verdicts.{IsReplyToProof};
 
@@ -87,6 +88,9 @@ pub(crate) fn prove<H: Shelf>(
     ensures ok { IfOk result (λ reply. IsReplyTo (H.holds shelf.old) (Prove level budget function.now) reply) }
     ensures replied { (r : Reply) → result ≡ Err (Stop.Replied r)
         → IsReplyTo (H.holds shelf.old) (Prove level budget function.now) r }
+    ensures given { IfOk result (IsReplyOfGiven (H.reads shelf.old) (H.reads shelf.new) (Prove level budget function.now)) }
+    ensures given_replied { (r : Reply) → result ≡ Err (Stop.Replied r)
+        → IsReplyOfGiven (H.reads shelf.old) (H.reads shelf.new) (Prove level budget function.now) r }
     ensures shelf { IsErrOf result Stop.Shelf → Rose (H.faults shelf.old) (H.faults shelf.new) }
     ensures unchanged { Unchanged H.holds H.offered H.faults shelf.old shelf.new }
 {

@@ -11,6 +11,7 @@ ghost use Rattle.ot_outside.specs.Faults.{Rose};
 ghost use Rattle.ot_outside.specs.Unchanged.{Unchanged};
 ghost use Rattle.ot_session.specs.Views.{view_of, data_in};
 ghost use Rattle.ot_words.specs.Commands.{Replay};
+ghost use Rattle.ot_top.specs.Given.{IsReplyOfGiven};
 ghost use Rattle.ot_top.specs.Replies.{GoesOn, IsReplyTo};
 ghost use Rattle.ot_top.specs.Sessions.{Differ, IsDone, IsFirstOther, IsFirstPair, IsRefused, IsReplyToSession, IsReplyToScript};
 ghost use Rattle.ot_top.specs.Sessions.{Runs, TellsNotMade, TellsNotTaken, TellsSites, end_of};
@@ -262,6 +263,9 @@ pub(crate) fn replay<H: Shelf>(
         → IsReplyTo (H.holds shelf.old) (Replay function.now session.now) r }
     ensures steady { IfOk result (λ reply. IsSteadyReply (H.holds shelf.old) (Replay function.now session.now) reply) }
     ensures steady_replied { (r : Reply) → result ≡ Err (Stop.Replied r) → status_of r ≢ 1 }
+    ensures given { IfOk result (IsReplyOfGiven (H.reads shelf.old) (H.reads shelf.new) (Replay function.now session.now)) }
+    ensures given_replied { (r : Reply) → result ≡ Err (Stop.Replied r)
+        → IsReplyOfGiven (H.reads shelf.old) (H.reads shelf.new) (Replay function.now session.now) r }
     ensures shelf { IsErrOf result Stop.Shelf → Rose (H.faults shelf.old) (H.faults shelf.new) }
     ensures unchanged { Unchanged H.holds H.offered H.faults shelf.old shelf.new }
 {

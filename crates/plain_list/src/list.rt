@@ -142,6 +142,3 @@ impl<T: PartialEq> PartialEq for List<T> {
         self.vec.as_slice() == other.vec.as_slice()
     }
 }
-
-#[cfg(test)]
-mod tests;

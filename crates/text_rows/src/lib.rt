@@ -1,10 +1,12 @@
-//! Texts of functions, certificates, documents, cases and sessions, read and written: tests alone.
+//! Texts of functions, certificates, documents, cases, sessions and hubs, read and written: tests alone.
 #![tactic(auto)]
 
 #[cfg(test)]
 mod cases;
 #[cfg(test)]
 mod documents;
+#[cfg(test)]
+mod hubs;
 #[cfg(test)]
 mod printing;
 #[cfg(test)]

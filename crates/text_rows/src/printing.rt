@@ -2,7 +2,7 @@
 use fn_rules::{Atom, Block, Case, Cmp, Guard, Head, Res, Rules, Side, Sort, is_within_limits};
 use fn_text::{print, read, read_back};
 use ot_model::{Kind, Mode};
-use std::alloc::Global;
+use std::alloc::{AllocError, Global};
 use std::test::Fail;
 
 #[test]
@@ -55,8 +55,11 @@ const FRONT: &str = "otfn 1\ntext plain\nkinds ins\nblock ins ins\ncase ";
 
 const REST: &str = " : nop\nend\n";
 
-fn with_guard(alloc: Global, guard: &str) -> Result<String, Fail> {
-    Ok(format!(in alloc; "{FRONT}{guard}{REST}")?)
+fn with_guard(alloc: Global, guard: &str) -> Result<String, AllocError> {
+    let mut text = String::from_str(alloc, FRONT)?;
+    text.push_str(guard)?;
+    text.push_str(REST)?;
+    Ok(text)
 }
 
 #[test]

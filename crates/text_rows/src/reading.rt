@@ -1,7 +1,7 @@
 //! Texts that are read, and texts that are refused, each at the first token that cannot go on.
 
 use fn_text::{FaultKind, read};
-use std::alloc::Global;
+use std::alloc::{AllocError, Global};
 use std::process::Abort;
 use std::test::Fail;
 
@@ -271,103 +271,145 @@ fn characters_are_refused_where_a_kind_has_none(rt: HostRuntime) -> Result<(), F
     )
 }
 
-/// A text that is written so many times in a row, between two others.
+/// A front, a text behind it, and a part that is written so many times behind both.
 fn repeated(
     alloc: Global,
     front: &str,
+    begin: &str,
     part: &str,
     times: usize,
-    rest: &str,
-) -> Result<String, Fail> {
+) -> Result<String, AllocError> {
     let mut text = String::from_str(alloc, front)?;
+    text.push_str(begin)?;
     for _ in 0..times {
         text.push_str(part)?;
     }
-    text.push_str(rest)?;
     Ok(text)
 }
 
 #[test]
 fn no_more_than_32_parentheses_and_nots_are_around_a_token(rt: HostRuntime) -> Result<(), Fail> {
-    for (front, part, times, rest, want) in [
-        // `case ` has 5 bytes, so the first part begins at column 6.
-        (INS, "(", 33, "true", "5:38 nesting"),
-        (INS, "not ", 33, "true", "5:134 nesting"),
-        (INS, "not(", 17, "true", "5:70 nesting"),
-        (INS, "(", 32, "not", "5:38 nesting"),
-        (INS, "not ", 32, "p1 (", "5:137 nesting"),
-        (INS, "not ", 32, "p1 < not", "5:139 nesting"),
-        (INS, "not ", 32, "p1 < p2 + (", "5:144 nesting"),
-        (INS, "not ", 32, "p1 < p2 (", "5:142 expected"),
-        (INS, "not ", 32, "true (", "5:139 expected"),
-        (INS, "(", 32, "true (", "5:43 nesting"),
-        (INS, "(", 31, "true (", "5:42 expected"),
-        (INS, "not ", 32, "true", "5:138 expected"),
-        (INS, "not ", 32, "true and not", "5:146 expected"),
-        (INS, "(not ", 16, "true and not true", "5:103 expected"),
-        (INS, "(not ", 16, "true and not not true", "5:99 nesting"),
-        (UPD, "(", 33, "c1 = c2", "5:38 nesting"),
-        (UPD, "not ", 32, "c1 < (", "5:139 nesting"),
-        (UPD, "not ", 32, "c1 < c2 (", "5:142 expected"),
-    ] {
-        let text = repeated(rt.alloc(), "case ", part, times, rest)?;
-        let got = answer(rt.alloc(), front, text.as_str())?;
-        assert_eq!(rt; got.as_str(), want, "{times} {part} {rest}");
-    }
-    Ok(())
+    // `case ` has 5 bytes, so the first part begins at column 6.
+    let alloc = rt.alloc();
+    let text = repeated(alloc, INS, "case ", "(", 32)?;
+    judge(
+        &rt,
+        alloc,
+        &text,
+        "5:38 nesting~(true|5:38 nesting~not|5:43 nesting~true (",
+    )?;
+    let text = repeated(alloc, INS, "case ", "(", 31)?;
+    judge(&rt, alloc, &text, "5:42 expected~true (")?;
+    let text = repeated(alloc, INS, "case ", "not(", 16)?;
+    judge(&rt, alloc, &text, "5:70 nesting~not(true")?;
+    let text = repeated(alloc, INS, "case ", "not ", 32)?;
+    judge(
+        &rt,
+        alloc,
+        &text,
+        "\
+            5:134 nesting~not true|\
+            5:137 nesting~p1 (|\
+            5:139 nesting~p1 < not|\
+            5:144 nesting~p1 < p2 + (|\
+            5:142 expected~p1 < p2 (|\
+            5:139 expected~true (|\
+            5:138 expected~true|\
+            5:146 expected~true and not\
+        ",
+    )?;
+    let text = repeated(alloc, INS, "case ", "(not ", 16)?;
+    judge(
+        &rt,
+        alloc,
+        &text,
+        "5:103 expected~true and not true|5:99 nesting~true and not not true",
+    )?;
+    let text = repeated(alloc, UPD, "case ", "(", 32)?;
+    judge(&rt, alloc, &text, "5:38 nesting~(c1 = c2")?;
+    let text = repeated(alloc, UPD, "case ", "not ", 32)?;
+    judge(
+        &rt,
+        alloc,
+        &text,
+        "5:139 nesting~c1 < (|5:142 expected~c1 < c2 (",
+    )
 }
 
 #[test]
 fn no_more_than_16_atoms_are_in_a_case(rt: HostRuntime) -> Result<(), Fail> {
-    for (front, part, times, rest, want) in [
-        (INS, "true and ", 16, "true : nop", "5:150 atoms"),
-        (INS, "true or ", 16, "p1 < p2 : nop", "5:134 atoms"),
-        (INS, "s1 = s2 or ", 16, "c1 = c2 : nop", "5:182 atoms"),
-        (DEL, "true and ", 16, "s2 < s1 : nop", "5:150 atoms"),
-        (DEL, "true and ", 16, "c1 < c2 : nop", "5:150 sort"),
-        (INS, "true and ", 16, "not (true)", "5:155 atoms"),
-        (INS, "true and ", 16, "nop", "5:150 expected"),
-        (INS, "true and ", 15, "true : nop\nend\n", "read"),
-        (UPD, "true and ", 16, "c1 = c2 : nop", "5:150 atoms"),
-        (DEL_UPD, "true and ", 16, "c1 = c2 : nop", "5:150 sort"),
-    ] {
-        let text = repeated(rt.alloc(), "case ", part, times, rest)?;
-        let got = answer(rt.alloc(), front, text.as_str())?;
-        assert_eq!(rt; got.as_str(), want, "{times} {part} {rest}");
-    }
-    Ok(())
+    let alloc = rt.alloc();
+    let text = repeated(alloc, INS, "case ", "true and ", 16)?;
+    judge(
+        &rt,
+        alloc,
+        &text,
+        "5:150 atoms~true : nop|5:155 atoms~not (true)|5:150 expected~nop",
+    )?;
+    let text = repeated(alloc, INS, "case ", "true or ", 16)?;
+    judge(&rt, alloc, &text, "5:134 atoms~p1 < p2 : nop")?;
+    let text = repeated(alloc, INS, "case ", "s1 = s2 or ", 16)?;
+    judge(&rt, alloc, &text, "5:182 atoms~c1 = c2 : nop")?;
+    let text = repeated(alloc, INS, "case ", "true and ", 15)?;
+    judge(&rt, alloc, &text, "read~true : nop\nend\n")?;
+    let text = repeated(alloc, DEL, "case ", "true and ", 16)?;
+    judge(
+        &rt,
+        alloc,
+        &text,
+        "5:150 atoms~s2 < s1 : nop|5:150 sort~c1 < c2 : nop",
+    )?;
+    let text = repeated(alloc, UPD, "case ", "true and ", 16)?;
+    judge(&rt, alloc, &text, "5:150 atoms~c1 = c2 : nop")?;
+    let text = repeated(alloc, DEL_UPD, "case ", "true and ", 16)?;
+    judge(&rt, alloc, &text, "5:150 sort~c1 = c2 : nop")
 }
 
 #[test]
 fn no_more_than_64_cases_are_in_a_block(rt: HostRuntime) -> Result<(), Fail> {
-    for (front, part, times, rest, want) in [
-        (INS, "case true : nop\n", 64, "end\n", "read"),
-        (INS, "case true : nop\n", 65, "end\n", "69:1 cases"),
-        (INS, "case true : nop\n", 64, "  case\n", "69:3 cases"),
-        (
-            INS,
-            "\tcase true : nop # again\n\n",
-            65,
-            "end\n",
-            "133:2 cases",
-        ),
-        (
-            INS,
-            "case true : ins p1 - 1\r\n",
-            64,
-            "case $\n",
-            "69:1 cases",
-        ),
-        (INS, "case true : nop\n", 64, "block ins ins", "69:1 double"),
-        (UPD, "case true : nop\n", 64, "end\n", "read"),
-        (UPD, "case true : nop\n", 64, "case\n", "69:1 cases"),
-        (UPD, "case true : nop\n", 64, "block upd upd", "69:1 double"),
-    ] {
-        let text = repeated(rt.alloc(), "", part, times, rest)?;
-        let got = answer(rt.alloc(), front, text.as_str())?;
-        assert_eq!(rt; got.as_str(), want, "{times} {part} {rest}");
-    }
-    Ok(())
+    let alloc = rt.alloc();
+    let text = repeated(alloc, INS, "", "case true : nop\n", 64)?;
+    judge(
+        &rt,
+        alloc,
+        &text,
+        "\
+            read~end\n|\
+            69:1 cases~case true : nop\nend\n|\
+            69:3 cases~  case\n|\
+            69:1 double~block ins ins\
+        ",
+    )?;
+    let text = repeated(alloc, INS, "", "\tcase true : nop # again\n\n", 64)?;
+    judge(
+        &rt,
+        alloc,
+        &text,
+        "133:2 cases~\tcase true : nop # again\n\nend\n",
+    )?;
+    let text = repeated(alloc, INS, "", "case true : ins p1 - 1\r\n", 64)?;
+    judge(&rt, alloc, &text, "69:1 cases~case $\n")?;
+    let text = repeated(alloc, UPD, "", "case true : nop\n", 64)?;
+    judge(
+        &rt,
+        alloc,
+        &text,
+        "read~end\n|69:1 cases~case\n|69:1 double~block upd upd",
+    )
+}
+
+#[test]
+fn a_wrong_word_comes_before_a_repeated_block(rt: HostRuntime) -> Result<(), Fail> {
+    judge(
+        &rt,
+        rt.alloc(),
+        "otfn 1\ntext plain\nkinds ins\nblock ins ins\n",
+        "\
+            5:13 word~case true : zap\nblock ins ins\nend\n|\
+            5:10 expected~case true\nblock ins ins\nend\n|\
+            6:1 double~case true : nop\nblock ins ins\nend zap\n\
+        ",
+    )
 }
 
 #[test]
@@ -446,7 +488,7 @@ fn blocks_of_all_kinds_are_refused_at_their_first_wrong_token(rt: HostRuntime) -
 
 #[test]
 fn the_ninth_block_of_all_kinds_is_missing(rt: HostRuntime) -> Result<(), Fail> {
-    let front = repeated(rt.alloc(), ALL, EIGHT, 1, "")?;
+    let front = repeated(rt.alloc(), ALL, EIGHT, "", 0)?;
     judge(
         &rt,
         rt.alloc(),

@@ -1,6 +1,6 @@
-//! Faults of the outside, and files at their limits.
-use crate::samples::{INS_OT, MARKS_CERT, MARKS_OT, SITES_OT, TTF_OT};
-use crate::setting::{Files, expect, expect_faults, shelf_of, shelf_with, status_of};
+//! Faults of the outside.
+use crate::samples::{MARKS_CERT, MARKS_OT, SITES_OT, TTF_OT};
+use crate::setting::{Files, expect_faults, shelf_of, status_of};
 use ot_outside::MemSink;
 use std::alloc::Global;
 use std::process::Abort;
@@ -91,44 +91,13 @@ fn a_reply_is_written_in_any_pieces(rt: HostRuntime) -> Result<(), Fail> {
     Ok(())
 }
 
-// Fails the test unless the command over a file of so many of these bytes has the status and the text.
-fn expect_long(
-    rt: &impl Abort,
-    alloc: Global,
-    line: &str,
-    long: Vec<u8>,
-    status: u8,
-    text: &str,
-) -> Result<(), Fail> {
-    let mut shelf = shelf_with(alloc, INS_OT, long)?;
-    expect(rt, alloc, &mut shelf, line, status, text)
-}
-
-const FUNCTION: &str = "check other other";
-
-const CERTIFICATE: &str = "check function other";
-
-const CASE: &str = "integrate function other";
-
 #[test]
-fn files_have_limits(rt: HostRuntime) -> Result<(), Fail> {
+fn a_fault_leaves_nothing_or_a_front_of_a_certificate(rt: HostRuntime) -> Result<(), Fail> {
     let alloc = rt.alloc();
-    for (line, byte, size, status, text) in [
-        (
-            FUNCTION,
-            b'#',
-            1_048_576,
-            3,
-            "function 1:1048577 expected\n",
-        ),
-        (FUNCTION, b'#', 1_048_577, 9, "limit function\n"),
-        // A wrong token is refused before the size of the file.
-        (CERTIFICATE, b'o', 83_886_081, 2, "certificate 0 token\n"),
-        (CASE, b' ', 16_777_216, 4, "case json\n"),
-        (CASE, b' ', 16_777_217, 9, "limit file\n"),
-    ] {
-        let long = vec![in alloc; byte; size]?;
-        expect_long(&rt, alloc, line, long, status, text)?;
-    }
-    Ok(())
+    let mut shelf = shelf_of(alloc, FILES, &[])?;
+    let mut sink = MemSink::new(alloc, 65_536, 65_536, Vec::new(alloc))?;
+    let line = "prove --tp1 marks.ot";
+    assert_eq!(rt; status_of(alloc, line, &mut shelf, &mut sink)?, 0);
+    // The calls of the shelf: open, read, read at the end.
+    expect_faults(&rt, alloc, FILES, line, 3, (0, sink.written()))
 }

@@ -4,25 +4,11 @@
 #![tactic(auto)]
 
 #[cfg(test)]
-mod causes;
-#[cfg(test)]
-mod drills;
-#[cfg(test)]
 mod faults;
-#[cfg(test)]
-mod maker;
-#[cfg(test)]
-mod marks;
-#[cfg(test)]
-mod orders;
 #[cfg(test)]
 mod questions;
 #[cfg(test)]
-mod rows;
-#[cfg(test)]
 mod samples;
-#[cfg(test)]
-mod sessions;
 #[cfg(test)]
 mod setting;
 #[cfg(test)]
@@ -30,4 +16,4 @@ mod sides;
 #[cfg(test)]
 mod terms;
 #[cfg(test)]
-mod verdicts;
+mod words;

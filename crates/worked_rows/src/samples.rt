@@ -12,10 +12,6 @@ pub const FAR_OT: &str =
 pub const SITES_OT: &str =
     "otfn 1\ntext plain\nkinds ins del\nassume sites differ\nblock ins ins\ncase p1 < p2 : ins p1\ncase p1 = p2 and s1 < s2 : ins p1\ncase true : ins p1 + 1\nblock ins del\ncase p1 <= p2 : ins p1\ncase true : ins p1 - 1\nblock del ins\ncase p1 < p2 : del p1\ncase true : del p1 + 1\nblock del del\ncase p1 < p2 : del p1\ncase p2 < p1 : del p1 - 1\ncase true : nop\nend\n";
 
-/// `SITES_OT` without what it assumes of sites.
-pub const UNTIED_OT: &str =
-    "otfn 1\ntext plain\nkinds ins del\nblock ins ins\ncase p1 < p2 : ins p1\ncase p1 = p2 and s1 < s2 : ins p1\ncase true : ins p1 + 1\nblock ins del\ncase p1 <= p2 : ins p1\ncase true : ins p1 - 1\nblock del ins\ncase p1 < p2 : del p1\ncase true : del p1 + 1\nblock del del\ncase p1 < p2 : del p1\ncase p2 < p1 : del p1 - 1\ncase true : nop\nend\n";
-
 /// `SITES_OT` with an insertion that a deletion at its position moves, though nothing before it was taken out.
 pub const OFFBY_OT: &str =
     "otfn 1\ntext plain\nkinds ins del\nassume sites differ\nblock ins ins\ncase p1 < p2 : ins p1\ncase p1 = p2 and s1 < s2 : ins p1\ncase true : ins p1 + 1\nblock ins del\ncase p1 < p2 : ins p1\ncase true : ins p1 - 1\nblock del ins\ncase p1 < p2 : del p1\ncase true : del p1 + 1\nblock del del\ncase p1 < p2 : del p1\ncase p2 < p1 : del p1 - 1\ncase true : nop\nend\n";
@@ -30,9 +26,6 @@ pub const TTF_OT: &str =
 
 /// Deletions that leave tombstones and stay where they are.
 pub const MARKS_OT: &str = "otfn 1\ntext tomb\nkinds del\nblock del del\ncase true : del p1\nend\n";
-
-/// `MARKS_OT` without its case: what it does is undefined.
-pub const NONE_OT: &str = "otfn 1\ntext tomb\nkinds del\nblock del del\nend\n";
 
 /// Insertions with no case for equal positions.
 pub const TIES_OT: &str =
@@ -53,14 +46,6 @@ pub const LAST_OT: &str = "otfn 2\ntext plain\nkinds upd\nblock upd upd\ncase tr
 pub const CHARS_OT: &str =
     "otfn 2\ntext tomb\nkinds ins upd\nassume chars differ\nblock ins ins\ncase p1 < p2 : ins p1\ncase p1 = p2 and c1 < c2 : ins p1\ncase true : ins p1 + 1\nblock ins upd\ncase c1 < c2 or p1 <= p2 : ins p1\nblock upd ins\ncase p1 < p2 : upd p1\ncase p1 = p2 and c1 < c2 : upd p1\ncase true : upd p1 + 1\nblock upd upd\ncase not p1 = p2 or c2 < c1 : upd p1\ncase true : nop\nend\n";
 
-/// Insertions whose ties are broken by characters, with no case for one character at one position.
-pub const CHARACTERS_OT: &str =
-    "otfn 1\ntext plain\nkinds ins\nassume chars differ\nblock ins ins\ncase p1 < p2 : ins p1\ncase p2 < p1 : ins p1 + 1\ncase c1 < c2 : ins p1\ncase c2 < c1 : ins p1 + 1\nend\n";
-
-/// Insertions where of two at one position only that of the lower site has a result.
-pub const LOWER_OT: &str =
-    "otfn 1\ntext plain\nkinds ins\nassume sites differ\nblock ins ins\ncase p1 < p2 : ins p1\ncase p2 < p1 : ins p1 + 1\ncase s1 < s2 : ins p1\nend\n";
-
 /// A certificate of `INS_OT` at level tp1.
 pub const INS_CERT: &str =
     "otcert 1 tp1\nob ins ins\n???????.??x7,8;?x7,9;??????????.x16,19;x18,16,7;x17,16,7;???x16,19;?.x17,20;x18,17,7;???x17,20;?x17,21;.x18,19;??x18,20;?.x19,21;?x19,20;?x19,21;?x22,7,19;?x19,23,7;...x2,13;x12,10,7;x11,7,2;x3,10;???x6,10;?x8,11;?????????????.x24,22,7;x22,23;??x22,24;?.x25,21,8;x23,21,8;??x23,7,21;?x21,24,7;?x21,25;?.x22,26;?x22,23,7;?x22,24,7;?x24,25;?x24,26;?x22,27;?x22,28;...x2,18;x1,17;x4,16;x3,15;x6,14;x8,13;x7,12;x7,9;???????????.x19,17,8;x17,18;??x17,19;?.x18,20;?x18,19;?x18,20;?.x16,21;??x18,8,16;?x19,8,16;?x16,20;?.x17,21;?x18,8,17;?x17,19,8;?x19,20;?x19,21;?x17,22;?x17,23;...x13,8,4;x1,12;x4,11;x3,10;x8,9;??x6,7;?x6,8;??????????.x15,18;x17,15,6;x16,15,6;???x15,18;?.x16,19;x17,16,6;???x16,19;?x16,20;.x17,18;??x17,19;?.x18,20;?x18,19;?x18,20;?x21,6,18;?x18,22,6;...x2,12;x11,9,6;x10,6,2;x3,9;????x7,10;???x5,13;??????????.x20,23;x22,20,7;x21,20,7;???x20,23;?.x21,24;x22,21,7;?x21,22,6;??x22,24;?.x23,25;?x23,24;?x23,25;?x26,7,23;?x23,27,7;...x2,17;x1,16;x4,15;x3,14;x7,12;x6,11;x5,9;x6,8;???????????.x18,16,7;x16,17;??x16,18;?.x17,19;?x17,18;?x17,19;?.x15,20;??x17,7,15;?x18,7,15;?x15,19;?.x16,20;?x17,7,16;?x16,18,7;?x18,19;?x18,20;?x16,21;?x16,22;...x12,7,4;x1,11;x4,10;x3,9;x7,8;.....\nend\n";
@@ -68,6 +53,3 @@ pub const INS_CERT: &str =
 /// A certificate of `MARKS_OT` at level tp1.
 pub const MARKS_CERT: &str =
     "otcert 1 tp1\nob del del\n???????????????.x11,14;x12,13;??x12,14;??.x11,16;x13,15;?x13,14;?x13,15;?.x11,16;????x11,15;?.x12,16;x13,14;??x13,15;??x11,17;?.x12,18;x14,16;?x14,15;?x14,16;?x11,17;?.x12,18;???x12,15;?x12,16;.x13,14;??x13,15;??x12,17;?x12,18;.x14,16;?x14,15;?x14,16;?x12,17;?x12,18;...x2,8;x1,7;x4,6;x3,5;.....\nend\n";
-
-/// The shortest text of a certificate: an end where something is asked.
-pub const FAR_CERT: &str = "otcert 1 tp1\nob ins ins\n.\nend\n";

@@ -8,9 +8,6 @@ use std::test::Fail;
 /// The files of a shelf: names and contents.
 pub type Files<'a> = &'a [(&'a str, &'a str)];
 
-/// Rows: the words of a command, with a space between two, its status and its text.
-pub type Rows<'a> = &'a [(&'a str, u8, &'a str)];
-
 // The words of a line.
 fn words_of(alloc: Global, line: &str) -> Result<Vec<String>, AllocError> {
     let mut words = Vec::new(alloc);
@@ -29,15 +26,6 @@ pub fn shelf_of(alloc: Global, files: Files<'_>, failing: &[u32]) -> Result<MemS
         held.push((name, bytes))?;
     }
     Ok(MemShelf::new(held, Vec::from_slice(alloc, failing)?))
-}
-
-/// A shelf with the file `function` and the file `other`.
-pub fn shelf_with(alloc: Global, function: &str, other: Vec<u8>) -> Result<MemShelf, AllocError> {
-    let mut held = Vec::new(alloc);
-    let bytes = Vec::from_slice(alloc, function.as_bytes())?;
-    held.push((String::from_str(alloc, "function")?, bytes))?;
-    held.push((String::from_str(alloc, "other")?, other))?;
-    Ok(MemShelf::new(held, Vec::new(alloc)))
 }
 
 /// The status of a command over a shelf, which writes to the sink.
@@ -64,20 +52,6 @@ pub fn expect(
     let found = status_of(alloc, line, shelf, &mut sink)?;
     assert_eq!(rt; found, status, "the status of {line}");
     assert_eq!(rt; sink.written(), text.as_bytes(), "the text of {line}");
-    Ok(())
-}
-
-/// Fails the test unless each command over these files has its status and its text.
-pub fn expect_rows(
-    rt: &impl Abort,
-    alloc: Global,
-    files: Files<'_>,
-    rows: Rows<'_>,
-) -> Result<(), Fail> {
-    for (line, status, text) in rows {
-        let mut shelf = shelf_of(alloc, files, &[])?;
-        expect(rt, alloc, &mut shelf, line, *status, text)?;
-    }
     Ok(())
 }
 

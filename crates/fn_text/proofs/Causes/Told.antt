@@ -115,7 +115,7 @@ module _ {V : Tightness → Type 0} (c : Control) (outer : List (Level V)) (want
       ∙ ap (λ x. not (wants_behind_result want) && not (transforms x k)) (h.block begun))
 
   -- the `(` and `not` around the next token are as many as the reader counts
-  depth_by : (whole : Bool) → is_behind_operand before ≡ whole → nesting_before before ≡ cond whole c.outside (depth_of c)
+  pub depth_by : (whole : Bool) → is_behind_operand before ≡ whole → nesting_before before ≡ cond whole c.outside (depth_of c)
   depth_by true e =
       ap (λ x. length (cond x (without_nots (opened_before before)) (opened_before before))) e
       ∙ (ap (λ x. length (without_nots x)) h.opened

@@ -1,13 +1,11 @@
 -- Behind the first wrong token no file of the grammar goes on.
-use Rattle.std.proofs.Common.{◌≡◌, true, List, [], ◌∷◌, ◌++◌, map, Option, Some, None, Result, Ok, Err, refl, sym, ap, ◌∙◌}
+use Rattle.std.proofs.Common.{◌≡◌, List, [], ◌∷◌, ◌++◌, map, Option, Some, None, Result, Ok, Err, refl, sym, ap, ◌∙◌}
 use Rattle.fn_rules.specs.declared.guard.Tightness.{Tightness}
 use Rattle.fn_rules.specs.declared.function.Head.{Head}
-use Rattle.fn_rules.specs.Functions.{GuardedCase}
 use Rattle.fn_rules.specs.Building.{PairCases}
 use Rattle.fn_tokens.specs.declared.token.Token.{Token}
 use Rattle.fn_tokens.specs.declared.token.Token.TheVariants.{FileEnd}
 use Rattle.fn_tokens.specs.declared.token.Placed.{Placed}
-use Rattle.fn_text.specs.declared.language.Language.{Language}
 use Rattle.fn_text.specs.declared.control.Want.{Want}
 use Rattle.fn_text.specs.declared.control.Want.TheVariants as wants
 use Rattle.fn_text.specs.declared.control.Control.{Control}
@@ -16,14 +14,12 @@ use Rattle.fn_text.specs.declared.control.Move.TheVariants as moves
 use Rattle.fn_text.specs.declared.fault.TextFault.{TextFault}
 use Rattle.fn_text.specs.Moves.{move_for}
 use Rattle.fn_text.specs.Faults.{fault_of}
-use Rattle.fn_text.specs.Meaning.{Formulas, Maker, to_formulas}
-use Rattle.fn_text.specs.Reader.{State, moved, after_move, turn, read_from, first_state}
+use Rattle.fn_text.specs.Meaning.{Maker}
+use Rattle.fn_text.specs.Reader.{State, moved, after_move, turn, read_from}
 use Rattle.fn_text.specs.Reading.{built_from}
-use Rattle.fn_text.specs.Grammar.{WrittenBlock, file_written_as, is_allowed_file}
 use Rattle.fn_text.specs.Theorems.{state_behind}
 use Rattle.fn_tokens.specs.Tokens.{bare}
 use Rattle.fn_text.proofs.WrittenIsRead.Guards.{going}
-use Rattle.fn_text.proofs.WrittenIsRead.Files.{file_is_read}
 
 -- the end of the file goes on in one way
 file_end_goes : (c : Control) (at : Placed) (want : Want) (move : Move) → move_for c at want FileEnd ≡ Some move →
@@ -171,22 +167,6 @@ bare-placed (t ∷ tokens) = ap (λ x. t ∷ x) (bare-placed tokens)
 pub bare-append : (ps qs : List Placed) → bare (ps ++ qs) ≡ bare ps ++ bare qs
 bare-append [] qs = refl
 bare-append (p ∷ ps) qs = ap (λ x. p.token ∷ x) (bare-append ps qs)
-
--- no file of the grammar begins with tokens that are refused
-pub none_begins : (before : List Placed) (wrong : Placed) (state : State Formulas GuardedCase PairCases) →
-    state_behind to_formulas (first_state to_formulas) before ≡ Ok state →
-    move_for state.control wrong state.control.want wrong.token ≡ None →
-    (language : Language) (head : Head) (blocks : List WrittenBlock) (more : List Token) →
-    is_allowed_file language head blocks ≡ true → ¬ (file_written_as language head blocks ≡ bare before ++ wrong.token ∷ more)
-none_begins before wrong state reads refused language head blocks more ok e =
-    let rest = wrong ∷ placed more in
-    let told : bare (before ++ rest) ≡ file_written_as language head blocks =
-    bare-append before rest ∙ (ap (λ x. bare before ++ wrong.token ∷ x) (bare-placed more) ∙ sym e) in
-    let refuses : read_from to_formulas state rest ≡ Err (fault_of state.control wrong) =
-    ap (λ x. going to_formulas (placed more) (after_move to_formulas state wrong x)) refused in
-    not_both (read_from to_formulas (first_state to_formulas) (before ++ rest)) _ _
-    (file_is_read to_formulas language head blocks (before ++ rest) ok told)
-    (reads_behind to_formulas (first_state to_formulas) before rest state reads ∙ refuses)
 
 pub only_by_reading : {read : Result (Head × List PairCases) TextFault} (fault : TextFault) → built_from read ≡ Err fault → read ≡ Err fault
 only_by_reading {read = Ok parts} fault e = absurd (cc)

@@ -1,5 +1,5 @@
 use Rattle.std.proofs.Common.{arith}
-use Rattle.ot_counter.specs.Sides.{farthest}
+use Rattle.ot_values.specs.Values.{farthest}
 use Rattle.ot_counter.proofs.Near.{IsWithin-more}
 use Rattle.ot_counter.proofs.sides.document_way.Goals as goal
 

@@ -1,6 +1,6 @@
 use Rattle.std.proofs.Common.{◌+◌, arith, sym}
 use Rattle.fn_rules.specs.Rules.{function_of}
-use Rattle.ot_counter.specs.Sides.{farthest}
+use Rattle.ot_values.specs.Values.{farthest}
 use Rattle.ot_counter.proofs.Near.{IsWithin-more, IsForKind-form}
 use Rattle.ot_counter.proofs.sides.form_behind.Goals as goal
 

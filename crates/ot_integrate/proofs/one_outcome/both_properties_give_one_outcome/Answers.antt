@@ -2,16 +2,4 @@ use Rattle.ot_integrate.proofs.OneOutcome.{HasOneOutcome-from_both}
 use Rattle.ot_integrate.proofs.one_outcome.both_properties_give_one_outcome.Goals as goal
 
 pub returns : goal.returns
-returns c =
-    λ f tp1 tp2.
-    HasOneOutcome-from_both f
-    (record {
-      tp1 = tp1;
-      tp2 = tp2;
-      integrable_is_tested = c.tests_decide_their_facts.ensures.integrable f;
-      nop_alone_has_no_kind = λ o. (c.operations_have_the_parts_of_their_kind.ensures.nop o).0;
-      nop_changes_nothing = c.nop_changes_nothing.ensures f;
-      keeps_all_but_the_position = c.transform_keeps_all_but_the_position.ensures f;
-      keeps_allowed = c.transform_keeps_allowed.ensures f;
-      allowed_is_symmetric = c.allowed_is_symmetric.ensures f;
-    })
+returns c = λ f tp1 tp2. HasOneOutcome-from_both f (c.both_properties_hold_of_forms.ensures f tp1 tp2)

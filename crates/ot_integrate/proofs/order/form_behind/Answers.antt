@@ -7,7 +7,7 @@ use Rattle.fn_rules.specs.Functions.{Function}
 use Rattle.fn_rules.specs.Conditions.{IsWithin}
 use Rattle.fn_rules.specs.Rules.{function_of}
 use Rattle.ot_integrate.specs.Conditions.{most_cells, IsExecuted}
-use Rattle.ot_integrate.proofs.Forms.{through-next, IsWithin-more, IsForKind-form}
+use Rattle.ot_integrate.proofs.Forms.{through-next}
 use Rattle.ot_integrate.proofs.order.form_behind.Goals as goal
 
 -- what the loop's item is where there is none
@@ -26,8 +26,8 @@ transform-requires c =
     record {
       a_declared = c.loop-other.invariant.declared;
       b_declared = other.declared;
-      a_in_range = IsWithin-more (most_cells + 99 * i) 1099511627776 c.loop-other.form (omega arith) c.loop-other.invariant.near;
-      b_in_range = IsWithin-more most_cells 1099511627776 e (omega arith) other.near;
+      a_in_range = c.enabled_operations_are_near.ensures.wider (most_cells + 99 * i) 1099511627776 c.loop-other.form (omega arith) c.loop-other.invariant.near;
+      b_in_range = c.enabled_operations_are_near.ensures.wider most_cells 1099511627776 e (omega arith) other.near;
     }
 
 pub loop-other-preserved : goal.loop-other-preserved
@@ -40,10 +40,9 @@ loop-other-preserved c =
     let other : IsExecuted f e = All-get_or (IsExecuted f) c.args.executed.now i no_op c.loop-other-test.true c.requires.executed in
     let near : IsWithin (most_cells + 99 * i + 99) p =
     c.transform_stays_near.ensures f o e p (most_cells + 99 * i) c.head-head.ensures.valid
-    c.loop-other.invariant.near (IsWithin-more most_cells (most_cells + 99 * i) e (omega arith) other.near) (sym c.in_ok-form.ensures) in
+    c.loop-other.invariant.near (c.enabled_operations_are_near.ensures.wider most_cells (most_cells + 99 * i) e (omega arith) other.near) (sym c.in_ok-form.ensures) in
     record {
       form = c.loop-other.invariant.form ∙ through-next f o p c.args.executed.now i no_op c.loop-other-test.true (sym c.in_ok-form.ensures);
-      declared = IsForKind-form f.head o p
-          (c.transform_keeps_all_but_the_position.ensures f o e p (sym c.in_ok-form.ensures)) c.loop-other.invariant.declared;
-      near = IsWithin-more (most_cells + 99 * i + 99) (most_cells + 99 * (i + 1)) p (omega arith) near;
+      declared = (c.functions_keep_forms.ensures f).declared o e p (sym c.in_ok-form.ensures) c.loop-other.invariant.declared;
+      near = c.enabled_operations_are_near.ensures.wider (most_cells + 99 * i + 99) (most_cells + 99 * (i + 1)) p (omega arith) near;
     }

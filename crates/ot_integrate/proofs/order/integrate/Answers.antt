@@ -1,15 +1,16 @@
-use Rattle.std.proofs.Common.{◌≡◌, ◌++◌, ◌∷◌, [], ℕ, List, length, get_or, Some, None, Err, arith, refl, sym, ap, ◌∙◌, length-append}
+use Rattle.std.proofs.Common.{◌≡◌, ◌++◌, ◌∷◌, [], ℕ, true, List, length, get_or, Some, None, Err, arith, refl, sym, ap, ◌∙◌, length-append}
+use Rattle.std.proofs.lemmas.Bool.{false_from_ne_true}
 use Rattle.std.proofs.lemmas.List.Elements.{All-nil, All-push}
 use Rattle.ot_model.specs.declared.op.Op.{Op}
+use Rattle.ot_model.specs.Effect.{is_enabled}
 use Rattle.fn_rules.specs.declared.function.Head.{Head}
 use Rattle.fn_rules.specs.Functions.{Function}
 use Rattle.fn_rules.specs.Rules.{function_of}
 use Rattle.fn_rules.specs.Conditions.{IsIntegrable}
 use Rattle.fn_rules.specs.Orders.{Document, StuckAt, through, operation_at, integrated}
 use Rattle.ot_integrate.specs.Conditions.{most_cells, IsExecuted}
-use Rattle.ot_integrate.proofs.Forms.{IsWithin-more, IsWithin-enabled}
 use Rattle.ot_integrate.proofs.OneOutcome.{EndsAsListed-from_law}
-use Rattle.ot_integrate.proofs.Outcomes.{is_enabled-true, is_enabled-false, operation_at-fact, length-document_after}
+use Rattle.ot_integrate.proofs.Outcomes.{operation_at-fact}
 use Rattle.ot_integrate.proofs.Outcomes.{outcome-without_form, outcome-refused, outcome-executed, outcome-end}
 use Rattle.ot_integrate.proofs.order.integrate.Goals as goal
 
@@ -32,7 +33,7 @@ form_behind-requires c =
     (record { declared = refl; enabled = tt }) in
     record {
       declared = rw c.named.ensures integrable.declared;
-      near = rw c.named.ensures (IsWithin-more n most_cells o (omega arith) (IsWithin-enabled n o integrable.enabled));
+      near = rw c.named.ensures (c.enabled_operations_are_near.ensures.wider n most_cells o (omega arith) (c.enabled_operations_are_near.ensures.enabled n o integrable.enabled));
       executed = rw c.deref.ensures.value c.loop-place.invariant.executed;
       few = rw c.deref.ensures.value (omega arith);
     }
@@ -64,8 +65,9 @@ returns-in-Err-NotEnabled c =
     let p : Op = c.in-Some.form in
     let form : through f (operation_at ops (get_or order place 0)) executed ≡ Some p =
     rw (← c.named.ensures, ← c.deref.ensures.value) (sym c.in-Some.ensures.form) in
-    let refused = is_enabled-false f (c.tests_decide_their_facts.ensures.integrable f) (length c.loop-place.current) p
-    c.in-Some.ensures.declared (c.in-Err-NotEnabled.ensures.not_enabled.0 (ap Err c.in-Err-NotEnabled.field-0-is)) in
+    let n : ℕ = length c.loop-place.current in
+    let refused = false_from_ne_true (is_enabled p n)
+    (λ is. c.in-Err-NotEnabled.ensures.not_enabled.0 (ap Err c.in-Err-NotEnabled.field-0-is) ((c.tests_decide_their_facts.ensures.enabled n p).0 is)) in
     let is : StuckAt place ≡ integrated f c.args.doc.now ops order =
     sym (c.loop-place.invariant.outcome
     ∙ outcome-refused f c.loop-place.current executed ops order place c.loop-place-test.true p form refused) in
@@ -85,12 +87,11 @@ loop-place-preserved c =
     let p : Op = c.in-Some.form in
     let form : through f (operation_at ops (get_or order place 0)) executed ≡ Some p =
     rw (← c.named.ensures, ← c.deref.ensures.value) (sym c.in-Some.ensures.form) in
-    let enabled = is_enabled-true f (c.tests_decide_their_facts.ensures.integrable f) n p
-    (record { declared = c.in-Some.ensures.declared; enabled = c.in-Ok.ensures.was_enabled }) in
+    let enabled : is_enabled p n ≡ true = (c.tests_decide_their_facts.ensures.enabled n p).1 c.in-Ok.ensures.was_enabled in
     let pushed : c.push.new.self.items ≡ executed ++ p ∷ [] = c.in_ok-push-in-Ok.ensures.items in
     let one_more : IsExecuted f p = record {
       declared = c.in-Some.ensures.declared;
-      near = IsWithin-more n most_cells p (omega arith) (IsWithin-enabled n p c.in-Ok.ensures.was_enabled);
+      near = c.enabled_operations_are_near.ensures.wider n most_cells p (omega arith) (c.enabled_operations_are_near.ensures.enabled n p c.in-Ok.ensures.was_enabled);
     } in
     record {
       outcome = c.loop-place.invariant.outcome
@@ -99,7 +100,7 @@ loop-place-preserved c =
       executed = rw pushed (All-push (IsExecuted f) executed p c.loop-place.invariant.executed one_more);
       mode = c.loop-place.invariant.mode;
       count = rw (pushed, length-append) (omega arith);
-      cells = rw c.in-Ok.ensures.ok (omega (arith, length-document_after c.head-mode.result.mode p c.loop-place.current));
+      cells = rw c.in-Ok.ensures.ok (omega (arith, c.documents_grow_by_one_cell_at_most.ensures c.head-mode.result.mode p c.loop-place.current));
     }
 
 pub returns : goal.returns

@@ -1,16 +1,20 @@
 -- The asker's own plan is that of the obligation.
-use Rattle.std.proofs.Common.{[], ap, subst, ◌∙◌, OnOk}
-use Rattle.fn_rules.specs.Rules.{function_of}
+use Rattle.std.proofs.Common.{[], subst, OnOk}
+use Rattle.std.specs.Prelude.{IfErr}
 use Rattle.ot_questions.specs.declared.why.Why.{Why}
-use Rattle.ot_questions.specs.Obligation.{plan_of}
-use Rattle.ot_judge.specs.Feeding.{LeadsAnyway, MayGive, opened, point_of}
+use Rattle.ot_judge.specs.Feeding.{IsRefusedAnyway, LeadsAnyway, MayGiveOf, MayHave, opened, point_of, Whole}
 use Rattle.ot_judge.proofs.judge.judge_in.Goals as goal
 
 pub returns-clause-leads : goal.returns-clause-leads
 returns-clause-leads g c =
-    let same = ap (λ r. plan_of (function_of r) c.new.result.ob) c.new.ensures.rules
-    ∙ ap (plan_of (function_of c.args.rules.now)) c.new.ensures.obligation in
     subst
-    (λ p. OnOk c.judge_tree.result (LeadsAnyway (point_of c.args.reader.now (opened p)) (MayGive g.F.Feed.left g.F.Feed.bound c.args.feed.now)
-    (point_of {W = Why} c.judge_tree.new.reader []) (MayGive g.F.Feed.left g.F.Feed.bound c.judge_tree.new.feed)))
-    same c.judge_tree.ensures.leads
+    (λ p. OnOk c.judge_tree.result ((all : Whole) → LeadsAnyway (point_of c.args.reader.now (opened p)) (MayGiveOf g.F.Feed.left g.F.Feed.bound g.F.Feed.gave c.args.feed.now all)
+    (point_of {W = Why} c.judge_tree.new.reader []) (MayGiveOf g.F.Feed.left g.F.Feed.bound g.F.Feed.gave c.judge_tree.new.feed all)))
+    c.new.ensures.root c.judge_tree.ensures.leads
+
+pub returns-clause-refused : goal.returns-clause-refused
+returns-clause-refused g c =
+    subst
+    (λ p. IfErr c.judge_tree.result (λ e. (all : Whole) → MayHave g.F.Feed.left g.F.Feed.bound g.F.Feed.gave g.F.Feed.hand c.judge_tree.new.feed all
+    → IsRefusedAnyway {W = Why} (point_of c.args.reader.now (opened p)) (MayGiveOf g.F.Feed.left g.F.Feed.bound g.F.Feed.gave c.args.feed.now all) e))
+    c.new.ensures.root c.judge_tree.ensures.refused

@@ -21,8 +21,8 @@ loop-literal-preserved g c =
     let begins = rw c.in-Ask.is at c.in_ok-lit.ensures.begins in
     let none : Lit = record { x = 0; y = 0; k = pos 0 } in
     let said = nat_eq (get_or w at none).x c.in-Ask.lit.x in
-    let kept : A.plan now n ≡ A.plan before n = c.turn.ensures.plan_kept n known.own in
-    let fine = g.met.A.Asker.fine now n ((c.turn.ensures.own_kept n).0 known.own) in
+    let kept : A.plan now n ≡ A.plan before n = c.turn.ensures.same.plans n known.own in
+    let fine = g.met.A.Asker.fine now n ((c.turn.ensures.same.own n).0 known.own) in
     let leads =
     λ (end : Plan g.row.A-Why.Denot) (way : LeadsTo (A.root c.args.asker.now) w end).
     subst (λ (p : Plan g.row.A-Why.Denot). LeadsTo p (drop at w) end) (sym kept) (known.left end way) in
@@ -47,7 +47,7 @@ loop-literal-preserved g c =
           c.loop-literal-test.true fine refl end (leads end way));
       same =
           SamePlans-trans (A.is_own c.args.asker.now) (A.is_own before) (A.is_own now) (A.plan c.args.asker.now) (A.plan before)
-          (A.plan now) known.same (record { own = c.turn.ensures.own_kept; plans = c.turn.ensures.plan_kept });
+          (A.plan now) known.same c.turn.ensures.same;
       root = c.turn.ensures.root_kept ∙ known.root;
       count = c.turn.ensures.count_kept ∙ known.count;
     }
@@ -65,11 +65,11 @@ all_walked g c =
       | then-loop-literal-test+in_ok-lit+in-Holds w ↦
           (let begins = rw w.in-Holds.is at w.in_ok-lit.ensures.begins in
           ended_way (A.plan was c.loop-literal.node) c.args.literals.now c.loop-literal.literal-index end left
-          (inl (sym (w.turn.ensures.plan_kept c.loop-literal.node known.own) ∙ begins)))
+          (inl (sym (w.turn.ensures.same.plans c.loop-literal.node known.own) ∙ begins)))
       | then-loop-literal-test+in_ok-lit+in-Fails w ↦
           (let begins = rw w.in-Fails.is at w.in_ok-lit.ensures.begins in
           ended_way (A.plan was c.loop-literal.node) c.args.literals.now c.loop-literal.literal-index end left
-          (inr (w.in-Fails.field-0, sym (w.turn.ensures.plan_kept c.loop-literal.node known.own) ∙ begins)))
+          (inr (w.in-Fails.field-0, sym (w.turn.ensures.same.plans c.loop-literal.node known.own) ∙ begins)))
     ]
 
 pub returns-clause-literals : goal.returns-clause-literals

@@ -1,7 +1,8 @@
 use Rattle.std.proofs.Common.{◌≡◌, take, drop}
 use Rattle.ask_core.specs.Plans.{Plan}
+use Rattle.ask_core.specs.Askers.{SamePlans}
 use Rattle.ot_prove.specs.Outcomes.{answered_by, AreAnswersTo}
-use Rattle.ot_prove.specs.Searching.{LeadsTo, SamePlans}
+use Rattle.ot_prove.specs.Searching.{LeadsTo}
 use Rattle.ot_prove.proofs.answers.answers_along.Given as goal
 
 abbrev pub invariant-loop-literal : goal.invariant-loop-literal

@@ -1,45 +1,39 @@
 use Rattle.std.proofs.Common.{◌≡◌, List, [], Some, reverse, sym, ◌∙◌, ap, subst, arith}
 use Rattle.diff_graph.specs.declared.lit.Lit.{Lit}
 use Rattle.ask_core.specs.Plans.{Plan, Fails}
+use Rattle.ask_core.specs.Paths.{first_answers, first_plan}
 use Rattle.ask_core.specs.Questions.{QuestionList}
-use Rattle.ot_prove.specs.Searching.{LeadsTo, first_answers}
+use Rattle.ot_prove.specs.Searching.{LeadsTo}
 use Rattle.ot_prove.specs.Outcomes.{AreAnswersTo}
-use Rattle.ot_prove.proofs.Steps.{IsSearching-same, weight_of-same, IsSearching-question, IsSearching-holds, IsDecided-spent_at, failing_at_first, first_is_own, first_is_reached, first_has_table, first_answers-get, asked_literal, weight_of-question, weight_of-close, without_last}
+use Rattle.ot_prove.proofs.Steps.{IsSearching-same, IsSearching-question, IsSearching-holds, spent_at_first, failing_at_first, first_is_reached, first_has_table, asked_literal, weight_of-question, weight_of-close, without_last}
 use Rattle.ot_prove.proofs.search.take_turn.Goals as goal
 
 pub returns-then-search-budget-clause-step : goal.returns-then-search-budget-clause-step
 returns-then-search-budget-clause-step g c =
     let A = g.A.Asker in
-    let was = c.args.asker.now in
-    let now = c.turn.new.self in
+    let now = c.turn_at.new.asker in
+    let kept = c.turn_at.ensures in
     let s = c.args.search.now in
     let begins = rw c.in-Ask.is at c.in_ok-lit.ensures.begins in
-    IsDecided-spent_at (A.is_own now) (A.plan now) (A.root now) c.args.budget c.node.result s.path (reverse s.cycles.items)
-    s.tables.items s.tree s.asked c.in-Ask.lit (A.plan now c.in-Ask.yes) (A.plan now c.in-Ask.no) c.node.ensures
-    (IsSearching-same (A.is_own was) (A.is_own now) (A.plan was) (A.plan now) (A.root was) (A.root now) c.args.budget s.path _
-    _ s.tree s.asked (record { own = c.turn.ensures.own_kept; plans = c.turn.ensures.plan_kept }) c.requires.searching
-    c.turn.ensures.root_kept)
-    begins.2 c.if-search-budget.true
+    spent_at_first (A.is_own now) (A.plan now) (A.root now) c.args.budget s.path (reverse s.cycles.items) s.tables.items s.tree
+    s.asked c.in-Ask.lit (A.plan now c.in-Ask.yes) (A.plan now c.in-Ask.no)
+    (IsSearching-same c.requires.searching kept.own kept.branches kept.root_kept) begins.2 c.if-search-budget.true
 
 pub ask-requires-clause-named : goal.ask-requires-clause-named
 ask-requires-clause-named g c =
     let A = g.A.Asker in
-    let now = c.turn.new.self in
+    let now = c.turn_at.new.asker in
     let begins = rw c.in-Ask.is at c.in_ok-lit.ensures.begins in
-    let own = first_is_own (A.is_own c.args.asker.now) c.args.search.now.path c.node.result c.node.ensures c.requires.searching.own in
-    (asked_literal (A.name_count now) (A.plan now c.node.result) c.in-Ask.lit (A.plan now c.in-Ask.yes) (A.plan now c.in-Ask.no)
-    (g.met.A.Asker.fine now c.node.result ((c.turn.ensures.own_kept c.node.result).0 own)) begins.2
-    (omega (arith, c.turn.ensures.count_kept, c.requires.names))).0
+    (asked_literal (A.name_count now) (first_plan (A.plan now) c.args.search.now.path) c.in-Ask.lit (A.plan now c.in-Ask.yes)
+    (A.plan now c.in-Ask.no) c.turn_at.ensures.fine begins.2 (omega (arith, c.turn_at.ensures.count_kept, c.requires.names))).0
 
 pub ask-requires-clause-asked : goal.ask-requires-clause-asked
 ask-requires-clause-asked g c =
     let A = g.A.Asker in
-    let now = c.turn.new.self in
+    let now = c.turn_at.new.asker in
     let begins = rw c.in-Ask.is at c.in_ok-lit.ensures.begins in
-    let own = first_is_own (A.is_own c.args.asker.now) c.args.search.now.path c.node.result c.node.ensures c.requires.searching.own in
-    (asked_literal (A.name_count now) (A.plan now c.node.result) c.in-Ask.lit (A.plan now c.in-Ask.yes) (A.plan now c.in-Ask.no)
-    (g.met.A.Asker.fine now c.node.result ((c.turn.ensures.own_kept c.node.result).0 own)) begins.2
-    (omega (arith, c.turn.ensures.count_kept, c.requires.names))).1
+    (asked_literal (A.name_count now) (first_plan (A.plan now) c.args.search.now.path) c.in-Ask.lit (A.plan now c.in-Ask.yes)
+    (A.plan now c.in-Ask.no) c.turn_at.ensures.fine begins.2 (omega (arith, c.turn_at.ensures.count_kept, c.requires.names))).1
 
 pub ask-requires-clause-some : goal.ask-requires-clause-some
 ask-requires-clause-some g c =
@@ -60,102 +54,79 @@ ask-requires-clause-stands g c =
 pub returns-in_ok-ask-in-Ask-clause-step : goal.returns-in_ok-ask-in-Ask-clause-step
 returns-in_ok-ask-in-Ask-clause-step g c =
     let A = g.A.Asker in
-    let was = c.args.asker.now in
-    let now = c.turn.new.self in
+    let now = c.turn_at.new.asker in
+    let kept = c.turn_at.ensures in
     let s = c.args.search.now in
     let begins = rw c.in-Ask.is at c.in_ok-lit.ensures.begins in
     let after = c.in_ok-ask-in-Ask.ensures in
     rw (after.path, after.tree, after.asked)
-    (IsSearching-question (A.is_own now) (A.plan now) (A.root now) c.args.budget c.node.result s.path (reverse s.cycles.items)
-    s.tables.items s.tree s.asked c.in-Ask.lit c.in-Ask.yes c.in-Ask.no (reverse c.ask.new.self.cycles.items)
-    (reverse c.ask.new.self.tables.items) c.node.ensures
-    (IsSearching-same (A.is_own was) (A.is_own now) (A.plan was) (A.plan now) (A.root was) (A.root now) c.args.budget s.path _
-    _ s.tree s.asked (record { own = c.turn.ensures.own_kept; plans = c.turn.ensures.plan_kept }) c.requires.searching
-    c.turn.ensures.root_kept)
+    (IsSearching-question (A.is_own now) (A.plan now) (A.root now) c.args.budget s.path (reverse s.cycles.items) s.tables.items
+    s.tree s.asked c.in-Ask.lit c.in-Ask.yes c.in-Ask.no (reverse c.ask.new.self.cycles.items)
+    (reverse c.ask.new.self.tables.items) (IsSearching-same c.requires.searching kept.own kept.branches kept.root_kept)
     begins c.if-search-budget.false after.judged)
 
 pub returns-in_ok-ask-in-Ask-clause-falls : goal.returns-in_ok-ask-in-Ask-clause-falls
 returns-in_ok-ask-in-Ask-clause-falls g c =
     let A = g.A.Asker in
-    let was = c.args.asker.now in
-    let now = c.turn.new.self in
+    let now = c.turn_at.new.asker in
     let s = c.args.search.now in
     let begins = rw c.in-Ask.is at c.in_ok-lit.ensures.begins in
-    let same = weight_of-same (A.is_own was) (A.is_own now) (A.plan was) (A.plan now) (A.root was) (A.root now) c.args.budget s.path _
-    _ s.tree s.asked (record { own = c.turn.ensures.own_kept; plans = c.turn.ensures.plan_kept }) c.requires.searching in
-    let falls = weight_of-question (A.plan now) c.node.result s.path c.in-Ask.lit c.in-Ask.yes c.in-Ask.no c.node.ensures begins.2 in
-    rw c.in_ok-ask-in-Ask.ensures.path (omega (arith, same, falls))
+    let falls = weight_of-question (A.plan now) s.path c.in-Ask.lit c.in-Ask.yes c.in-Ask.no begins.2 in
+    rw (c.in_ok-ask-in-Ask.ensures.path, ← c.turn_at.ensures.branches) falls
 
 pub returns-in_ok-close-in-Holds-clause-step : goal.returns-in_ok-close-in-Holds-clause-step
 returns-in_ok-close-in-Holds-clause-step g c =
     let A = g.A.Asker in
-    let was = c.args.asker.now in
-    let now = c.turn.new.self in
+    let now = c.turn_at.new.asker in
+    let kept = c.turn_at.ensures in
     let s = c.args.search.now in
     let begins = rw c.in-Holds.is at c.in_ok-lit.ensures.begins in
     let less = without_last s.tables.items c.pop.new.self.items s.tables.len s.tables.ok.0 c.pop.ensures.rest in
     rw c.in_ok-close-in-Holds.ensures
-    (IsSearching-holds (A.is_own now) (A.plan now) (A.root now) c.args.budget c.node.result s.path (reverse s.cycles.items)
-    s.tables.items c.pop.new.self.items s.tree s.asked c.node.ensures
-    (IsSearching-same (A.is_own was) (A.is_own now) (A.plan was) (A.plan now) (A.root was) (A.root now) c.args.budget s.path _
-    _ s.tree s.asked (record { own = c.turn.ensures.own_kept; plans = c.turn.ensures.plan_kept }) c.requires.searching
-    c.turn.ensures.root_kept)
-    begins less)
+    (IsSearching-holds (A.is_own now) (A.plan now) (A.root now) c.args.budget s.path (reverse s.cycles.items) s.tables.items
+    c.pop.new.self.items s.tree s.asked c.requires.opened
+    (IsSearching-same c.requires.searching kept.own kept.branches kept.root_kept) begins less)
 
 pub returns-in_ok-close-in-Holds-clause-falls : goal.returns-in_ok-close-in-Holds-clause-falls
 returns-in_ok-close-in-Holds-clause-falls g c =
-    let A = g.A.Asker in
-    let was = c.args.asker.now in
-    let now = c.turn.new.self in
-    let s = c.args.search.now in
-    let same = weight_of-same (A.is_own was) (A.is_own now) (A.plan was) (A.plan now) (A.root was) (A.root now) c.args.budget s.path _
-    _ s.tree s.asked (record { own = c.turn.ensures.own_kept; plans = c.turn.ensures.plan_kept }) c.requires.searching in
-    let falls = weight_of-close (A.plan now) s.path c.requires.opened in
-    rw c.in_ok-close-in-Holds.ensures (omega (arith, same, falls))
+    let falls = weight_of-close (g.A.Asker.plan c.turn_at.new.asker) c.args.search.now.path c.requires.opened in
+    rw (c.in_ok-close-in-Holds.ensures, ← c.turn_at.ensures.branches) falls
 
 pub answers_along-requires : goal.answers_along-requires
 answers_along-requires g c =
     let A = g.A.Asker in
-    let was = c.args.asker.now in
-    let now = c.turn.new.self in
-    let s = c.args.search.now in
-    let reached =
-    first_is_reached (A.is_own now) (A.plan now) (A.root now) c.args.budget c.node.result s.path _ _ s.tree s.asked c.node.ensures
-    (IsSearching-same (A.is_own was) (A.is_own now) (A.plan was) (A.plan now) (A.root was) (A.root now) c.args.budget s.path _
-    _ s.tree s.asked (record { own = c.turn.ensures.own_kept; plans = c.turn.ensures.plan_kept }) c.requires.searching
-    c.turn.ensures.root_kept) in (
-      A.plan now c.node.result,
-      subst (λ (w : List Lit). LeadsTo (A.root now) w (A.plan now c.node.result))
-          (first_answers-get s.path c.answers.result.now c.answers.ensures) reached,
+    let now = c.turn_at.new.asker in
+    let kept = c.turn_at.ensures in
+    let s = c.args.search.now in (
+      first_plan (A.plan now) s.path,
+      rw c.answers.ensures
+          (first_is_reached (A.is_own now) (A.plan now) (A.root now) c.args.budget s.path _ _ s.tree s.asked c.requires.opened
+          (IsSearching-same c.requires.searching kept.own kept.branches kept.root_kept)),
     )
 
 pub returns-in_ok-answers-in-Fails-clause-step : goal.returns-in_ok-answers-in-Fails-clause-step
 returns-in_ok-answers-in-Fails-clause-step g c q list =
     let A = g.A.Asker in
-    let was = c.args.asker.now in
-    let now = c.turn.new.self in
+    let now = c.turn_at.new.asker in
+    let kept = c.turn_at.ensures in
     let last = c.answers_along.new.asker in
     let s = c.args.search.now in
     let begins = rw c.in-Fails.is at c.in_ok-lit.ensures.begins in
     let same_root : A.root last ≡ A.root now = c.answers_along.ensures.root in
-    let searching =
-    IsSearching-same (A.is_own was) (A.is_own now) (A.plan was) (A.plan now) (A.root was) (A.root now) c.args.budget s.path _
-    _ s.tree s.asked (record { own = c.turn.ensures.own_kept; plans = c.turn.ensures.plan_kept }) c.requires.searching
-    c.turn.ensures.root_kept in
+    let searching = IsSearching-same c.requires.searching kept.own kept.branches kept.root_kept in
     let found =
-    failing_at_first (A.is_own now) (A.plan now) (A.root now) c.args.budget c.node.result s.path (reverse s.cycles.items)
-    s.tables.items s.tree s.asked c.in-Fails.why q c.node.ensures searching begins
+    failing_at_first (A.is_own now) (A.plan now) (A.root now) c.args.budget s.path (reverse s.cycles.items) s.tables.items s.tree
+    s.asked c.in-Fails.why q searching begins
     (subst (λ (p : Plan g.row.A-Why.Denot). QuestionList p [] q) same_root list) in
     let reached =
-    first_is_reached (A.is_own now) (A.plan now) (A.root now) c.args.budget c.node.result s.path _ _ s.tree s.asked c.node.ensures
-    searching in
-    let first = first_answers-get s.path c.answers.result.now c.answers.ensures in
+    first_is_reached (A.is_own now) (A.plan now) (A.root now) c.args.budget s.path _ _ s.tree s.asked c.requires.opened searching in
+    let first = c.answers.ensures in
     let there : LeadsTo (A.root now) c.answers.result.now (Fails c.in-Fails.why) =
-    subst (λ (w : List Lit). LeadsTo (A.root now) w (Fails c.in-Fails.why)) first
+    subst (λ (w : List Lit). LeadsTo (A.root now) w (Fails c.in-Fails.why)) (sym first)
     (subst (λ (p : Plan g.row.A-Why.Denot). LeadsTo (A.root now) (first_answers s.path) p) begins reached) in
     let answers = c.in_ok-answers-in-Fails.ensures in (
       found.0,
-      found.1 ∙ ap (λ (w : List Lit). Some (record { answers = w; why = c.in-Fails.why })) (first ∙ sym answers.literals),
+      found.1 ∙ ap (λ (w : List Lit). Some (record { answers = w; why = c.in-Fails.why })) (sym first ∙ sym answers.literals),
       subst (λ (p : Plan g.row.A-Why.Denot). AreAnswersTo p c.in_ok-answers-in-Fails.answers.items (Fails c.in-Fails.why))
           (sym same_root) (answers.way (Fails c.in-Fails.why) there),
     )

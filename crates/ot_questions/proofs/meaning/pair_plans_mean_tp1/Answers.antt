@@ -1,14 +1,17 @@
-use Rattle.ot_questions.proofs.PairMeaning.{pair_holds_means, pair_meaning_holds, all_pairs_mean, tp1_holds_all_pairs}
+use Rattle.fn_rules.specs.Functions.{Function}
+use Rattle.ot_questions.proofs.PairMeaning.{ArePairsEnough, pair_holds_means, pair_meaning_holds, pairs_mean_at, all_pairs_mean, tp1_holds_pairs_at, tp1_holds_all_pairs}
 use Rattle.ot_questions.proofs.meaning.pair_plans_mean_tp1.Goals as goal
 
-pub returns-clause-pair_shown : goal.returns-clause-pair_shown
-returns-clause-pair_shown c = pair_holds_means
-
-pub returns-clause-whole_shown : goal.returns-clause-whole_shown
-returns-clause-whole_shown c = all_pairs_mean
-
-pub returns-clause-pair : goal.returns-clause-pair
-returns-clause-pair c = λ f k l n valid. (pair_holds_means f k l n, pair_meaning_holds f k l n valid)
-
-pub returns-clause-whole : goal.returns-clause-whole
-returns-clause-whole c = λ f valid. (all_pairs_mean f, tp1_holds_all_pairs f valid)
+pub returns : goal.returns
+returns c =
+    let enough : (f : Function) → ArePairsEnough f = λ f. record {
+      allowed = c.allowed_is_symmetric.ensures f;
+      listed = c.obligations_are_those_of_the_kinds.ensures.pairs f.head;
+    } in record {
+      pair_shown = pair_holds_means;
+      whole_shown_at = λ f. pairs_mean_at f (enough f);
+      whole_shown = λ f. all_pairs_mean f (enough f);
+      pair = λ f k l n valid. (pair_holds_means f k l n, pair_meaning_holds f k l n valid);
+      whole_at = λ f n valid. (pairs_mean_at f (enough f) n, tp1_holds_pairs_at f n valid);
+      whole = λ f valid. (all_pairs_mean f (enough f), tp1_holds_all_pairs f valid);
+    }

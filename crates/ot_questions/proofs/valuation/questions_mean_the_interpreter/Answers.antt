@@ -1,8 +1,15 @@
-use Rattle.ot_questions.proofs.QuestionValuations.{guard_ends, transform_comes_to, enabled_ends, allowed_ends, one_form_found}
+use Rattle.ot_questions.proofs.QuestionValuations.{guard_ends, result_goes_on, transform_comes_to, enabled_ends, allowed_ends, one_form_found}
+use Rattle.ot_questions.proofs.Values.{end-le}
 use Rattle.ot_questions.proofs.valuation.questions_mean_the_interpreter.Goals as goal
+
+pub returns-clause-at_most : goal.returns-clause-at_most
+returns-clause-at_most c = λ v x y p q. end-le x y p q v
 
 pub returns-clause-guard : goal.returns-clause-guard
 returns-clause-guard c = guard_ends
+
+pub returns-clause-result : goal.returns-clause-result
+returns-clause-result c = result_goes_on
 
 pub returns-clause-transform : goal.returns-clause-transform
 returns-clause-transform c = transform_comes_to

@@ -1,5 +1,5 @@
-use Rattle.std.proofs.Common.{rules, ◌≡◌, ◌≢◌, ◌<◌, ◌≤◌, ◌+◌, ◌-◌, ◌++◌, ◌∷◌, [], ℕ, false, List, length, Some, None, Err, Result, refl, sym, ap, ◌∙◌, subst, get_or, arith}
-use Rattle.std.specs.Coded.{Coded-set, coded_list, coded_ℕ, coded_bool, le_prop}
+use Rattle.std.proofs.Common.{rules, ◌≡◌, ◌<◌, ◌≤◌, ◌+◌, ◌-◌, ◌++◌, ◌∷◌, [], ℕ, List, length, Some, Err, Result, refl, sym, ap, ◌∙◌, subst, get_or, arith}
+use Rattle.std.specs.Coded.{Coded-set, coded_list, coded_ℕ, le_prop}
 use Rattle.std.proofs.Math.Logic.{∥∥₁_elim, ∥∥₁_map, ∥∥₁_map₂, ∥∥₁_prop}
 use Rattle.std.proofs.Props.{props}
 use Rattle.ot_model.specs.declared.op.Op.{Op}
@@ -8,18 +8,17 @@ use Rattle.fn_rules.specs.Functions.{Function}
 use Rattle.ot_causal.specs.Members.{without}
 use Rattle.ot_causal.specs.Past.{Past, maker, IsOpening}
 use Rattle.ot_causal.specs.Forms.{form}
-use Rattle.ot_causal.specs.Counting.{FormName, name_of, is_among, sought, count_sought, from_site, AreCounted}
+use Rattle.ot_causal.specs.Counting.{FormName, name_of, sought, count_sought, from_site}
 use Rattle.ot_session.specs.declared.form.Refusal.{Refusal}
-use Rattle.ot_session.specs.declared.limits.TheConstants.{MAX_FORMS}
 use Rattle.ot_session.specs.Past.{past_of, most_cells}
 use Rattle.ot_session.specs.Lists.{clock}
-use Rattle.ot_session.specs.Seeking.{Missing, Exhausted, first_obstacle}
-use Rattle.ot_session.specs.Entries.{form_under, HasForms, IsTable, MaySeek, Seeks, HasSought}
+use Rattle.ot_session.specs.Entries.{HasForms, IsTable, MaySeek, Seeks, HasSought}
+use Rattle.ot_session.proofs.BothParts.{new-unstored, exhausted, missing, stored}
 use Rattle.ot_session.proofs.Clocks.{get_or-clock, clock-without}
-use Rattle.ot_session.proofs.Seeking.{obstacle_code, first_obstacle-counted, first_obstacle-exhausted, first_obstacle-missing, first_obstacle-there}
-use Rattle.ot_session.proofs.Tables.{form_under-form, unstored-new, HasForms-insert}
+use Rattle.ot_session.proofs.Seeking.{obstacle_code, first_obstacle-counted}
+use Rattle.ot_session.proofs.Tables.{form_under-form}
 use Rattle.ot_session.proofs.Reaches.{form-usable}
-use Rattle.ot_session.proofs.Sought.{form_code, MaySeek-own, MaySeek-member, HasSought-own, HasSought-by, first_obstacle-itself, count_sought-itself}
+use Rattle.ot_session.proofs.Sought.{form_code, MaySeek-own, MaySeek-member, HasSought-own, HasSought-by}
 use Rattle.ot_session.proofs.form.+form_behind.Goals as goal
 
 pub returns-in-Some-find-clause-ok : goal.returns-in-Some-find-clause-ok
@@ -265,32 +264,20 @@ returns-in_err-count_one-clause-sought t c = λ names others has total.
     let o : ℕ = c.args.number in
     let l : List ℕ = c.args.list.now in
     let x : ℕ = c.in-Some.other in
-    let split : sought past o l ≡ sought past o (without x l) ++ sought past x (without x l) ++ name_of o l ∷ [] =
-    c.forms_are_sought_before_they_are_made.ensures.some past o l x (sym c.in-Some.ensures) in
-    let own : Seeks f past seen names others o (without x l) c.form_behind.new.table c.form_behind.new.counted =
-    subst (λ (m : List ℕ). Seeks f past seen names others o m c.form_behind.new.table c.form_behind.new.counted)
-    (c.deref.ensures.value ∙ c.in_ok-older.ensures) (c.in_ok-own.ensures.sought names others has total) in
-    let first : List FormName = count_sought names (sought past o (without x l)) in
-    let second : List FormName = count_sought first (sought past x (without x l)) in
-    let part : Seeks f past seen first others x (without x l) c.form_behind-2.new.table c.form_behind-2.new.counted =
-    subst (λ (m : List ℕ). Seeks f past seen first others x m c.form_behind-2.new.table c.form_behind-2.new.counted)
-    (c.deref-2.ensures.value ∙ c.in_ok-older.ensures) (c.in_ok-by.ensures.sought first others own.table own.count) in
-    let joined : (a b : List FormName) → count_sought names (a ++ b) ≡ count_sought (count_sought names a) b =
-    λ a b. c.counted_forms_need_not_be_sought.ensures.joined names a b in
-    let new : is_among second (name_of o l) ≡ false =
-    ∥∥₁_elim (∥∥₁_map₂ c.requires.may has (λ m h.
-    subst (λ (more : List FormName). is_among more (name_of o l) ≡ false) (joined (sought past o (without x l)) (sought past x (without x l)))
-    (c.counted_forms_need_not_be_sought.ensures.last past names o l x m.orderly m.sought.ready (sym c.in-Some.ensures)
-    (unstored-new past seen (λ s k n. c.closed_lists_are_told_by_their_counts.ensures.counts past s k n)
-    c.closed_lists_are_told_by_their_counts.ensures.tested names c.args.table.now o l m.sought.ready.1 h.counted h.stored
-    (subst (λ (cs : List ℕ). form_under (record { number = o; counts = cs }) c.args.table.now ≡ None) c.requires.counts
-    (sym c.find.ensures ∙ c.in_default-find.is)))))) (Coded-set coded_bool _ _) (λ same. same) in
+    let joined = c.counted_forms_need_not_be_sought.ensures.joined names in
+    let new = new-unstored f past seen o x l names others joined (c.closed_lists_are_told_by_their_counts.ensures.counts past)
+    c.closed_lists_are_told_by_their_counts.ensures.tested
+    (λ orderly ready. c.counted_forms_need_not_be_sought.ensures.last past names o l x orderly ready (sym c.in-Some.ensures))
+    c.args.counts c.args.table.now c.requires.counts (sym c.find.ensures ∙ c.in_default-find.is) c.requires.may has in
     let full = c.in_err-count_one.ensures.err in
     let same : c.from_residual-in_err-count_one.result ≡ Err c.in_err-count_one.field-0.0 = search rules in
     subst (λ (r : Result Op Refusal). HasSought f past seen names others o l c.form_behind-2.new.table c.count_one.new.counted r)
     (ap (λ (e : Refusal). Err e) (sym full.0) ∙ sym same)
-    (first_obstacle-itself f past seen o x l split names others own.free joined part.free (Some Exhausted)
-    (first_obstacle-exhausted f past (others + length second) second (name_of o l) new (sym part.count ∙ full.1)))
+    (exhausted f past seen o x l names others joined
+    (c.forms_are_sought_before_they_are_made.ensures.some past o l x (sym c.in-Some.ensures))
+    c.deref.result.now c.deref-2.result.now (c.deref.ensures.value ∙ c.in_ok-older.ensures) (c.deref-2.ensures.value ∙ c.in_ok-older.ensures)
+    c.form_behind.new.table c.form_behind-2.new.table c.form_behind.new.counted c.form_behind-2.new.counted
+    (c.in_ok-own.ensures.sought names others has total) c.in_ok-by.ensures.sought new full.1)
 
 pub returns-in_default-transform-clause-sought : goal.returns-in_default-transform-clause-sought
 returns-in_default-transform-clause-sought t c = λ names others has total.
@@ -300,39 +287,23 @@ returns-in_default-transform-clause-sought t c = λ names others has total.
     let o : ℕ = c.args.number in
     let l : List ℕ = c.args.list.now in
     let x : ℕ = c.in-Some.other in
-    let split : sought past o l ≡ sought past o (without x l) ++ sought past x (without x l) ++ name_of o l ∷ [] =
-    c.forms_are_sought_before_they_are_made.ensures.some past o l x (sym c.in-Some.ensures) in
-    let own : Seeks f past seen names others o (without x l) c.form_behind.new.table c.form_behind.new.counted =
-    subst (λ (m : List ℕ). Seeks f past seen names others o m c.form_behind.new.table c.form_behind.new.counted)
-    (c.deref.ensures.value ∙ c.in_ok-older.ensures) (c.in_ok-own.ensures.sought names others has total) in
-    let first : List FormName = count_sought names (sought past o (without x l)) in
-    let second : List FormName = count_sought first (sought past x (without x l)) in
-    let part : Seeks f past seen first others x (without x l) c.form_behind-2.new.table c.form_behind-2.new.counted =
-    subst (λ (m : List ℕ). Seeks f past seen first others x m c.form_behind-2.new.table c.form_behind-2.new.counted)
-    (c.deref-2.ensures.value ∙ c.in_ok-older.ensures) (c.in_ok-by.ensures.sought first others own.table own.count) in
-    let joined : (a b : List FormName) → count_sought names (a ++ b) ≡ count_sought (count_sought names a) b =
-    λ a b. c.counted_forms_need_not_be_sought.ensures.joined names a b in
-    let new : is_among second (name_of o l) ≡ false =
-    ∥∥₁_elim (∥∥₁_map₂ c.requires.may has (λ m h.
-    subst (λ (more : List FormName). is_among more (name_of o l) ≡ false) (joined (sought past o (without x l)) (sought past x (without x l)))
-    (c.counted_forms_need_not_be_sought.ensures.last past names o l x m.orderly m.sought.ready (sym c.in-Some.ensures)
-    (unstored-new past seen (λ s k n. c.closed_lists_are_told_by_their_counts.ensures.counts past s k n)
-    c.closed_lists_are_told_by_their_counts.ensures.tested names c.args.table.now o l m.sought.ready.1 h.counted h.stored
-    (subst (λ (cs : List ℕ). form_under (record { number = o; counts = cs }) c.args.table.now ≡ None) c.requires.counts
-    (sym c.find.ensures ∙ c.in_default-find.is)))))) (Coded-set coded_bool _ _) (λ same. same) in
+    let joined = c.counted_forms_need_not_be_sought.ensures.joined names in
+    let new = new-unstored f past seen o x l names others joined (c.closed_lists_are_told_by_their_counts.ensures.counts past)
+    c.closed_lists_are_told_by_their_counts.ensures.tested
+    (λ orderly ready. c.counted_forms_need_not_be_sought.ensures.last past names o l x orderly ready (sym c.in-Some.ensures))
+    c.args.counts c.args.table.now c.requires.counts (sym c.find.ensures ∙ c.in_default-find.is) c.requires.may has in
     let own_is : form f past o (without x l) ≡ Some c.in_ok-own.own =
     subst (λ (m : List ℕ). form f past o m ≡ Some c.in_ok-own.own) (c.deref.ensures.value ∙ c.in_ok-older.ensures) c.in_ok-own.ensures.ok in
     let by_is : form f past x (without x l) ≡ Some c.in_ok-by.by =
     subst (λ (m : List ℕ). form f past x m ≡ Some c.in_ok-by.by) (c.deref-2.ensures.value ∙ c.in_ok-older.ensures) c.in_ok-by.ensures.ok in
-    let unspent : others + length second ≢ MAX_FORMS =
-    λ same. omega (arith, same, part.count, c.in_ok-count_one.ensures.ok, c.count_one.ensures.within) in
-    let none : form f past o l ≡ None =
-    c.forms_are_made_from_shorter_ones.ensures.moved f past o l x (sym c.in-Some.ensures)
-    ∙ rw (own_is, by_is) (sym c.transform.ensures ∙ c.in_default-transform.is) in
-    let counted : others + length second + 1 ≡ c.count_one.new.counted = omega (arith, part.count, c.in_ok-count_one.ensures.ok) in
-    first_obstacle-itself f past seen o x l split names others own.free joined part.free (Some (Missing c.count_one.new.counted))
-    (subst (λ (m : ℕ). first_obstacle f past (others + length second) second (name_of o l ∷ []) ≡ Some (Missing m)) counted
-    (first_obstacle-missing f past (others + length second) second (name_of o l) new unspent none))
+    missing f past seen o x l names others joined
+    (c.forms_are_sought_before_they_are_made.ensures.some past o l x (sym c.in-Some.ensures))
+    c.deref.result.now c.deref-2.result.now (c.deref.ensures.value ∙ c.in_ok-older.ensures) (c.deref-2.ensures.value ∙ c.in_ok-older.ensures)
+    c.form_behind.new.table c.form_behind-2.new.table c.form_behind.new.counted c.form_behind-2.new.counted
+    (c.in_ok-own.ensures.sought names others has total) c.in_ok-by.ensures.sought new
+    c.count_one.new.counted c.in_ok-count_one.ensures.ok c.count_one.ensures.within
+    (c.forms_are_made_from_shorter_ones.ensures.moved f past o l x (sym c.in-Some.ensures)
+    ∙ rw (own_is, by_is) (sym c.transform.ensures ∙ c.in_default-transform.is))
 
 pub returns-clause-sought : goal.returns-clause-sought
 returns-clause-sought t c = λ names others has total.
@@ -342,47 +313,24 @@ returns-clause-sought t c = λ names others has total.
     let o : ℕ = c.args.number in
     let l : List ℕ = c.args.list.now in
     let x : ℕ = c.in-Some.other in
-    let split : sought past o l ≡ sought past o (without x l) ++ sought past x (without x l) ++ name_of o l ∷ [] =
-    c.forms_are_sought_before_they_are_made.ensures.some past o l x (sym c.in-Some.ensures) in
-    let own : Seeks f past seen names others o (without x l) c.form_behind.new.table c.form_behind.new.counted =
-    subst (λ (m : List ℕ). Seeks f past seen names others o m c.form_behind.new.table c.form_behind.new.counted)
-    (c.deref.ensures.value ∙ c.in_ok-older.ensures) (c.in_ok-own.ensures.sought names others has total) in
-    let first : List FormName = count_sought names (sought past o (without x l)) in
-    let second : List FormName = count_sought first (sought past x (without x l)) in
-    let part : Seeks f past seen first others x (without x l) c.form_behind-2.new.table c.form_behind-2.new.counted =
-    subst (λ (m : List ℕ). Seeks f past seen first others x m c.form_behind-2.new.table c.form_behind-2.new.counted)
-    (c.deref-2.ensures.value ∙ c.in_ok-older.ensures) (c.in_ok-by.ensures.sought first others own.table own.count) in
-    let joined : (a b : List FormName) → count_sought names (a ++ b) ≡ count_sought (count_sought names a) b =
-    λ a b. c.counted_forms_need_not_be_sought.ensures.joined names a b in
-    let new : is_among second (name_of o l) ≡ false =
-    ∥∥₁_elim (∥∥₁_map₂ c.requires.may has (λ m h.
-    subst (λ (more : List FormName). is_among more (name_of o l) ≡ false) (joined (sought past o (without x l)) (sought past x (without x l)))
-    (c.counted_forms_need_not_be_sought.ensures.last past names o l x m.orderly m.sought.ready (sym c.in-Some.ensures)
-    (unstored-new past seen (λ s k n. c.closed_lists_are_told_by_their_counts.ensures.counts past s k n)
-    c.closed_lists_are_told_by_their_counts.ensures.tested names c.args.table.now o l m.sought.ready.1 h.counted h.stored
-    (subst (λ (cs : List ℕ). form_under (record { number = o; counts = cs }) c.args.table.now ≡ None) c.requires.counts
-    (sym c.find.ensures ∙ c.in_default-find.is)))))) (Coded-set coded_bool _ _) (λ same. same) in
+    let joined = c.counted_forms_need_not_be_sought.ensures.joined names in
+    let new = new-unstored f past seen o x l names others joined (c.closed_lists_are_told_by_their_counts.ensures.counts past)
+    c.closed_lists_are_told_by_their_counts.ensures.tested
+    (λ orderly ready. c.counted_forms_need_not_be_sought.ensures.last past names o l x orderly ready (sym c.in-Some.ensures))
+    c.args.counts c.args.table.now c.requires.counts (sym c.find.ensures ∙ c.in_default-find.is) c.requires.may has in
     let own_is : form f past o (without x l) ≡ Some c.in_ok-own.own =
     subst (λ (m : List ℕ). form f past o m ≡ Some c.in_ok-own.own) (c.deref.ensures.value ∙ c.in_ok-older.ensures) c.in_ok-own.ensures.ok in
     let by_is : form f past x (without x l) ≡ Some c.in_ok-by.by =
     subst (λ (m : List ℕ). form f past x m ≡ Some c.in_ok-by.by) (c.deref-2.ensures.value ∙ c.in_ok-older.ensures) c.in_ok-by.ensures.ok in
-    let unspent : others + length second ≢ MAX_FORMS =
-    λ same. omega (arith, same, part.count, c.in_ok-count_one.ensures.ok, c.count_one.ensures.within) in
-    let is : form f past o l ≡ Some c.in-Some-transform.form =
-    c.forms_are_made_from_shorter_ones.ensures.moved f past o l x (sym c.in-Some.ensures)
-    ∙ rw (own_is, by_is) (sym c.in-Some-transform.ensures) in
-    let last : count_sought names (sought past o l) ≡ name_of o l ∷ second =
-    count_sought-itself f past seen o x l split names others own.free joined part.free new in
-    let both : ∥ MaySeek f past seen o l × HasForms f past seen names c.args.table.now ∥₁ = ∥∥₁_map₂ c.requires.may has (λ m h. (m, h)) in
-    record {
-      free = first_obstacle-itself f past seen o x l split names others own.free joined part.free None
-          (first_obstacle-there f past (others + length second) second (name_of o l) c.in-Some-transform.form new unspent is);
-      table = rw (last, c.in_ok-store.ensures.ok, c.requires.counts)
-          (∥∥₁_elim both ∥∥₁_prop (λ b. ∥∥₁_map part.table (λ h.
-          HasForms-insert f past seen second o l c.in-Some-transform.form c.form_behind-2.new.table
-          c.closed_lists_are_told_by_their_counts.ensures.tested h b.0.sought is
-          (subst (λ (more : List FormName). AreCounted past seen more) last
-          (c.counted_forms_need_not_be_sought.ensures.kept past seen names o l b.0.orderly b.0.sought.ready b.0.sought.sublist
-          b.1.counted)))));
-      count = rw last (omega (arith, part.count, c.in_ok-count_one.ensures.ok));
-    }
+    stored f past seen o x l names others joined
+    (c.forms_are_sought_before_they_are_made.ensures.some past o l x (sym c.in-Some.ensures))
+    c.deref.result.now c.deref-2.result.now (c.deref.ensures.value ∙ c.in_ok-older.ensures) (c.deref-2.ensures.value ∙ c.in_ok-older.ensures)
+    c.form_behind.new.table c.form_behind-2.new.table c.form_behind.new.counted c.form_behind-2.new.counted
+    (c.in_ok-own.ensures.sought names others has total) c.in_ok-by.ensures.sought new
+    c.count_one.new.counted c.in_ok-count_one.ensures.ok c.count_one.ensures.within
+    c.closed_lists_are_told_by_their_counts.ensures.tested
+    (λ m. c.counted_forms_need_not_be_sought.ensures.kept past seen names o l m.orderly m.sought.ready m.sought.sublist)
+    c.in-Some-transform.form c.args.counts c.args.table.now c.store.new.self
+    (c.forms_are_made_from_shorter_ones.ensures.moved f past o l x (sym c.in-Some.ensures)
+    ∙ rw (own_is, by_is) (sym c.in-Some-transform.ensures))
+    c.requires.counts c.in_ok-store.ensures.ok c.requires.may has

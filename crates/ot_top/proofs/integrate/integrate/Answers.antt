@@ -1,9 +1,11 @@
 -- The function is read, and then the case.
-use Rattle.std.proofs.Common.{rules, subst, List, ℕ}
+use Rattle.std.proofs.Common.{inl, rules, subst, List, ℕ}
 use Rattle.fn_rules.specs.Rules.{function_of}
 use Rattle.ot_replies.specs.declared.reply.FileKind.TheVariants as files
 use Rattle.ot_top.specs.Replies.{IsReplyToCase}
+use Rattle.ot_top.specs.Replies.{IsReplyToFile}
 use Rattle.ot_top.proofs.Behind.{then_too_long, then_gets}
+use Rattle.ot_top.proofs.Given.{file_behind, have_read_both, long_behind, refused_first}
 use Rattle.ot_top.proofs.integrate.integrate.Goals as goal
 
 pub returns-in_err-bytes-clause-replied : goal.returns-in_err-bytes-clause-replied
@@ -22,3 +24,44 @@ returns-clause-ok g c =
     c.in_ok-bytes.ensures.ok
     (subst (λ (bytes : List ℕ). IsReplyToCase (function_of c.in_ok-rules.rules) bytes c.in_ok-reply.reply)
     c.deref.ensures.value c.in_ok-reply.ensures)
+
+pub returns-in_err-rules-clause-given_replied : goal.returns-in_err-rules-clause-given_replied
+returns-in_err-rules-clause-given_replied g c =
+    λ r is. (
+      ((g.H.Shelf.reads c.load_function.new.shelf).bytes, inl c.load_function.ensures.read),
+      λ holds tells.
+          let refused = c.in_err-rules.ensures.given_replied r (search rules) in (
+            refused_first (g.H.Shelf.reads c.args.shelf.now) (g.H.Shelf.reads c.load_function.new.shelf) c.args.function.now
+                (g.H.Shelf.reads c.load_function.new.shelf).bytes (inl c.load_function.ensures.read) (holds c.args.function.now) tells.0 r
+                (λ f. IsReplyToFile files.Case (holds c.args.case.now) (λ bytes. IsReplyToCase f bytes r) r) refused,
+            tt,
+          ),
+    )
+
+pub returns-in_err-bytes-clause-given_replied : goal.returns-in_err-bytes-clause-given_replied
+returns-in_err-bytes-clause-given_replied g c =
+    λ r is. (
+      have_read_both (g.H.Shelf.reads c.args.shelf.now) (g.H.Shelf.reads c.load_function.new.shelf) (g.H.Shelf.reads c.read_file.new.shelf) c.args.function.now c.args.case.now c.load_function.ensures.read c.read_file.ensures.read,
+      λ holds tells.
+          let long = c.in_err-bytes.ensures.given_replied r (search rules) in (
+            long_behind (g.H.Shelf.reads c.args.shelf.now) (g.H.Shelf.reads c.load_function.new.shelf) (g.H.Shelf.reads c.read_file.new.shelf)
+                c.args.function.now c.args.case.now c.load_function.ensures.read c.read_file.ensures.read (holds c.args.function.now)
+                (holds c.args.case.now) tells.0 tells.1 (function_of c.in_ok-rules.rules) c.in_ok-rules.ensures.given
+                r (λ f bytes. IsReplyToCase f bytes r) long,
+            tt,
+          ),
+    )
+
+pub returns-clause-given : goal.returns-clause-given
+returns-clause-given g c = (
+  have_read_both (g.H.Shelf.reads c.args.shelf.now) (g.H.Shelf.reads c.load_function.new.shelf) (g.H.Shelf.reads c.read_file.new.shelf) c.args.function.now c.args.case.now c.load_function.ensures.read c.read_file.ensures.read,
+  λ holds tells.
+      let r = c.in_ok-reply.reply in (
+        file_behind (g.H.Shelf.reads c.args.shelf.now) (g.H.Shelf.reads c.load_function.new.shelf) (g.H.Shelf.reads c.read_file.new.shelf)
+            c.args.function.now c.args.case.now c.load_function.ensures.read c.read_file.ensures.read (holds c.args.function.now)
+            (holds c.args.case.now) tells.0 tells.1 (function_of c.in_ok-rules.rules) c.in_ok-rules.ensures.given
+            r (λ f bytes. IsReplyToCase f bytes r) c.in_ok-bytes.bytes.items c.in_ok-bytes.ensures.given
+            (subst (λ (bytes : List ℕ). IsReplyToCase (function_of c.in_ok-rules.rules) bytes r) c.deref.ensures.value c.in_ok-reply.ensures),
+        tt,
+      ),
+)

@@ -1,73 +1,53 @@
 -- What a reply that was written shows, by its status.
-use Rattle.std.proofs.Common.{◌≡◌, ℕ, List, Option, sym, ◌∙◌, map, subst, arith}
+use Rattle.std.proofs.Common.{◌≡◌, map}
 use Rattle.std.specs.Prelude.{string_bytes}
 use Rattle.std.specs.Io.KnownBytes.{append_known}
-use Rattle.ot_top.specs.Shown.{IsComplete}
-use Rattle.ot_top.proofs.Proving.{broken, complete, proved}
-use Rattle.ot_top.proofs.Showing.{has_level, shown}
-use Rattle.ot_top.proofs.Steady.{steady}
-use Rattle.ot_top.proofs.Told.{judged}
-use Rattle.ot_top.proofs.Unread.{unread}
+use Rattle.ot_top.proofs.Proving.{broken}
+use Rattle.ot_top.proofs.Showing.{has_level}
+use Rattle.ot_top.proofs.Shows.{reply_known, shows}
+use Rattle.ot_top.proofs.Told.{gone_through, named, whole}
 use Rattle.ot_top.proofs.program.run.Goals as goal
 
-pub returns-clause-sound : goal.returns-clause-sound
-returns-clause-sound g c =
-    λ zero.
-    let told = c.write_answer.ensures.replied (λ e. omega (arith, zero, e)) (λ e. omega (arith, zero, e)) (λ e. omega (arith, zero, e)) in
+pub returns-clause-shows : goal.returns-clause-shows
+returns-clause-shows g c =
+    λ holds known.
+    let words = map string_bytes c.args.words.now in
     let laws = c.certificates_show_the_properties.ensures in
-    shown laws.tp1 laws.tp2 laws.one_outcome c.what_is_read_is_in_the_grammar.ensures.text (map string_bytes c.args.words.now)
-    (λ n. g.H.Shelf.holds c.args.shelf.now n) told.0
-    (λ text. g.S.Sink.written c.write_answer.new.out ≡ append_known (g.S.Sink.written c.args.out.now) text) (sym zero ∙ told.3) told.1 told.4
-
-pub returns-clause-proved : goal.returns-clause-proved
-returns-clause-proved g c =
-    λ zero.
-    let told = c.write_answer.ensures.replied (λ e. omega (arith, zero, e)) (λ e. omega (arith, zero, e)) (λ e. omega (arith, zero, e)) in
-    let laws = c.certificates_show_the_properties.ensures in
-    let grammar = c.what_is_read_is_in_the_grammar.ensures in
-    proved grammar.text grammar.valid (has_level laws.tp1 laws.tp2 laws.one_outcome grammar.text) c.bytes_have_one_judgement.ensures
-    (map string_bytes c.args.words.now) (λ n. g.H.Shelf.holds c.args.shelf.now n) told.0
-    (λ text. g.S.Sink.written c.write_answer.new.out ≡ append_known (g.S.Sink.written c.args.out.now) text) (sym zero ∙ told.3) told.1 told.4
-
-pub returns-clause-broken : goal.returns-clause-broken
-returns-clause-broken g c =
-    λ one.
-    let told = c.write_answer.ensures.replied (λ e. omega (arith, one, e)) (λ e. omega (arith, one, e)) (λ e. omega (arith, one, e)) in
     let grammar = c.what_is_read_is_in_the_grammar.ensures in
     let counters = c.failing_ends_have_counterexamples.ensures in
-    broken grammar.text grammar.valid counters.broken counters.by_the_cause (map string_bytes c.args.words.now)
-    (λ n. g.H.Shelf.holds c.args.shelf.now n) told.0
-    (λ text. g.S.Sink.written c.write_answer.new.out ≡ append_known (g.S.Sink.written c.args.out.now) text) (sym one ∙ told.3) told.1 told.4
+    shows words holds (λ text. g.S.Sink.written c.write_answer.new.out ≡ append_known (g.S.Sink.written c.args.out.now) text) c.write_answer.result
+    (λ of_a_reply.
+    let told = c.write_answer.ensures.replied of_a_reply.0 of_a_reply.1 of_a_reply.2 in
+    let reply = reply_known words (g.H.Shelf.holds c.args.shelf.now) holds (g.H.Shelf.reads c.args.shelf.now)
+    (g.H.Shelf.reads c.write_answer.new.shelf) told.0 told.1 told.2 told.3 known in
+    (told.0, reply.0, reply.1, told.4, told.5)) (has_level laws.tp1 laws.tp2 laws.one_outcome) grammar.text grammar.valid
+    c.texts_of_functions_are_read.ensures.read c.all_bytes_have_a_judgement.ensures c.bytes_have_one_judgement.ensures
+    c.plans_have_one_question_list.ensures.one
+    (λ r. broken grammar.text grammar.valid counters.broken counters.by_the_cause c.failing_triples_show_tp1.ensures words holds r
+    (λ text. g.S.Sink.written c.write_answer.new.out ≡ append_known (g.S.Sink.written c.args.out.now) text))
 
-pub returns-clause-complete : goal.returns-clause-complete
-returns-clause-complete g c =
+pub returns-clause-gone_through : goal.returns-clause-gone_through
+returns-clause-gone_through g c =
     λ no_shelf_fault no_sink_fault no_want.
     let told = c.write_answer.ensures.replied no_shelf_fault no_sink_fault no_want in
-    let words : List (List ℕ) = map string_bytes c.args.words.now in
-    let holds : List ℕ → Option (List ℕ) = λ n. g.H.Shelf.holds c.args.shelf.now n in
-    subst (λ (s : ℕ). IsComplete words holds s) (sym told.3)
-    (complete c.texts_of_functions_are_read.ensures.read c.plans_have_one_question_list.ensures.one words holds told.0 told.1)
+    gone_through (map string_bytes c.args.words.now) (g.H.Shelf.holds c.args.shelf.now) c.write_answer.result
+    (λ text. g.S.Sink.written c.write_answer.new.out ≡ append_known (g.S.Sink.written c.args.out.now) text)
+    (told.0, told.1, told.2, told.4, told.5)
 
-pub returns-clause-judged : goal.returns-clause-judged
-returns-clause-judged g c =
+pub returns-clause-replied : goal.returns-clause-replied
+returns-clause-replied g c =
     λ no_shelf_fault no_sink_fault no_want.
-    let told = c.write_answer.ensures.replied no_shelf_fault no_sink_fault no_want in
-    let grammar = c.what_is_read_is_in_the_grammar.ensures in
-    judged c.texts_of_functions_are_read.ensures.read c.bytes_have_one_judgement.ensures grammar.valid (map string_bytes c.args.words.now)
-    (λ n. g.H.Shelf.holds c.args.shelf.now n) c.write_answer.result
-    (λ text. g.S.Sink.written c.write_answer.new.out ≡ append_known (g.S.Sink.written c.args.out.now) text) told
+    let told = c.write_answer.ensures.replied no_shelf_fault no_sink_fault no_want in (told.0, told.1, told.3, told.4, told.5)
 
-pub returns-clause-unread : goal.returns-clause-unread
-returns-clause-unread g c =
-    λ no_shelf_fault no_sink_fault no_want.
-    let told = c.write_answer.ensures.replied no_shelf_fault no_sink_fault no_want in
-    unread c.texts_of_functions_are_read.ensures.read c.what_is_read_is_in_the_grammar.ensures.text (map string_bytes c.args.words.now)
-    (λ n. g.H.Shelf.holds c.args.shelf.now n) c.write_answer.result
-    (λ text. g.S.Sink.written c.write_answer.new.out ≡ append_known (g.S.Sink.written c.args.out.now) text) told
+pub returns-clause-whole : goal.returns-clause-whole
+returns-clause-whole g c =
+    whole c.write_answer.result _ _ _ _ (λ six. (c.write_answer.ensures.shelf_fault six).0)
+    (λ seven. (c.write_answer.ensures.sink_fault seven).0) c.write_answer.ensures.no_memory
+    (λ no_shelf_fault no_sink_fault no_want.
+    let told = c.write_answer.ensures.replied no_shelf_fault no_sink_fault no_want in (told.0, told.1, told.4, told.5))
 
-pub returns-clause-steady : goal.returns-clause-steady
-returns-clause-steady g c =
-    λ name session bytes f named told text agree one.
-    let answered = c.write_answer.ensures.replied (λ e. omega (arith, one, e)) (λ e. omega (arith, one, e)) (λ e. omega (arith, one, e)) in
-    steady c.texts_of_functions_are_read.ensures.read (map string_bytes c.args.words.now) (λ n. g.H.Shelf.holds c.args.shelf.now n) answered.0
-    answered.2 name session bytes f named told text agree (sym answered.3 ∙ one)
+pub returns-clause-named : goal.returns-clause-named
+returns-clause-named g c =
+    named c.write_answer.result
+    (λ no_shelf_fault no_sink_fault no_want.
+    let told = c.write_answer.ensures.replied no_shelf_fault no_sink_fault no_want in (told.0, told.4))

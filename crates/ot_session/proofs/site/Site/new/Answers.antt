@@ -6,10 +6,10 @@ use Rattle.ot_session.proofs.site.Site.new.Goals as goal
 
 pub returns : goal.returns
 returns c =
-    let integrated = c.in_ok-no_marks.ensures in
-    let held = c.in_ok-no_marks-2.ensures in
+    let integrated = c.in_ok-integrated.ensures in
+    let held = c.in_ok-held.ensures in
     record {
-      document = c.in_ok-try_clone.ensures;
+      document = c.in_ok-doc.ensures;
       seen = c.new.ensures.items;
       held = λ x. rw held (unmarked x);
       marked = record {

@@ -1,0 +1,59 @@
+use Rattle.std.proofs.Common.{◌≡◌, ℕ, ◌+◌, ◌<◌, List, [], ◌∷◌, ◌++◌, length, drop, get_or, sym, ap, ◌∙◌, arith, add-zero}
+use Rattle.std.specs.Prelude.{Some}
+use Rattle.std.specs.Option.{option_map}
+use Rattle.ot_model.specs.declared.op.Op.{Op}
+use Rattle.fn_rules.specs.Functions.{Function}
+use Rattle.fn_rules.specs.Rules.{function_of}
+use Rattle.ot_hub.specs.declared.carry.Crossed.{Crossed}
+use Rattle.ot_hub.specs.declared.placed.Placed.{Placed}
+use Rattle.ot_hub.specs.Carry.{crossed, behind, carry, from_place}
+use Rattle.ot_hub.specs.Usable.{farthest}
+use Rattle.ot_hub.proofs.Carrying.{no_one, from_true, from_false, rest-dropped, carry-next, behind-behind, behind-nothing}
+use Rattle.ot_hub.proofs.Near.{KeepsNear, keeps_near, CanCross-next, IsUsable-next, IsUsable-passed}
+use Rattle.ot_hub.proofs.carry.carry_list.Goals as goal
+use Rattle.ot_hub.proofs.carry.carry_list.Goals.{then-other-place+in-Some+in_ok-push, else-other-place}
+
+pub loop-other-init : goal.loop-other-init
+loop-other-init c =
+    let start = carry (function_of c.args.rules.now) c.args.op (from_place c.args.place c.args.list.now) in
+    record { same = rw c.new-new.ensures (sym (behind-nothing start)); usable = rw add-zero c.requires.usable.op }
+
+pub cross-requires-clause-own : goal.cross-requires-clause-own
+cross-requires-clause-own c =
+    let f : Function = function_of c.args.rules.now in
+    let i : ℕ = c.loop-other.other-index in
+    (CanCross-next f (keeps_near f c.functions_keep_forms.ensures c.transform_stays_near.ensures c.enabled_operations_are_near.ensures.wider c.head-head.ensures.valid)
+    c.args.list.now (farthest (length c.args.list.now)) i c.loop-other.form c.loop-other-test.true c.loop-other.invariant.usable c.requires.usable.list
+    (omega (arith, c.loop-other-test.true, c.requires.usable.few))).own
+
+pub loop-other-preserved : goal.loop-other-preserved
+loop-other-preserved c =
+    let f : Function = function_of c.args.rules.now in
+    let list : List Placed = c.args.list.now in
+    let i : ℕ = c.loop-other.other-index in
+    let o : Op = c.loop-other.form in
+    let m : ℕ = farthest (length list) in
+    let here : Placed = get_or list i no_one in
+    let inside : i < length list = c.loop-other-test.true in
+    let has : KeepsNear f =
+    keeps_near f c.functions_keep_forms.ensures c.transform_stays_near.ensures c.enabled_operations_are_near.ensures.wider c.head-head.ensures.valid in
+    elim c.if-other-place.branch [
+      | then-other-place+in-Some+in_ok-push w ↦
+          (let both : Crossed = w.in-Some.both in
+          let is : crossed f o here.op ≡ Some both = sym w.in-Some.ensures in
+          let moved : List Placed = record here { op = both.other } ∷ [] in
+          let pushed : w.push.new.self ≡ c.loop-other.new ++ moved = w.in_ok-push.ensures.ok in
+          rw (w.form-is, w.new-is, pushed) (record {
+            same = c.loop-other.invariant.same
+                ∙ ap (option_map (behind c.loop-other.new))
+                (carry-next f list c.args.place i inside o both (from_true c.args.place here.place w.if-other-place.true) is)
+                ∙ behind-behind c.loop-other.new moved (carry f both.own (from_place c.args.place (drop (i + 1) list)));
+            usable = IsUsable-next f has list m i o inside c.loop-other.invariant.usable c.requires.usable.list both is;
+          }))
+      | else-other-place w ↦ rw (w.form-is, w.new-is) (record {
+        same = c.loop-other.invariant.same
+            ∙ ap (λ bs. option_map (behind c.loop-other.new) (carry f o bs))
+            (rest-dropped f list c.args.place i inside (from_false c.args.place here.place w.if-other-place.false));
+        usable = IsUsable-passed f has list m i o inside c.loop-other.invariant.usable c.requires.usable.list;
+      })
+    ]

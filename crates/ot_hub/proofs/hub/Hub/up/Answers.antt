@@ -1,0 +1,109 @@
+use Rattle.std.proofs.Common.{◌≡◌, ◌+◌, ◌-◌, ◌<◌, ℕ, List, [], ◌∷◌, ◌++◌, false, length, map, Some, refl, sym, ap, ◌∙◌, subst, arith, length-append}
+use Rattle.std.specs.Prelude.{slice_set, slice_get, unwrap_or, Err}
+use Rattle.std.proofs.lemmas.List.{length-set, with_items_is, length-map}
+use Rattle.std.specs.Vec.{with_items}
+use Rattle.std.proofs.lemmas.Option.{slice_get_read}
+use Rattle.ot_model.specs.declared.op.Mode.{Mode}
+use Rattle.fn_rules.specs.Functions.{Function}
+use Rattle.fn_rules.specs.Rules.{function_of}
+use Rattle.ot_hub.specs.declared.client.Client.{Client}
+use Rattle.ot_hub.specs.declared.placed.Placed.{Placed}
+use Rattle.ot_hub.specs.declared.server.Server.{Server}
+use Rattle.ot_hub.specs.Clients.{nobody, client_at, sent}
+use Rattle.ot_hub.specs.declared.limits.TheConstants.{MAX_EDITS}
+use Rattle.ot_hub.specs.Carry.{carry, from_place}
+use Rattle.ot_hub.specs.Kept.{IsServerKept}
+use Rattle.ot_hub.specs.Usable.{IsUsable, most_cells}
+use Rattle.ot_hub.specs.Steps.{server_step, server_after, ahead_of, Step, step_map}
+use Rattle.ot_hub.proofs.Keeping.{WentOn, goes_on-to, one-kept, one-messages, IsServerKept-after, IsHubKept-up}
+use Rattle.ot_hub.proofs.Kept.{All-at}
+use Rattle.ot_hub.proofs.Near.{KeepsNear, keeps_near}
+use Rattle.ot_hub.specs.Views.{HubData, view_of, IsClient, HasMoved}
+use Rattle.ot_hub.proofs.Stepping.{up_with-first, some_first, HasMoved-refused}
+use Rattle.ot_hub.proofs.hub.Hub.up.Goals as goal
+
+pub invariant_of-self : goal.invariant_of-self
+invariant_of-self c =
+    let s = c.args.self.now in
+    let f : Function = function_of s.rules in
+    let all : List Client = s.clients.items in
+    let place : ℕ = c.args.client - 1 in
+    let one : Client = client_at all place in
+    let message : Placed = c.in-Some.message in
+    let there : IsClient (length all) c.args.client = c.if-not-has_client.ensures.0 refl in
+    let inside : place < length all = omega (arith, there.low, there.high) in
+    let client_is : one ≡ c.index.result.now =
+    ap (λ found. unwrap_or found nobody) (slice_get_read all (length all) place c.index.result.now refl inside c.index.ensures) in
+    let first : Some message ≡ slice_get one.messages 0 = rw client_is c.in-Some.ensures in
+    let some : 0 < length one.messages = some_first one.messages message first in
+    let has : KeepsNear f =
+    keeps_near f c.functions_keep_forms.ensures c.transform_stays_near.ensures c.enabled_operations_are_near.ensures.wider c.head-head.ensures.valid in
+    let new : Server = c.take.new.self in
+    let mode : Mode = f.head.mode in
+    let went : WentOn (carry f message.op (from_place message.place (ahead_of s.server c.args.client))) (length s.server.doc)
+    (λ carried. server_after mode c.args.client carried s.server) new =
+    goes_on-to (carry f message.op (from_place message.place (ahead_of s.server c.args.client))) (length s.server.doc)
+    (λ carried. server_after mode c.args.client carried s.server) new c.in-Ok.ensures in
+    let usable : IsUsable f most_cells message.op =
+    All-at (λ b. IsUsable f most_cells b.op) one.messages 0 message (one-kept f s.made s.server all s.kept place inside).messages (sym first) in
+    let few : length s.server.log < MAX_EDITS = omega (arith, some, s.kept.few, one-messages f s.made s.server all s.kept place inside) in
+    let new_kept : IsServerKept f new = subst (λ (server : Server). IsServerKept f server) went.new_is
+    (IsServerKept-after f has c.documents_grow_by_one_cell_at_most.ensures mode c.args.client went.it s.server s.kept.server few message.place message.op usable
+    (omega (arith, inside, s.kept.sides)) went.is) in
+    let longer : length new.log ≡ length s.server.log + 1 =
+    ap (λ (server : Server). length server.log) (sym went.new_is) ∙ length-append s.server.log (record { client = c.args.client; op = went.it.op } ∷ []) in
+    let told : List (List Placed) = map (λ list. list ++ record { place = length s.server.log; op = went.it.op } ∷ []) s.server.ahead in
+    let sides : length new.ahead ≡ length s.server.ahead =
+    ap (λ (server : Server). length server.ahead) (sym went.new_is) ∙ length-set told place went.it.list
+    ∙ length-map s.server.ahead (λ list. list ++ record { place = length s.server.log; op = went.it.op } ∷ []) in
+    let clients : List Client = c.sent_at.new.clients in
+    let is : clients ≡ slice_set all place (sent one) = rw (← c.deref_mut.ensures.value) c.sent_at.ensures in
+    let items : (with_items s.clients clients).items ≡ slice_set all place (sent one) =
+    with_items_is s.clients clients (ap length is ∙ length-set all place (sent one) ∙ sym s.clients.ok.0) ∙ is in
+    record {
+      small = s.small;
+      kept = rw items (IsHubKept-up f has.wider s.made s.server new all s.kept place inside some new_kept longer sides);
+    }
+
+pub returns-in-Ok : goal.returns-in-Ok
+returns-in-Ok c =
+    let s = c.args.self.now in
+    let f : Function = function_of s.rules in
+    let all : List Client = s.clients.items in
+    let place : ℕ = c.args.client - 1 in
+    let one : Client = client_at all place in
+    let message : Placed = c.in-Some.message in
+    let there : IsClient (length all) c.args.client = c.if-not-has_client.ensures.0 refl in
+    let inside : place < length all = omega (arith, there.low, there.high) in
+    let client_is : one ≡ c.index.result.now =
+    ap (λ found. unwrap_or found nobody) (slice_get_read all (length all) place c.index.result.now refl inside c.index.ensures) in
+    let first : Some message ≡ slice_get one.messages 0 = rw client_is c.in-Some.ensures in
+    let clients : List Client = c.sent_at.new.clients in
+    let is : clients ≡ slice_set all place (sent one) = rw (← c.deref_mut.ensures.value) c.sent_at.ensures in
+    let items : (with_items s.clients clients).items ≡ slice_set all place (sent one) =
+    with_items_is s.clients clients (ap length is ∙ length-set all place (sent one) ∙ sym s.clients.ok.0) ∙ is in
+    let hub : HubData = view_of s in
+    let whole : Server → HubData = λ server. record hub { server = server; clients = slice_set all place (sent one) } in
+    (there, up_with-first hub c.args.client one.messages message first ∙ rw items (ap (step_map whole) c.in-Ok.ensures))
+
+pub returns-in-Err : goal.returns-in-Err
+returns-in-Err c =
+    let s = c.args.self.now in
+    let f : Function = function_of s.rules in
+    let all : List Client = s.clients.items in
+    let place : ℕ = c.args.client - 1 in
+    let one : Client = client_at all place in
+    let message : Placed = c.in-Some.message in
+    let there : IsClient (length all) c.args.client = c.if-not-has_client.ensures.0 refl in
+    let inside : place < length all = omega (arith, there.low, there.high) in
+    let client_is : one ≡ c.index.result.now =
+    ap (λ found. unwrap_or found nobody) (slice_get_read all (length all) place c.index.result.now refl inside c.index.ensures) in
+    let first : Some message ≡ slice_get one.messages 0 = rw client_is c.in-Some.ensures in
+    let hub : HubData = view_of s in
+    let after : HubData = record hub { server = c.take.new.self; is_open = false } in
+    let whole : Server → HubData = λ server. record hub { server = server; clients = slice_set all place (sent one) } in
+    subst (λ (step : Step HubData). HasMoved hub after c.args.client step (Err c.in-Err.refusal))
+    (sym (up_with-first hub c.args.client one.messages message first))
+    (HasMoved-refused hub after c.args.client there s.server c.take.new.self
+    (server_step f c.args.client message s.server) whole c.in-Err.refusal c.in-Err.ensures
+    (ap (λ (server : Server). record hub { server = server; is_open = false })))

@@ -1,0 +1,10 @@
+pub mod Carry
+pub mod Chains
+pub mod Usable
+pub mod Steps
+pub mod Clients
+pub mod Kept
+pub mod Views
+pub use Rattle.ot_model.specs.Effect
+pub use Rattle.fn_rules.specs.Properties
+pub use Rattle.fn_rules.specs.Rules

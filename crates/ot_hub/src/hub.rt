@@ -1,0 +1,195 @@
+//! The hub.
+ghost use Rattle.std.specs.Prelude.{◌≡◌, ◌≤◌, length, IfOk, IsTrue, ◌↔◌, true};
+ghost use Rattle.ot_model.specs.declared.limits.TheConstants.{MAX_CELLS};
+ghost use Rattle.fn_rules.specs.Rules.{function_of};
+ghost use Rattle.ot_hub.specs.Kept.{IsHubKept};
+ghost use Rattle.ot_hub.specs.declared.limits.TheConstants.{MAX_CLIENTS};
+
+use crate::answer::{Edit, Move, Moved};
+use crate::client::{Client, edit_at, fresh_clients, sent_at, take_at};
+use crate::limits::MAX_EDITS;
+use crate::placed::{entry_at, first_of, has_declared_kind, is_made_at};
+use crate::server::{Server, fresh_server};
+use fn_rules::{Rules, enabled_operations_are_near, functions_keep_forms, transform_stays_near};
+use ot_model::{Doc, NoMemory, Op, documents_grow_by_one_cell_at_most, enabled};
+use std::alloc::Global;
+
+/// A server and its clients.
+#[derive(Drop)]
+pub struct Hub {
+    rules: Rules,
+    first: Doc,
+    server: Server,
+    clients: Vec<Client>,
+    made: u32,
+    is_open: bool,
+    ghost small: { length first ≤ MAX_CELLS },
+    ghost kept: { IsHubKept (function_of rules) made server clients.items },
+}
+
+impl Hub {
+    ghost use Rattle.ot_hub.specs.Views.{view_of, IsClient, begun, client_of, HasEdited, up_step, down_step, HasMoved};
+
+    /// A new hub with this function, in which the server and so many clients hold the document. Clients are
+    /// numbered from 1.
+    pub fn new(alloc: Global, rules: &Rules, doc: &Doc, clients: u32) -> Result<Hub, NoMemory>
+        requires clients { (1 ≤ clients) × (clients ≤ MAX_CLIENTS) }
+        requires cells { length doc.now ≤ MAX_CELLS }
+        ensures { IfOk result (λ hub. view_of hub ≡ begun (function_of rules.now) doc.now clients) }
+    {
+        Ok(Hub {
+            rules: rules.try_clone()?,
+            first: doc.try_clone()?,
+            server: fresh_server(alloc, doc, clients)?,
+            clients: fresh_clients(alloc, doc, clients)?,
+            made: 0,
+            is_open: true,
+        })
+    }
+
+    /// Whether operations can be made and moved: no call was stuck, or wanted memory.
+    pub fn is_open(&self) -> bool
+        ensures { result ≡ (view_of self.now).is_open }
+    {
+        self.is_open
+    }
+
+    /// The server's document.
+    pub fn server(&self) -> &Doc
+        ensures { result.now ≡ (view_of self.now).server.doc }
+    {
+        &self.server.doc
+    }
+
+    /// How many entries the log has.
+    pub fn logged(&self) -> u32
+        ensures { result ≡ length (view_of self.now).server.log }
+    {
+        self.server.log.len() as u32
+    }
+
+    /// A client's document.
+    pub fn client(&self, client: u32) -> &Doc
+        requires { IsClient (length (view_of self.now).clients) client }
+        ensures { result.now ≡ (client_of (view_of self.now) client).doc }
+    {
+        &self.clients[client as usize - 1].doc
+    }
+
+    /// How many entries of the log a client received.
+    pub fn received(&self, client: u32) -> u32
+        requires { IsClient (length (view_of self.now).clients) client }
+        ensures { result ≡ (client_of (view_of self.now) client).received }
+    {
+        self.clients[client as usize - 1].received
+    }
+
+    /// How many operations of a client did not come back to it yet.
+    pub fn pending(&self, client: u32) -> u32
+        requires { IsClient (length (view_of self.now).clients) client }
+        ensures { result ≡ length (client_of (view_of self.now) client).pending }
+    {
+        self.clients[client as usize - 1].pending.len() as u32
+    }
+
+    /// A client makes an operation, which it executes at once; it is pending and on its way to the server.
+    pub fn edit(&mut self, client: u32, op: Op) -> Result<(), Edit>
+        requires { (view_of self.old).is_open ≡ true }
+        ensures { HasEdited (view_of self.old) (view_of self.new) client op result }
+    {
+        enabled_operations_are_near();
+        documents_grow_by_one_cell_at_most();
+        if !self.has_client(client) {
+            return Err(Edit::NoSite);
+        }
+        if !is_made_at(client, &op) {
+            return Err(Edit::WrongSite);
+        }
+        if !has_declared_kind(&self.rules, &op) {
+            return Err(Edit::WrongKind);
+        }
+        if !enabled(&op, self.client(client).len()) {
+            return Err(Edit::NotEnabled);
+        }
+        if self.made as usize == MAX_EDITS {
+            return Err(Edit::Full);
+        }
+        let place = client as usize - 1;
+        match edit_at(&self.rules, &mut self.clients, place, op) {
+            Ok(()) => {
+                self.made += 1;
+                Ok(())
+            }
+            Err(NoMemory) => {
+                self.is_open = false;
+                Err(Edit::NoMemory)
+            }
+        }
+    }
+
+    /// The server takes the oldest message of a client: it carries the operation over the entries that the
+    /// client had not received when it made it, and puts what it becomes at the end of its log.
+    pub fn up(&mut self, client: u32) -> Result<Moved, Move>
+        requires { (view_of self.old).is_open ≡ true }
+        ensures { HasMoved (view_of self.old) (view_of self.new) client (up_step (view_of self.old) client) result }
+    {
+        let _head = self.rules.head();
+        transform_stays_near();
+        functions_keep_forms();
+        enabled_operations_are_near();
+        documents_grow_by_one_cell_at_most();
+        if !self.has_client(client) {
+            return Err(Move::NoSite);
+        }
+        let place = client as usize - 1;
+        let alloc = *self.clients.allocator();
+        let Some(message) = first_of(&self.clients[place].messages) else {
+            return Ok(Moved::Nothing);
+        };
+        match self.server.take(alloc, &self.rules, client, &message) {
+            Ok(()) => {
+                sent_at(&mut self.clients, place);
+                Ok(Moved::Done)
+            }
+            Err(refusal) => {
+                self.is_open = false;
+                Err(refusal)
+            }
+        }
+    }
+
+    /// A client takes the next entry of the log. Its own one is its oldest pending operation; another
+    /// client's is carried over what is pending, and executed.
+    pub fn down(&mut self, client: u32) -> Result<Moved, Move>
+        requires { (view_of self.old).is_open ≡ true }
+        ensures { HasMoved (view_of self.old) (view_of self.new) client (down_step (view_of self.old) client) result }
+    {
+        let _head = self.rules.head();
+        transform_stays_near();
+        functions_keep_forms();
+        enabled_operations_are_near();
+        documents_grow_by_one_cell_at_most();
+        if !self.has_client(client) {
+            return Err(Move::NoSite);
+        }
+        let place = client as usize - 1;
+        let alloc = *self.clients.allocator();
+        let Some(entry) = entry_at(&self.server.log, self.clients[place].received) else {
+            return Ok(Moved::Nothing);
+        };
+        match take_at(alloc, &self.rules, &mut self.clients, place, &entry) {
+            Ok(()) => Ok(Moved::Done),
+            Err(refusal) => {
+                self.is_open = false;
+                Err(refusal)
+            }
+        }
+    }
+
+    /// Whether there is such a client.
+    pub fn has_client(&self, client: u32) -> bool
+        ensures { IsTrue result ↔ IsClient (length (view_of self.now).clients) client }
+    {
+        1 <= client && client as usize <= self.clients.len()
+    }
+}

@@ -1,0 +1,17 @@
+//! Sessions with a central server, which fixes one order of what its clients made.
+#![tactic(auto)]
+
+mod answer;
+mod carry;
+mod client;
+mod hub;
+mod laws;
+mod limits;
+mod placed;
+mod server;
+
+pub use answer::{Edit, Move, Moved};
+pub use hub::Hub;
+pub use laws::tp1_carries_across;
+pub use limits::{MAX_CLIENTS, MAX_EDITS};
+pub use ot_model::NoMemory;

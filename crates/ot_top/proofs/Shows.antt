@@ -1,0 +1,83 @@
+-- What a reply that was written shows, of whatever is known of the files.
+use Rattle.std.proofs.Common.{◌≡◌, ◌≢◌, ℕ, List, Option, Result, Ok, IsTrue, sym, ◌∙◌, subst, inl, inr, arith}
+use Rattle.diff_graph.specs.declared.lit.Lit.{Lit}
+use Rattle.fn_rules.specs.declared.function.Level.{Level}
+use Rattle.fn_rules.specs.Functions.{Function}
+use Rattle.fn_rules.specs.Validity.{is_valid}
+use Rattle.fn_text.specs.Grammar.{IsTextOf}
+use Rattle.fn_text.specs.Reading.{function_in}
+use Rattle.ask_core.specs.Plans.{Plan}
+use Rattle.ask_core.specs.Questions.{Questions, QuestionList}
+use Rattle.ot_questions.specs.declared.why.Why.{Why}
+use Rattle.ot_judge.specs.declared.refusal.JudgeEnd.{JudgeEnd}
+use Rattle.ot_judge.specs.Certificates.{IsCertificate}
+use Rattle.ot_judge.specs.Refusals.{IsJudgement}
+use Rattle.ot_outside.specs.Reads.{Reads}
+use Rattle.ot_replies.specs.declared.reply.Reply.{Reply}
+use Rattle.ot_top.specs.Given.{IsAnswerOfGiven}
+use Rattle.ot_top.specs.Replies.{IsReply}
+use Rattle.ot_top.specs.Shown.{HasLevel, IsBroken, IsComplete}
+use Rattle.ot_top.specs.Shows.{AreKnown, IsOfReply, Shows}
+use Rattle.ot_top.specs.Steady.{AreSteady}
+use Rattle.ot_replies.specs.Texts.{status_of, text_of}
+use Rattle.ot_top.proofs.Proving.{complete, proved}
+use Rattle.ot_top.proofs.Showing.{shown}
+use Rattle.ot_top.proofs.Steady.{steady}
+use Rattle.ot_top.proofs.Told.{IsAnswered, judged}
+use Rattle.ot_top.proofs.Unread.{unread}
+
+-- the reply, of what the shelf tells and of what its calls gave, is the reply of what is known
+pub reply_known :
+    (words : List (List ℕ)) (told holds : List ℕ → Option (List ℕ)) (old new : Reads) (r : Reply) → IsReply words told r
+    → AreSteady words told r → IsAnswerOfGiven words old new r → AreKnown words told old new holds
+    → IsReply words holds r × AreSteady words holds r
+reply_known words told holds old new r reply are given (inl same) = (
+  subst (λ (h : List ℕ → Option (List ℕ)). IsReply words h r) (sym same) reply,
+  subst (λ (h : List ℕ → Option (List ℕ)). AreSteady words h r) (sym same) are,
+)
+reply_known words told holds old new r reply are given (inr tells) = given.1 holds tells
+
+-- each status but those of a fault and of want of memory is that of a reply
+of_reply : (status n : ℕ) → status ≡ n → n ≢ 6 → n ≢ 7 → n ≢ 10 → IsOfReply status
+of_reply status n is six seven ten = (λ e. six (sym is ∙ e), λ e. seven (sym is ∙ e), λ e. ten (sym is ∙ e))
+
+module _ (words : List (List ℕ)) (holds : List ℕ → Option (List ℕ)) (IsWritten : List ℕ → Type 0) (status : ℕ)
+    (answered : IsOfReply status → IsAnswered words holds status IsWritten)
+    (has_level : (bytes : List ℕ) (f : Function) (level : Level) → IsCertificate bytes f level → HasLevel f level)
+    (is_text : (bytes : List ℕ) (f : Function) → function_in bytes ≡ Ok f → IsTextOf bytes f)
+    (is_within_limits : (bytes : List ℕ) (f : Function) → IsTextOf bytes f → IsTrue (is_valid f))
+    (is_read : (bytes : List ℕ) (f : Function) → IsTextOf bytes f → function_in bytes ≡ Ok f)
+    (some_judgement : (f : Function) (bytes : List ℕ) → (judgement : Result Level JudgeEnd) × IsJudgement f bytes judgement)
+    (one_judgement :
+    (f : Function) (bytes : List ℕ) (one other : Result Level JudgeEnd) → IsTrue (is_valid f) → IsJudgement f bytes one
+    → IsJudgement f bytes other → one ≡ other)
+    (one_list : (p : Plan Why) (w : List Lit) (q r : Questions Why) → QuestionList p w q → QuestionList p w r → q ≡ r)
+    (is_broken : (r : Reply) → 1 ≡ status_of r → IsReply words holds r → IsWritten (text_of r) → IsBroken words holds IsWritten) where
+  pub shows : Shows words holds IsWritten status
+  shows =
+      record {
+        sound =
+            λ zero.
+            let told = answered (of_reply status 0 zero (λ e. omega (arith, e)) (λ e. omega (arith, e)) (λ e. omega (arith, e))) in
+            shown has_level is_text words holds told.0 IsWritten (sym zero ∙ told.3) told.1 told.4;
+        proved =
+            λ zero.
+            let told = answered (of_reply status 0 zero (λ e. omega (arith, e)) (λ e. omega (arith, e)) (λ e. omega (arith, e))) in
+            proved is_text is_within_limits has_level one_judgement words holds told.0 IsWritten (sym zero ∙ told.3) told.1 told.4;
+        broken =
+            λ one.
+            let told = answered (of_reply status 1 one (λ e. omega (arith, e)) (λ e. omega (arith, e)) (λ e. omega (arith, e))) in
+            is_broken told.0 (sym one ∙ told.3) told.1 told.4;
+        complete =
+            λ of_a_reply.
+            let told = answered of_a_reply in
+            subst (λ (s : ℕ). IsComplete words holds s) (sym told.3) (complete is_read one_list words holds told.0 told.1);
+        judged =
+            λ of_a_reply.
+            judged is_read one_judgement is_within_limits some_judgement words holds status IsWritten (answered of_a_reply);
+        unread = λ of_a_reply. unread is_read is_text words holds status IsWritten (answered of_a_reply);
+        steady =
+            λ name session bytes f named known text agree one.
+            let told = answered (of_reply status 1 one (λ e. omega (arith, e)) (λ e. omega (arith, e)) (λ e. omega (arith, e))) in
+            steady is_read words holds told.0 told.2 name session bytes f named known text agree (sym told.3 ∙ one);
+      }

@@ -1,0 +1,62 @@
+-- What a command is answered of the bytes that the calls on a shelf gave of its files.
+use Rattle.std.specs.Prelude.{◌≡◌, ◌⊎◌, ℕ, List, Option, IfSome}
+use Rattle.std.specs.Option.{ForSome}
+use Rattle.ot_outside.specs.Reads.{Reads, after_reading}
+use Rattle.ot_replies.specs.declared.reply.Reply.{Reply}
+use Rattle.ot_words.specs.Commands.{Asked, Prove, Check, Integrate, Replay, Drill}
+use Rattle.ot_words.specs.Words.{asked_by}
+use Rattle.ot_top.specs.Replies.{IsReply, IsReplyTo}
+use Rattle.ot_top.specs.Steady.{AreSteady, IsSteadyReply}
+
+-- In what follows `old` and `new` are what the calls had given before a command and behind it, and `holds` says what names
+-- hold.
+
+-- the first file that was opened has this name, and these bytes were given of it
+abbrev pub IsReadFirst : Reads → Reads → List ℕ → List ℕ → Type 0
+IsReadFirst old new name bytes =
+    (new ≡ after_reading name bytes old)
+    ⊎ ((other given : List ℕ) × (new ≡ after_reading other given (after_reading name bytes old)))
+
+-- the same of the second
+abbrev pub IsReadSecond : Reads → Reads → List ℕ → List ℕ → Type 0
+IsReadSecond old new name bytes = (first given : List ℕ) × (new ≡ after_reading name bytes (after_reading first given old))
+
+-- the first of two files was opened first, and behind it no other than the second, or none
+abbrev pub HaveRead : Reads → Reads → List ℕ → List ℕ → Type 0
+HaveRead old new first second =
+    (bytes : List ℕ)
+    × ((new ≡ after_reading first bytes old) ⊎ ((given : List ℕ) × (new ≡ after_reading second given (after_reading first bytes old))))
+
+-- a command has opened its files in their order, each once, the second one only behind the function's
+abbrev pub HasRead : Reads → Reads → Asked → Type 0
+HasRead old new (Prove level budget function) = new ≡ after_reading function new.bytes old
+HasRead old new (Check function certificate) = HaveRead old new function certificate
+HasRead old new (Integrate function case) = HaveRead old new function case
+HasRead old new (Replay function session) = HaveRead old new function session
+HasRead old new (Drill number) = Unit {0}
+
+-- of the files of a command `holds` tells nothing but the bytes that were given
+abbrev pub TellsGiven : Reads → Reads → (List ℕ → Option (List ℕ)) → Asked → Type 0
+TellsGiven old new holds (Prove level budget function) = ForSome (holds function) (IsReadFirst old new function)
+TellsGiven old new holds (Check function certificate) =
+    ForSome (holds function) (IsReadFirst old new function) × ForSome (holds certificate) (IsReadSecond old new certificate)
+TellsGiven old new holds (Integrate function case) =
+    ForSome (holds function) (IsReadFirst old new function) × ForSome (holds case) (IsReadSecond old new case)
+TellsGiven old new holds (Replay function session) =
+    ForSome (holds function) (IsReadFirst old new function) × ForSome (holds session) (IsReadSecond old new session)
+TellsGiven old new holds (Drill number) = Unit {0}
+
+-- the command has read its files, and this is the reply to it, whatever is told of what was given
+abbrev pub IsReplyOfGiven : Reads → Reads → Asked → Reply → Type 0
+IsReplyOfGiven old new asked r =
+    HasRead old new asked
+    × ((holds : List ℕ → Option (List ℕ)) → TellsGiven old new holds asked → IsReplyTo holds asked r × IsSteadyReply holds asked r)
+
+-- the same of words
+abbrev pub TellsGivenOf : List (List ℕ) → Reads → Reads → (List ℕ → Option (List ℕ)) → Type 0
+TellsGivenOf words old new holds = IfSome (asked_by words) (TellsGiven old new holds)
+
+abbrev pub IsAnswerOfGiven : List (List ℕ) → Reads → Reads → Reply → Type 0
+IsAnswerOfGiven words old new r =
+    IfSome (asked_by words) (HasRead old new)
+    × ((holds : List ℕ → Option (List ℕ)) → TellsGivenOf words old new holds → IsReply words holds r × AreSteady words holds r)

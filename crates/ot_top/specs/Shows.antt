@@ -1,0 +1,28 @@
+-- What a status and what was written show of the files of words, and whence these are known.
+use Rattle.std.specs.Prelude.{◌≡◌, ◌≢◌, ◌⊎◌, ℕ, List, Option}
+use Rattle.ot_outside.specs.Reads.{Reads}
+use Rattle.ot_top.specs.declared.program.TheConstants.{SHELF_FAULT, SINK_FAULT, NO_MEMORY}
+use Rattle.ot_top.specs.Given.{TellsGivenOf}
+use Rattle.ot_top.specs.Shown.{IsBroken, IsComplete, IsJudgedAs, IsProved, IsShown, IsUnread}
+use Rattle.ot_top.specs.Steady.{IsSteady}
+
+-- the status is that of a reply: neither the files nor the sink failed, and there was memory
+abbrev pub IsOfReply : ℕ → Type 0
+IsOfReply status = (status ≢ SHELF_FAULT) × (status ≢ SINK_FAULT) × (status ≢ NO_MEMORY)
+
+-- what holds of the words where `holds` tells their files: what is accepted or proved has the properties that were written
+-- or asked, what is broken fails at the instance that was written, the statuses of `prove` and `check` are those that the
+-- questions and the judgement give, 3 comes where the file is the text of no function, and where a function makes sites
+-- agree they are not found apart
+pub record Shows (words : List (List ℕ)) (holds : List ℕ → Option (List ℕ)) (IsWritten : List ℕ → Type 0) (status : ℕ) : Type 0 where
+  pub sound : status ≡ 0 → IsShown words holds IsWritten
+  pub proved : status ≡ 0 → IsProved words holds IsWritten
+  pub broken : status ≡ 1 → IsBroken words holds IsWritten
+  pub complete : IsOfReply status → IsComplete words holds status
+  pub judged : IsOfReply status → IsJudgedAs words holds status
+  pub unread : IsOfReply status → IsUnread words holds status
+  pub steady : IsSteady words holds status
+
+-- the files are known: `holds` is what the shelf tells, or it tells what the calls gave
+abbrev pub AreKnown : List (List ℕ) → (List ℕ → Option (List ℕ)) → Reads → Reads → (List ℕ → Option (List ℕ)) → Type 0
+AreKnown words told old new holds = (holds ≡ told) ⊎ TellsGivenOf words old new holds
