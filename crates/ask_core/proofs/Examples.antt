@@ -2,8 +2,8 @@
 -- no, and at yes asks whether name 1 is below name 0, which no integers meet after yes.
 use Rattle.std.proofs.Common.{◌≡◌, ℕ, ℤ, pos, negsuc, ◌+ℤ◌, ◌≤ℤ◌, true, false, [], ◌∷◌, refl, Result, Ok, Err, Some, None, lit≤, inl, inr, arith}
 use Rattle.std.proofs.lemmas.Int.{ints}
-use Rattle.diff_graph.specs.declared.lit.PickEnd.{PickEnd}
-use Rattle.diff_graph.specs.declared.lit.PickEnd.TheVariants.{NotACycle}
+use Rattle.diff_graph.specs.declared.lit.PickError.{PickError}
+use Rattle.diff_graph.specs.declared.lit.PickError.TheVariants.{NotACycle}
 use Rattle.diff_graph.specs.Literals.{IsPossible}
 use Rattle.ask_core.specs.declared.tree.Tok.TheVariants as token
 use Rattle.ask_core.specs.Trees.{Question, End, Impossible, Fits, tokens_of}
@@ -38,7 +38,7 @@ unfit-end_where_the_plan_fails fits = fits.0.0
 unfit-cycle_of_one_literal :
     Fits (Question (Question (Impossible (0 ∷ 0 ∷ [])) End) End) (two_name_plan true) [] → ⊥
 unfit-cycle_of_one_literal fits =
-    let wrong : ◌≡◌ {A = Result (Unit {0}) PickEnd} (Err NotACycle) (Ok tt) = fits.0.0.2 in cc
+    let wrong : ◌≡◌ {A = Result (Unit {0}) PickError} (Err NotACycle) (Ok tt) = fits.0.0.2 in cc
 
 -- the tokens in preorder
 tokens_of-each_end_answered :

@@ -1,5 +1,5 @@
 //! Cycles of literals, judged.
-use diff_graph::{Lit, PickEnd, is_negative_cycle};
+use diff_graph::{Lit, PickError, is_negative_cycle};
 
 #[test]
 fn picks_are_judged_in_the_order_of_their_faults(rt: HostRuntime) {
@@ -16,10 +16,16 @@ fn picks_are_judged_in_the_order_of_their_faults(rt: HostRuntime) {
     );
     assert_eq!(rt;
         is_negative_cycle(&lits, &[2, 1]),
-        Err(PickEnd::NotNegative)
+        Err(PickError::NotNegative)
     );
-    assert_eq!(rt; is_negative_cycle(&lits, &[0, 0]), Err(PickEnd::NotACycle));
-    assert_eq!(rt; is_negative_cycle(&lits, &[0]), Err(PickEnd::NotACycle));
-    assert_eq!(rt; is_negative_cycle(&lits, &[]), Err(PickEnd::NotACycle));
-    assert_eq!(rt; is_negative_cycle(&lits, &[0, 0, 3]), Err(PickEnd::BadPick));
+    assert_eq!(rt;
+        is_negative_cycle(&lits, &[0, 0]),
+        Err(PickError::NotACycle)
+    );
+    assert_eq!(rt; is_negative_cycle(&lits, &[0]), Err(PickError::NotACycle));
+    assert_eq!(rt; is_negative_cycle(&lits, &[]), Err(PickError::NotACycle));
+    assert_eq!(rt;
+        is_negative_cycle(&lits, &[0, 0, 3]),
+        Err(PickError::BadPick)
+    );
 }

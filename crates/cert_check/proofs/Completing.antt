@@ -1,14 +1,14 @@
 -- What completes the open branches behind a token, by what the token leaves of them.
 use Rattle.std.proofs.Common.{◌≡◌, ◌↔◌, ℕ, ◌≤◌, List, [], ◌∷◌, length, Result, Ok, Err, ◌⊎◌, inl, inr, arith, refl, subst, sym}
 use Rattle.diff_graph.specs.declared.lit.Lit.{Lit}
-use Rattle.diff_graph.specs.declared.lit.PickEnd.{PickEnd}
+use Rattle.diff_graph.specs.declared.lit.PickError.{PickError}
 use Rattle.diff_graph.specs.Cycles.{pick_verdict}
 use Rattle.ask_core.specs.declared.tree.Tok.{Tok}
 use Rattle.ask_core.specs.declared.tree.Tok.TheVariants as token
 use Rattle.ask_core.specs.Plans.{Plan, Ask, Holds, Fails}
 use Rattle.ask_core.specs.Trees.{Branch, Completes, CompletesBehind, CompletesParts, End, Fits, IsCycleAmong}
-use Rattle.cert_check.specs.declared.verdict.CheckEnd.{CheckEnd}
-use Rattle.cert_check.specs.declared.verdict.CheckEnd.TheVariants as end
+use Rattle.cert_check.specs.declared.verdict.CheckError.{CheckError}
+use Rattle.cert_check.specs.declared.verdict.CheckError.TheVariants as end
 use Rattle.cert_check.specs.Steps.{after, branches_after_cycle, branches_after_end, branches_after_question, HasFewPicks}
 
 -- no numbers are no cycle
@@ -18,7 +18,7 @@ cycle_has_picks w (n ∷ picks) ok = omega arith
 
 module _ {W : Type 0} where
   -- the tokens complete what a token left, if it was taken
-  abbrev pub IsCompleted : List Tok → Result (List (Branch W)) CheckEnd → Type 0
+  abbrev pub IsCompleted : List Tok → Result (List (Branch W)) CheckError → Type 0
   IsCompleted tokens (Ok next) = Completes tokens next
   IsCompleted tokens (Err why) = ⊥
 
@@ -37,7 +37,7 @@ module _ {W : Type 0} where
   after_end (Fails why) w branches tokens = (λ held. held.0, λ none. absurd none)
 
   after_cycle :
-      (w : List Lit) (picks : List ℕ) (branches : List (Branch W)) (tokens : List Tok) (verdict : Result (Unit {0}) PickEnd)
+      (w : List Lit) (picks : List ℕ) (branches : List (Branch W)) (tokens : List Tok) (verdict : Result (Unit {0}) PickError)
       → pick_verdict w picks ≡ verdict → (IsCycleAmong w picks × Completes tokens branches)
       → IsCompleted tokens (branches_after_cycle verdict branches)
   after_cycle w picks branches tokens (Ok done) is (cycle, rest) = rest
@@ -45,7 +45,7 @@ module _ {W : Type 0} where
       let ok : pick_verdict w picks ≡ Ok tt = cycle.2 in cc
 
   before_cycle :
-      (w : List Lit) (picks : List ℕ) (branches : List (Branch W)) (tokens : List Tok) (verdict : Result (Unit {0}) PickEnd)
+      (w : List Lit) (picks : List ℕ) (branches : List (Branch W)) (tokens : List Tok) (verdict : Result (Unit {0}) PickError)
       → HasFewPicks (token.Cycle picks) → pick_verdict w picks ≡ verdict
       → IsCompleted tokens (branches_after_cycle verdict branches) → IsCycleAmong w picks × Completes tokens branches
   before_cycle w picks branches tokens (Ok done) few is rest = ((cycle_has_picks w picks is, few, is), rest)
@@ -82,20 +82,20 @@ module _ {W : Type 0} (by_token : ByToken W) (tok : Tok) (branches : List (Branc
       → (Completes (tok ∷ tokens) branches ↔ Completes tokens next)
   Completes-step next tokens few taken = (
     λ whole.
-        subst (λ (x : Result (List (Branch W)) CheckEnd). IsCompleted tokens x) taken
+        subst (λ (x : Result (List (Branch W)) CheckError). IsCompleted tokens x) taken
         (IsCompleted-after tok branches tokens ((by_token tok tokens branches).0 whole)),
     λ rest.
         (by_token tok tokens branches).1
         (CompletesBehind-before tok branches tokens few
-        (subst (λ (x : Result (List (Branch W)) CheckEnd). IsCompleted tokens x) (sym taken) rest)),
+        (subst (λ (x : Result (List (Branch W)) CheckError). IsCompleted tokens x) (sym taken) rest)),
   )
 
   -- a token that is refused, not for want of memory, begins nothing that completes them
   pub Completes-none :
-      (why : CheckEnd) (tokens : List Tok)
+      (why : CheckError) (tokens : List Tok)
       → (why ≡ end.NoMemory) ⊎ (after tok branches ≡ Err why) → (why ≡ end.NoMemory → ⊥)
       → Completes (tok ∷ tokens) branches → ⊥
   Completes-none why tokens (inl memory) other whole = other memory
   Completes-none why tokens (inr refused) other whole =
-      subst (λ (x : Result (List (Branch W)) CheckEnd). IsCompleted tokens x) refused
+      subst (λ (x : Result (List (Branch W)) CheckError). IsCompleted tokens x) refused
       (IsCompleted-after tok branches tokens ((by_token tok tokens branches).0 whole))

@@ -6,7 +6,7 @@ use Rattle.diff_graph.specs.declared.lit.Lit.{Lit}
 use Rattle.ask_core.specs.declared.tree.Tok.TheVariants as token
 use Rattle.ask_core.specs.Plans.{Plan, Ask, Holds, Fails}
 use Rattle.ask_core.specs.Trees.{Branch}
-use Rattle.cert_check.specs.declared.verdict.CheckEnd.TheVariants as end
+use Rattle.cert_check.specs.declared.verdict.CheckError.TheVariants as end
 use Rattle.cert_check.specs.Steps.{after}
 
 -- name 1 is at most, or below, name 2, and the other way round

@@ -7,7 +7,7 @@ use Rattle.ask_core.specs.declared.tree.Tok.TheVariants as token
 use Rattle.ask_core.specs.Plans.{Plan, Ask, Holds, Fails}
 use Rattle.ask_core.specs.Trees.{Branch}
 use Rattle.ask_core.specs.Paths.{OpenPlace, branches_at, after_question, first_answers, first_plan}
-use Rattle.cert_check.specs.declared.verdict.CheckEnd.TheVariants as end
+use Rattle.cert_check.specs.declared.verdict.CheckError.TheVariants as end
 use Rattle.cert_check.specs.Steps.{after}
 
 module _ {N W : Type 0} (plan : N → Plan W) where

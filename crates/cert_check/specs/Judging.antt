@@ -4,8 +4,8 @@ use Rattle.ask_core.specs.Plans.{Plan, value}
 use Rattle.ask_core.specs.declared.tree.Tok.{Tok}
 use Rattle.ask_core.specs.Trees.{Branch, Completes}
 use Rattle.ask_core.specs.Paths.{OpenPlace, AreOwn, branches_at}
-use Rattle.cert_check.specs.declared.verdict.CheckEnd.{CheckEnd}
-use Rattle.cert_check.specs.declared.verdict.CheckEnd.TheVariants.{NoMemory}
+use Rattle.cert_check.specs.declared.verdict.CheckError.{CheckError}
+use Rattle.cert_check.specs.declared.verdict.CheckError.TheVariants.{NoMemory}
 use Rattle.cert_check.specs.declared.verdict.Progress.{Progress}
 use Rattle.cert_check.specs.declared.verdict.Progress.TheVariants.{More, Done}
 use Rattle.cert_check.specs.Steps.{after}
@@ -13,7 +13,7 @@ use Rattle.cert_check.specs.Steps.{after}
 pub record Judging (A N : Type 0) : Type 0 where
   pub asker : A
   pub places : List (OpenPlace N)
-  pub refusal : Option CheckEnd
+  pub refusal : Option CheckError
 
 -- the open branches, given what an asker's nodes stand for
 abbrev pub open_branches : {A N W : Type 0} → (A → N → Plan W) → Judging A N → List (Branch W)
@@ -39,5 +39,5 @@ abbrev pub BeginsNothing : {W : Type 0} → Tok → List (Branch W) → Type 0
 BeginsNothing tok branches = (tokens : List Tok) → ¬ Completes (tok ∷ tokens) branches
 
 -- the refusal is want of memory, or that of the token at the branches
-abbrev pub IsCauseOf : {W : Type 0} → CheckEnd → Tok → List (Branch W) → Type 0
+abbrev pub IsCauseOf : {W : Type 0} → CheckError → Tok → List (Branch W) → Type 0
 IsCauseOf e tok branches = (e ≡ NoMemory) ⊎ (after tok branches ≡ Err e)

@@ -1,13 +1,13 @@
 //! The checker of trees over any asker.
 ghost use Rattle.std.specs.Prelude.{◌≡◌, ◌≢◌, ℕ, ℤ, ◌<◌, ◌≤◌, true, [], ◌∷◌, length, Some, None, Ok, Err, OnErr, IfOk, IfErr};
 ghost use Rattle.ask_core.specs.Plans.{value};
-ghost use Rattle.cert_check.specs.declared.verdict.CheckEnd.TheVariants as end;
+ghost use Rattle.cert_check.specs.declared.verdict.CheckError.TheVariants as end;
 ghost use Rattle.cert_check.specs.declared.verdict.Progress.TheVariants as progress;
 ghost use Rattle.cert_check.specs.Steps.{after};
 ghost use Rattle.cert_check.specs.Judging.{open_branches, IsStep, BeginsNothing, IsCauseOf};
 
 use crate::token::take_token;
-use crate::verdict::{CheckEnd, Progress};
+use crate::verdict::{CheckError, Progress};
 use ask_core::{Asker, NoMemory, Path, Tok, fitting_trees_hold, trees_are_judged_token_by_token};
 use std::alloc::Global;
 use std::marker::Model;
@@ -21,7 +21,7 @@ pub const MAX_NAMES: u8 = 12;
 pub struct Checker<A: Asker> {
     asker: A,
     path: Path<A::Node>,
-    refusal: Option<CheckEnd>,
+    refusal: Option<CheckError>,
 }
 
 impl<A: Asker> Model for Checker<A> {
@@ -54,7 +54,7 @@ impl<A: Asker> Checker<A> {
 
     /// Takes the next token of the tree, at the first open place. A refused token leaves the places as
     /// they were, and every later one is answered by the same refusal.
-    pub fn feed(&mut self, tok: Tok) -> Result<Progress, CheckEnd>
+    pub fn feed(&mut self, tok: Tok) -> Result<Progress, CheckError>
         requires { 0 < length self.old.places }
 
         // What a token that is taken leaves, and that the last one shows what the tree is for.
@@ -70,7 +70,7 @@ impl<A: Asker> Checker<A> {
         ensures refused { self.old.refusal ≡ None
             → IfErr result (λ e. e ≢ end.NoMemory → BeginsNothing tok (open_branches A.plan self.old)) }
         ensures stays { IfErr result (λ e. self.new.refusal ≡ Some e) }
-        ensures again { (e : CheckEnd) → self.old.refusal ≡ Some e → result ≡ Err e }
+        ensures again { (e : CheckError) → self.old.refusal ≡ Some e → result ≡ Err e }
         ensures err { OnErr result (self.new.places ≡ self.old.places) }
         ensures err_open { OnErr result (open_branches A.plan self.new ≡ open_branches A.plan self.old) }
         ensures root { A.root self.new.asker ≡ A.root self.old.asker }

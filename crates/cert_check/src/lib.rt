@@ -15,4 +15,4 @@ mod token;
 mod verdict;
 
 pub use checker::{Checker, MAX_NAMES};
-pub use verdict::{CheckEnd, Progress};
+pub use verdict::{CheckError, Progress};

@@ -1,24 +1,24 @@
 //! One token at the first open place.
 ghost use Rattle.std.specs.Prelude.{◌≡◌, ◌<◌, ◌≤◌, length, drop, Ok, Err, OnOk, OnErr, IfErr};
-ghost use Rattle.diff_graph.specs.declared.lit.PickEnd.{PickEnd};
+ghost use Rattle.diff_graph.specs.declared.lit.PickError.{PickError};
 ghost use Rattle.diff_graph.specs.Cycles.{pick_verdict};
 ghost use Rattle.ask_core.specs.declared.tree.Tok.TheVariants as token;
 ghost use Rattle.ask_core.specs.Paths.{AreOwn, branches_at, first_answers};
 ghost use Rattle.cert_check.specs.Steps.{after, end_of_cycle, HasFewPicks};
 ghost use Rattle.cert_check.specs.Judging.{IsCauseOf};
 
-use crate::verdict::CheckEnd;
+use crate::verdict::CheckError;
 use ask_core::{Asker, MAX_PICKS, Path, Picks, Tok, Turn, turn_at};
 use diff_graph::is_negative_cycle;
 
 /// Takes a cycle: it closes the first place where it is a negative cycle of the answers there.
-pub fn take_cycle<N: Copy>(path: &mut Path<N>, picks: &Picks) -> Result<(), CheckEnd>
+pub fn take_cycle<N: Copy>(path: &mut Path<N>, picks: &Picks) -> Result<(), CheckError>
     requires { 0 < length path.old }
     ensures few { length picks.now ≤ MAX_PICKS }
     ensures closed { OnOk result (path.new ≡ drop 1 path.old) }
     ensures ok { OnOk result (pick_verdict (first_answers path.old) picks.now ≡ Ok tt) }
     ensures err { OnErr result (path.new ≡ path.old) }
-    ensures why { IfErr result (λ e. (p : PickEnd) × (pick_verdict (first_answers path.old) picks.now ≡ Err p) × (e ≡ end_of_cycle p)) }
+    ensures why { IfErr result (λ e. (p : PickError) × (pick_verdict (first_answers path.old) picks.now ≡ Err p) × (e ≡ end_of_cycle p)) }
 {
     is_negative_cycle(path.answers(), picks.as_slice())?;
     path.close();
@@ -26,7 +26,7 @@ pub fn take_cycle<N: Copy>(path: &mut Path<N>, picks: &Picks) -> Result<(), Chec
 }
 
 /// Takes `.`: it closes the first place where the plan holds there.
-pub fn take_end<A: Asker>(asker: &mut A, path: &mut Path<A::Node>) -> Result<(), CheckEnd>
+pub fn take_end<A: Asker>(asker: &mut A, path: &mut Path<A::Node>) -> Result<(), CheckError>
     requires open { 0 < length path.old }
     requires own { AreOwn (A.is_own asker.old) path.old }
     ensures ok { OnOk result (after token.Holds (branches_at (A.plan asker.old) path.old) ≡ Ok (branches_at (A.plan asker.new) path.new)) }
@@ -37,17 +37,17 @@ pub fn take_end<A: Asker>(asker: &mut A, path: &mut Path<A::Node>) -> Result<(),
     ensures root { A.root asker.new ≡ A.root asker.old }
 {
     match turn_at(asker, path)? {
-        Turn::Ask { .. } => Err(CheckEnd::NotDone),
+        Turn::Ask { .. } => Err(CheckError::NotDone),
         Turn::Holds => {
             path.close();
             Ok(())
         }
-        Turn::Fails(_) => Err(CheckEnd::GoalFails),
+        Turn::Fails(_) => Err(CheckError::GoalFails),
     }
 }
 
 /// Takes `?`: the first place becomes its part for yes, and then comes its part for no.
-pub fn take_question<A: Asker>(asker: &mut A, path: &mut Path<A::Node>) -> Result<(), CheckEnd>
+pub fn take_question<A: Asker>(asker: &mut A, path: &mut Path<A::Node>) -> Result<(), CheckError>
     requires open { 0 < length path.old }
     requires own { AreOwn (A.is_own asker.old) path.old }
     ensures ok { OnOk result (after token.Ask (branches_at (A.plan asker.old) path.old) ≡ Ok (branches_at (A.plan asker.new) path.new)) }
@@ -62,8 +62,8 @@ pub fn take_question<A: Asker>(asker: &mut A, path: &mut Path<A::Node>) -> Resul
             path.ask(lit, yes, no)?;
             Ok(())
         }
-        Turn::Holds => Err(CheckEnd::NotAQuestion),
-        Turn::Fails(_) => Err(CheckEnd::NotAQuestion),
+        Turn::Holds => Err(CheckError::NotAQuestion),
+        Turn::Fails(_) => Err(CheckError::NotAQuestion),
     }
 }
 
@@ -73,7 +73,7 @@ pub fn take_token<A: Asker>(
     asker: &mut A,
     path: &mut Path<A::Node>,
     tok: Tok,
-) -> Result<(), CheckEnd>
+) -> Result<(), CheckError>
     requires open { 0 < length path.old }
     requires own { AreOwn (A.is_own asker.old) path.old }
     ensures ok { OnOk result (after tok (branches_at (A.plan asker.old) path.old) ≡ Ok (branches_at (A.plan asker.new) path.new)) }

@@ -1,9 +1,9 @@
 //! What a checker answers.
 ghost use Rattle.std.specs.Prelude.{◌≡◌};
-ghost use Rattle.cert_check.specs.declared.verdict.CheckEnd.TheVariants as end;
+ghost use Rattle.cert_check.specs.declared.verdict.CheckError.TheVariants as end;
 
 use ask_core::NoMemory;
-use diff_graph::PickEnd;
+use diff_graph::PickError;
 
 /// What an accepted token leaves.
 #[derive(Clone, Copy, Debug, PartialEq, Eq)]
@@ -17,7 +17,7 @@ pub enum Progress {
 
 /// Why a token is refused.
 #[derive(Clone, Copy, Debug, PartialEq, Eq)]
-pub enum CheckEnd {
+pub enum CheckError {
     /// `?` where nothing is asked.
     NotAQuestion,
 
@@ -40,25 +40,25 @@ pub enum CheckEnd {
     NoMemory,
 }
 
-impl From<NoMemory> for CheckEnd {
+impl From<NoMemory> for CheckError {
     ghost from_gives = { λ _ e. e ≡ end.NoMemory };
 
-    fn from(_e: NoMemory) -> CheckEnd {
-        CheckEnd::NoMemory
+    fn from(_e: NoMemory) -> CheckError {
+        CheckError::NoMemory
     }
 }
 
-impl From<PickEnd> for CheckEnd {
+impl From<PickError> for CheckError {
     ghost use Rattle.std.specs.Prelude.{◌≡◌};
     ghost use Rattle.cert_check.specs.Steps.{end_of_cycle};
 
     ghost from_gives = { λ p e. e ≡ end_of_cycle p };
 
-    fn from(e: PickEnd) -> CheckEnd {
+    fn from(e: PickError) -> CheckError {
         match e {
-            PickEnd::BadPick => CheckEnd::BadPick,
-            PickEnd::NotACycle => CheckEnd::NotACycle,
-            PickEnd::NotNegative => CheckEnd::NotNegative,
+            PickError::BadPick => CheckError::BadPick,
+            PickError::NotACycle => CheckError::NotACycle,
+            PickError::NotNegative => CheckError::NotNegative,
         }
     }
 }

@@ -12,8 +12,8 @@ use Rattle.ask_core.specs.declared.tree.Tok.TheVariants as token
 use Rattle.cert_text.specs.declared.item.Part.{Part}
 use Rattle.cert_text.specs.declared.item.Part.TheVariants as part
 use Rattle.cert_text.specs.declared.item.Item.{Item}
-use Rattle.cert_text.specs.declared.item.CertEnd.{CertEnd}
-use Rattle.cert_text.specs.declared.item.CertEnd.TheVariants as cert
+use Rattle.cert_text.specs.declared.item.CertError.{CertError}
+use Rattle.cert_text.specs.declared.item.CertError.TheVariants as cert
 use Rattle.cert_text.specs.Cycles.{IsNoFront, IsShortNumber, cycle_text, number_text, numbers_before}
 use Rattle.cert_text.specs.Numbers.{AreShort, IsSpellableCycle, PICK_LIMIT}
 use Rattle.cert_text.specs.Places.{Place, Start, Line, Tree, Finish, Stands, names_of, part_text, place_after}
@@ -29,7 +29,7 @@ GoesOn place bytes = (p : Part) × (rest : List ℕ) × Stands place p × (bytes
 
 -- they end there in some way
 abbrev Ends : Place → ℕ → List ℕ → Type 0
-Ends place offset bytes = (end : Result (Unit {0}) CertEnd) × EndsThere place offset bytes end
+Ends place offset bytes = (end : Result (Unit {0}) CertError) × EndsThere place offset bytes end
 
 abbrev GoesOnOrEnds : Place → ℕ → List ℕ → Type 0
 GoesOnOrEnds place offset bytes = GoesOn place bytes ⊎ Ends place offset bytes
@@ -372,7 +372,7 @@ goes_on_or_ends Finish offset (b ∷ bytes) = inr (Err (cert.Trailing offset), (
 
 -- bytes give parts from a place on, and end
 abbrev AreRead : Place → ℕ → List ℕ → Type 0
-AreRead place offset bytes = (items : List Item) × (end : Result (Unit {0}) CertEnd) × ReadsFrom place offset bytes items end
+AreRead place offset bytes = (items : List Item) × (end : Result (Unit {0}) CertError) × ReadsFrom place offset bytes items end
 
 read_on :
     (place : Place) (offset : ℕ) (bytes : List ℕ)
@@ -394,7 +394,7 @@ read_within (suc room) place offset bytes few =
 
 -- whatever bytes are still to come, they give a reader some parts, and end
 pub all_read :
-    (reader : Progress) (bytes : List ℕ) → (items : List Item) × (end : Result (Unit {0}) CertEnd) × Reads reader bytes items end
+    (reader : Progress) (bytes : List ℕ) → (items : List Item) × (end : Result (Unit {0}) CertError) × Reads reader bytes items end
 all_read (Reading place offset begun) bytes =
     read_within (length (begun ++ bytes)) place offset (begun ++ bytes) (omega arith)
 all_read (Refused refusal) bytes = ([], Err refusal, (refl, refl))

@@ -8,7 +8,7 @@ use Rattle.ask_core.specs.declared.tree.Tok.{Tok}
 use Rattle.cert_text.specs.declared.item.Part.{Part}
 use Rattle.cert_text.specs.declared.item.Part.TheVariants as part
 use Rattle.cert_text.specs.declared.item.Item.{Item}
-use Rattle.cert_text.specs.declared.item.CertEnd.{CertEnd}
+use Rattle.cert_text.specs.declared.item.CertError.{CertError}
 use Rattle.cert_text.specs.declared.stage.Stage.{Stage}
 use Rattle.cert_text.specs.declared.stage.Stage.TheVariants as stage
 use Rattle.cert_text.specs.declared.step.Begun.{Begun}
@@ -80,7 +80,7 @@ goes_on_more was between now (b ∷ bytes) byte goes gives way =
 -- bytes that end no part leave what those behind them give
 goes_on_reads :
     (was now : Progress) (bytes : List ℕ) → GoesOn was bytes now
-    → (rest : List ℕ) (items : List Item) (end : Result (Unit {0}) CertEnd)
+    → (rest : List ℕ) (items : List Item) (end : Result (Unit {0}) CertError)
     → Reads was (bytes ++ rest) items end ↔ Reads now rest items end
 goes_on_reads was now [] goes rest items end =
     subst (λ (p : Progress). Reads was rest items end ↔ Reads p rest items end) (sym goes) (λ h. h, λ h. h)
@@ -90,9 +90,9 @@ goes_on_reads was now (b ∷ bytes) goes rest items end =
     (λ h. more.0 (one.0 h), λ h. one.1 (more.1 h))
 
 ends_reads :
-    (was now : Progress) (piece : List ℕ) (taken : ℕ) (result : Result (Option Item) CertEnd)
+    (was now : Progress) (piece : List ℕ) (taken : ℕ) (result : Result (Option Item) CertError)
     → EndsWithin was piece taken result now
-    → (rest : List ℕ) (items : List Item) (end : Result (Unit {0}) CertEnd)
+    → (rest : List ℕ) (items : List Item) (end : Result (Unit {0}) CertError)
     → Reads was (take taken piece ++ rest) items end ↔ ReadsOn result now rest items end
 ends_reads was now piece taken result (within, (front, byte, between, text, goes, gives)) rest items end =
     let bytes : take taken piece ++ rest ≡ front ++ byte ∷ rest =
@@ -104,13 +104,13 @@ ends_reads was now piece taken result (within, (front, byte, between, text, goes
 
 -- of a piece that is not empty some bytes are taken, and none behind it
 ends_within :
-    (was now : Progress) (piece : List ℕ) (taken : ℕ) (result : Result (Option Item) CertEnd)
+    (was now : Progress) (piece : List ℕ) (taken : ℕ) (result : Result (Option Item) CertError)
     → EndsWithin was piece taken result now → (taken ≤ length piece) × (0 < taken)
 ends_within was now piece taken result (within, (front, byte, between, text, goes, gives)) =
     (within, omega (arith, ap length text, length-append front (byte ∷ []), length-take-le taken piece within))
 
 pub piece_within :
-    (was now : Progress) (piece : List ℕ) (taken : ℕ) (result : Result (Option Item) CertEnd)
+    (was now : Progress) (piece : List ℕ) (taken : ℕ) (result : Result (Option Item) CertError)
     → GivesOf was piece taken result now → (taken ≤ length piece) × (0 < length piece → 0 < taken)
 piece_within was now piece taken (Ok None) g = (omega (arith, g.0), λ some. omega (arith, g.0))
 piece_within was now piece taken (Ok (Some item)) g =
@@ -120,9 +120,9 @@ piece_within was now piece taken (Err refusal) g =
 
 -- what a piece gives and what is behind the bytes that were taken of it
 pub piece_reads :
-    (was now : Progress) (piece : List ℕ) (taken : ℕ) (result : Result (Option Item) CertEnd)
+    (was now : Progress) (piece : List ℕ) (taken : ℕ) (result : Result (Option Item) CertError)
     → GivesOf was piece taken result now
-    → (rest : List ℕ) (items : List Item) (end : Result (Unit {0}) CertEnd)
+    → (rest : List ℕ) (items : List Item) (end : Result (Unit {0}) CertError)
     → Reads was (take taken piece ++ rest) items end ↔ ReadsOn result now rest items end
 piece_reads was now piece taken (Ok None) g rest items end =
     let all : take taken piece ≡ piece = rw g.0 (take-length piece) in
@@ -142,7 +142,7 @@ front_grows bytes i b text longer within byte text_is longer_is =
 -- a whole token ends at a reader that stands between tokens in a tree
 pub token_ends :
     (tp1 tp2 : List ObName) (at : Stage) (level : Level) (came branches behind offset taken : ℕ) (b : Begun) (line : List ℕ)
-    (refused : Option CertEnd) (was : Progress) (t : Tok) (piece : List ℕ)
+    (refused : Option CertError) (was : Progress) (t : Tok) (piece : List ℕ)
     → progress_at refused (place_of tp1 tp2 at) offset (begun_text b) ≡ was → refused ≡ None
     → at ≡ stage.Tree level came branches → b ≡ begun.Line line → IsSound (place_of tp1 tp2 at) b → 0 < branches
     → behind ≡ open_after branches t → IsSpellable t → taken ≤ length piece → token_text t ≡ take taken piece

@@ -3,8 +3,8 @@ use Rattle.std.proofs.Common.{◌≡◌, ◌≢◌, ℕ, ◌+◌, ◌↔◌, Opt
 use Rattle.fn_rules.specs.declared.function.ObName.{ObName}
 use Rattle.cert_text.specs.declared.item.Part.{Part}
 use Rattle.cert_text.specs.declared.item.Item.{Item}
-use Rattle.cert_text.specs.declared.item.CertEnd.{CertEnd}
-use Rattle.cert_text.specs.declared.item.CertEnd.TheVariants as cert
+use Rattle.cert_text.specs.declared.item.CertError.{CertError}
+use Rattle.cert_text.specs.declared.item.CertError.TheVariants as cert
 use Rattle.cert_text.specs.declared.stage.Stage.{Stage}
 use Rattle.cert_text.specs.declared.stage.Stage.TheVariants as stage
 use Rattle.cert_text.specs.declared.step.Begun.{Begun}
@@ -31,20 +31,20 @@ not_finished tp1 tp2 (stage.Tree level came branches) other is = cc
 not_finished tp1 tp2 stage.Over other is = other refl
 
 -- the fields of a reader that did not refuse
-reading : (refused : Option CertEnd) (place : Place) (offset : ℕ) (bytes : List ℕ) → refused ≡ None → progress_at refused place offset bytes ≡ Reading place offset bytes
+reading : (refused : Option CertError) (place : Place) (offset : ℕ) (bytes : List ℕ) → refused ≡ None → progress_at refused place offset bytes ≡ Reading place offset bytes
 reading refused place offset bytes none = rw none refl
 
 -- what came is a front of a part, where no byte was refused
 pub under_way :
-    (tp1 tp2 : List ObName) (at : Stage) (offset : ℕ) (b : Begun) (refused : Option CertEnd) → refused ≡ None
+    (tp1 tp2 : List ObName) (at : Stage) (offset : ℕ) (b : Begun) (refused : Option CertError) → refused ≡ None
     → IsSound (place_of tp1 tp2 at) b → IsUnderWay (progress_at refused (place_of tp1 tp2 at) offset (begun_text b))
 under_way tp1 tp2 at offset b refused none sound = rw none (sound_front (place_of tp1 tp2 at) b sound)
 
 -- at the end of the file, behind the last line
 pub finish_over :
-    (tp1 tp2 : List ObName) (at : Stage) (offset : ℕ) (b : Begun) (refused : Option CertEnd) (now : Progress)
+    (tp1 tp2 : List ObName) (at : Stage) (offset : ℕ) (b : Begun) (refused : Option CertError) (now : Progress)
     → progress_at refused (place_of tp1 tp2 at) offset (begun_text b) ≡ now → refused ≡ None → at ≡ stage.Over
-    → IsSound (place_of tp1 tp2 at) b → (items : List Item) (end : Result (Unit {0}) CertEnd)
+    → IsSound (place_of tp1 tp2 at) b → (items : List Item) (end : Result (Unit {0}) CertError)
     → Reads now [] items end ↔ ((items ≡ []) × (end ≡ Ok tt))
 finish_over tp1 tp2 at offset b refused now is none over sound items end =
     let empty : begun_text b ≡ [] = none_came b (subst (λ (a : Stage). IsSound (place_of tp1 tp2 a) b) over sound) in
@@ -53,9 +53,9 @@ finish_over tp1 tp2 at offset b refused now is none over sound items end =
 
 -- at the end of the file, before it
 pub finish_before :
-    (tp1 tp2 : List ObName) (at : Stage) (offset len : ℕ) (b : Begun) (refused : Option CertEnd) (now : Progress)
+    (tp1 tp2 : List ObName) (at : Stage) (offset len : ℕ) (b : Begun) (refused : Option CertError) (now : Progress)
     → progress_at refused (place_of tp1 tp2 at) offset (begun_text b) ≡ now → refused ≡ None → at ≢ stage.Over
-    → IsSound (place_of tp1 tp2 at) b → len ≡ length (begun_text b) → (items : List Item) (end : Result (Unit {0}) CertEnd)
+    → IsSound (place_of tp1 tp2 at) b → len ≡ length (begun_text b) → (items : List Item) (end : Result (Unit {0}) CertError)
     → Reads now [] items end ↔ ((items ≡ []) × (end ≡ Err (cert.Truncated (offset + len))))
 finish_before tp1 tp2 at offset len b refused now is none before sound len_is items end =
     let now_is : Reading (place_of tp1 tp2 at) offset (begun_text b) ≡ now = sym (reading refused (place_of tp1 tp2 at) offset (begun_text b) none) ∙ is in
@@ -65,7 +65,7 @@ finish_before tp1 tp2 at offset len b refused now is none before sound len_is it
 
 -- a byte ended a part
 pub gives_part :
-    (tp1 tp2 : List ObName) (at next : Stage) (offset len byte : ℕ) (b fresh : Begun) (refused : Option CertEnd) (old : Progress) (p : Part)
+    (tp1 tp2 : List ObName) (at next : Stage) (offset len byte : ℕ) (b fresh : Begun) (refused : Option CertError) (old : Progress) (p : Part)
     → progress_at refused (place_of tp1 tp2 at) offset (begun_text b) ≡ old → refused ≡ None
     → PartStepsTo tp1 tp2 at (begun_text b) byte (step.Whole p next) → len ≡ length (begun_text b) → begun_text fresh ≡ []
     → Gives old byte (Ok (Some (record { offset = offset; part = p })))
@@ -79,7 +79,7 @@ gives_part tp1 tp2 at next offset len byte b fresh refused old p is none steps l
 
 -- no part goes on with a byte
 pub gives_refusal :
-    (tp1 tp2 : List ObName) (at : Stage) (offset byte : ℕ) (b : Begun) (refused : Option CertEnd) (old : Progress) (refusal : CertEnd)
+    (tp1 tp2 : List ObName) (at : Stage) (offset byte : ℕ) (b : Begun) (refused : Option CertError) (old : Progress) (refusal : CertError)
     → progress_at refused (place_of tp1 tp2 at) offset (begun_text b) ≡ old → refused ≡ None
     → PartStepsTo tp1 tp2 at (begun_text b) byte step.Wrong → IsSound (place_of tp1 tp2 at) b → refusal ≡ refusal_of at offset
     → Gives old byte (Err refusal) (Refused refusal)

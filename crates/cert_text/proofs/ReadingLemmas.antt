@@ -7,8 +7,8 @@ use Rattle.ask_core.specs.declared.tree.Tok.TheVariants as token
 use Rattle.cert_text.specs.declared.item.Part.{Part}
 use Rattle.cert_text.specs.declared.item.Part.TheVariants as part
 use Rattle.cert_text.specs.declared.item.Item.{Item}
-use Rattle.cert_text.specs.declared.item.CertEnd.{CertEnd}
-use Rattle.cert_text.specs.declared.item.CertEnd.TheVariants as cert
+use Rattle.cert_text.specs.declared.item.CertError.{CertError}
+use Rattle.cert_text.specs.declared.item.CertError.TheVariants as cert
 use Rattle.cert_text.specs.Spelling.{token_text}
 use Rattle.cert_text.specs.Places.{Place, Start, Line, Tree, Finish, Stands, part_text, place_after}
 use Rattle.cert_text.specs.Reading.{Progress, Reading, Refused, EndsThere, Gives, HasNoPart, IsFrontOfPart, Reads, ReadsFrom, ReadsOn}
@@ -87,7 +87,7 @@ some_text Finish p stands = absurd stands
 
 -- where a whole part is in front, the bytes do not end there
 part_is_no_end :
-    (place : Place) (offset : ℕ) (bytes rest : List ℕ) (p : Part) (end : Result (Unit {0}) CertEnd) → Stands place p
+    (place : Place) (offset : ℕ) (bytes rest : List ℕ) (p : Part) (end : Result (Unit {0}) CertError) → Stands place p
     → bytes ≡ part_text place p ++ rest → EndsThere place offset bytes end → ⊥
 part_is_no_end place offset bytes rest p (Ok x) stands is h = not_over place p stands h.0
 part_is_no_end place offset bytes rest p (Err (cert.BadToken at)) stands is h = (h.3 p rest stands).1 is
@@ -102,14 +102,14 @@ same_item a b offsets parts =
 
 -- reading goes on alike behind the same part
 along :
-    (place : Place) (p q : Part) (a b : ℕ) (r s : List ℕ) (items : List Item) (end : Result (Unit {0}) CertEnd) → p ≡ q → a ≡ b → r ≡ s
+    (place : Place) (p q : Part) (a b : ℕ) (r s : List ℕ) (items : List Item) (end : Result (Unit {0}) CertError) → p ≡ q → a ≡ b → r ≡ s
     → ReadsFrom (place_after place p) a r items end → ReadsFrom (place_after place q) b s items end
 along place p q a b r s items end parts offsets rests h = rw (← parts, ← offsets, ← rests) h
 
 -- after a byte in a token
 reads_more :
     (place : Place) (offset byte : ℕ) (begun : List ℕ) (now : Progress) → now ≡ Reading place offset (begun ++ byte ∷ [])
-    → (rest : List ℕ) (items : List Item) (end : Result (Unit {0}) CertEnd)
+    → (rest : List ℕ) (items : List Item) (end : Result (Unit {0}) CertError)
     → ReadsFrom place offset (begun ++ byte ∷ rest) items end ↔ Reads now rest items end
 reads_more place offset byte begun now is rest items end =
     let same : begun ++ byte ∷ rest ≡ (begun ++ byte ∷ []) ++ rest = sym (append_snoc begun byte rest) in
@@ -122,7 +122,7 @@ reads_more place offset byte begun now is rest items end =
 reads_part :
     (place : Place) (offset byte : ℕ) (begun : List ℕ) (item : Item) (now : Progress)
     → Gives (Reading place offset begun) byte (Ok (Some item)) now
-    → (rest : List ℕ) (items : List Item) (end : Result (Unit {0}) CertEnd)
+    → (rest : List ℕ) (items : List Item) (end : Result (Unit {0}) CertError)
     → ReadsFrom place offset (begun ++ byte ∷ rest) items end ↔ ReadsOn (Ok (Some item)) now rest items end
 reads_part place offset byte begun item now g rest [] end =
     let bytes : begun ++ byte ∷ rest ≡ part_text place item.part ++ rest =
@@ -158,7 +158,7 @@ reads_part place offset byte begun item now g rest (first ∷ items) end =
 -- after the byte that no part goes on with
 reads_bad :
     (place : Place) (offset byte at : ℕ) (begun : List ℕ) → EndsThere place offset (begun ++ byte ∷ []) (Err (cert.BadToken at))
-    → (rest : List ℕ) (items : List Item) (end : Result (Unit {0}) CertEnd)
+    → (rest : List ℕ) (items : List Item) (end : Result (Unit {0}) CertError)
     → ReadsFrom place offset (begun ++ byte ∷ rest) items end ↔ ((items ≡ []) × (end ≡ Err (cert.BadToken at)))
 reads_bad place offset byte at begun g rest items end =
     let same : (begun ++ byte ∷ []) ++ rest ≡ begun ++ byte ∷ rest = append_snoc begun byte rest in
@@ -168,7 +168,7 @@ reads_bad place offset byte at begun g rest items end =
     (to place offset at (begun ++ byte ∷ rest) items end g.0 g.1 some none, λ h. from place offset at (begun ++ byte ∷ rest) items end g.0 g.1 some none h.0 h.1)
   where
     to :
-        (place : Place) (offset at : ℕ) (bytes : List ℕ) (items : List Item) (end : Result (Unit {0}) CertEnd) → at ≡ offset → place ≢ Finish
+        (place : Place) (offset at : ℕ) (bytes : List ℕ) (items : List Item) (end : Result (Unit {0}) CertError) → at ≡ offset → place ≢ Finish
         → 0 < length bytes → HasNoPart place bytes → ReadsFrom place offset bytes items end → (items ≡ []) × (end ≡ Err (cert.BadToken at))
     to place offset at bytes [] (Ok x) is still_open some none h = absurd (still_open h.0)
     to place offset at bytes [] (Err (cert.BadToken k)) is still_open some none h =
@@ -182,7 +182,7 @@ reads_bad place offset byte at begun g rest items end =
     to place offset at bytes (first ∷ items) end is still_open some none h = absurd ((none first.part h.2.0 h.1).1 h.2.1)
 
     from :
-        (place : Place) (offset at : ℕ) (bytes : List ℕ) (items : List Item) (end : Result (Unit {0}) CertEnd) → at ≡ offset → place ≢ Finish
+        (place : Place) (offset at : ℕ) (bytes : List ℕ) (items : List Item) (end : Result (Unit {0}) CertError) → at ≡ offset → place ≢ Finish
         → 0 < length bytes → HasNoPart place bytes → items ≡ [] → end ≡ Err (cert.BadToken at) → ReadsFrom place offset bytes items end
     from place offset at bytes items end is still_open some none items_are end_is =
         rw (items_are, end_is) (is, still_open, some, none)
@@ -190,14 +190,14 @@ reads_bad place offset byte at begun g rest items end =
 -- after a byte behind the last line
 reads_trailing :
     (place : Place) (offset byte at : ℕ) (begun : List ℕ) → EndsThere place offset (begun ++ byte ∷ []) (Err (cert.Trailing at))
-    → (rest : List ℕ) (items : List Item) (end : Result (Unit {0}) CertEnd)
+    → (rest : List ℕ) (items : List Item) (end : Result (Unit {0}) CertError)
     → ReadsFrom place offset (begun ++ byte ∷ rest) items end ↔ ((items ≡ []) × (end ≡ Err (cert.Trailing at)))
 reads_trailing place offset byte at begun g rest items end =
     let some : 0 < length (begun ++ byte ∷ rest) = omega (arith, length-append begun (byte ∷ rest)) in
     (to place offset at (begun ++ byte ∷ rest) items end g.0 g.1 some, λ h. rw (h.0, h.1) (g.0, g.1, some))
   where
     to :
-        (place : Place) (offset at : ℕ) (bytes : List ℕ) (items : List Item) (end : Result (Unit {0}) CertEnd) → at ≡ offset → place ≡ Finish
+        (place : Place) (offset at : ℕ) (bytes : List ℕ) (items : List Item) (end : Result (Unit {0}) CertError) → at ≡ offset → place ≡ Finish
         → 0 < length bytes → ReadsFrom place offset bytes items end → (items ≡ []) × (end ≡ Err (cert.Trailing at))
     to place offset at bytes [] (Ok x) is over some h = absurd (omega (arith, some, ap length h.1))
     to place offset at bytes [] (Err (cert.BadToken k)) is over some h = absurd (h.1 over)
@@ -207,8 +207,8 @@ reads_trailing place offset byte at begun g rest items end =
 
 -- what a reader gives for a byte, and the bytes behind it, is what they give together
 pub reads_on :
-    (old : Progress) (byte : ℕ) (result : Result (Option Item) CertEnd) (now : Progress) → Gives old byte result now
-    → (rest : List ℕ) (items : List Item) (end : Result (Unit {0}) CertEnd)
+    (old : Progress) (byte : ℕ) (result : Result (Option Item) CertError) (now : Progress) → Gives old byte result now
+    → (rest : List ℕ) (items : List Item) (end : Result (Unit {0}) CertError)
     → Reads old (byte ∷ rest) items end ↔ ReadsOn result now rest items end
 reads_on (Reading place offset begun) byte (Ok None) now g = reads_more place offset byte begun now g
 reads_on (Reading place offset begun) byte (Ok (Some item)) now g = reads_part place offset byte begun item now g
@@ -224,14 +224,14 @@ reads_on (Refused refusal) byte (Err e) now g =
 -- where no byte is left and the last line did not come
 pub reads_truncated :
     (place : Place) (offset : ℕ) (begun : List ℕ) → IsFrontOfPart place begun → place ≢ Finish
-    → (items : List Item) (end : Result (Unit {0}) CertEnd)
+    → (items : List Item) (end : Result (Unit {0}) CertError)
     → ReadsFrom place offset (begun ++ []) items end ↔ ((items ≡ []) × (end ≡ Err (cert.Truncated (offset + length begun))))
 reads_truncated place offset begun front still_open items end =
     rw (append-nil begun)
     (to place offset begun items end front still_open, λ h. rw (h.0, h.1) (refl, still_open, front))
   where
     to :
-        (place : Place) (offset : ℕ) (bytes : List ℕ) (items : List Item) (end : Result (Unit {0}) CertEnd) → IsFrontOfPart place bytes
+        (place : Place) (offset : ℕ) (bytes : List ℕ) (items : List Item) (end : Result (Unit {0}) CertError) → IsFrontOfPart place bytes
         → place ≢ Finish → ReadsFrom place offset bytes items end → (items ≡ []) × (end ≡ Err (cert.Truncated (offset + length bytes)))
     to place offset bytes [] (Ok x) front still_open h = absurd (still_open h.0)
     to place offset bytes [] (Err (cert.BadToken k)) front still_open h =
@@ -246,11 +246,11 @@ reads_truncated place offset begun front still_open items end =
 
 -- where no byte is left and the last line came
 pub reads_whole :
-    (offset : ℕ) (items : List Item) (end : Result (Unit {0}) CertEnd)
+    (offset : ℕ) (items : List Item) (end : Result (Unit {0}) CertError)
     → ReadsFrom Finish offset [] items end ↔ ((items ≡ []) × (end ≡ Ok tt))
 reads_whole offset items end = (to offset items end, λ h. rw (h.0, h.1) (refl, refl))
   where
-    to : (offset : ℕ) (items : List Item) (end : Result (Unit {0}) CertEnd) → ReadsFrom Finish offset [] items end → (items ≡ []) × (end ≡ Ok tt)
+    to : (offset : ℕ) (items : List Item) (end : Result (Unit {0}) CertError) → ReadsFrom Finish offset [] items end → (items ≡ []) × (end ≡ Ok tt)
     to offset [] (Ok x) h = (refl, refl)
     to offset [] (Err (cert.BadToken k)) h = absurd (h.1 refl)
     to offset [] (Err (cert.Truncated k)) h = absurd (h.1 refl)

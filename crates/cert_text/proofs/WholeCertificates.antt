@@ -11,7 +11,7 @@ use Rattle.ask_core.specs.Trees.{AnswerTree, Question, End, Impossible, tokens_o
 use Rattle.cert_text.specs.declared.item.Part.{Part}
 use Rattle.cert_text.specs.declared.item.Part.TheVariants as part
 use Rattle.cert_text.specs.declared.item.Item.{Item}
-use Rattle.cert_text.specs.declared.item.CertEnd.{CertEnd}
+use Rattle.cert_text.specs.declared.item.CertError.{CertError}
 use Rattle.cert_text.specs.Spelling.{AreSpellable, token_text, tokens_text, ob_text, end_text, header_text}
 use Rattle.cert_text.specs.Places.{Place, Start, Line, Tree, Finish, Stands, names_of, part_text, place_after}
 use Rattle.cert_text.specs.Reading.{Reading, Reads, ReadsFrom}
@@ -28,7 +28,7 @@ AreSpellable-parts (t ∷ ts) us all = let more = AreSpellable-parts ts us all.1
 
 -- the text of a tree is read, and then what stands behind it, with one open branch less
 tree_read :
-    (t : AnswerTree) (came : ℕ) (names : List ObName) (branches b : ℕ) (bytes : List ℕ) (parts : List Part) (end : Result (Unit {0}) CertEnd)
+    (t : AnswerTree) (came : ℕ) (names : List ObName) (branches b : ℕ) (bytes : List ℕ) (parts : List Part) (end : Result (Unit {0}) CertError)
     → branches ≡ b + 1 → AreSpellable (tokens_of t)
     → ((o : ℕ) → ReadsFrom (Tree came names b) o bytes (placed (Tree came names b) o parts) end)
     → (o : ℕ) → ReadsFrom (Tree came names branches) o (tokens_text (tokens_of t) ++ bytes)

@@ -1,7 +1,7 @@
 -- What a reader makes of a piece of bytes that it takes one after another, up to the end of the next part.
 use Rattle.std.specs.Prelude.{◌≡◌, ℕ, ◌≤◌, List, [], ◌∷◌, ◌++◌, length, take, Option, Some, None, Result, Ok, Err}
 use Rattle.cert_text.specs.declared.item.Item.{Item}
-use Rattle.cert_text.specs.declared.item.CertEnd.{CertEnd}
+use Rattle.cert_text.specs.declared.item.CertError.{CertError}
 use Rattle.cert_text.specs.Reading.{Progress, Reading, Refused, Gives, IsFrontOfPart}
 
 -- what came of the part that is being read is a proper front of one that may stand there
@@ -16,7 +16,7 @@ GoesOn was (byte ∷ bytes) now =
     (between : Progress) × Gives was byte (Ok None) between × IsUnderWay between × GoesOn between bytes now
 
 -- the last of so many bytes of the piece gives this, and those before it nothing
-abbrev pub EndsWithin : Progress → List ℕ → ℕ → Result (Option Item) CertEnd → Progress → Type 0
+abbrev pub EndsWithin : Progress → List ℕ → ℕ → Result (Option Item) CertError → Progress → Type 0
 EndsWithin was piece taken result now =
     (taken ≤ length piece)
     × ((front : List ℕ) × (byte : ℕ) × (between : Progress) × (take taken piece ≡ front ++ byte ∷ [])
@@ -24,7 +24,7 @@ EndsWithin was piece taken result now =
 
 -- fed with the bytes of a piece one after another, a reader takes so many of them and gives this: nothing where it
 -- takes all and none of them ends a part, and otherwise what the last one that it takes gives
-abbrev pub GivesOf : Progress → List ℕ → ℕ → Result (Option Item) CertEnd → Progress → Type 0
+abbrev pub GivesOf : Progress → List ℕ → ℕ → Result (Option Item) CertError → Progress → Type 0
 GivesOf was piece taken (Ok None) now = (taken ≡ length piece) × GoesOn was piece now
 GivesOf was piece taken (Ok (Some item)) now = EndsWithin was piece taken (Ok (Some item)) now
 GivesOf was piece taken (Err refusal) now = EndsWithin was piece taken (Err refusal) now

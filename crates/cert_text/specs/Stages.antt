@@ -3,8 +3,8 @@ use Rattle.std.specs.Prelude.{◌≡◌, ℕ, ◌+◌, ◌≤◌, ◌<◌, ◌^�
 use Rattle.fn_rules.specs.declared.function.ObName.{ObName}
 use Rattle.cert_text.specs.declared.line.TheConstants.{LINE_ROOM}
 use Rattle.cert_text.specs.declared.item.Part.{Part}
-use Rattle.cert_text.specs.declared.item.CertEnd.{CertEnd}
-use Rattle.cert_text.specs.declared.item.CertEnd.TheVariants as cert
+use Rattle.cert_text.specs.declared.item.CertError.{CertError}
+use Rattle.cert_text.specs.declared.item.CertError.TheVariants as cert
 use Rattle.cert_text.specs.declared.stage.Stage.{Stage}
 use Rattle.cert_text.specs.declared.stage.Stage.TheVariants as stage
 use Rattle.cert_text.specs.declared.step.Begun.{Begun}
@@ -72,7 +72,7 @@ LineStepsTo line came part next (step.Whole p behind) = (p ≡ part) × (behind 
 LineStepsTo line came part next step.Wrong = (more : List ℕ) → line ≡ came ++ more → ⊥
 
 -- a reader that reads on, or has refused
-abbrev pub progress_at : Option CertEnd → Place → ℕ → List ℕ → Progress
+abbrev pub progress_at : Option CertError → Place → ℕ → List ℕ → Progress
 progress_at None place offset bytes = Reading place offset bytes
 progress_at (Some refusal) place offset bytes = Refused refusal
 
@@ -86,7 +86,7 @@ pub record IsHeld (tp1 tp2 : List ObName) (at : Stage) (offset : ℕ) (b : Begun
   pub fed : offset + length (begun_text b) ≤ 2 ^ 63
 
 -- the refusal of a byte with which no part goes on
-abbrev pub refusal_of : Stage → ℕ → CertEnd
+abbrev pub refusal_of : Stage → ℕ → CertError
 refusal_of stage.Over offset = cert.Trailing offset
 refusal_of stage.Header offset = cert.BadToken offset
 refusal_of (stage.Line level came) offset = cert.BadToken offset

@@ -33,7 +33,7 @@ pub struct Item {
 
 /// Why bytes are no certificate by their spelling.
 #[derive(Clone, Copy, Debug, PartialEq, Eq)]
-pub enum CertEnd {
+pub enum CertError {
     /// No part that may stand behind so many bytes goes on so.
     BadToken(u64),
 

@@ -6,7 +6,7 @@ ghost use Rattle.fn_rules.specs.declared.function.ObName.{ObName};
 ghost use Rattle.ask_core.specs.Trees.{AnswerTree};
 ghost use Rattle.cert_text.specs.declared.item.Item.{Item};
 ghost use Rattle.cert_text.specs.Places.{Start, names_of};
-ghost use Rattle.cert_text.specs.declared.item.CertEnd.{CertEnd};
+ghost use Rattle.cert_text.specs.declared.item.CertError.{CertError};
 ghost use Rattle.cert_text.specs.Reading.{Progress, Reading, Reads};
 ghost use Rattle.cert_text.specs.Certificates.{HasTrees, certificate_parts, certificate_text, placed};
 
@@ -29,5 +29,5 @@ pub fn read_certificates_are_written()
 
 /// A law and no code: whatever bytes are still to come, they give a reader some parts, and end in some way.
 pub fn all_bytes_are_read()
-    ensures { (reader : Progress) (bytes : List ℕ) → (items : List Item) × (end : Result (Unit {0}) CertEnd) × Reads reader bytes items end }
+    ensures { (reader : Progress) (bytes : List ℕ) → (items : List Item) × (end : Result (Unit {0}) CertError) × Reads reader bytes items end }
 {}

@@ -20,7 +20,7 @@ mod step;
 mod writer;
 
 pub use ask_core::{MAX_PICKS, NoMemory, Picks, Tok, Tree};
-pub use item::{CertEnd, Item, Part};
+pub use item::{CertError, Item, Part};
 pub use laws::{all_bytes_are_read, read_certificates_are_written, written_certificates_are_read};
 pub use reader::Reader;
 pub use writer::{write_end, write_header, write_ob};

@@ -1,7 +1,7 @@
 //! Certificates, byte by byte.
 ghost use Rattle.std.specs.Prelude.{◌≡◌, ◌↔◌, ℕ, ◌+◌, ◌^◌, ◌<◌, ◌≤◌, List, [], ◌∷◌, ◌++◌, Option, Some, None, Result, Ok, length, take, IfSome, IfNone};
 ghost use Rattle.cert_text.specs.declared.item.Item.{Item};
-ghost use Rattle.cert_text.specs.declared.item.CertEnd.{CertEnd};
+ghost use Rattle.cert_text.specs.declared.item.CertError.{CertError};
 ghost use Rattle.cert_text.specs.Places.{Line, Start};
 ghost use Rattle.cert_text.specs.Stages.{refusal_of};
 ghost use Rattle.cert_text.specs.Reading.{Gives, Reading, Reads, ReadsOn, fed_to};
@@ -11,7 +11,7 @@ use crate::line::LineBytes;
 use crate::piece::{branches_behind, whole_token};
 use crate::stage::Stage;
 use crate::step::{Begun, Step, part_step};
-use crate::{CertEnd, Item, Part};
+use crate::{CertError, Item, Part};
 use fn_rules::{Level, ObName};
 use std::alloc::Global;
 use std::marker::Model;
@@ -29,7 +29,7 @@ pub struct Reader {
     stage: Stage,
     offset: u64,
     begun: Begun,
-    refused: Option<CertEnd>,
+    refused: Option<CertError>,
 }
 
 impl Model for Reader {
@@ -83,14 +83,14 @@ impl Reader {
 
     /// The part that the byte ends, if it ends one. At the first byte with which no part that may stand
     /// there goes on it refuses, and every later call answers that refusal.
-    pub fn feed(&mut self, byte: u8) -> Result<Option<Item>, CertEnd>
+    pub fn feed(&mut self, byte: u8) -> Result<Option<Item>, CertError>
         requires { fed_to self.old < 2 ^ 63 }
         ensures gives { Gives self.old byte result self.new }
         ensures fed { fed_to self.new ≤ fed_to self.old + 1 }
         ensures under_way { result ≡ Ok None → IsUnderWay self.new }
 
         // The byte and those behind it give what it gave and what they then give.
-        ensures reads { (rest : List ℕ) (items : List Item) (end : Result (Unit {0}) CertEnd) →
+        ensures reads { (rest : List ℕ) (items : List Item) (end : Result (Unit {0}) CertError) →
             Reads self.old (byte ∷ rest) items end ↔ ReadsOn result self.new rest items end }
     {
         if let Some(refusal) = self.refused {
@@ -120,7 +120,7 @@ impl Reader {
     /// Feeds bytes of a piece one after another up to the end of the next part: how many of them it takes,
     /// and what the last of these gives. Where no part ends within the piece it takes the whole piece and
     /// gives nothing; a byte that is refused is taken.
-    pub fn feed_piece(&mut self, piece: &[u8]) -> (usize, Result<Option<Item>, CertEnd>)
+    pub fn feed_piece(&mut self, piece: &[u8]) -> (usize, Result<Option<Item>, CertError>)
         requires { fed_to self.old + length piece.now ≤ 2 ^ 63 }
         ensures gives { GivesOf self.old piece.now result.0 result.1 self.new }
         ensures within { result.0 ≤ length piece.now }
@@ -128,7 +128,7 @@ impl Reader {
         ensures fed { fed_to self.new ≤ fed_to self.old + result.0 }
 
         // The bytes that it takes and those behind them give what it gave and what they then give.
-        ensures reads { (rest : List ℕ) (items : List Item) (end : Result (Unit {0}) CertEnd) →
+        ensures reads { (rest : List ℕ) (items : List Item) (end : Result (Unit {0}) CertError) →
             Reads self.old (take result.0 piece.now ++ rest) items end ↔ ReadsOn result.1 self.new rest items end }
     {
         match self.take_token(piece) {
@@ -159,7 +159,7 @@ impl Reader {
     }
 
     // The same as `feed_piece`, byte by byte.
-    fn feed_each(&mut self, piece: &[u8]) -> (usize, Result<Option<Item>, CertEnd>)
+    fn feed_each(&mut self, piece: &[u8]) -> (usize, Result<Option<Item>, CertError>)
         requires { fed_to self.old + length piece.now ≤ 2 ^ 63 }
         ensures gives { GivesOf self.old piece.now result.0 result.1 self.new }
         ensures fed { fed_to self.new ≤ fed_to self.old + result.0 }
@@ -176,8 +176,8 @@ impl Reader {
 
     /// Whether the file may end here: Ok behind the last line, and otherwise `Truncated`, or the refusal
     /// of a byte.
-    pub fn finish(&self) -> Result<(), CertEnd>
-        ensures reads { (items : List Item) (end : Result (Unit {0}) CertEnd) →
+    pub fn finish(&self) -> Result<(), CertError>
+        ensures reads { (items : List Item) (end : Result (Unit {0}) CertError) →
             Reads self.now [] items end ↔ ((items ≡ []) × (end ≡ result)) }
     {
         if let Some(refusal) = self.refused {
@@ -185,17 +185,17 @@ impl Reader {
         }
         match self.stage {
             Stage::Over => Ok(()),
-            _ => Err(CertEnd::Truncated(self.offset + self.begun.len())),
+            _ => Err(CertError::Truncated(self.offset + self.begun.len())),
         }
     }
 }
 
 // The refusal of a byte with which no part goes on.
-fn refusal_at(stage: Stage, offset: u64) -> CertEnd
+fn refusal_at(stage: Stage, offset: u64) -> CertError
     ensures { result ≡ refusal_of stage offset }
 {
     match stage {
-        Stage::Over => CertEnd::Trailing(offset),
-        _ => CertEnd::BadToken(offset),
+        Stage::Over => CertError::Trailing(offset),
+        _ => CertError::BadToken(offset),
     }
 }

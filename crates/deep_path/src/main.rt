@@ -6,7 +6,7 @@ ghost use Rattle.std.specs.Prelude.{◌≡◌, ◌≤◌};
 ghost use Rattle.ask_core.specs.declared.asker.TheConstants.{MAX_QUESTIONS};
 
 use ask_core::{Asker, MAX_QUESTIONS, NoMemory, Tree, Turn};
-use cert_check::{CheckEnd, Checker, Progress};
+use cert_check::{CheckError, Checker, Progress};
 use diff_graph::Lit;
 use ot_prove::{Outcome, prove};
 use std::alloc::Global;
@@ -66,7 +66,7 @@ fn whole_depth() -> Deep {
 }
 
 // Feeds the tokens to a checker, and says how it ends.
-fn check(alloc: Global, tree: &Tree) -> Result<Result<Progress, CheckEnd>, NoMemory> {
+fn check(alloc: Global, tree: &Tree) -> Result<Result<Progress, CheckError>, NoMemory> {
     let mut checker = Checker::new(alloc, whole_depth())?;
     let mut tokens = tree.tokens();
     while let Some(tok) = tokens.next(alloc) {

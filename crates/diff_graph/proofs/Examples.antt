@@ -1,7 +1,7 @@
 -- The definitions on small cases.
 use Rattle.std.proofs.Common.{◌≡◌, pos, negsuc, true, false, [], ◌∷◌, Ok, Err, refl}
 use Rattle.diff_graph.specs.declared.lit.Lit.{Lit}
-use Rattle.diff_graph.specs.declared.lit.PickEnd.TheVariants.{BadPick, NotACycle, NotNegative}
+use Rattle.diff_graph.specs.declared.lit.PickError.TheVariants.{BadPick, NotACycle, NotNegative}
 use Rattle.diff_graph.specs.Literals.{negated, answered_of, is_met}
 use Rattle.diff_graph.specs.Cycles.{weight, pick_verdict}
 

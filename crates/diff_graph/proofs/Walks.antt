@@ -5,7 +5,7 @@ use Rattle.std.proofs.lemmas.Bool.{false≢true, cases_lt, cases_Bool, and_parts
 use Rattle.std.proofs.lemmas.Option.{slice_get_past, slice_get-get_or}
 use Rattle.std.proofs.lemmas.List.{at_drop_more}
 use Rattle.diff_graph.specs.declared.lit.Lit.{Lit}
-use Rattle.diff_graph.specs.declared.lit.PickEnd.TheVariants.{NotACycle, NotNegative}
+use Rattle.diff_graph.specs.declared.lit.PickError.TheVariants.{NotACycle, NotNegative}
 use Rattle.diff_graph.specs.Literals.{Meets, AreMet}
 use Rattle.diff_graph.specs.Cycles.{is_walk, is_closed_walk, weight, picked, literal_at, named_by, cycle_verdict, verdict_of_picked, pick_verdict}
 

@@ -3,8 +3,8 @@
 use Rattle.std.specs.Prelude.{ℕ, ℤ, pos, ◌+ℤ◌, Bool, false, ◌&&◌, if◌then◌else◌, nat_eq, int_lt, List, [], ◌∷◌, Option, Some, None, Result, Ok, Err, slice_get, slice_index_or, map}
 use Rattle.std.specs.Option.{option_and_then}
 use Rattle.diff_graph.specs.declared.lit.Lit.{Lit}
-use Rattle.diff_graph.specs.declared.lit.PickEnd.{PickEnd}
-use Rattle.diff_graph.specs.declared.lit.PickEnd.TheVariants.{BadPick, NotACycle, NotNegative}
+use Rattle.diff_graph.specs.declared.lit.PickError.{PickError}
+use Rattle.diff_graph.specs.declared.lit.PickError.TheVariants.{BadPick, NotACycle, NotNegative}
 
 -- the literals lead from one name to another: each begins where the one before it ends
 abbrev pub is_walk : ℕ → List Lit → ℕ → Bool
@@ -36,15 +36,15 @@ abbrev pub named_by : List Lit → List ℕ → List Lit
 named_by lits ns = map (literal_at lits) ns
 
 -- whether literals are a negative cycle, and if not, why not
-abbrev pub cycle_verdict : List Lit → Result (Unit {0}) PickEnd
+abbrev pub cycle_verdict : List Lit → Result (Unit {0}) PickError
 cycle_verdict ls =
     if is_closed_walk ls then (if int_lt (weight ls) (pos 0) then Ok tt else Err NotNegative)
     else Err NotACycle
 
 -- whether picks name a negative cycle of the list, and if not, why not
-abbrev pub verdict_of_picked : Option (List Lit) → Result (Unit {0}) PickEnd
+abbrev pub verdict_of_picked : Option (List Lit) → Result (Unit {0}) PickError
 verdict_of_picked None = Err BadPick
 verdict_of_picked (Some ls) = cycle_verdict ls
 
-abbrev pub pick_verdict : List Lit → List ℕ → Result (Unit {0}) PickEnd
+abbrev pub pick_verdict : List Lit → List ℕ → Result (Unit {0}) PickError
 pick_verdict lits picks = verdict_of_picked (picked lits picks)

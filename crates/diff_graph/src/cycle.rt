@@ -3,23 +3,23 @@ ghost use Rattle.std.specs.Prelude.{◌≡◌, ℕ, ℤ, pos, ◌<ℤ◌, ◌↔
 ghost use Rattle.diff_graph.specs.Literals.{AreMet};
 ghost use Rattle.diff_graph.specs.Cycles.{picked, named_by, is_closed_walk, weight, pick_verdict};
 
-use crate::lit::{Lit, PickEnd};
+use crate::lit::{Lit, PickError};
 
 /// Whether the literals that `picks` names, in their order, are a negative cycle: each begins where
 /// the one before it ends, the last ends where the first begins, there is at least one, and their
-/// offsets sum to less than 0. The error is the first of `PickEnd` that applies.
-pub fn is_negative_cycle(lits: &[Lit], picks: &[u32]) -> Result<(), PickEnd>
+/// offsets sum to less than 0. The error is the first of `PickError` that applies.
+pub fn is_negative_cycle(lits: &[Lit], picks: &[u32]) -> Result<(), PickError>
     ensures verdict { result ≡ pick_verdict lits.now picks.now }
     ensures sound { result ≡ Ok tt → (v : ℕ → ℤ) → ¬ AreMet v lits.now }
 {
     if !are_places(lits, picks) {
-        return Err(PickEnd::BadPick);
+        return Err(PickError::BadPick);
     }
     if !chain_into_a_cycle(lits, picks) {
-        return Err(PickEnd::NotACycle);
+        return Err(PickError::NotACycle);
     }
     if sum_of(lits, picks) >= 0 {
-        return Err(PickEnd::NotNegative);
+        return Err(PickError::NotNegative);
     }
     Ok(())
 }

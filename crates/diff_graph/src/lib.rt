@@ -30,7 +30,7 @@ pub use laws::{
     tables_stand_for_what_is_added, tables_tell_what_is_possible,
     unsatisfiable_exactly_at_negative_cycles,
 };
-pub use lit::{Lit, MAX_LITERAL_OFFSET, PickEnd};
+pub use lit::{Lit, MAX_LITERAL_OFFSET, PickError};
 pub use solved::Solved;
 pub use solver::solve;
 pub use std::alloc::AllocError as NoMemory;

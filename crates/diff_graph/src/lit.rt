@@ -14,7 +14,7 @@ pub struct Lit {
 
 /// Why picks name no negative cycle, in the order of the tests.
 #[derive(Clone, Copy, Debug, PartialEq, Eq)]
-pub enum PickEnd {
+pub enum PickError {
     /// A pick is not below the number of literals.
     BadPick,
 

@@ -3,8 +3,8 @@ use Rattle.std.specs.Prelude.{◌≡◌, List, [], ◌∷◌, map, option_map, R
 use Rattle.fn_rules.specs.Formulas.{formula_of}
 use Rattle.fn_rules.specs.Functions.{GuardedCase, case_of}
 use Rattle.fn_rules.specs.Building.{PairCases, block_of}
-use Rattle.fn_text.specs.declared.stop.ReadError.{ReadError}
-use Rattle.fn_text.specs.declared.stop.ReadError.TheVariants as errors
+use Rattle.fn_text.specs.declared.stop.TextError.{TextError}
+use Rattle.fn_text.specs.declared.stop.TextError.TheVariants as errors
 use Rattle.fn_text.specs.declared.reader.Level.{Level}
 use Rattle.fn_text.specs.declared.reader.Outer.{Outer}
 use Rattle.fn_text.specs.declared.reader.Outer.TheVariants as rust
@@ -39,10 +39,10 @@ state_of reader = record {
 }
 
 -- what a call answered, seen by a view, is what is read, unless memory ran out
-abbrev pub Fails : {Y : Type 0} → ReadError → Result Y TextFault → Type 0
+abbrev pub Fails : {Y : Type 0} → TextError → Result Y TextFault → Type 0
 Fails errors.NoMemory read = Unit {0}
 Fails (errors.Fault fault) read = read ≡ Err fault
 
-abbrev pub Gives : {X Y : Type 0} → (X → Y) → Result X ReadError → Result Y TextFault → Type 0
+abbrev pub Gives : {X Y : Type 0} → (X → Y) → Result X TextError → Result Y TextFault → Type 0
 Gives view (Ok x) read = read ≡ Ok (view x)
 Gives view (Err e) read = Fails e read

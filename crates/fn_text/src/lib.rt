@@ -27,7 +27,7 @@ pub use printer::print;
 pub use reading::{read, read_rules};
 pub use round_trip::read_back;
 pub use std::alloc::AllocError as NoMemory;
-pub use stop::ReadError;
+pub use stop::TextError;
 pub use theorems::{
     canonical_guards_have_the_fewest_parentheses, canonical_text_lexes_back,
     canonical_texts_are_read_back, files_have_one_answer, refusals_are_final,

@@ -14,7 +14,7 @@ ghost use Rattle.fn_text.specs.Made.{state_of, level_of, outer_of, Gives};
 use crate::NoMemory;
 use crate::control::{Control, Move, Want, Written};
 use crate::fault::{FaultKind, TextFault};
-use crate::stop::ReadError;
+use crate::stop::TextError;
 use fn_rules::{Atom, Block, Case, Cmp, Guard, Head, Res, Side, Sort};
 use fn_tokens::{Placed, Sign};
 use ot_model::Kind;
@@ -344,23 +344,23 @@ impl Reader {
     }
 
     /// Reads one token.
-    fn turn(&mut self, alloc: Global, at: &Placed) -> Result<(), ReadError>
+    fn turn(&mut self, alloc: Global, at: &Placed) -> Result<(), TextError>
         ensures { Gives (λ _. state_of self.new) result (turn to_formulas (state_of self.old) at.now) }
     {
         match self.control.move_for(at) {
-            None => Err(ReadError::Fault(self.control.fault(at))),
+            None => Err(TextError::Fault(self.control.fault(at))),
             Some(move_) => Ok(self.apply(alloc, move_)?),
         }
     }
 
     /// The head and the blocks, once the file has ended.
-    fn ended(self) -> Result<(Head, Vec<Block>), ReadError>
+    fn ended(self) -> Result<(Head, Vec<Block>), TextError>
         ensures { Gives (λ x. (x.0, map block_of x.1.items)) result (ended (state_of self) self.control.want) }
     {
         let Reader { control, done, .. } = self;
         match control.want {
             Want::Nothing => Ok((control.head, done)),
-            _ => Err(ReadError::Fault(TextFault {
+            _ => Err(TextError::Fault(TextFault {
                 line: 1,
                 column: 1,
                 kind: FaultKind::Expected,
@@ -370,7 +370,7 @@ impl Reader {
 }
 
 /// The head and the blocks that tokens give, or the first token that cannot go on.
-pub(crate) fn read_tokens(alloc: Global, tokens: &[Placed]) -> Result<(Head, Vec<Block>), ReadError>
+pub(crate) fn read_tokens(alloc: Global, tokens: &[Placed]) -> Result<(Head, Vec<Block>), TextError>
     ensures { Gives (λ x. (x.0, map block_of x.1.items)) result (read_from to_formulas (first_state to_formulas) tokens.now) }
 {
     let mut reader = Reader::new(alloc);

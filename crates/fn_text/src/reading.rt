@@ -12,13 +12,13 @@ ghost use Rattle.fn_text.specs.Refusals.{IsAnswerFor};
 
 use crate::fault::{FaultKind, TextFault};
 use crate::reader::read_tokens;
-use crate::stop::ReadError;
+use crate::stop::TextError;
 use fn_rules::{Block, Head, Rules};
 use fn_tokens::lex;
 use std::alloc::Global;
 
 /// The head and the blocks of a file, which are within the limits.
-fn parts(alloc: Global, bytes: &[u8]) -> Result<(Head, Vec<Block>), ReadError>
+fn parts(alloc: Global, bytes: &[u8]) -> Result<(Head, Vec<Block>), TextError>
     requires { length bytes.now < 2 ^ 31 }
     ensures read { Gives (λ x. (x.0, map block_of x.1.items)) result (read_from to_formulas (first_state to_formulas) (tokens_in bytes.now)) }
     ensures within_limits { IfOk result (λ x. IsTrue (is_buildable x.0 (map block_of x.1.items))) }
@@ -29,7 +29,7 @@ fn parts(alloc: Global, bytes: &[u8]) -> Result<(Head, Vec<Block>), ReadError>
 
 /// Reads the text of a function, as `read` does, with want of memory apart from the faults of the text.
 #[tactic(auto, unfolding(crate::specs::Reading::function_in))]
-pub fn read_rules(alloc: Global, bytes: &[u8]) -> Result<Rules, ReadError>
+pub fn read_rules(alloc: Global, bytes: &[u8]) -> Result<Rules, TextError>
     requires { length bytes.now < 2 ^ 31 }
     ensures { Gives function_of result (function_in bytes.now) }
 {
@@ -52,8 +52,8 @@ pub fn read(alloc: Global, bytes: &[u8]) -> Result<Rules, TextFault>
 {
     match read_rules(alloc, bytes) {
         Ok(rules) => Ok(rules),
-        Err(ReadError::Fault(fault)) => Err(fault),
-        Err(ReadError::NoMemory) => Err(TextFault {
+        Err(TextError::Fault(fault)) => Err(fault),
+        Err(TextError::NoMemory) => Err(TextFault {
             line: 0,
             column: 0,
             kind: FaultKind::NoMemory,

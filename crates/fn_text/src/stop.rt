@@ -1,14 +1,14 @@
 //! Why reading stops.
 
 ghost use Rattle.std.specs.Prelude.{◌≡◌};
-ghost use Rattle.fn_text.specs.declared.stop.ReadError.TheVariants.{NoMemory};
+ghost use Rattle.fn_text.specs.declared.stop.TextError.TheVariants.{NoMemory};
 
 use crate::fault::TextFault;
 use std::alloc::{AllocError, AllocFailed};
 
 /// Why reading stopped.
 #[derive(Clone, Copy, Debug)]
-pub enum ReadError {
+pub enum TextError {
     /// A token cannot go on.
     Fault(TextFault),
 
@@ -16,18 +16,18 @@ pub enum ReadError {
     NoMemory,
 }
 
-impl From<AllocError> for ReadError {
+impl From<AllocError> for TextError {
     ghost from_gives = { λ _ e. e ≡ NoMemory };
 
-    fn from(_error: AllocError) -> ReadError {
-        ReadError::NoMemory
+    fn from(_error: AllocError) -> TextError {
+        TextError::NoMemory
     }
 }
 
-impl<T: Drop> From<AllocFailed<T>> for ReadError {
+impl<T: Drop> From<AllocFailed<T>> for TextError {
     ghost from_gives = { λ _ e. e ≡ NoMemory };
 
-    fn from(_failed: AllocFailed<T>) -> ReadError {
-        ReadError::NoMemory
+    fn from(_failed: AllocFailed<T>) -> TextError {
+        TextError::NoMemory
     }
 }

@@ -3,7 +3,7 @@ ghost use Rattle.std.specs.Prelude.{◌≡◌};
 
 use crate::two_names::TwoNames;
 use ask_core::{NoMemory, Picks, Tok};
-use cert_check::{CheckEnd, Checker, Progress};
+use cert_check::{CheckError, Checker, Progress};
 use std::alloc::Global;
 use std::test::Fail;
 
@@ -25,7 +25,7 @@ fn last_answer(
     alloc: Global,
     strict: bool,
     word: &[u8],
-) -> Result<Result<Progress, CheckEnd>, NoMemory> {
+) -> Result<Result<Progress, CheckError>, NoMemory> {
     let mut checker = Checker::new(alloc, TwoNames { strict })?;
     let mut last = Ok(Progress::More);
     for mark in word {
@@ -41,10 +41,10 @@ fn last_answer(
 fn a_word_is_answered_as_it_fits_the_plan(rt: HostRuntime) -> Result<(), Fail> {
     for (strict, word, want) in [
         (true, "??x..", Ok(Progress::Done)),
-        (true, "??.", Err(CheckEnd::GoalFails)),
-        (true, ".", Err(CheckEnd::NotDone)),
-        (true, "??x?", Err(CheckEnd::NotAQuestion)),
-        (false, "??x", Err(CheckEnd::NotNegative)),
+        (true, "??.", Err(CheckError::GoalFails)),
+        (true, ".", Err(CheckError::NotDone)),
+        (true, "??x?", Err(CheckError::NotAQuestion)),
+        (false, "??x", Err(CheckError::NotNegative)),
         (true, "??x.", Ok(Progress::More)),
     ] {
         assert_eq!(rt;

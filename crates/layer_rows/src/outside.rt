@@ -1,7 +1,7 @@
 //! Bytes of files, of slices and of the machine.
 
 use ot_outside::{
-    Failed, Feed, FileShelf, MemShelf, MemSink, ReadEnd, Shelf, ShelfFeed, SliceFeed, StdSink,
+    Failed, Feed, FileShelf, MemShelf, MemSink, ReadError, Shelf, ShelfFeed, SliceFeed, StdSink,
     read_all, write_all,
 };
 use std::alloc::Global;
@@ -22,7 +22,7 @@ fn a_file_of_the_machine_is_read(rt: HostRuntime) -> Result<(), Fail> {
 
     into.clear();
     let missing = read_all(&mut shelf, name, 9, &mut into);
-    assert_eq!(rt; missing, Err(ReadEnd::Failed));
+    assert_eq!(rt; missing, Err(ReadError::Failed));
     assert_eq!(rt; shelf.read(&mut [0; 8]), Ok(0), "nothing is left");
     Ok(())
 }
@@ -94,7 +94,7 @@ fn expect_read(
     alloc: Global,
     limit: usize,
     failing: u32,
-    want: Result<(), ReadEnd>,
+    want: Result<(), ReadError>,
     got: &[u8],
 ) -> Result<(), Fail> {
     let mut shelf = shelf_of(alloc, b"hello", failing)?;
@@ -109,8 +109,8 @@ fn expect_read(
 fn a_file_is_read_whole_or_to_its_limit(rt: HostRuntime) -> Result<(), Fail> {
     let alloc = rt.alloc();
     expect_read(&rt, alloc, 5, 0, Ok(()), b"hello")?;
-    expect_read(&rt, alloc, 4, 0, Err(ReadEnd::TooLong), b"hell")?;
-    expect_read(&rt, alloc, 9, 3, Err(ReadEnd::Failed), b"hello")
+    expect_read(&rt, alloc, 4, 0, Err(ReadError::TooLong), b"hell")?;
+    expect_read(&rt, alloc, 9, 3, Err(ReadError::Failed), b"hello")
 }
 
 // Five bytes are written into a sink of some room, at most two a call, where the second call fails or none.

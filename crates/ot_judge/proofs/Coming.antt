@@ -7,8 +7,8 @@ use Rattle.std.proofs.Math.Seq.{take-length}
 use Rattle.std.proofs.Common.{◌≡◌, ℕ, true, ◌+◌, ◌≤◌, List, [], ◌∷◌, ◌++◌, length, take, Option, Some, None, Result, Ok, Err, arith, refl, sym, ap, subst, ◌∙◌, append_assoc, length-append}
 use Rattle.cert_text.specs.declared.item.Item.{Item}
 use Rattle.cert_text.specs.declared.item.Part.{Part}
-use Rattle.cert_text.specs.declared.item.CertEnd.{CertEnd}
-use Rattle.cert_text.specs.declared.item.CertEnd.TheVariants as cert
+use Rattle.cert_text.specs.declared.item.CertError.{CertError}
+use Rattle.cert_text.specs.declared.item.CertError.TheVariants as cert
 use Rattle.cert_text.specs.Places.{Place, Finish, Stands, part_text, place_after}
 use Rattle.cert_text.specs.Reading.{Progress, Reading, Refused, EndsThere, Gives, Reads, ReadsOn}
 use Rattle.cert_text.specs.Pieces.{EndsWithin, GivesOf, GoesOn}
@@ -218,7 +218,7 @@ part_comes was old now piece taken item Before Between After h took (within, (fr
 
 -- the bytes that are still to come end there
 ends_there :
-    (old : Progress) (place : Place) (offset : ℕ) (bytes : List ℕ) (end : Result (Unit {0}) CertEnd)
+    (old : Progress) (place : Place) (offset : ℕ) (bytes : List ℕ) (end : Result (Unit {0}) CertError)
     → old ≡ Reading place offset (begun_of old) → Reads old bytes [] end → EndsThere place offset (begun_of old ++ bytes) end
 ends_there (Reading p o begun) place offset bytes end at reads =
     let same_place : p ≡ place = cc in let same_offset : o ≡ offset = cc in
@@ -227,14 +227,14 @@ ends_there (Reading p o begun) place offset bytes end at reads =
 ends_there (Refused e) place offset bytes end at reads = absurd (cc)
 
 -- what a reader says of the bytes that are still to come where it refuses one of these
-abbrev pub RefusesBytes : Progress → List ℕ → CertEnd → Progress → Type 0
+abbrev pub RefusesBytes : Progress → List ℕ → CertError → Progress → Type 0
 RefusesBytes old bytes e now =
-    (rest : List ℕ) (items : List Item) (end : Result (Unit {0}) CertEnd)
+    (rest : List ℕ) (items : List Item) (end : Result (Unit {0}) CertError)
     → Reads old (bytes ++ rest) items end ↔ ReadsOn (Err e) now rest items end
 
 -- bytes do not end too early whatever follows them
 not_truncated :
-    (place : Place) (offset : ℕ) (begun bytes : List ℕ) (e : CertEnd) (end : JudgeEnd)
+    (place : Place) (offset : ℕ) (begun bytes : List ℕ) (e : CertError) (end : JudgeEnd)
     → ((rest : List ℕ) → EndsThere place offset (begun ++ (bytes ++ rest)) (Err e)) → end ≡ end_of_spelling e
     → IsTruncated end → ⊥
 not_truncated place offset begun bytes (cert.BadToken n) end there named (at, is) = cc
@@ -250,7 +250,7 @@ not_truncated place offset begun bytes (cert.Truncated n) end there named trunca
       length-append bytes (0 ∷ []),
     )
 
-module _ (was old now : Progress) (bytes : List ℕ) (e : CertEnd) (end : JudgeEnd) (Before Between After : List ℕ → Type 0)
+module _ (was old now : Progress) (bytes : List ℕ) (e : CertError) (end : JudgeEnd) (Before Between After : List ℕ → Type 0)
     (h : ReadsAt was old Before Between) (refuses : RefusesBytes old bytes e now) where
   refused_there : (rest : List ℕ) → EndsThere (place_of was) (offset_of was) (begun_of old ++ (bytes ++ rest)) (Err e)
   refused_there rest =
@@ -266,21 +266,21 @@ module _ (was old now : Progress) (bytes : List ℕ) (e : CertEnd) (end : JudgeE
   refused_early = not_truncated (place_of was) (offset_of was) (begun_of old) bytes e end refused_there
 
 -- at the end of the bytes
-abbrev pub Finishes : Progress → Result (Unit {0}) CertEnd → Type 0
+abbrev pub Finishes : Progress → Result (Unit {0}) CertError → Type 0
 Finishes old result =
-    (items : List Item) (end : Result (Unit {0}) CertEnd) → Reads old [] items end ↔ ((items ≡ []) × (end ≡ result))
+    (items : List Item) (end : Result (Unit {0}) CertError) → Reads old [] items end ↔ ((items ≡ []) × (end ≡ result))
 
-module _ (was old : Progress) (result : Result (Unit {0}) CertEnd) (Before After : List ℕ → Type 0)
+module _ (was old : Progress) (result : Result (Unit {0}) CertError) (Before After : List ℕ → Type 0)
     (h : ReadsAt was old Before After) (over : After []) (finishes : Finishes old result) where
   finished : EndsThere (place_of was) (offset_of was) (begun_of old ++ []) result
   finished = ends_there old (place_of was) (offset_of was) [] result h.at ((finishes [] result).1 (refl, refl))
 
   pub finished_whole : result ≡ Ok tt → (place_of was ≡ Finish) × Before []
   finished_whole ok =
-      let end = subst (λ (r : Result (Unit {0}) CertEnd). EndsThere (place_of was) (offset_of was) (begun_of old ++ []) r) ok finished in
+      let end = subst (λ (r : Result (Unit {0}) CertError). EndsThere (place_of was) (offset_of was) (begun_of old ++ []) r) ok finished in
       (end.0, subst Before end.1 (h.bytes [] over))
 
-  pub end_misspelt : (e : CertEnd) (end : JudgeEnd) → result ≡ Err e → end ≡ end_of_spelling e → IsMisspeltBehind was Before end
+  pub end_misspelt : (e : CertError) (end : JudgeEnd) → result ≡ Err e → end ≡ end_of_spelling e → IsMisspeltBehind was Before end
   end_misspelt e end err named refused =
-      let stops = subst (λ (r : Result (Unit {0}) CertEnd). EndsThere (place_of was) (offset_of was) (begun_of old ++ []) r) err finished in
+      let stops = subst (λ (r : Result (Unit {0}) CertError). EndsThere (place_of was) (offset_of was) (begun_of old ++ []) r) err finished in
       (begun_of old ++ [], h.bytes [] over, (e, stops, named))

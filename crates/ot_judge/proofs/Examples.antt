@@ -2,7 +2,7 @@
 use Rattle.std.proofs.Common.{◌≡◌, ℕ, List, [], ◌∷◌, ◌++◌, Some, None, inr, arith, refl}
 use Rattle.std.specs.Prelude.{codes}
 use Rattle.ask_core.specs.declared.tree.Tok.TheVariants as token
-use Rattle.cert_check.specs.declared.verdict.CheckEnd.TheVariants as check
+use Rattle.cert_check.specs.declared.verdict.CheckError.TheVariants as check
 use Rattle.cert_text.specs.declared.item.Part.TheVariants as part
 use Rattle.fn_rules.specs.declared.function.Level.TheVariants.{Tp1}
 use Rattle.fn_rules.specs.Functions.{Function}

@@ -4,8 +4,8 @@ use Rattle.fn_rules.specs.declared.function.ObName.{ObName}
 use Rattle.ask_core.specs.declared.tree.Tok.{Tok}
 use Rattle.ask_core.specs.Plans.{Plan}
 use Rattle.ask_core.specs.Trees.{Branch}
-use Rattle.cert_check.specs.declared.verdict.CheckEnd.{CheckEnd}
-use Rattle.cert_check.specs.declared.verdict.CheckEnd.TheVariants as check
+use Rattle.cert_check.specs.declared.verdict.CheckError.{CheckError}
+use Rattle.cert_check.specs.declared.verdict.CheckError.TheVariants as check
 use Rattle.cert_check.specs.Steps.{after}
 use Rattle.cert_check.specs.Judging.{IsCauseOf}
 use Rattle.cert_text.specs.declared.item.Item.{Item}
@@ -61,13 +61,13 @@ module _ {W : Type 0} (plan : ObName → Plan W) where
   misspelt_refused was branches Before e misspelt refused =
       let ends = misspelt refused in (ends.0, ends.1, ([], inl ends.2))
 
-  want_is_no_refusal : (offset : ℕ) (why : CheckEnd) → why ≡ check.NoMemory → IsRefused (end_of_token offset why) → ⊥
+  want_is_no_refusal : (offset : ℕ) (why : CheckError) → why ≡ check.NoMemory → IsRefused (end_of_token offset why) → ⊥
   want_is_no_refusal offset why memory refused =
-      subst (λ (x : CheckEnd). IsRefused (end_of_token offset x)) memory refused
+      subst (λ (x : CheckError). IsRefused (end_of_token offset x)) memory refused
 
   -- so are bytes that begin with a token that is refused
   pub token_refused :
-      (was now : Progress) (Before After : List ℕ → Type 0) (offset : ℕ) (t : Tok) (branches : List (Branch W)) (why : CheckEnd)
+      (was now : Progress) (Before After : List ℕ → Type 0) (offset : ℕ) (t : Tok) (branches : List (Branch W)) (why : CheckError)
       → Came was Before (record { offset = offset; part = part.Tok t }) now After → (rest : List ℕ) × After rest
       → IsCauseOf why t branches → IsRefusedBehind plan (point_of was branches) Before (end_of_token offset why)
   token_refused was now Before After offset t branches why comes rest (inl memory) refused =

@@ -5,12 +5,12 @@ use Rattle.fn_rules.specs.declared.function.ObName.{ObName}
 use Rattle.ask_core.specs.declared.tree.Tok.{Tok}
 use Rattle.ask_core.specs.Plans.{Plan}
 use Rattle.ask_core.specs.Trees.{Branch}
-use Rattle.cert_check.specs.declared.verdict.CheckEnd.{CheckEnd}
+use Rattle.cert_check.specs.declared.verdict.CheckError.{CheckError}
 use Rattle.cert_check.specs.Steps.{after}
 use Rattle.cert_text.specs.declared.item.Part.{Part}
 use Rattle.cert_text.specs.declared.item.Part.TheVariants as part
-use Rattle.cert_text.specs.declared.item.CertEnd.{CertEnd}
-use Rattle.cert_text.specs.declared.item.CertEnd.TheVariants as cert
+use Rattle.cert_text.specs.declared.item.CertError.{CertError}
+use Rattle.cert_text.specs.declared.item.CertError.TheVariants as cert
 use Rattle.cert_text.specs.Places.{Place, Start, Line, Tree, Finish, Stands, part_text}
 use Rattle.cert_text.specs.Reading.{EndsThere, HasNoPart, IsFrontOfPart}
 use Rattle.ot_judge.specs.declared.refusal.JudgeEnd.{JudgeEnd}
@@ -53,7 +53,7 @@ module _ (one_part : OnePart) (takes_bytes : TakesBytes) where
 
   -- where a part begins the bytes they do not end there by their spelling
   part_goes_on :
-      (place : Place) (offset : ℕ) (bytes rest : List ℕ) (p : Part) (e : Result (Unit {0}) CertEnd)
+      (place : Place) (offset : ℕ) (bytes rest : List ℕ) (p : Part) (e : Result (Unit {0}) CertError)
       → Stands place p → bytes ≡ part_text place p ++ rest → EndsThere place offset bytes e → ⊥
   part_goes_on place offset bytes rest p (Ok done) stands is end = nothing_stands_behind place p end.0 stands
   part_goes_on place offset bytes rest p (Err (cert.BadToken at)) stands is end = (end.3 p rest stands).1 is
@@ -67,7 +67,7 @@ module _ (one_part : OnePart) (takes_bytes : TakesBytes) where
 
   -- bytes end in one way by their spelling
   spelling_ends_once :
-      (place : Place) (offset : ℕ) (bytes : List ℕ) (a b : Result (Unit {0}) CertEnd)
+      (place : Place) (offset : ℕ) (bytes : List ℕ) (a b : Result (Unit {0}) CertError)
       → EndsThere place offset bytes a → EndsThere place offset bytes b → a ≡ b
   spelling_ends_once place offset bytes (Ok x) (Ok y) a b = refl
   spelling_ends_once place offset bytes (Ok x) (Err (cert.BadToken at)) a b = absurd (b.1 a.0)
@@ -114,20 +114,20 @@ module _ (one_part : OnePart) (takes_bytes : TakesBytes) where
         let tokens : t ≡ u = same_token t u same.0 in
         let causes : why ≡ other =
         same_err why other (sym refused ∙ ap (λ (x : Tok). after x point.branches) tokens ∙ answered) in
-        named ∙ ap (λ (x : CheckEnd). end_of_token point.offset x) causes ∙ sym called
+        named ∙ ap (λ (x : CheckError). end_of_token point.offset x) causes ∙ sym called
 
     stop_once :
         (point : Point W) (bytes : List ℕ) (a b : Result (Unit {0}) JudgeEnd)
         → StopsThere a point bytes → StopsThere b point bytes → a ≡ b
     stop_once point bytes (Ok x) (Ok y) a b = refl
     stop_once point bytes (Ok x) (Err e) a (inl (c, ends, named)) =
-        let no : ◌≡◌ {A = Result (Unit {0}) CertEnd} (Ok tt) (Err c) =
+        let no : ◌≡◌ {A = Result (Unit {0}) CertError} (Ok tt) (Err c) =
         spelling_ends_once point.place point.offset bytes (Ok tt) (Err c) a ends in
         absurd (cc)
     stop_once point bytes (Ok x) (Err e) a (inr (t, rest, why, stands, begins, refused, named)) =
         absurd (part_goes_on point.place point.offset bytes rest (part.Tok t) (Ok tt) stands begins a)
     stop_once point bytes (Err d) (Ok y) (inl (c, ends, named)) b =
-        let no : ◌≡◌ {A = Result (Unit {0}) CertEnd} (Ok tt) (Err c) =
+        let no : ◌≡◌ {A = Result (Unit {0}) CertError} (Ok tt) (Err c) =
         spelling_ends_once point.place point.offset bytes (Ok tt) (Err c) b ends in
         absurd (cc)
     stop_once point bytes (Err d) (Ok y) (inr (t, rest, why, stands, begins, refused, named)) b =

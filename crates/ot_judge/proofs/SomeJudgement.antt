@@ -5,21 +5,21 @@ use Rattle.fn_rules.specs.declared.function.Level.{Level}
 use Rattle.fn_rules.specs.declared.function.ObName.{ObName}
 use Rattle.fn_rules.specs.Functions.{Function}
 use Rattle.diff_graph.specs.declared.lit.Lit.{Lit}
-use Rattle.diff_graph.specs.declared.lit.PickEnd.{PickEnd}
-use Rattle.diff_graph.specs.declared.lit.PickEnd.TheVariants as pick
+use Rattle.diff_graph.specs.declared.lit.PickError.{PickError}
+use Rattle.diff_graph.specs.declared.lit.PickError.TheVariants as pick
 use Rattle.diff_graph.specs.Cycles.{pick_verdict}
 use Rattle.ask_core.specs.declared.tree.Tok.{Tok}
 use Rattle.ask_core.specs.declared.tree.Tok.TheVariants as token
 use Rattle.ask_core.specs.Plans.{Plan, Ask, Holds, Fails}
 use Rattle.ask_core.specs.Trees.{Branch}
-use Rattle.cert_check.specs.declared.verdict.CheckEnd.{CheckEnd}
-use Rattle.cert_check.specs.declared.verdict.CheckEnd.TheVariants as check
+use Rattle.cert_check.specs.declared.verdict.CheckError.{CheckError}
+use Rattle.cert_check.specs.declared.verdict.CheckError.TheVariants as check
 use Rattle.cert_check.specs.Steps.{after, branches_after_question, branches_after_end, branches_after_cycle}
 use Rattle.cert_text.specs.declared.item.Item.{Item}
 use Rattle.cert_text.specs.declared.item.Part.{Part}
 use Rattle.cert_text.specs.declared.item.Part.TheVariants as part
-use Rattle.cert_text.specs.declared.item.CertEnd.{CertEnd}
-use Rattle.cert_text.specs.declared.item.CertEnd.TheVariants as cert
+use Rattle.cert_text.specs.declared.item.CertError.{CertError}
+use Rattle.cert_text.specs.declared.item.CertError.TheVariants as cert
 use Rattle.cert_text.specs.Places.{Stands, part_text}
 use Rattle.cert_text.specs.Reading.{Progress, Reading, Reads, ReadsFrom}
 use Rattle.ot_questions.specs.Obligation.{plan_of}
@@ -33,7 +33,7 @@ use Rattle.ot_judge.specs.Refusals.{IsJudgement, IsWhole, start_of}
 -- a reader gives some parts of any bytes, and ends
 abbrev pub AllRead : Type 0
 AllRead =
-    (reader : Progress) (bytes : List ℕ) → (items : List Item) × (end : Result (Unit {0}) CertEnd) × Reads reader bytes items end
+    (reader : Progress) (bytes : List ℕ) → (items : List Item) × (end : Result (Unit {0}) CertError) × Reads reader bytes items end
 
 -- parts that fit from the header on are a certificate
 abbrev pub AreCertificates : Type 0
@@ -44,7 +44,7 @@ abbrev IsAnswer : Result (Unit {0}) JudgeEnd → Type 0
 IsAnswer (Ok done) = Unit {0}
 IsAnswer (Err e) = IsRefused e
 
-spelling_is_answer : (e : CertEnd) → IsRefused (end_of_spelling e)
+spelling_is_answer : (e : CertError) → IsRefused (end_of_spelling e)
 spelling_is_answer (cert.BadToken offset) = tt
 spelling_is_answer (cert.Truncated offset) = tt
 spelling_is_answer (cert.Trailing offset) = tt
@@ -62,7 +62,7 @@ module _ {W : Type 0} where
   end_has_memory (Fails why) branches is = cc
 
   cycle_has_memory :
-      (v : Result (Unit {0}) PickEnd) (branches : List (Branch W)) → branches_after_cycle v branches ≡ Err check.NoMemory → ⊥
+      (v : Result (Unit {0}) PickError) (branches : List (Branch W)) → branches_after_cycle v branches ≡ Err check.NoMemory → ⊥
   cycle_has_memory (Ok done) branches is = cc
   cycle_has_memory (Err pick.BadPick) branches is = cc
   cycle_has_memory (Err pick.NotACycle) branches is = cc
@@ -78,7 +78,7 @@ module _ {W : Type 0} where
   token_has_memory (token.Cycle picks) (b ∷ branches) is = cycle_has_memory (pick_verdict b.answers picks) branches is
 
   token_is_answer :
-      (t : Tok) (branches : List (Branch W)) (offset : ℕ) (e : CheckEnd) → after t branches ≡ Err e
+      (t : Tok) (branches : List (Branch W)) (offset : ℕ) (e : CheckError) → after t branches ≡ Err e
       → IsRefused (end_of_token offset e)
   token_is_answer t branches offset check.NotAQuestion is = tt
   token_is_answer t branches offset check.NotDone is = tt
@@ -95,7 +95,7 @@ module _ {W : Type 0} where
 
     -- only a token is refused
     part_refused :
-        (point : Point W) (bytes rest : List ℕ) (p : Part) (e : CheckEnd) → Stands point.place p → bytes ≡ part_text point.place p ++ rest
+        (point : Point W) (bytes rest : List ℕ) (p : Part) (e : CheckError) → Stands point.place p → bytes ≡ part_text point.place p ++ rest
         → branches_behind plan point p ≡ Err e → HasAnswer point bytes
     part_refused point bytes rest (part.Tok t) e stands is refused = (
       Err (end_of_token point.offset e),
@@ -110,14 +110,14 @@ module _ {W : Type 0} where
     part_judged :
         (point : Point W) (bytes rest : List ℕ) (p : Part) → Stands point.place p → bytes ≡ part_text point.place p ++ rest
         → ((branches : List (Branch W)) → HasAnswer (point_behind point p branches) rest)
-        → (o : Result (List (Branch W)) CheckEnd) → branches_behind plan point p ≡ o → HasAnswer point bytes
+        → (o : Result (List (Branch W)) CheckError) → branches_behind plan point p ≡ o → HasAnswer point bytes
     part_judged point bytes rest p stands is later (Ok branches) opens =
         let on = later branches in (on.0, on.1, (p ∷ on.2.0, (stands, (rest, branches, is, opens, on.2.1))))
     part_judged point bytes rest p stands is later (Err e) refused = part_refused point bytes rest p e stands is refused
 
     -- what a reader makes of the bytes is judged
     pub read_judged :
-        (items : List Item) (end : Result (Unit {0}) CertEnd) (point : Point W) (bytes : List ℕ)
+        (items : List Item) (end : Result (Unit {0}) CertError) (point : Point W) (bytes : List ℕ)
         → ReadsFrom point.place point.offset bytes items end → HasAnswer point bytes
     read_judged [] (Ok done) point bytes ends = (Ok tt, tt, ([], ends))
     read_judged [] (Err e) point bytes ends = (Err (end_of_spelling e), spelling_is_answer e, ([], inl (e, ends, refl)))

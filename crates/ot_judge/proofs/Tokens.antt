@@ -1,15 +1,15 @@
 -- What tokens do to open branches: how many stay open, and that a tree that completes them is taken token by token.
 use Rattle.std.proofs.Common.{◌≡◌, ◌+◌, ◌-◌, List, [], ◌∷◌, ◌++◌, length, Result, Ok, Err, inr, arith, refl, ap}
 use Rattle.diff_graph.specs.declared.lit.Lit.{Lit}
-use Rattle.diff_graph.specs.declared.lit.PickEnd.{PickEnd}
-use Rattle.diff_graph.specs.declared.lit.PickEnd.TheVariants as pick
+use Rattle.diff_graph.specs.declared.lit.PickError.{PickError}
+use Rattle.diff_graph.specs.declared.lit.PickError.TheVariants as pick
 use Rattle.diff_graph.specs.Cycles.{pick_verdict}
 use Rattle.ask_core.specs.declared.tree.Tok.{Tok}
 use Rattle.ask_core.specs.declared.tree.Tok.TheVariants as token
 use Rattle.ask_core.specs.Plans.{Plan, Ask, Holds, Fails}
 use Rattle.ask_core.specs.Trees.{AnswerTree, Question, End, Impossible, Branch, Completes, tokens_of}
-use Rattle.cert_check.specs.declared.verdict.CheckEnd.{CheckEnd}
-use Rattle.cert_check.specs.declared.verdict.CheckEnd.TheVariants as check
+use Rattle.cert_check.specs.declared.verdict.CheckError.{CheckError}
+use Rattle.cert_check.specs.declared.verdict.CheckError.TheVariants as check
 use Rattle.cert_check.specs.Steps.{after, branches_after_cycle, branches_after_end, branches_after_question, HasFewPicks}
 use Rattle.cert_check.proofs.Completing.{ByToken, Completes-step, Completes-none}
 use Rattle.cert_text.specs.Spelling.{IsSpellable}
@@ -46,7 +46,7 @@ module _ {W : Type 0} where
   end_closes (Fails why) b branches next taken = absurd (cc)
 
   cycle_closes :
-      (verdict : Result (Unit {0}) PickEnd) (b : Branch W) (branches next : List (Branch W))
+      (verdict : Result (Unit {0}) PickError) (b : Branch W) (branches next : List (Branch W))
       → branches_after_cycle verdict branches ≡ Ok next → length next ≡ length (b ∷ branches) - 1
   cycle_closes (Ok done) b branches next taken = omega (arith, ap length (same_ok _ _ taken))
   cycle_closes (Err why) b branches next taken = absurd (cc)
@@ -61,21 +61,21 @@ module _ {W : Type 0} where
       cycle_closes (pick_verdict b.answers picks) b branches next taken
 
   question_wants_none :
-      (p : Plan W) (w : List Lit) (branches : List (Branch W)) (why : CheckEnd)
+      (p : Plan W) (w : List Lit) (branches : List (Branch W)) (why : CheckError)
       → branches_after_question p w branches ≡ Err why → why ≡ check.NoMemory → ⊥
   question_wants_none (Ask l on_yes on_no) w branches why refused memory = cc
   question_wants_none Holds w branches why refused memory = cc
   question_wants_none (Fails cause) w branches why refused memory = cc
 
   end_wants_none :
-      (p : Plan W) (branches : List (Branch W)) (why : CheckEnd)
+      (p : Plan W) (branches : List (Branch W)) (why : CheckError)
       → branches_after_end p branches ≡ Err why → why ≡ check.NoMemory → ⊥
   end_wants_none (Ask l on_yes on_no) branches why refused memory = cc
   end_wants_none Holds branches why refused memory = cc
   end_wants_none (Fails cause) branches why refused memory = cc
 
   cycle_wants_none :
-      (verdict : Result (Unit {0}) PickEnd) (branches : List (Branch W)) (why : CheckEnd)
+      (verdict : Result (Unit {0}) PickError) (branches : List (Branch W)) (why : CheckError)
       → branches_after_cycle verdict branches ≡ Err why → why ≡ check.NoMemory → ⊥
   cycle_wants_none (Ok done) branches why refused memory = cc
   cycle_wants_none (Err pick.BadPick) branches why refused memory = cc
@@ -84,7 +84,7 @@ module _ {W : Type 0} where
 
   -- no token is refused for want of memory
   pub token_wants_none :
-      (t : Tok) (branches : List (Branch W)) (why : CheckEnd) → after t branches ≡ Err why → why ≡ check.NoMemory → ⊥
+      (t : Tok) (branches : List (Branch W)) (why : CheckError) → after t branches ≡ Err why → why ≡ check.NoMemory → ⊥
   token_wants_none t [] why refused memory = cc
   token_wants_none token.Ask (b ∷ branches) why refused memory = question_wants_none b.plan b.answers branches why refused memory
   token_wants_none token.Holds (b ∷ branches) why refused memory = end_wants_none b.plan branches why refused memory
@@ -99,7 +99,7 @@ module _ {W : Type 0} where
 
   taken_by :
       ByToken W → (t : Tok) (tokens : List Tok) (branches : List (Branch W)) → HasFewPicks t → Completes (t ∷ tokens) branches
-      → (answer : Result (List (Branch W)) CheckEnd) → after t branches ≡ answer → Taken t tokens branches
+      → (answer : Result (List (Branch W)) CheckError) → after t branches ≡ answer → Taken t tokens branches
   taken_by by_token t tokens branches few whole (Ok next) is =
       record { next = next; taken = is; rest = (Completes-step by_token t branches next tokens few is).0 whole }
   taken_by by_token t tokens branches few whole (Err why) is =

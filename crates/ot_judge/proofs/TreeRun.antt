@@ -5,7 +5,7 @@ use Rattle.ask_core.specs.declared.tree.Tok.{Tok}
 use Rattle.ask_core.specs.Plans.{Plan}
 use Rattle.ask_core.specs.Trees.{Branch}
 use Rattle.ask_core.specs.Paths.{OpenPlace, branch_at, branches_at}
-use Rattle.cert_check.specs.declared.verdict.CheckEnd.{CheckEnd}
+use Rattle.cert_check.specs.declared.verdict.CheckError.{CheckError}
 use Rattle.cert_check.specs.Steps.{after}
 use Rattle.cert_check.specs.Judging.{IsCauseOf}
 use Rattle.cert_text.specs.declared.item.Part.TheVariants as part
@@ -74,7 +74,7 @@ module _ {W : Type 0} where
 
     -- one that is refused, and bytes that are no token, are refused
     pub refused_token :
-        (offset : ℕ) (t : Tok) (why : CheckEnd)
+        (offset : ℕ) (t : Tok) (why : CheckError)
         → Came was Between (record { offset = offset; part = part.Tok t }) now After → (rest : List ℕ) × After rest
         → IsCauseOf why t branches → IsRefusedAnyway first Before (end_of_token offset why)
     refused_token offset t why comes some cause plan =

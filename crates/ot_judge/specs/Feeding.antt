@@ -7,7 +7,7 @@ use Rattle.ask_core.specs.Plans.{Plan}
 use Rattle.ask_core.specs.Trees.{Branch}
 use Rattle.cert_text.specs.declared.item.Item.{Item}
 use Rattle.cert_text.specs.declared.item.Part.{Part}
-use Rattle.cert_text.specs.declared.item.CertEnd.{CertEnd}
+use Rattle.cert_text.specs.declared.item.CertError.{CertError}
 use Rattle.cert_text.specs.Places.{Place, Start, Line, Tree, Finish, Stands, part_text, place_after}
 use Rattle.cert_text.specs.Reading.{Progress, Reading, Refused, EndsThere}
 use Rattle.ot_judge.specs.declared.refusal.Refusal.TheVariants as why
@@ -116,7 +116,7 @@ IsTruncated e = (offset : ℕ) × (e ≡ judge.Refused offset why.Truncated)
 abbrev pub IsMisspeltBehind : Progress → (List ℕ → Type 0) → JudgeEnd → Type 0
 IsMisspeltBehind was Before e =
     IsRefused e → (bytes : List ℕ) × Before bytes
-    × ((c : CertEnd) × EndsThere (place_of was) (offset_of was) bytes (Err c) × (e ≡ end_of_spelling c))
+    × ((c : CertError) × EndsThere (place_of was) (offset_of was) bytes (Err c) × (e ≡ end_of_spelling c))
 
 -- what is judged at a later point of bytes that the feed may give there is judged at the earlier point of bytes that it
 -- may have given

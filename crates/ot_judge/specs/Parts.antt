@@ -5,13 +5,13 @@ use Rattle.fn_rules.specs.declared.function.ObName.{ObName}
 use Rattle.ask_core.specs.Plans.{Plan}
 use Rattle.ask_core.specs.Trees.{Branch}
 use Rattle.ask_core.specs.declared.tree.Tok.{Tok}
-use Rattle.cert_check.specs.declared.verdict.CheckEnd.{CheckEnd}
-use Rattle.cert_check.specs.declared.verdict.CheckEnd.TheVariants as check
+use Rattle.cert_check.specs.declared.verdict.CheckError.{CheckError}
+use Rattle.cert_check.specs.declared.verdict.CheckError.TheVariants as check
 use Rattle.cert_check.specs.Steps.{after}
 use Rattle.cert_text.specs.declared.item.Part.{Part}
 use Rattle.cert_text.specs.declared.item.Part.TheVariants as part
-use Rattle.cert_text.specs.declared.item.CertEnd.{CertEnd}
-use Rattle.cert_text.specs.declared.item.CertEnd.TheVariants as cert
+use Rattle.cert_text.specs.declared.item.CertError.{CertError}
+use Rattle.cert_text.specs.declared.item.CertError.TheVariants as cert
 use Rattle.cert_text.specs.Places.{Place, Line, Stands, part_text, place_after}
 use Rattle.cert_text.specs.Reading.{EndsThere}
 use Rattle.ot_judge.specs.declared.refusal.Refusal.TheVariants as why
@@ -31,7 +31,7 @@ opened_at plan place = []
 
 -- the branches that are open behind a part, or why a token is refused
 abbrev pub branches_behind :
-    {W : Type 0} → (ObName → Plan W) → Point W → Part → Result (List (Branch W)) CheckEnd
+    {W : Type 0} → (ObName → Plan W) → Point W → Part → Result (List (Branch W)) CheckError
 branches_behind plan point (part.Ob number) = Ok (opened_at plan point.place)
 branches_behind plan point (part.Tok t) = after t point.branches
 branches_behind plan point (part.Header level) = Ok point.branches
@@ -48,13 +48,13 @@ point_behind point p branches =
     }
 
 -- the refusal of bytes by their spelling
-abbrev pub end_of_spelling : CertEnd → JudgeEnd
+abbrev pub end_of_spelling : CertError → JudgeEnd
 end_of_spelling (cert.BadToken offset) = judge.Refused offset why.Token
 end_of_spelling (cert.Truncated offset) = judge.Refused offset why.Truncated
 end_of_spelling (cert.Trailing offset) = judge.Refused offset why.Trailing
 
 -- the refusal of a token at an offset
-abbrev pub end_of_token : ℕ → CheckEnd → JudgeEnd
+abbrev pub end_of_token : ℕ → CheckError → JudgeEnd
 end_of_token offset check.NotAQuestion = judge.Refused offset why.NotAQuestion
 end_of_token offset check.NotDone = judge.Refused offset why.NotDone
 end_of_token offset check.GoalFails = judge.Refused offset why.GoalFails
@@ -66,13 +66,13 @@ end_of_token offset check.NoMemory = judge.NoMemory
 -- the bytes behind the point are refused by their spelling
 abbrev pub IsMisspelt : {W : Type 0} → JudgeEnd → Point W → List ℕ → Type 0
 IsMisspelt end point bytes =
-    (e : CertEnd) × EndsThere point.place point.offset bytes (Err e) × (end ≡ end_of_spelling e)
+    (e : CertError) × EndsThere point.place point.offset bytes (Err e) × (end ≡ end_of_spelling e)
 
 -- the bytes behind the point begin with a token that may stand there by its spelling, and which is refused at the
 -- open branches
 abbrev pub IsRefusedToken : {W : Type 0} → JudgeEnd → Point W → List ℕ → Type 0
 IsRefusedToken end point bytes =
-    (t : Tok) × (rest : List ℕ) × (e : CheckEnd)
+    (t : Tok) × (rest : List ℕ) × (e : CheckError)
     × Stands point.place (part.Tok t) × (bytes ≡ part_text point.place (part.Tok t) ++ rest)
     × (after t point.branches ≡ Err e) × (end ≡ end_of_token point.offset e)
 

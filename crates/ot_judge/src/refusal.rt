@@ -3,8 +3,8 @@ ghost use Rattle.std.specs.Prelude.{◌≡◌};
 ghost use Rattle.ot_judge.specs.declared.refusal.JudgeEnd.TheVariants as judge;
 
 use ask_core::NoMemory;
-use cert_check::CheckEnd;
-use cert_text::CertEnd;
+use cert_check::CheckError;
+use cert_text::CertError;
 use ot_outside::Failed;
 
 /// Why bytes are no certificate of a function.
@@ -73,16 +73,16 @@ impl From<Failed> for JudgeEnd {
     }
 }
 
-impl From<CertEnd> for JudgeEnd {
+impl From<CertError> for JudgeEnd {
     ghost use Rattle.ot_judge.specs.Parts.{end_of_spelling};
 
     ghost from_gives = { λ c e. e ≡ end_of_spelling c };
 
-    fn from(end: CertEnd) -> JudgeEnd {
+    fn from(end: CertError) -> JudgeEnd {
         let (offset, why) = match end {
-            CertEnd::BadToken(offset) => (offset, Refusal::Token),
-            CertEnd::Truncated(offset) => (offset, Refusal::Truncated),
-            CertEnd::Trailing(offset) => (offset, Refusal::Trailing),
+            CertError::BadToken(offset) => (offset, Refusal::Token),
+            CertError::Truncated(offset) => (offset, Refusal::Truncated),
+            CertError::Trailing(offset) => (offset, Refusal::Trailing),
         };
         JudgeEnd::Refused { offset, why }
     }

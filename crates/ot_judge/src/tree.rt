@@ -8,23 +8,23 @@ ghost use Rattle.ot_judge.specs.Feeding.{Comes, IsBetween, IsKept, IsMisspeltBeh
 use crate::part::expect_part;
 use crate::refusal::{JudgeEnd, Refusal};
 use ask_core::{Asker, Tok};
-use cert_check::{CheckEnd, Checker, MAX_NAMES, Progress};
+use cert_check::{CheckError, Checker, MAX_NAMES, Progress};
 use cert_text::{Item, Part, Reader};
 use ot_outside::Feed;
 use std::alloc::Global;
 
 // The end of a judgement at a token that is not taken.
-fn end_at(offset: u64, end: CheckEnd) -> JudgeEnd
+fn end_at(offset: u64, end: CheckError) -> JudgeEnd
     ensures { result ≡ end_of_token offset end }
 {
     let why = match end {
-        CheckEnd::NotAQuestion => Refusal::NotAQuestion,
-        CheckEnd::NotDone => Refusal::NotDone,
-        CheckEnd::GoalFails => Refusal::GoalFails,
-        CheckEnd::BadPick => Refusal::BadPick,
-        CheckEnd::NotACycle => Refusal::NotACycle,
-        CheckEnd::NotNegative => Refusal::NotNegative,
-        CheckEnd::NoMemory => return JudgeEnd::NoMemory,
+        CheckError::NotAQuestion => Refusal::NotAQuestion,
+        CheckError::NotDone => Refusal::NotDone,
+        CheckError::GoalFails => Refusal::GoalFails,
+        CheckError::BadPick => Refusal::BadPick,
+        CheckError::NotACycle => Refusal::NotACycle,
+        CheckError::NotNegative => Refusal::NotNegative,
+        CheckError::NoMemory => return JudgeEnd::NoMemory,
     };
     JudgeEnd::Refused { offset, why }
 }

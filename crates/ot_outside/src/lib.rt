@@ -29,4 +29,4 @@ pub use shelf_feed::ShelfFeed;
 pub use sink::Sink;
 pub use slice_feed::SliceFeed;
 pub use std::alloc::AllocError as NoMemory;
-pub use whole::{ReadEnd, read_all, write_all};
+pub use whole::{ReadError, read_all, write_all};

@@ -5,14 +5,14 @@ ghost use Rattle.std.specs.Io.KnownBytes.{append_known};
 ghost use Rattle.ot_outside.specs.Faults.{Rose};
 ghost use Rattle.ot_outside.specs.Reads.{after_reading};
 ghost use Rattle.ot_outside.specs.Whole.{AppendsFront, IsFront};
-ghost use Rattle.ot_outside.specs.declared.whole.ReadEnd.TheVariants as end;
+ghost use Rattle.ot_outside.specs.declared.whole.ReadError.TheVariants as end;
 
 use crate::shelf::PIECE;
 use crate::{Failed, NoMemory, Shelf, Sink};
 
 /// Why a file was not read to its end.
 #[derive(Clone, Copy, Debug, PartialEq, Eq)]
-pub enum ReadEnd {
+pub enum ReadError {
     /// The shelf failed; its count of faults rose.
     Failed,
 
@@ -23,19 +23,19 @@ pub enum ReadEnd {
     NoMemory,
 }
 
-impl From<Failed> for ReadEnd {
+impl From<Failed> for ReadError {
     ghost from_gives = { λ _ e. e ≡ end.Failed };
 
-    fn from(_: Failed) -> ReadEnd {
-        ReadEnd::Failed
+    fn from(_: Failed) -> ReadError {
+        ReadError::Failed
     }
 }
 
-impl From<NoMemory> for ReadEnd {
+impl From<NoMemory> for ReadError {
     ghost from_gives = { λ _ e. e ≡ end.NoMemory };
 
-    fn from(_: NoMemory) -> ReadEnd {
-        ReadEnd::NoMemory
+    fn from(_: NoMemory) -> ReadError {
+        ReadError::NoMemory
     }
 }
 
@@ -49,7 +49,7 @@ pub fn read_all<H: Shelf>(
     name: &str,
     limit: usize,
     into: &mut Vec<u8>,
-) -> Result<(), ReadEnd>
+) -> Result<(), ReadError>
     requires empty { into.old.items ≡ [] }
     requires offered { H.offered shelf.old name.now }
 
@@ -60,7 +60,7 @@ pub fn read_all<H: Shelf>(
     ensures read { H.reads shelf.new ≡ after_reading name.now (H.reads shelf.new).bytes (H.reads shelf.old) }
     ensures given { OnOk result ((H.reads shelf.new).bytes ≡ into.new.items) }
     ensures given_front { IsFront into.new.items (H.reads shelf.new).bytes }
-    ensures given_more { IsErrOf result ReadEnd.TooLong → limit < length (H.reads shelf.new).bytes }
+    ensures given_more { IsErrOf result ReadError.TooLong → limit < length (H.reads shelf.new).bytes }
     ensures within { length into.new.items ≤ limit }
 
     ensures holds { (n : List ℕ) → H.holds shelf.new n ≡ H.holds shelf.old n }
@@ -70,9 +70,9 @@ pub fn read_all<H: Shelf>(
     // One call to open the file, and those to read it.
     ensures called { H.calls shelf.new ≤ H.calls shelf.old + limit + 2 }
 
-    ensures failed { IsErrOf result ReadEnd.Failed → Rose (H.faults shelf.old) (H.faults shelf.new) }
-    ensures too_long { IsErrOf result ReadEnd.TooLong → ForSome (H.holds shelf.old name.now) (λ contents. limit < length contents) }
-    ensures full { IsErrOf result ReadEnd.TooLong → length into.new.items ≡ limit }
+    ensures failed { IsErrOf result ReadError.Failed → Rose (H.faults shelf.old) (H.faults shelf.new) }
+    ensures too_long { IsErrOf result ReadError.TooLong → ForSome (H.holds shelf.old name.now) (λ contents. limit < length contents) }
+    ensures full { IsErrOf result ReadError.TooLong → length into.new.items ≡ limit }
 {
     shelf.open(name)?;
     let mut piece = [0u8; PIECE];
@@ -84,7 +84,7 @@ pub fn read_all<H: Shelf>(
         let kept = count.min(limit - into.len());
         into.extend_from_slice(&piece[..kept])?;
         if kept < count {
-            return Err(ReadEnd::TooLong);
+            return Err(ReadError::TooLong);
         }
     }
 }

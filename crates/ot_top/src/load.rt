@@ -8,9 +8,9 @@ ghost use Rattle.ot_replies.specs.Limits.{limit_of, IsTooLong};
 ghost use Rattle.ot_top.specs.Replies.{Holds, IsFunctionRefusal, IsReadAs};
 
 use fn_rules::Rules;
-use fn_text::{ReadError, read_rules};
+use fn_text::{TextError, read_rules};
 use ot_model::NoMemory;
-use ot_outside::{Failed, ReadEnd, Shelf, read_all};
+use ot_outside::{Failed, ReadError, Shelf, read_all};
 use ot_replies::{FileKind, Reply};
 use std::alloc::Global;
 
@@ -81,9 +81,9 @@ pub(crate) fn read_file<H: Shelf>(
     let mut bytes = Vec::new(alloc);
     match read_all(shelf, name, limit(kind), &mut bytes) {
         Ok(()) => Ok(bytes),
-        Err(ReadEnd::TooLong) => Err(Stop::Replied(Reply::TooLong(kind))),
-        Err(ReadEnd::Failed) => Err(Stop::Shelf),
-        Err(ReadEnd::NoMemory) => Err(Stop::NoMemory),
+        Err(ReadError::TooLong) => Err(Stop::Replied(Reply::TooLong(kind))),
+        Err(ReadError::Failed) => Err(Stop::Shelf),
+        Err(ReadError::NoMemory) => Err(Stop::NoMemory),
     }
 }
 
@@ -109,7 +109,7 @@ pub(crate) fn load_function<H: Shelf>(
     let bytes = read_file(alloc, shelf, name, FileKind::Function)?;
     match read_rules(alloc, &bytes) {
         Ok(rules) => Ok(rules),
-        Err(ReadError::Fault(fault)) => Err(Stop::Replied(Reply::FunctionRefused(fault))),
-        Err(ReadError::NoMemory) => Err(Stop::NoMemory),
+        Err(TextError::Fault(fault)) => Err(Stop::Replied(Reply::FunctionRefused(fault))),
+        Err(TextError::NoMemory) => Err(Stop::NoMemory),
     }
 }

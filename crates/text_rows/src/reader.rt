@@ -2,7 +2,7 @@
 ghost use Rattle.std.specs.Prelude.{◌≡◌, ◌+◌, ◌<◌, ◌≤◌, IfOk, length};
 ghost use Rattle.cert_text.specs.Reading.{fed_to};
 
-use cert_text::{CertEnd, Item, Part, Reader, Tok};
+use cert_text::{CertError, Item, Part, Reader, Tok};
 use fn_rules::{Level, ObName};
 use ot_model::Kind;
 use std::alloc::{AllocError, Global};
@@ -17,7 +17,7 @@ fn reader(alloc: Global, kind: Kind) -> Result<Reader, AllocError>
     Ok(Reader::new(alloc, tp1, tp2))
 }
 
-fn end_of(reader: &mut Reader, bytes: &[u8]) -> Result<(), CertEnd>
+fn end_of(reader: &mut Reader, bytes: &[u8]) -> Result<(), CertError>
     requires { fed_to reader.old ≡ 0 }
 {
     for byte in bytes {
@@ -31,28 +31,34 @@ fn a_certificate_ends_as_its_spelling_says(rt: HostRuntime) -> Result<(), Fail> 
     for (text, want) in [
         ("otcert 1 tp1\nob ins ins\n.\nend\n", Ok(())),
         ("otcert 1 tp2\nob ins ins ins\n?x0,7;.\nend\n", Ok(())),
-        ("", Err(CertEnd::Truncated(0))),
-        ("otcert 1 tp", Err(CertEnd::Truncated(11))),
-        ("otcert 2 tp1\n", Err(CertEnd::BadToken(0))),
-        ("otcert 1 tp1\nob ins del\n", Err(CertEnd::BadToken(13))),
-        ("otcert 1 tp1\nob ins ins\n?\n", Err(CertEnd::BadToken(25))),
-        ("otcert 1 tp1\nob ins ins\n..", Err(CertEnd::BadToken(25))),
-        ("otcert 1 tp1\nob ins ins\nx00;", Err(CertEnd::BadToken(24))),
+        ("", Err(CertError::Truncated(0))),
+        ("otcert 1 tp", Err(CertError::Truncated(11))),
+        ("otcert 2 tp1\n", Err(CertError::BadToken(0))),
+        ("otcert 1 tp1\nob ins del\n", Err(CertError::BadToken(13))),
+        (
+            "otcert 1 tp1\nob ins ins\n?\n",
+            Err(CertError::BadToken(25)),
+        ),
+        ("otcert 1 tp1\nob ins ins\n..", Err(CertError::BadToken(25))),
+        (
+            "otcert 1 tp1\nob ins ins\nx00;",
+            Err(CertError::BadToken(24)),
+        ),
         (
             "otcert 1 tp1\nob ins ins\nx100000;",
-            Err(CertEnd::BadToken(24)),
+            Err(CertError::BadToken(24)),
         ),
         (
             "otcert 1 tp1\nob ins ins\nx0,1,2,3,4,5,6,7,8,9,10,11,12;",
-            Err(CertEnd::BadToken(24)),
+            Err(CertError::BadToken(24)),
         ),
         (
             "otcert 1 tp1\nob ins ins\nx1,2",
-            Err(CertEnd::Truncated(28)),
+            Err(CertError::Truncated(28)),
         ),
         (
             "otcert 1 tp1\nob ins ins\n.\nend\n\n",
-            Err(CertEnd::Trailing(30)),
+            Err(CertError::Trailing(30)),
         ),
     ] {
         let mut reader = reader(rt.alloc(), Kind::Ins)?;
@@ -92,11 +98,11 @@ fn push_numbers(alloc: Global, told: &mut String, part: &Part) -> Result<(), All
     Ok(())
 }
 
-fn push_end(alloc: Global, told: &mut String, end: CertEnd) -> Result<(), AllocError> {
+fn push_end(alloc: Global, told: &mut String, end: CertError) -> Result<(), AllocError> {
     let (word, offset) = match end {
-        CertEnd::BadToken(offset) => ("token", offset),
-        CertEnd::Truncated(offset) => ("truncated", offset),
-        CertEnd::Trailing(offset) => ("trailing", offset),
+        CertError::BadToken(offset) => ("token", offset),
+        CertError::Truncated(offset) => ("truncated", offset),
+        CertError::Trailing(offset) => ("trailing", offset),
     };
     told.push_str(&format!(in alloc; "{word} {offset}")?)?;
     Ok(())
@@ -106,7 +112,7 @@ fn push_end(alloc: Global, told: &mut String, end: CertEnd) -> Result<(), AllocE
 fn push_given(
     alloc: Global,
     told: &mut String,
-    given: &Result<Option<Item>, CertEnd>,
+    given: &Result<Option<Item>, CertError>,
 ) -> Result<(), AllocError> {
     match given {
         Ok(None) => told.push_str("none")?,
@@ -124,7 +130,7 @@ fn push_given(
 fn push_finish(
     alloc: Global,
     told: &mut String,
-    finish: Result<(), CertEnd>,
+    finish: Result<(), CertError>,
 ) -> Result<(), AllocError> {
     match finish {
         Ok(()) => told.push_str("whole")?,

@@ -6,7 +6,7 @@ use Rattle.fn_rules.specs.Functions.{Function}
 use Rattle.fn_rules.specs.Building.{PairCases, function_from, is_buildable}
 use Rattle.fn_rules.specs.Validity.{is_valid}
 use Rattle.fn_text.specs.declared.fault.TextFault.{TextFault}
-use Rattle.fn_text.specs.declared.stop.ReadError.{ReadError}
+use Rattle.fn_text.specs.declared.stop.TextError.{TextError}
 use Rattle.fn_tokens.specs.Tokens.{tokens_in}
 use Rattle.fn_text.specs.Meaning.{to_formulas}
 use Rattle.fn_text.specs.Made.{Gives}
@@ -59,7 +59,7 @@ read_is_buildable bytes parts e =
     (sym (read_made to_formulas (first_state to_phrases) (tokens_in bytes)) ∙ e)
 
 -- what a call answered that reads the head and the blocks
-pub answer_is_buildable : {X : Type 0} (view : X → Head × List PairCases) (bytes : List ℕ) (answer : Result X ReadError) →
+pub answer_is_buildable : {X : Type 0} (view : X → Head × List PairCases) (bytes : List ℕ) (answer : Result X TextError) →
     Gives view answer (read_from to_formulas (first_state to_formulas) (tokens_in bytes)) →
     IfOk answer (λ x. IsTrue (is_buildable (view x).0 (view x).1))
 answer_is_buildable view bytes (Ok x) gives = read_is_buildable bytes (view x) gives
