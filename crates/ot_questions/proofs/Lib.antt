@@ -1,5 +1,4 @@
 pub mod Examples
-pub mod Ends
 pub mod Nears
 pub mod Tests
 pub mod Values

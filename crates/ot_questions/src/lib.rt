@@ -4,23 +4,18 @@
 //! and characters of such operations, the length of the document and one index into the final
 //! documents, and ends in `Holds` or in a cause. The definition is `plan_of`.
 //!
-//! The layers above rely on three promises. `next_question` says how the plan goes on after given
-//! answers. The plan of a pair has the value true at every valuation exactly where the first property
-//! holds for all operations of the pair's kinds, and the plan of a triple where the second does. And
-//! every plan keeps the limits of plans.
+//! The layers above rely on two promises. The plan of a pair has the value true at every valuation exactly
+//! where the first property holds for all operations of the pair's kinds, and the plan of a triple where the
+//! second does. And every plan keeps the limits of plans.
 #![tactic(auto)]
 
-mod ask;
 mod asked;
 mod cell;
-mod conditions;
-mod guards;
 mod meaning;
 mod name;
 mod next;
-mod obligation;
 mod place;
-mod reading;
+mod staying;
 mod valuation;
 mod why;
 
@@ -32,8 +27,8 @@ pub use meaning::{
 };
 pub use name::{INDEX, LENGTH, Who, ZERO, char_name, position_name, site_name};
 pub use next::Next;
-pub use obligation::next_question;
 pub use place::{Place, SymOp};
+pub use staying::offsets_stay_near;
 pub use valuation::{
     any_operations_have_names, pair_ends_at_valuations, questions_mean_the_interpreter,
     triple_ends_at_valuations,

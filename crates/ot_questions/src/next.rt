@@ -14,13 +14,3 @@ pub enum Next {
     /// The obligation fails here, with the cause.
     Fails(Why),
 }
-
-/// Where a walk through a plan stops before an end that holds.
-#[derive(Clone, Copy, Debug, PartialEq, Eq)]
-pub(crate) enum Stop {
-    /// At a literal that has no answer left.
-    Asked(Lit),
-
-    /// At an end that fails.
-    Fails(Why),
-}

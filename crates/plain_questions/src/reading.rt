@@ -6,89 +6,19 @@ ghost use Rattle.ask_core.specs.Plans.{Plan};
 ghost use Rattle.ask_core.specs.Plans as ends;
 ghost use Rattle.ot_questions.specs.declared.why.Why.{Why};
 ghost use Rattle.ot_questions.specs.declared.cell.Finished.{Finished};
-ghost use Rattle.ot_questions.specs.Nexts.{next_after, found, told, ended};
+ghost use Rattle.ot_questions.specs.Nexts.{next_after};
+ghost use Rattle.plain_questions.specs.Walks.{found, told, ended};
 ghost use Rattle.ot_questions.specs.Nears.{IsNear, IsNearOp};
 ghost use Rattle.ot_questions.specs.Reading as readings;
 
 use crate::ask::{Answers, ask_eq, ask_le, ask_lt};
-use crate::cell::{Finished, Flag, Source};
-use crate::next::Stop;
-use crate::place::{Place, SymOp};
-use crate::why::Why;
+use crate::stop::Stop;
 use ot_model::Mode;
-
-impl Finished {
-    /// The cell of the base document at the index plus an offset.
-    pub fn base(off: i32) -> Finished
-        ensures { result ≡ readings.base_cell off }
-    {
-        Finished {
-            source: Source::Base(off),
-            flag: Flag::From(off),
-        }
-    }
-
-    /// A character that an insertion put.
-    pub fn put(ch: u8) -> Finished
-        ensures { result ≡ readings.put_cell ch }
-    {
-        Finished {
-            source: Source::Named(ch),
-            flag: Flag::Live,
-        }
-    }
-
-    /// The tombstone of a cell.
-    pub fn buried(self) -> Finished
-        ensures { result ≡ readings.buried_cell self }
-    {
-        Finished {
-            source: self.source,
-            flag: Flag::Dead,
-        }
-    }
-
-    /// The cell with the character of an update.
-    pub fn replaced(self, ch: u8) -> Finished
-        ensures { result ≡ readings.replaced_cell ch self }
-    {
-        Finished {
-            source: Source::Named(ch),
-            flag: self.flag,
-        }
-    }
-
-    /// The cause where two cells differ.
-    pub fn cause_beside(self, right: Finished) -> Why
-        ensures { result ≡ readings.cells_cause self right }
-    {
-        let dead = match (self.source, right.source) {
-            (Source::Named(_), Source::Named(_)) => dead_of_half(self.flag, right.flag),
-            _ => None,
-        };
-        Why::Cells {
-            left: base_read(self),
-            dead,
-        }
-    }
-}
-
-impl Flag {
-    /// Whether two flags are the same for every base document.
-    pub fn is_same(self, other: Flag) -> bool
-        ensures { result ≡ readings.is_same_flag self other }
-    {
-        match (self, other) {
-            (Flag::Live, Flag::Live) | (Flag::Dead, Flag::Dead) => true,
-            (Flag::From(j), Flag::From(k)) => j == k,
-            _ => false,
-        }
-    }
-}
+use ot_questions::{Finished, Place, Source, SymOp, Why};
 
 // Reads the cell at the index plus an offset of the document that the operations made, the last one
 // first.
-#[tactic(auto, unfolding(crate::specs::Reading::ask_cell))]
+#[tactic(auto, unfolding(ot_questions::specs::Reading::ask_cell))]
 pub(crate) fn ask_cell(
     mode: Mode,
     ops: &[SymOp],
@@ -141,35 +71,8 @@ pub(crate) fn ask_cell(
     }
 }
 
-// The offset of the base cell that the character or the flag comes from.
-fn base_read(cell: Finished) -> Option<i32>
-    ensures { result ≡ readings.base_read cell.source cell.flag }
-{
-    match (cell.source, cell.flag) {
-        (Source::Base(off), _) | (Source::Named(_), Flag::From(off)) => Some(off),
-        _ => None,
-    }
-}
-
-// The offset of the base cell that is to be dead for two cells with characters that were put to differ:
-// that of a half one, whose flag comes from the base.
-fn dead_of_half(left: Flag, right: Flag) -> Option<i32>
-    ensures { result ≡ readings.dead_of_half left right }
-{
-    match (left, right) {
-        (Flag::From(off), Flag::Live) | (Flag::Live, Flag::From(off)) => Some(off),
-        (Flag::From(j), Flag::From(k)) => {
-            if j == k {
-                return None;
-            }
-            Some(j)
-        }
-        _ => None,
-    }
-}
-
 // Whether two characters are the same for every base document.
-#[tactic(auto, unfolding(crate::specs::Reading::ask_same_source))]
+#[tactic(auto, unfolding(ot_questions::specs::Reading::ask_same_source))]
 fn ask_same_source(left: Source, right: Source, answers: &mut Answers<'_>) -> Result<bool, Stop>
     ensures { (other : Plan Why) → next_after (readings.ask_same_source left right other) (iter_rest answers.old)
         ≡ told result (iter_rest answers.new) ends.Holds other }
@@ -187,7 +90,7 @@ fn ask_same_source(left: Source, right: Source, answers: &mut Answers<'_>) -> Re
 }
 
 // Whether two finished cells are the same for every base document.
-#[tactic(auto, using(crate::proofs::Ends::at_ends), unfolding(crate::specs::Reading::ask_same))]
+#[tactic(auto, using(crate::proofs::Ends::at_ends), unfolding(ot_questions::specs::Reading::ask_same))]
 pub(crate) fn ask_same(
     left: Finished,
     right: Finished,
