@@ -1,14 +1,8 @@
-//! Cases that are read, and the first fault of each other one.
-mod rows;
-
-use case_json::{CaseFault, Name, trial_read};
+//! Cases that are read. The first faults of the others are rows of `checks/tables`.
+use case_json::trial_read;
 use fn_rules::{Block, Head, Rules, is_within_limits};
-use ot_model::{Cell, Doc, KINDS, Op};
+use ot_model::{Cell, Doc, KINDS, Mode, Op};
 use plain_list::List;
-use rows::{
-    BOTH, INSERTIONS, MANY, MANY_CELLS, NO_DOCUMENT, NO_JSON, NO_OPERATIONS, NO_ORDERS,
-    NO_SECOND_OPERATION, OPERATION_FAULTS, ORDER_FAULTS, PAIR_FAULTS,
-};
 use std::alloc::{AllocError, Global};
 use std::process::Abort;
 use std::test::Fail;
@@ -22,7 +16,15 @@ const fn del(at: i64, site: u32) -> Op {
 }
 
 /// A function without cases, of which the head alone matters here.
-fn rules_of(rt: &impl Abort, alloc: Global, head: Head) -> Result<Rules, AllocError> {
+fn rules_of(rt: &impl Abort, alloc: Global) -> Result<Rules, AllocError> {
+    let head = Head {
+        mode: Mode::Tomb,
+        ins: true,
+        del: true,
+        upd: false,
+        sites_differ: true,
+        chars_differ: false,
+    };
     let mut blocks = Vec::new(alloc);
     for first in KINDS {
         for second in KINDS {
@@ -38,63 +40,6 @@ fn rules_of(rt: &impl Abort, alloc: Global, head: Head) -> Result<Rules, AllocEr
     }
     assert!(rt; is_within_limits(&head, &blocks));
     Ok(Rules::build(head, blocks))
-}
-
-/// Asserts that this is the first fault of a case, or that it has none.
-fn expect_fault(
-    rt: &impl Abort,
-    alloc: Global,
-    rules: &Rules,
-    text: &[u8],
-    want: &Option<CaseFault>,
-) {
-    let fault = trial_read(alloc, rules, text).err();
-    assert!(rt; fault == *want, "{text:?}");
-}
-
-/// Asserts that this is the first fault of each case for a function of both kinds.
-fn expect_one_fault(
-    rt: &impl Abort,
-    alloc: Global,
-    texts: &[&[u8]],
-    fault: CaseFault,
-) -> Result<(), AllocError> {
-    let rules = rules_of(rt, alloc, BOTH)?;
-    let want = Some(fault);
-    for text in texts {
-        expect_fault(rt, alloc, &rules, text, &want);
-    }
-    Ok(())
-}
-
-/// Asserts of each case that this is its first fault for a function with the head.
-fn expect_faults(
-    rt: &impl Abort,
-    alloc: Global,
-    rows: &[(Head, &[u8], Option<CaseFault>)],
-) -> Result<(), AllocError> {
-    for (head, text, fault) in rows {
-        let rules = rules_of(rt, alloc, *head)?;
-        expect_fault(rt, alloc, &rules, text, fault);
-    }
-    Ok(())
-}
-
-/// A text, another one behind it so many times, and one behind all.
-fn repeated(
-    alloc: Global,
-    begin: &str,
-    element: &str,
-    count: usize,
-    end: &str,
-) -> Result<String, AllocError> {
-    let mut text = String::new(alloc);
-    text.push_str(begin)?;
-    for _ in 0..count {
-        text.push_str(element)?;
-    }
-    text.push_str(end)?;
-    Ok(text)
 }
 
 fn has_cells(doc: &Doc, want: &[Cell]) -> bool {
@@ -124,7 +69,7 @@ const fn dead(ch: char) -> Cell {
 #[test]
 fn a_case_is_read_as_its_parts(rt: HostRuntime) -> Result<(), Fail> {
     let alloc = rt.alloc();
-    let rules = rules_of(&rt, alloc, BOTH)?;
+    let rules = rules_of(&rt, alloc)?;
     for (text, doc, ops, orders) in [
         (
             "{\"doc\":\"y\",\"ops\":[[\"ins\",1,\"a\",1],[\"del\",0,2],[\"ins\",0,\"c\",3]],\"orders\":[[0,1,2],[1,0,2]]}",
@@ -162,58 +107,6 @@ fn a_case_is_read_as_its_parts(rt: HostRuntime) -> Result<(), Fail> {
         assert_eq!(rt; trial.ops.as_slice(), ops, "{text}");
         let numbers = numbers_of(alloc, trial.orders.as_slice())?;
         assert_eq!(rt; numbers.as_str(), orders, "{text}");
-    }
-    Ok(())
-}
-
-#[test]
-fn the_parts_are_read_in_their_order(rt: HostRuntime) -> Result<(), Fail> {
-    let alloc = rt.alloc();
-    expect_one_fault(&rt, alloc, &NO_JSON, CaseFault::Json)?;
-    expect_one_fault(&rt, alloc, &NO_DOCUMENT, CaseFault::Field(Name::Doc))?;
-    expect_one_fault(&rt, alloc, &NO_OPERATIONS, CaseFault::Field(Name::Ops))?;
-    expect_one_fault(
-        &rt,
-        alloc,
-        &NO_SECOND_OPERATION,
-        CaseFault::Field(Name::Ops),
-    )?;
-    expect_one_fault(&rt, alloc, &NO_ORDERS, CaseFault::Field(Name::Orders))?;
-    Ok(())
-}
-
-#[test]
-fn operations_are_tested_before_pairs_and_pairs_before_orders(rt: HostRuntime) -> Result<(), Fail> {
-    expect_faults(&rt, rt.alloc(), &OPERATION_FAULTS)?;
-    expect_faults(&rt, rt.alloc(), &PAIR_FAULTS)?;
-    expect_faults(&rt, rt.alloc(), &ORDER_FAULTS)?;
-    Ok(())
-}
-
-#[test]
-fn too_many_come_before_a_malformed_one(rt: HostRuntime) -> Result<(), Fail> {
-    let alloc = rt.alloc();
-    let rules = rules_of(&rt, alloc, INSERTIONS)?;
-    for (begin, element, count, end, fault) in MANY.iter() {
-        let text = repeated(alloc, begin, element, *count, end)?;
-        expect_fault(&rt, alloc, &rules, text.as_bytes(), fault);
-    }
-    for (end, fault) in MANY_CELLS.iter() {
-        let text = repeated(alloc, "{\"doc\":\"", "yyyyyyyyyy", 100_000, end)?;
-        expect_fault(&rt, alloc, &rules, text.as_bytes(), fault);
-    }
-    Ok(())
-}
-
-#[test]
-fn values_nest_at_most_127_deep(rt: HostRuntime) -> Result<(), Fail> {
-    let alloc = rt.alloc();
-    let rules = rules_of(&rt, alloc, BOTH)?;
-    for (arrays, fault) in [(126, &None), (127, &Some(CaseFault::Json))] {
-        let begin = "{\"doc\":\"\",\"ops\":[],\"orders\":[],\"x\":";
-        let opened = repeated(alloc, begin, "[", arrays, "")?;
-        let text = repeated(alloc, &opened, "]", arrays, "}")?;
-        expect_fault(&rt, alloc, &rules, text.as_bytes(), fault);
     }
     Ok(())
 }

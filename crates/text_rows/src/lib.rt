@@ -12,8 +12,6 @@ mod printing;
 #[cfg(test)]
 mod reader;
 #[cfg(test)]
-mod reading;
-#[cfg(test)]
 mod sessions;
 #[cfg(test)]
 mod writer;
