@@ -1,5 +1,5 @@
 -- A goal that holds where a short guard of two deletions is true, and fails where it is not.
-use Rattle.std.proofs.Common.{◌≡◌, ◌+◌, ◌≤◌, max, IsTrue, sym, ap, subst, ◌∙◌, arith, refl}
+use Rattle.std.proofs.Common.{◌≡◌, ◌+◌, ◌≤◌, max, sym, ap, subst, ◌∙◌, arith}
 use Rattle.fn_rules.specs.declared.function.ObName.{ObName}
 use Rattle.fn_rules.specs.Functions.{Function}
 use Rattle.ask_core.specs.declared.asker.TheConstants.{MAX_QUESTIONS}
@@ -11,7 +11,6 @@ use Rattle.ot_terms.specs.Forms.{FormTree}
 use Rattle.ot_terms.specs.Goals.{GoalTree, Holds, Fails, If}
 use Rattle.ot_terms.specs.Standing.{ask_goal}
 use Rattle.ot_rewrite.specs.Splits.{comparisons_left}
-use Rattle.ot_paths.specs.Given.{has_conditions_alone}
 use Rattle.ot_paths.specs.Nodes.{IsNode}
 
 -- a condition in front of two nodes is a node
@@ -31,8 +30,8 @@ short_enough f g why short = omega (arith, short)
 pub guard_goal :
     ConditionsAreNodes → (f : Function) (ob : ObName) (g : FormTree) (why : Why) (y n goal : GoalTree) → y ≡ Holds → n ≡ Fails why
     → goal ≡ If g y n → IsNode f ob Holds × IsNode f ob (Fails why) → HasPlaces (name_count ob) g → comparisons_left g ≤ 99
-    → IsNode f ob goal × IsTrue (has_conditions_alone goal)
+    → IsNode f ob goal
 guard_goal are_nodes f ob g why y n goal on_yes on_no is ends places short =
     let whole : goal ≡ If g Holds (Fails why) = is ∙ ap (λ (t : GoalTree). If g t n) on_yes ∙ ap (λ (t : GoalTree). If g Holds t) on_no in
-    subst (λ (t : GoalTree). IsNode f ob t × IsTrue (has_conditions_alone t)) (sym whole)
-    (are_nodes f ob g Holds (Fails why) places ends.0 ends.1 (short_enough f g why short), refl)
+    subst (λ (t : GoalTree). IsNode f ob t) (sym whole)
+    (are_nodes f ob g Holds (Fails why) places ends.0 ends.1 (short_enough f g why short))

@@ -1,12 +1,17 @@
 -- Hubs, computed on small cases.
-use Rattle.std.specs.Prelude.{◌≡◌, ℕ, pos, List, [], ◌∷◌, map, refl}
+use Rattle.std.proofs.Common.{inr, arith}
+use Rattle.std.specs.Prelude.{◌≡◌, ℕ, pos, List, [], ◌∷◌, map, drop, refl}
 use Rattle.ot_model.specs.declared.cell.Cell.{Cell}
+use Rattle.ot_model.specs.declared.op.Mode.TheVariants.{Plain}
 use Rattle.ot_model.specs.declared.op.Op.{Op}
 use Rattle.ot_model.specs.declared.op.Op.TheVariants.{Ins, Del}
 use Rattle.ot_model.specs.Cells.{live_cell}
 use Rattle.fn_rules.specs.Shipped.{sites}
-use Rattle.ot_hub.specs.Steps.{Step, Nothing, Stuck, To}
-use Rattle.ot_hub.specs.Views.{HubData, begun, after_edit, up_step, down_step}
+use Rattle.ot_hub.specs.declared.placed.Placed.{Placed}
+use Rattle.ot_hub.specs.Chains.{document_after_all}
+use Rattle.ot_hub.specs.Meeting.{Ups, Downs}
+use Rattle.ot_hub.specs.Steps.{Step, Nothing, Stuck, To, ahead_of}
+use Rattle.ot_hub.specs.Views.{HubData, begun, client_of, after_edit, up_step, down_step}
 
 abbrev a : Cell
 a = live_cell 97
@@ -67,3 +72,38 @@ crossing = Edit 1 (Ins (pos 0) 97 1) ∷ Edit 2 (Ins (pos 0) 99 2) ∷ Up 1 ∷ 
 
 own_entries_are_not_executed_again : map (λ client. client.doc) (after (begun sites [] 2) crossing).clients ≡ (a ∷ c ∷ []) ∷ (a ∷ c ∷ []) ∷ []
 own_entries_are_not_executed_again = refl
+
+-- the server took two of the three messages, and no client received anything
+abbrev waiting : HubData
+waiting = after (begun sites (y ∷ []) 3) (Edit 1 (Ins (pos 1) 97 1) ∷ Edit 2 (Del (pos 0) 2) ∷ Edit 3 (Ins (pos 0) 99 3) ∷ Up 1 ∷ Up 2 ∷ [])
+
+-- what the third message becomes at the server, and what its client will take
+abbrev third : Placed
+third = record { place = 0; op = Ins (pos 0) 99 3 }
+
+abbrev to_take : List Placed
+to_take = record { place = 0; op = Ins (pos 2) 97 1 } ∷ record { place = 1; op = Del (pos 1) 2 } ∷ []
+
+up_way : Ups sites (client_of waiting 3).messages (ahead_of waiting.server 3) (third ∷ []) to_take
+up_way = record { carried = record { op = third.op; list = to_take }; is = refl; form_is = refl; rest = refl }
+
+down_way : Downs sites 3 0 (client_of waiting 3).pending waiting.server.log (third ∷ []) to_take
+down_way = inr (record {
+  other = λ same. absurd (omega (arith, same));
+  carried = record { op = Ins (pos 2) 97 1; list = third ∷ [] };
+  later = drop 1 to_take;
+  is = refl;
+  taken_is = refl;
+  rest = inr (record {
+    other = λ same. absurd (omega (arith, same));
+    carried = record { op = Del (pos 1) 2; list = third ∷ [] };
+    later = [];
+    is = refl;
+    taken_is = refl;
+    rest = (refl, refl);
+  });
+})
+
+-- they meet in one document
+one_document : document_after_all Plain to_take (client_of waiting 3).doc ≡ document_after_all Plain (third ∷ []) waiting.server.doc
+one_document = refl

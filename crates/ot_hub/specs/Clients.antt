@@ -1,11 +1,16 @@
 -- The clients of a hub, by their places: client 1 stands first.
-use Rattle.std.specs.Prelude.{◌<◌, ℕ, List, [], drop, length, unwrap_or, slice_get}
+use Rattle.std.specs.Prelude.{◌<◌, ◌≤◌, ℕ, List, [], drop, length, unwrap_or, slice_get}
 use Rattle.ot_model.specs.declared.op.Op.{Op}
 use Rattle.ot_model.specs.Effect.{IsEnabled}
 use Rattle.fn_rules.specs.Functions.{Function}
 use Rattle.ot_hub.specs.declared.client.Client.{Client}
 use Rattle.ot_hub.specs.declared.limits.TheConstants.{MAX_EDITS}
 use Rattle.ot_hub.specs.Usable.{CanBeCarried}
+
+-- there is such a client; clients are numbered from 1
+pub record IsClient (clients c : ℕ) : Type 0 where
+  pub low : 1 ≤ c
+  pub high : c ≤ clients
 
 -- who stands where no client is
 abbrev pub nobody : Client

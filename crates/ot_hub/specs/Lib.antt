@@ -4,7 +4,10 @@ pub mod Usable
 pub mod Steps
 pub mod Clients
 pub mod Kept
+pub mod Meeting
+pub mod InStep
 pub mod Views
+pub mod Theorem
 pub use Rattle.ot_model.specs.Effect
 pub use Rattle.fn_rules.specs.Properties
 pub use Rattle.fn_rules.specs.Rules

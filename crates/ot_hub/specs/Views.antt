@@ -1,5 +1,5 @@
 -- A hub, seen as plain data, and what its calls answer.
-use Rattle.std.specs.Prelude.{◌≡◌, ◌≢◌, ◌≤◌, ◌-◌, ℕ, Bool, true, false, List, [], ◌∷◌, length, replicate, Option, Some, None, slice_get, slice_set, Result, Ok, Err}
+use Rattle.std.specs.Prelude.{◌≡◌, ◌≢◌, ◌-◌, ℕ, Bool, true, false, List, [], ◌∷◌, length, replicate, Option, Some, None, slice_get, slice_set, Result, Ok, Err}
 use Rattle.std.specs.List.{sum_by}
 use Rattle.ot_model.specs.declared.cell.Cell.{Cell}
 use Rattle.ot_model.specs.declared.op.Op.{Op}
@@ -20,6 +20,7 @@ use Rattle.ot_hub.specs.declared.limits.TheConstants.{MAX_EDITS}
 use Rattle.ot_hub.specs.declared.placed.Entry.{Entry}
 use Rattle.ot_hub.specs.declared.placed.Placed.{Placed}
 use Rattle.ot_hub.specs.declared.server.Server.{Server}
+pub use Rattle.ot_hub.specs.Clients.{IsClient}
 use Rattle.ot_hub.specs.Clients.{client_at, sent}
 use Rattle.ot_hub.specs.Steps.{Step, Nothing, Stuck, To, step_map, IsTo, server_step, client_step, edited}
 
@@ -42,11 +43,6 @@ view_of hub = record {
 -- the same hub, in which nothing more is made or moved
 abbrev pub closed : HubData → HubData
 closed hub = record hub { is_open = false }
-
--- there is such a client; clients are numbered from 1
-pub record IsClient (clients c : ℕ) : Type 0 where
-  pub low : 1 ≤ c
-  pub high : c ≤ clients
 
 -- the client with a number
 abbrev pub client_of : HubData → ℕ → Client

@@ -1,7 +1,9 @@
 //! The hub.
-ghost use Rattle.std.specs.Prelude.{◌≡◌, ◌≤◌, length, IfOk, IsTrue, ◌↔◌, true};
+ghost use Rattle.std.specs.Prelude.{◌≡◌, ◌≢◌, ◌≤◌, length, IfOk, IsTrue, ◌↔◌, true, false, Err};
 ghost use Rattle.ot_model.specs.declared.limits.TheConstants.{MAX_CELLS};
 ghost use Rattle.fn_rules.specs.Rules.{function_of};
+ghost use Rattle.fn_rules.specs.Properties.{HasTp1};
+ghost use Rattle.ot_hub.specs.InStep.{AreInStep, AreCounted};
 ghost use Rattle.ot_hub.specs.Kept.{IsHubKept};
 ghost use Rattle.ot_hub.specs.declared.limits.TheConstants.{MAX_CLIENTS};
 
@@ -10,7 +12,10 @@ use crate::client::{Client, edit_at, fresh_clients, sent_at, take_at};
 use crate::limits::MAX_EDITS;
 use crate::placed::{entry_at, first_of, has_declared_kind, is_made_at};
 use crate::server::{Server, fresh_server};
-use fn_rules::{Rules, enabled_operations_are_near, functions_keep_forms, transform_stays_near};
+use fn_rules::{
+    Rules, enabled_operations_are_near, functions_keep_forms, tp1_holds_of_forms,
+    transform_keeps_all_but_the_position, transform_stays_near,
+};
 use ot_model::{Doc, NoMemory, Op, documents_grow_by_one_cell_at_most, enabled};
 use std::alloc::Global;
 
@@ -25,9 +30,14 @@ pub struct Hub {
     is_open: bool,
     ghost small: { length first ≤ MAX_CELLS },
     ghost kept: { IsHubKept (function_of rules) made server clients.items },
+    ghost counted: { AreCounted server.log clients.items },
+    ghost in_step: { HasTp1 (function_of rules) → (function_of rules).head.chars_differ ≡ false
+        → ∥ AreInStep (function_of rules) first server clients.items ∥₁ },
 }
 
 impl Hub {
+    ghost use Rattle.ot_hub.specs.declared.answer.Move.TheVariants as moves;
+    ghost use Rattle.ot_hub.specs.Theorem.{FollowsLog};
     ghost use Rattle.ot_hub.specs.Views.{view_of, IsClient, begun, client_of, HasEdited, up_step, down_step, HasMoved};
 
     /// A new hub with this function, in which the server and so many clients hold the document. Clients are
@@ -95,9 +105,13 @@ impl Hub {
     /// A client makes an operation, which it executes at once; it is pending and on its way to the server.
     pub fn edit(&mut self, client: u32, op: Op) -> Result<(), Edit>
         requires { (view_of self.old).is_open ≡ true }
-        ensures { HasEdited (view_of self.old) (view_of self.new) client op result }
+        ensures edited { HasEdited (view_of self.old) (view_of self.new) client op result }
+        ensures server { (view_of self.new).server ≡ (view_of self.old).server }
     {
         enabled_operations_are_near();
+        functions_keep_forms();
+        tp1_holds_of_forms();
+        transform_keeps_all_but_the_position();
         documents_grow_by_one_cell_at_most();
         if !self.has_client(client) {
             return Err(Edit::NoSite);
@@ -131,9 +145,15 @@ impl Hub {
     /// client had not received when it made it, and puts what it becomes at the end of its log.
     pub fn up(&mut self, client: u32) -> Result<Moved, Move>
         requires { (view_of self.old).is_open ≡ true }
-        ensures { HasMoved (view_of self.old) (view_of self.new) client (up_step (view_of self.old) client) result }
+        ensures moved { HasMoved (view_of self.old) (view_of self.new) client (up_step (view_of self.old) client) result }
+
+        // Where the function has the first property and characters need not differ, no operation is stuck.
+        ensures never_stuck { HasTp1 (view_of self.old).function → (view_of self.old).function.head.chars_differ ≡ false
+            → result ≢ Err moves.Stuck }
     {
         let _head = self.rules.head();
+        tp1_holds_of_forms();
+        transform_keeps_all_but_the_position();
         transform_stays_near();
         functions_keep_forms();
         enabled_operations_are_near();
@@ -162,9 +182,16 @@ impl Hub {
     /// client's is carried over what is pending, and executed.
     pub fn down(&mut self, client: u32) -> Result<Moved, Move>
         requires { (view_of self.old).is_open ≡ true }
-        ensures { HasMoved (view_of self.old) (view_of self.new) client (down_step (view_of self.old) client) result }
+        ensures moved { HasMoved (view_of self.old) (view_of self.new) client (down_step (view_of self.old) client) result }
+        ensures server { (view_of self.new).server ≡ (view_of self.old).server }
+
+        // Where the function has the first property and characters need not differ, no operation is stuck.
+        ensures never_stuck { HasTp1 (view_of self.old).function → (view_of self.old).function.head.chars_differ ≡ false
+            → result ≢ Err moves.Stuck }
     {
         let _head = self.rules.head();
+        tp1_holds_of_forms();
+        transform_keeps_all_but_the_position();
         transform_stays_near();
         functions_keep_forms();
         enabled_operations_are_near();
@@ -185,6 +212,19 @@ impl Hub {
             }
         }
     }
+
+    /// A law: where the function has the first property and characters need not differ, the server's document is the
+    /// first one after the log, a client's is the first one after the entries that it received and then what is pending
+    /// there, and one that received the whole log and has nothing pending holds the server's.
+    pub fn clients_follow_the_log(&self)
+        ensures { HasTp1 (view_of self.now).function → (view_of self.now).function.head.chars_differ ≡ false
+            → FollowsLog (view_of self.now) }
+    {}
+
+    /// A law: the entries of a client in the log and its messages on their way are together as many as its edits.
+    pub fn edits_are_logged_or_on_their_way(&self)
+        ensures { AreCounted (view_of self.now).server.log (view_of self.now).clients }
+    {}
 
     /// Whether there is such a client.
     pub fn has_client(&self, client: u32) -> bool

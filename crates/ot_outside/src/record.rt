@@ -1,5 +1,5 @@
 //! What was read, which only clauses see. It takes no memory, and its calls do nothing at run time.
-ghost use Rattle.std.specs.Prelude.{◌≡◌, ℕ, List, []};
+ghost use Rattle.std.specs.Prelude.{◌≡◌, ℕ, List, [], if◌then◌else◌};
 ghost use Rattle.std.specs.Borrow.{ftrue};
 
 use std::marker::{Model, PhantomData};
@@ -31,12 +31,22 @@ impl Record {
     }
 
     // Notes that a name is opened.
-    pub(crate) fn begin(&mut self, _name: &[u8])
-        ensures { reads_of self.new ≡ after_reading _name.now [] (reads_of self.old) }
-    {}
+    pub(crate) fn begin(&mut self, name: &[u8])
+        ensures { reads_of self.new ≡ after_reading name.now [] (reads_of self.old) }
+    {
+        self.add(true, name)
+    }
 
     // Notes bytes that were given of it.
-    pub(crate) fn note(&mut self, _piece: &[u8])
-        ensures { reads_of self.new ≡ gone_on _piece.now (reads_of self.old) }
+    pub(crate) fn note(&mut self, piece: &[u8])
+        ensures { reads_of self.new ≡ gone_on piece.now (reads_of self.old) }
+    {
+        self.add(false, piece)
+    }
+
+    // Notes the bytes of a name that is opened, or else bytes that were given of the name before.
+    fn add(&mut self, _is_name: bool, _bytes: &[u8])
+        ensures { reads_of self.new ≡ (if _is_name then after_reading _bytes.now [] (reads_of self.old)
+            else gone_on _bytes.now (reads_of self.old)) }
     {}
 }

@@ -1,5 +1,6 @@
 pub mod Given
 pub mod Nodes
+pub mod OneProof
 pub mod Sharing
 pub use Rattle.ot_terms.specs.Belonging
 pub use Rattle.ot_terms.specs.Standing

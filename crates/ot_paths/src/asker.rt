@@ -12,7 +12,7 @@ ghost use Rattle.ot_questions.specs.Nears.{IsNear};
 ghost use Rattle.ot_questions.specs.Obligation.{plan_of};
 ghost use Rattle.ot_paths.specs.Nodes as nodes;
 ghost use Rattle.ot_paths.specs.Nodes.{IsNode};
-ghost use Rattle.ot_paths.specs.Given.{IsGiven, IsGiven-prop, own_plan, has_conditions_alone};
+ghost use Rattle.ot_paths.specs.Given.{IsGiven, IsGiven-prop, own_plan};
 
 use crate::laying::laid_out;
 use ask_core::{Asker, NoMemory, Turn};
@@ -95,11 +95,10 @@ impl<'a> PathAsker<'a> {
         }
     }
 
-    /// The asker of a goal of conditions and ends alone. The goal is not laid out: of a large condition few parts are
-    /// asked.
+    /// The asker of a goal that is a node: of the function and the obligation, within the limits of plans. The goal is not
+    /// laid out: of a large condition few parts are asked.
     pub fn over(bump: &'a Bump, rules: &'a Rules, ob: ObName, goal: &'a Goal<'a>) -> PathAsker<'a>
-        requires node { IsNode (function_of rules.now) ob (goal_tree goal.now) }
-        requires conditions { IsTrue (has_conditions_alone (goal_tree goal.now)) }
+        requires { IsNode (function_of rules.now) ob (goal_tree goal.now) }
         ensures rules { result.rules.now ≡ rules.now }
         ensures obligation { result.ob ≡ ob }
         ensures root { own_plan (function_of result.rules.now) result.ob result.goal ≡ ask_goal (function_of rules.now) (goal_tree goal.now) }

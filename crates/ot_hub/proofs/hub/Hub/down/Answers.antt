@@ -1,21 +1,30 @@
 use Rattle.std.proofs.Common.{◌≡◌, ◌+◌, ◌-◌, ◌<◌, ℕ, false, List, length, Some, refl, sym, ap, ◌∙◌, subst, arith}
-use Rattle.std.specs.Prelude.{slice_set, slice_get, unwrap_or, Err}
-use Rattle.std.proofs.lemmas.List.{length-set, with_items_is}
-use Rattle.std.proofs.lemmas.Option.{slice_get_read, slice_get_within}
+use Rattle.std.specs.Prelude.{slice_set, slice_get, Err}
+use Rattle.std.proofs.Math.Logic.{∥∥₁_elim, ∥∥₁_map}
+use Rattle.std.proofs.lemmas.Option.{slice_get_within}
 use Rattle.std.specs.Vec.{with_items}
 use Rattle.fn_rules.specs.Functions.{Function}
 use Rattle.fn_rules.specs.Rules.{function_of}
 use Rattle.ot_hub.specs.declared.client.Client.{Client}
 use Rattle.ot_hub.specs.declared.placed.Entry.{Entry}
-use Rattle.ot_hub.specs.Clients.{nobody, client_at}
+use Rattle.ot_hub.specs.declared.answer.Move.TheVariants as moves
+use Rattle.ot_hub.specs.InStep.{AreInStep}
+use Rattle.ot_hub.specs.Clients.{client_at}
 use Rattle.ot_hub.specs.Usable.{IsUsable, reach}
-use Rattle.ot_hub.specs.Steps.{To, step_map, client_step, HasStepped}
+use Rattle.ot_hub.specs.Steps.{Step, To, step_map, client_step, HasStepped}
 use Rattle.ot_hub.specs.Views.{HubData, view_of, IsClient, down_step, HasMoved}
 use Rattle.ot_hub.proofs.Keeping.{one-kept, CanTake-kept, IsClientKept-stepped, IsHubKept-down, SteppedTo, stepped_to, IsClientStepped}
 use Rattle.ot_hub.proofs.Kept.{All-at}
 use Rattle.ot_hub.proofs.Near.{KeepsNear, keeps_near}
 use Rattle.ot_hub.proofs.Stepping.{refused-same, down-done, down-refused}
+use Rattle.ot_hub.proofs.Acting.{inside_of, client_read, items_set, items_same}
+use Rattle.ot_hub.proofs.Together.{led_to, not_stuck, AreCounted-same, AreInStep-down}
+use Rattle.ot_hub.proofs.Ways.{LeadsTo}
 use Rattle.ot_hub.proofs.hub.Hub.down.Goals as goal
+
+-- the step of one leads on, so that of all does
+leads_at : (all : List Client) (i : ℕ) (step : Step Client) → {P : Client → Type 0} → LeadsTo P step → LeadsTo (λ (clients : List Client). Unit {0}) (step_map (slice_set all i) step)
+leads_at all i step leads = record { to = slice_set all i leads.to; is = ap (step_map (slice_set all i)) leads.is; holds = tt }
 
 pub take_at-requires-clause-client : goal.take_at-requires-clause-client
 take_at-requires-clause-client c =
@@ -25,9 +34,8 @@ take_at-requires-clause-client c =
     let place : ℕ = c.args.client - 1 in
     let one : Client = client_at all place in
     let there : IsClient (length all) c.args.client = c.if-not-has_client.ensures.0 refl in
-    let inside : place < length all = omega (arith, there.low, there.high) in
-    let client_is : one ≡ c.index.result.now =
-    ap (λ found. unwrap_or found nobody) (slice_get_read all (length all) place c.index.result.now refl inside c.index.ensures) in
+    let inside : place < length all = inside_of all c.args.client there in
+    let client_is : one ≡ c.index.result.now = client_read all c.args.client c.index.result.now there c.index.ensures in
     let entry : Entry = c.in-Some.entry in
     let next : slice_get s.server.log one.received ≡ Some entry = rw client_is (sym c.in-Some.ensures) in
     let has : KeepsNear f =
@@ -44,9 +52,8 @@ invariant_of-self-in-Ok c =
     let place : ℕ = c.args.client - 1 in
     let one : Client = client_at all place in
     let there : IsClient (length all) c.args.client = c.if-not-has_client.ensures.0 refl in
-    let inside : place < length all = omega (arith, there.low, there.high) in
-    let client_is : one ≡ c.index.result.now =
-    ap (λ found. unwrap_or found nobody) (slice_get_read all (length all) place c.index.result.now refl inside c.index.ensures) in
+    let inside : place < length all = inside_of all c.args.client there in
+    let client_is : one ≡ c.index.result.now = client_read all c.args.client c.index.result.now there c.index.ensures in
     let entry : Entry = c.in-Some.entry in
     let next : slice_get s.server.log one.received ≡ Some entry = rw client_is (sym c.in-Some.ensures) in
     let has : KeepsNear f =
@@ -60,30 +67,34 @@ invariant_of-self-in-Ok c =
     s.kept.server.few (slice_get_within s.server.log one.received entry next) entry
     (All-at (λ e. IsUsable f (reach n) e.op) s.server.log one.received entry s.kept.server.log next) to.is in
     let items : (with_items s.clients new).items ≡ slice_set all place to.client =
-    with_items_is s.clients new (ap length to.new_is ∙ length-set all place to.client ∙ sym s.clients.ok.0) ∙ to.new_is in
+    items_set s.clients place to.client new to.new_is in
+    let number : place + 1 ≡ c.args.client = omega (arith, there.low) in
     record {
       small = s.small;
       kept = rw items (IsHubKept-down f s.made s.server all s.kept place inside to.client same.kept same.edits same.messages);
+      counted = rw items (AreCounted-same s.server.log all s.counted c.args.client there to.client same.edits same.messages);
+      in_step = λ tp1 chars. rw items (∥∥₁_map {B = AreInStep f s.first s.server (slice_set all place to.client)} (s.in_step tp1 chars) (λ k.
+          led_to (λ (client : Client). AreInStep f s.first s.server (slice_set all place client)) (client_step f c.args.client entry one) to.client
+          (AreInStep-down f (c.functions_keep_forms.ensures f) (c.tp1_holds_of_forms.ensures f tp1) chars (c.transform_keeps_all_but_the_position.ensures f)
+          s.first s.server all k c.args.client there entry next) (subst (λ (n : ℕ). client_step f n entry one ≡ To to.client) number to.is)));
     }
 
-pub returns-in-Ok : goal.returns-in-Ok
-returns-in-Ok c =
+pub returns-in-Ok-clause-moved : goal.returns-in-Ok-clause-moved
+returns-in-Ok-clause-moved c =
     let s = c.args.self.now in
     let f : Function = function_of s.rules in
     let all : List Client = s.clients.items in
     let place : ℕ = c.args.client - 1 in
     let one : Client = client_at all place in
     let there : IsClient (length all) c.args.client = c.if-not-has_client.ensures.0 refl in
-    let inside : place < length all = omega (arith, there.low, there.high) in
-    let client_is : one ≡ c.index.result.now =
-    ap (λ found. unwrap_or found nobody) (slice_get_read all (length all) place c.index.result.now refl inside c.index.ensures) in
+    let client_is : one ≡ c.index.result.now = client_read all c.args.client c.index.result.now there c.index.ensures in
     let entry : Entry = c.in-Some.entry in
     let next : slice_get s.server.log one.received ≡ Some entry = rw client_is (sym c.in-Some.ensures) in
     let new : List Client = c.take_at.new.clients in
     let step : step_map (slice_set all place) (client_step f (place + 1) entry one) ≡ To new = rw (← c.deref_mut.ensures.value) c.in-Ok.ensures in
     let to : SteppedTo all place (client_step f (place + 1) entry one) new = stepped_to all place (client_step f (place + 1) entry one) new step in
     let items : (with_items s.clients new).items ≡ new =
-    with_items_is s.clients new (ap length to.new_is ∙ length-set all place to.client ∙ sym s.clients.ok.0) in
+    items_set s.clients place to.client new to.new_is ∙ sym to.new_is in
     (there, rw items (down-done (view_of s) c.args.client there entry next new step))
 
 pub invariant_of-self-in-Err : goal.invariant_of-self-in-Err
@@ -94,20 +105,18 @@ invariant_of-self-in-Err c =
     refused-same c.deref_mut.result.now new (step_map (slice_set c.deref_mut.result.now (c.args.client - 1))
     (client_step (function_of s.rules) (c.args.client - 1 + 1) c.in-Some.entry (client_at c.deref_mut.result.now (c.args.client - 1))))
     c.in-Err.refusal c.in-Err.ensures ∙ c.deref_mut.ensures.value in
-    let items : (with_items s.clients new).items ≡ s.clients.items = with_items_is s.clients new (ap length same ∙ sym s.clients.ok.0) ∙ same in
-    record { small = s.small; kept = rw items s.kept }
+    let items : (with_items s.clients new).items ≡ s.clients.items = items_same s.clients new same in
+    record { small = s.small; kept = rw items s.kept; counted = rw items s.counted; in_step = rw items s.in_step }
 
-pub returns-in-Err : goal.returns-in-Err
-returns-in-Err c =
+pub returns-in-Err-clause-moved : goal.returns-in-Err-clause-moved
+returns-in-Err-clause-moved c =
     let s = c.args.self.now in
     let f : Function = function_of s.rules in
     let all : List Client = s.clients.items in
     let place : ℕ = c.args.client - 1 in
     let one : Client = client_at all place in
     let there : IsClient (length all) c.args.client = c.if-not-has_client.ensures.0 refl in
-    let inside : place < length all = omega (arith, there.low, there.high) in
-    let client_is : one ≡ c.index.result.now =
-    ap (λ found. unwrap_or found nobody) (slice_get_read all (length all) place c.index.result.now refl inside c.index.ensures) in
+    let client_is : one ≡ c.index.result.now = client_read all c.args.client c.index.result.now there c.index.ensures in
     let entry : Entry = c.in-Some.entry in
     let next : slice_get s.server.log one.received ≡ Some entry = rw client_is (sym c.in-Some.ensures) in
     let new : List Client = c.take_at.new.clients in
@@ -115,7 +124,31 @@ returns-in-Err c =
     subst (λ (clients : List Client). HasStepped {X = List Client} {R = Unit {0}} clients new
     (step_map (slice_set clients place) (client_step f (place + 1) entry (client_at clients place))) (Err c.in-Err.refusal)) c.deref_mut.ensures.value c.in-Err.ensures in
     let same : new ≡ all = refused-same all new (step_map (slice_set all place) (client_step f (place + 1) entry one)) c.in-Err.refusal refused in
-    let items : (with_items s.clients new).items ≡ new = with_items_is s.clients new (ap length same ∙ sym s.clients.ok.0) in
+    let items : (with_items s.clients new).items ≡ new = items_same s.clients new same ∙ sym same in
     let hub : HubData = view_of s in
     subst (λ (clients : List Client). HasMoved hub (record hub { clients = clients; is_open = false }) c.args.client (down_step hub c.args.client) (Err c.in-Err.refusal))
     (sym items) (down-refused hub c.args.client there entry next new c.in-Err.refusal refused)
+
+pub returns-in-Err-clause-never_stuck : goal.returns-in-Err-clause-never_stuck
+returns-in-Err-clause-never_stuck c tp1 chars is =
+    let s = c.args.self.now in
+    let f : Function = function_of s.rules in
+    let all : List Client = s.clients.items in
+    let place : ℕ = c.args.client - 1 in
+    let one : Client = client_at all place in
+    let there : IsClient (length all) c.args.client = c.if-not-has_client.ensures.0 refl in
+    let client_is : one ≡ c.index.result.now = client_read all c.args.client c.index.result.now there c.index.ensures in
+    let entry : Entry = c.in-Some.entry in
+    let next : slice_get s.server.log one.received ≡ Some entry = rw client_is (sym c.in-Some.ensures) in
+    let new : List Client = c.take_at.new.clients in
+    let refused : HasStepped {X = List Client} {R = Unit {0}} all new (step_map (slice_set all place) (client_step f (place + 1) entry one)) (Err c.in-Err.refusal) =
+    subst (λ (clients : List Client). HasStepped {X = List Client} {R = Unit {0}} clients new
+    (step_map (slice_set clients place) (client_step f (place + 1) entry (client_at clients place))) (Err c.in-Err.refusal)) c.deref_mut.ensures.value c.in-Err.ensures in
+    let stuck : c.in-Err.refusal ≡ moves.Stuck = cc in
+    let number : c.args.client ≡ place + 1 = omega (arith, there.low) in
+    ∥∥₁_elim (s.in_step tp1 chars) (hlevel) (λ k.
+    not_stuck (λ (clients : List Client). Unit {0}) all new (step_map (slice_set all place) (client_step f (place + 1) entry one)) c.in-Err.refusal
+    (leads_at all place (client_step f (place + 1) entry one)
+    (subst (λ (n : ℕ). LeadsTo (λ (client : Client). AreInStep f s.first s.server (slice_set all place client)) (client_step f n entry one)) number
+    (AreInStep-down f (c.functions_keep_forms.ensures f) (c.tp1_holds_of_forms.ensures f tp1) chars (c.transform_keeps_all_but_the_position.ensures f)
+    s.first s.server all k c.args.client there entry next))) refused stuck)

@@ -1,15 +1,18 @@
 use Rattle.std.proofs.Common.{◌≡◌, ◌+◌, ◌-◌, ◌<◌, ℕ, List, [], ◌∷◌, ◌++◌, false, length, map, Some, refl, sym, ap, ◌∙◌, subst, arith, length-append}
-use Rattle.std.specs.Prelude.{slice_set, slice_get, unwrap_or, Err}
-use Rattle.std.proofs.lemmas.List.{length-set, with_items_is, length-map}
+use Rattle.std.specs.Prelude.{slice_set, slice_get, Err}
+use Rattle.std.proofs.Math.Logic.{∥∥₁_elim, ∥∥₁_map}
+use Rattle.std.proofs.lemmas.List.{length-set, length-map}
 use Rattle.std.specs.Vec.{with_items}
-use Rattle.std.proofs.lemmas.Option.{slice_get_read}
 use Rattle.ot_model.specs.declared.op.Mode.{Mode}
 use Rattle.fn_rules.specs.Functions.{Function}
 use Rattle.fn_rules.specs.Rules.{function_of}
 use Rattle.ot_hub.specs.declared.client.Client.{Client}
 use Rattle.ot_hub.specs.declared.placed.Placed.{Placed}
+use Rattle.ot_hub.specs.declared.placed.Entry.{Entry}
+use Rattle.ot_hub.specs.declared.answer.Move.TheVariants as moves
+use Rattle.ot_hub.specs.InStep.{AreInStep, AreCounted}
 use Rattle.ot_hub.specs.declared.server.Server.{Server}
-use Rattle.ot_hub.specs.Clients.{nobody, client_at, sent}
+use Rattle.ot_hub.specs.Clients.{client_at, sent}
 use Rattle.ot_hub.specs.declared.limits.TheConstants.{MAX_EDITS}
 use Rattle.ot_hub.specs.Carry.{carry, from_place}
 use Rattle.ot_hub.specs.Kept.{IsServerKept}
@@ -20,6 +23,8 @@ use Rattle.ot_hub.proofs.Kept.{All-at}
 use Rattle.ot_hub.proofs.Near.{KeepsNear, keeps_near}
 use Rattle.ot_hub.specs.Views.{HubData, view_of, IsClient, HasMoved}
 use Rattle.ot_hub.proofs.Stepping.{up_with-first, some_first, HasMoved-refused}
+use Rattle.ot_hub.proofs.Acting.{inside_of, client_read, items_set}
+use Rattle.ot_hub.proofs.Together.{led_to, not_stuck, AreCounted-up, AreInStep-up}
 use Rattle.ot_hub.proofs.hub.Hub.up.Goals as goal
 
 pub invariant_of-self : goal.invariant_of-self
@@ -31,9 +36,8 @@ invariant_of-self c =
     let one : Client = client_at all place in
     let message : Placed = c.in-Some.message in
     let there : IsClient (length all) c.args.client = c.if-not-has_client.ensures.0 refl in
-    let inside : place < length all = omega (arith, there.low, there.high) in
-    let client_is : one ≡ c.index.result.now =
-    ap (λ found. unwrap_or found nobody) (slice_get_read all (length all) place c.index.result.now refl inside c.index.ensures) in
+    let inside : place < length all = inside_of all c.args.client there in
+    let client_is : one ≡ c.index.result.now = client_read all c.args.client c.index.result.now there c.index.ensures in
     let first : Some message ≡ slice_get one.messages 0 = rw client_is c.in-Some.ensures in
     let some : 0 < length one.messages = some_first one.messages message first in
     let has : KeepsNear f =
@@ -59,35 +63,39 @@ invariant_of-self c =
     let clients : List Client = c.sent_at.new.clients in
     let is : clients ≡ slice_set all place (sent one) = rw (← c.deref_mut.ensures.value) c.sent_at.ensures in
     let items : (with_items s.clients clients).items ≡ slice_set all place (sent one) =
-    with_items_is s.clients clients (ap length is ∙ length-set all place (sent one) ∙ sym s.clients.ok.0) ∙ is in
+    items_set s.clients place (sent one) clients is in
     record {
       small = s.small;
       kept = rw items (IsHubKept-up f has.wider s.made s.server new all s.kept place inside some new_kept longer sides);
+      counted = rw items (subst (λ (log : List Entry). AreCounted log (slice_set all place (sent one)))
+          (ap (λ (server : Server). server.log) went.new_is)
+          (AreCounted-up s.server.log all s.counted c.args.client there went.it.op some));
+      in_step = λ tp1 chars. rw items (∥∥₁_map (s.in_step tp1 chars) (λ k.
+          led_to (λ (server : Server). AreInStep f s.first server (slice_set all place (sent one))) (server_step f c.args.client message s.server) new
+          (AreInStep-up f (c.functions_keep_forms.ensures f) (c.tp1_holds_of_forms.ensures f tp1) chars (c.transform_keeps_all_but_the_position.ensures f)
+          s.first s.server all k c.args.client there message first s.kept.sides) c.in-Ok.ensures));
     }
 
-pub returns-in-Ok : goal.returns-in-Ok
-returns-in-Ok c =
+pub returns-in-Ok-clause-moved : goal.returns-in-Ok-clause-moved
+returns-in-Ok-clause-moved c =
     let s = c.args.self.now in
-    let f : Function = function_of s.rules in
     let all : List Client = s.clients.items in
     let place : ℕ = c.args.client - 1 in
     let one : Client = client_at all place in
     let message : Placed = c.in-Some.message in
     let there : IsClient (length all) c.args.client = c.if-not-has_client.ensures.0 refl in
-    let inside : place < length all = omega (arith, there.low, there.high) in
-    let client_is : one ≡ c.index.result.now =
-    ap (λ found. unwrap_or found nobody) (slice_get_read all (length all) place c.index.result.now refl inside c.index.ensures) in
+    let client_is : one ≡ c.index.result.now = client_read all c.args.client c.index.result.now there c.index.ensures in
     let first : Some message ≡ slice_get one.messages 0 = rw client_is c.in-Some.ensures in
     let clients : List Client = c.sent_at.new.clients in
     let is : clients ≡ slice_set all place (sent one) = rw (← c.deref_mut.ensures.value) c.sent_at.ensures in
     let items : (with_items s.clients clients).items ≡ slice_set all place (sent one) =
-    with_items_is s.clients clients (ap length is ∙ length-set all place (sent one) ∙ sym s.clients.ok.0) ∙ is in
+    items_set s.clients place (sent one) clients is in
     let hub : HubData = view_of s in
     let whole : Server → HubData = λ server. record hub { server = server; clients = slice_set all place (sent one) } in
     (there, up_with-first hub c.args.client one.messages message first ∙ rw items (ap (step_map whole) c.in-Ok.ensures))
 
-pub returns-in-Err : goal.returns-in-Err
-returns-in-Err c =
+pub returns-in-Err-clause-moved : goal.returns-in-Err-clause-moved
+returns-in-Err-clause-moved c =
     let s = c.args.self.now in
     let f : Function = function_of s.rules in
     let all : List Client = s.clients.items in
@@ -95,9 +103,7 @@ returns-in-Err c =
     let one : Client = client_at all place in
     let message : Placed = c.in-Some.message in
     let there : IsClient (length all) c.args.client = c.if-not-has_client.ensures.0 refl in
-    let inside : place < length all = omega (arith, there.low, there.high) in
-    let client_is : one ≡ c.index.result.now =
-    ap (λ found. unwrap_or found nobody) (slice_get_read all (length all) place c.index.result.now refl inside c.index.ensures) in
+    let client_is : one ≡ c.index.result.now = client_read all c.args.client c.index.result.now there c.index.ensures in
     let first : Some message ≡ slice_get one.messages 0 = rw client_is c.in-Some.ensures in
     let hub : HubData = view_of s in
     let after : HubData = record hub { server = c.take.new.self; is_open = false } in
@@ -107,3 +113,21 @@ returns-in-Err c =
     (HasMoved-refused hub after c.args.client there s.server c.take.new.self
     (server_step f c.args.client message s.server) whole c.in-Err.refusal c.in-Err.ensures
     (ap (λ (server : Server). record hub { server = server; is_open = false })))
+
+pub returns-in-Err-clause-never_stuck : goal.returns-in-Err-clause-never_stuck
+returns-in-Err-clause-never_stuck c tp1 chars is =
+    let s = c.args.self.now in
+    let f : Function = function_of s.rules in
+    let all : List Client = s.clients.items in
+    let place : ℕ = c.args.client - 1 in
+    let one : Client = client_at all place in
+    let message : Placed = c.in-Some.message in
+    let there : IsClient (length all) c.args.client = c.if-not-has_client.ensures.0 refl in
+    let client_is : one ≡ c.index.result.now = client_read all c.args.client c.index.result.now there c.index.ensures in
+    let first : Some message ≡ slice_get one.messages 0 = rw client_is c.in-Some.ensures in
+    let stuck : c.in-Err.refusal ≡ moves.Stuck = cc in
+    ∥∥₁_elim (s.in_step tp1 chars) (hlevel) (λ k.
+    not_stuck (λ (server : Server). AreInStep f s.first server (slice_set all place (sent one))) s.server c.take.new.self
+    (server_step f c.args.client message s.server) c.in-Err.refusal
+    (AreInStep-up f (c.functions_keep_forms.ensures f) (c.tp1_holds_of_forms.ensures f tp1) chars (c.transform_keeps_all_but_the_position.ensures f)
+    s.first s.server all k c.args.client there message first s.kept.sides) c.in-Err.ensures stuck)

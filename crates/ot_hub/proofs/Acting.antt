@@ -1,0 +1,25 @@
+-- The client that a call speaks of, and the clients of the hub behind the call.
+use Rattle.std.proofs.Common.{◌≡◌, ◌<◌, ◌-◌, ℕ, List, length, Vec, Global, refl, sym, ap, ◌∙◌, get_or, arith}
+use Rattle.std.specs.Prelude.{slice_set, unwrap_or}
+use Rattle.std.specs.Vec.{with_items}
+use Rattle.std.proofs.lemmas.List.{length-set, with_items_is}
+use Rattle.std.proofs.lemmas.Option.{slice_get_read}
+use Rattle.ot_hub.specs.declared.client.Client.{Client}
+use Rattle.ot_hub.specs.Clients.{IsClient, nobody, client_at}
+
+pub inside_of : (all : List Client) (c : ℕ) → IsClient (length all) c → c - 1 < length all
+inside_of all c there = omega (arith, there.low, there.high)
+
+-- what is read at the client's place is the client
+pub client_read : (all : List Client) (c : ℕ) (found : Client) → IsClient (length all) c → found ≡ get_or all (c - 1) found
+    → client_at all (c - 1) ≡ found
+client_read all c found there is =
+    ap (λ x. unwrap_or x nobody) (slice_get_read all (length all) (c - 1) found refl (inside_of all c there) is)
+
+-- where one became another, and where none did
+pub items_set : (all : Vec Client Global) (i : ℕ) (x : Client) (new : List Client) → new ≡ slice_set all.items i x
+    → (with_items all new).items ≡ slice_set all.items i x
+items_set all i x new is = with_items_is all new (ap length is ∙ length-set all.items i x ∙ sym all.ok.0) ∙ is
+
+pub items_same : (all : Vec Client Global) (new : List Client) → new ≡ all.items → (with_items all new).items ≡ all.items
+items_same all new is = with_items_is all new (ap length is ∙ sym all.ok.0) ∙ is
