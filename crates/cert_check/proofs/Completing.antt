@@ -90,12 +90,16 @@ module _ {W : Type 0} (by_token : ByToken W) (tok : Tok) (branches : List (Branc
         (subst (λ (x : Result (List (Branch W)) CheckError). IsCompleted tokens x) (sym taken) rest)),
   )
 
+  -- a token that is refused begins nothing that completes them
+  pub Completes-refused : (why : CheckError) (tokens : List Tok) → after tok branches ≡ Err why → Completes (tok ∷ tokens) branches → ⊥
+  Completes-refused why tokens refused whole =
+      subst (λ (x : Result (List (Branch W)) CheckError). IsCompleted tokens x) refused
+      (IsCompleted-after tok branches tokens ((by_token tok tokens branches).0 whole))
+
   -- a token that is refused, not for want of memory, begins nothing that completes them
   pub Completes-none :
       (why : CheckError) (tokens : List Tok)
       → (why ≡ end.NoMemory) ⊎ (after tok branches ≡ Err why) → (why ≡ end.NoMemory → ⊥)
       → Completes (tok ∷ tokens) branches → ⊥
   Completes-none why tokens (inl memory) other whole = other memory
-  Completes-none why tokens (inr refused) other whole =
-      subst (λ (x : Result (List (Branch W)) CheckError). IsCompleted tokens x) refused
-      (IsCompleted-after tok branches tokens ((by_token tok tokens branches).0 whole))
+  Completes-none why tokens (inr refused) other whole = Completes-refused why tokens refused whole

@@ -11,8 +11,10 @@
 #![tactic(auto)]
 
 mod checker;
+mod laws;
 mod token;
 mod verdict;
 
 pub use checker::{Checker, MAX_NAMES};
+pub use laws::tokens_are_taken_one_by_one;
 pub use verdict::{CheckError, Progress};

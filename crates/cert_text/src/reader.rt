@@ -65,17 +65,17 @@ impl Reader {
 
     /// A reader that begins behind a first line that another one read: before the lines of these obligations, where so
     /// many bytes of the file came. Offsets count from the file's beginning.
-    pub fn behind_header(alloc: Global, names: Vec<ObName>, offset: u64) -> Reader
+    pub fn behind_header(alloc: Global, names: Vec<ObName>, before: u64) -> Reader
         requires few { length names.items < 2 ^ 32 }
-        requires offset { offset ≤ 2 ^ 63 }
-        ensures { result ≡ Reading (Line 0 names.items) offset [] }
+        requires before { before ≤ 2 ^ 63 }
+        ensures { result ≡ Reading (Line 0 names.items) before [] }
     {
         Reader {
             alloc,
             tp1: names,
             tp2: Vec::new(alloc),
             stage: Stage::Line(Level::Tp1, 0),
-            offset,
+            offset: before,
             begun: Begun::Line(LineBytes::new(alloc)),
             refused: None,
         }

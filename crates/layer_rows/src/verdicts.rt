@@ -2,7 +2,7 @@
 
 use crate::functions::{MARKS, built, staying};
 use fn_rules::{Block, Level, ObName, Rules};
-use ot_judge::{Verdict, prove_all};
+use ot_decide::{Verdict, prove_all};
 use ot_model::Kind;
 use ot_questions::Why;
 use std::alloc::Global;

@@ -10,17 +10,16 @@ use Rattle.fn_rules.specs.Functions.{Function, is_declared}
 use Rattle.fn_rules.specs.declared.function.ObName.{ObName}
 use Rattle.fn_rules.specs.Obligations.{declared_kinds, pairs_of, triples_of, obligations_of}
 use Rattle.fn_rules.specs.Validity.{is_valid}
+use Rattle.ask_core.specs.Plans.{Plan}
 use Rattle.ask_core.specs.Trees.{AnswerTree, Branch}
-use Rattle.cert_check.proofs.Completing.{ByToken}
-use Rattle.cert_text.specs.declared.item.Part.{Part}
 use Rattle.cert_text.specs.Spelling.{header_text, end_text}
 use Rattle.cert_text.specs.Places.{Line}
 use Rattle.ot_questions.specs.declared.why.Why.{Why}
 use Rattle.ot_questions.specs.Obligation.{plan_of}
-use Rattle.ot_judge.specs.Certificates.{AreAnswers, IsCertificate, sections_text}
-use Rattle.ot_judge.specs.Parts.{FitThen, IsJudged}
+use Rattle.ot_sections.specs.Certificates.{AreAnswers, IsCertificate}
+use Rattle.cert_text.specs.Certificates.{certificate_text, sections_text}
+use Rattle.ot_sections.specs.Parts.{IsJudged}
 use Rattle.ot_judge.specs.Refusals.{IsWhole}
-use Rattle.ot_judge.proofs.Fitting.{point_at, sections_fit, last_line_fits, parts_show}
 
 -- where some member passes a test, some are left of the list by it
 first_left :
@@ -48,58 +47,70 @@ some_obligations f Tp2 valid =
     let some = some_pairs (declared_kinds f.head) (some_left (is_declared f.head) KINDS (left_true _ _ valid)) in
     omega (arith, some, length-append (pairs_of (declared_kinds f.head)) (triples_of (declared_kinds f.head)))
 
-module _ (f : Function) (by_token : ByToken Why) where
-  judged_sections :
-      (level : Level) (trees : List AnswerTree) (offset : ℕ)
-      → AreAnswers (plan_of f) (obligations_of f.head level) trees
-      → IsJudged (plan_of f) (Ok tt) (point_at (plan_of f) (Line 0 (obligations_of f.head level)) offset [])
-      (sections_text (obligations_of f.head level) trees ++ end_text)
-  judged_sections level trees offset answers =
-      sections_fit (plan_of f) by_token (Ok tt) (obligations_of f.head level) trees 0 offset end_text answers
-      (last_line_fits (plan_of f))
+-- what the sections of a level are made of, and back
+abbrev pub AreParts : Type 0
+AreParts =
+    (plan : ObName → Plan Why) (obs : List ObName) (trees : List AnswerTree) (came offset : ℕ) → AreAnswers plan obs trees
+    → IsJudged plan (Ok tt) (record { place = Line came obs; offset = offset; branches = [] }) (sections_text obs trees ++ end_text)
 
-  behind_header :
-      (level : Level) (trees : List AnswerTree) (bytes : List ℕ)
-      → bytes ≡ header_text (obligations_of f.head level) level ++ sections_text (obligations_of f.head level) trees ++ end_text
-      → bytes ≡ header_text (obligations_of f.head level) level ++ (sections_text (obligations_of f.head level) trees ++ end_text)
-  behind_header level trees bytes is =
-      is ∙ append_assoc (header_text (obligations_of f.head level) level) (sections_text (obligations_of f.head level) trees) end_text
+abbrev pub AreSections : Type 0
+AreSections =
+    (plan : ObName → Plan Why) (obs : List ObName) (came offset : ℕ) (branches : List (Branch Why)) (bytes : List ℕ)
+    → IsJudged plan (Ok tt) (record { place = Line came obs; offset = offset; branches = branches }) bytes
+    → (trees : List AnswerTree) × AreAnswers plan obs trees × (bytes ≡ sections_text obs trees ++ end_text)
 
+behind_header :
+    (names : List ObName) (level : Level) (trees : List AnswerTree) (bytes : List ℕ) → bytes ≡ certificate_text names level trees
+    → bytes ≡ header_text names level ++ (sections_text names trees ++ end_text)
+behind_header names level trees bytes is = is ∙ append_assoc (header_text names level) (sections_text names trees) end_text
+
+module _ (f : Function) where
   pub certificate_is_whole :
-      (level : Level) (bytes : List ℕ) → IsTrue (is_valid f) → IsCertificate bytes f level → IsWhole f level bytes
-  certificate_is_whole Tp1 bytes valid (trees, answers, is) =
-      let judged = judged_sections Tp1 trees (0 + length (header_text (obligations_of f.head Tp1) Tp1)) answers in (
+      AreParts → (level : Level) (bytes : List ℕ) → IsTrue (is_valid f) → IsCertificate bytes f level → IsWhole f level bytes
+  certificate_is_whole are_parts Tp1 bytes valid (trees, answers, is) =
+      let judged = are_parts (plan_of f) (obligations_of f.head Tp1) trees 0 (0 + length (header_text (obligations_of f.head Tp1) Tp1)) answers in (
         judged.0,
         (
           some_obligations f Tp1 valid,
-          (sections_text (obligations_of f.head Tp1) trees ++ end_text, [], behind_header Tp1 trees bytes is, refl, judged.1),
+          (
+            sections_text (obligations_of f.head Tp1) trees ++ end_text,
+            [],
+            behind_header (obligations_of f.head Tp1) Tp1 trees bytes is,
+            refl,
+            judged.1,
+          ),
         ),
       )
-  certificate_is_whole Tp2 bytes valid (trees, answers, is) =
-      let judged = judged_sections Tp2 trees (0 + length (header_text (obligations_of f.head Tp2) Tp2)) answers in (
+  certificate_is_whole are_parts Tp2 bytes valid (trees, answers, is) =
+      let judged = are_parts (plan_of f) (obligations_of f.head Tp2) trees 0 (0 + length (header_text (obligations_of f.head Tp2) Tp2)) answers in (
         judged.0,
         (
           some_obligations f Tp2 valid,
-          (sections_text (obligations_of f.head Tp2) trees ++ end_text, [], behind_header Tp2 trees bytes is, refl, judged.1),
+          (
+            sections_text (obligations_of f.head Tp2) trees ++ end_text,
+            [],
+            behind_header (obligations_of f.head Tp2) Tp2 trees bytes is,
+            refl,
+            judged.1,
+          ),
         ),
       )
 
   whole_shows :
-      (names : List ObName) (level : Level) (bytes rest : List ℕ) (branches : List (Branch Why)) (offset : ℕ) (parts : List Part)
+      AreSections → (names : List ObName) (level : Level) (bytes rest : List ℕ) (branches : List (Branch Why)) (offset : ℕ)
       → bytes ≡ header_text names level ++ rest
-      → FitThen (plan_of f) (Ok tt) (point_at (plan_of f) (Line 0 names) offset branches) rest parts
-      → (trees : List AnswerTree) × AreAnswers (plan_of f) names trees
-      × (bytes ≡ header_text names level ++ sections_text names trees ++ end_text)
-  whole_shows names level bytes rest branches offset parts is fits =
-      let shown = parts_show (plan_of f) by_token parts (Line 0 names) offset branches rest fits in (
+      → IsJudged (plan_of f) (Ok tt) (record { place = Line 0 names; offset = offset; branches = branches }) rest
+      → (trees : List AnswerTree) × AreAnswers (plan_of f) names trees × (bytes ≡ certificate_text names level trees)
+  whole_shows are_sections names level bytes rest branches offset is judged =
+      let shown = are_sections (plan_of f) names 0 offset branches rest judged in (
         shown.0,
         shown.1,
         is ∙ ap (λ (l : List ℕ). header_text names level ++ l) shown.2
             ∙ sym (append_assoc (header_text names level) (sections_text names shown.0) end_text),
       )
 
-  pub whole_is_certificate : (level : Level) (bytes : List ℕ) → IsWhole f level bytes → IsCertificate bytes f level
-  whole_is_certificate Tp1 bytes (parts, fits) =
-      whole_shows (obligations_of f.head Tp1) Tp1 bytes fits.1.0 fits.1.1 _ parts fits.1.2 fits.1.4
-  whole_is_certificate Tp2 bytes (parts, fits) =
-      whole_shows (obligations_of f.head Tp2) Tp2 bytes fits.1.0 fits.1.1 _ parts fits.1.2 fits.1.4
+  pub whole_is_certificate : AreSections → (level : Level) (bytes : List ℕ) → IsWhole f level bytes → IsCertificate bytes f level
+  whole_is_certificate are_sections Tp1 bytes (parts, fits) =
+      whole_shows are_sections (obligations_of f.head Tp1) Tp1 bytes fits.1.0 fits.1.1 _ fits.1.2 (parts, fits.1.4)
+  whole_is_certificate are_sections Tp2 bytes (parts, fits) =
+      whole_shows are_sections (obligations_of f.head Tp2) Tp2 bytes fits.1.0 fits.1.1 _ fits.1.2 (parts, fits.1.4)

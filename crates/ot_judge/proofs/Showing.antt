@@ -7,7 +7,7 @@ use Rattle.ask_core.specs.Trees.{AnswerTree, Fits}
 use Rattle.ot_questions.specs.declared.why.Why.{Why}
 use Rattle.ot_questions.specs.Obligation.{plan_of}
 use Rattle.ot_questions.specs.Meaning.{AllHold}
-use Rattle.ot_judge.specs.Certificates.{AreAnswers}
+use Rattle.ot_sections.specs.Certificates.{AreAnswers}
 
 -- where each tree fits its plan, each plan holds
 pub answers_hold :

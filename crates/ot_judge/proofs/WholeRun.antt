@@ -1,5 +1,5 @@
 -- A whole certificate, from its header to its last line.
-use Rattle.std.proofs.Common.{◌≡◌, ℕ, true, IsTrue, List, [], ◌++◌, Option, Some, Result, Ok, Err, ◌⊎◌, inl, inr, refl, sym, ap, subst, ◌∙◌}
+use Rattle.std.proofs.Common.{◌≡◌, ℕ, true, IsTrue, List, [], ◌∷◌, ◌++◌, Option, Some, Result, Ok, Err, ◌⊎◌, inl, inr, refl, sym, ap, subst, ◌∙◌}
 use Rattle.fn_rules.specs.declared.function.Head.{Head}
 use Rattle.fn_rules.specs.declared.function.Level.{Level}
 use Rattle.fn_rules.specs.declared.function.Level.TheVariants.{Tp1, Tp2}
@@ -7,33 +7,21 @@ use Rattle.fn_rules.specs.declared.function.ObName.{ObName}
 use Rattle.fn_rules.specs.Functions.{Function}
 use Rattle.fn_rules.specs.Obligations.{obligations_of}
 use Rattle.fn_rules.specs.Validity.{is_valid}
-use Rattle.ask_core.specs.Plans.{Plan}
+use Rattle.cert_text.specs.declared.item.Item.{Item}
+use Rattle.cert_text.specs.declared.item.Part.{Part}
 use Rattle.cert_text.specs.declared.item.Part.TheVariants as part
-use Rattle.cert_text.specs.Spelling.{end_text}
-use Rattle.cert_text.specs.Places.{Place, Start, Line, Tree, Finish, part_text, place_after}
+use Rattle.cert_text.specs.Places.{Place, Start, part_text, place_after}
 use Rattle.cert_text.specs.Reading.{Progress, Reading}
+use Rattle.ot_outside.specs.declared.feed.Feed.{Ghosts}
 use Rattle.ot_questions.specs.declared.why.Why.{Why}
 use Rattle.ot_questions.specs.Obligation.{plan_of}
-use Rattle.ot_judge.specs.declared.refusal.JudgeEnd.{JudgeEnd}
-use Rattle.ot_judge.specs.declared.refusal.JudgeEnd.TheVariants as judge
-use Rattle.ot_judge.specs.Parts.{Point, IsJudged, point_behind}
+use Rattle.ot_sections.specs.declared.refusal.JudgeError.{JudgeError}
+use Rattle.ot_sections.specs.declared.refusal.JudgeError.TheVariants as judge
+use Rattle.ot_sections.specs.Feeding.{Fed, Has, MayGive, MayGiveOf, MayHave, Whole, Yields, fed}
+use Rattle.ot_sections.specs.Parts.{FitThen, IsJudged, IsRefused, Point, point_behind}
+use Rattle.ot_sections.specs.Sections.{IsLineWith}
+use Rattle.ot_sections.specs.Stands.{Came, Comes, IsJudgedBehind, IsMisspeltBehind, offset_of, place_of, point_of, stand}
 use Rattle.ot_judge.specs.Refusals.{IsJudgement, IsWant, IsWhole, start_of}
-use Rattle.ot_judge.specs.Feeding.{IsMisspeltBehind, IsRefusedBehind, Leads, MayGive, MayGiveOf, MayHave, offset_of, place_of, point_of, Whole}
-use Rattle.ot_judge.proofs.Coming.{Came}
-use Rattle.ot_judge.specs.Sections.{IsLineWith}
-use Rattle.ot_judge.proofs.Fitting.{last_line_fits}
-use Rattle.ot_judge.proofs.Leading.{leads_on, misspelt_refused, part_leads, refused_through}
-
--- the last line fits
-last_judged :
-    {W : Type 0} (plan : ObName → Plan W) (place : Place) (offset : ℕ) → IsLineWith [] place
-    → IsJudged plan (Ok tt) (record { place = place; offset = offset; branches = [] }) end_text
-last_judged plan (Line came names) offset line =
-    subst (λ (n : List ObName). IsJudged plan (Ok tt) (record { place = Line came n; offset = offset; branches = [] }) end_text)
-    (sym line) (last_line_fits plan came offset)
-last_judged plan (Start tp1 tp2) offset line = absurd line
-last_judged plan (Tree came names branches) offset line = absurd line
-last_judged plan Finish offset line = absurd line
 
 line_of_level :
     (f : Function) (level : Level)
@@ -42,63 +30,78 @@ line_of_level :
 line_of_level f Tp1 = refl
 line_of_level f Tp2 = refl
 
--- an answer that is no certificate
-pub answered :
-    (f : Function) (Have : Whole → Type 0) (May : Whole → List ℕ → Type 0) (e : JudgeEnd)
-    → ((all : Whole) → Have all → IsRefusedBehind (plan_of f) (start_of f) (May all) e)
-    → IsWant (Err e) ⊎ ((all : Whole) → Have all → (bytes : List ℕ) × May all bytes × IsJudgement f bytes (Err e))
-answered f Have May (judge.Refused offset why) refused = inr (λ all have. refused all have tt)
-answered f Have May judge.Failed refused = inl (inl refl)
-answered f Have May judge.NoMemory refused = inl (inr refl)
+-- a reader of certificates of the function, before the header
+abbrev pub reader_of : Function → Progress
+reader_of f = Reading (Start (obligations_of f.head Tp1) (obligations_of f.head Tp2)) 0 []
 
-module _ (f : Function) (Before : List ℕ → Type 0) where
-  abbrev pub reader_at_start : Progress
-  reader_at_start = Reading (Start (obligations_of f.head Tp1) (obligations_of f.head Tp2)) 0 []
+pub at_start :
+    (f : Function) (head : Head) (tp1 tp2 : List ObName) (r : Progress) → r ≡ Reading (Start tp1 tp2) 0 [] → tp1 ≡ obligations_of head Tp1
+    → tp2 ≡ obligations_of head Tp2 → head ≡ f.head → r ≡ reader_of f
+at_start f head tp1 tp2 r is one two same =
+    is ∙ ap (λ (l : List ObName). Reading (Start l tp2) 0 []) (one ∙ ap (λ (h : Head). obligations_of h Tp1) same)
+    ∙ ap (λ (l : List ObName). Reading (Start (obligations_of f.head Tp1) l) 0 []) (two ∙ ap (λ (h : Head). obligations_of h Tp2) same)
 
-  pub at_start :
-      (head : Head) (tp1 tp2 : List ObName) (r : Progress) → r ≡ Reading (Start tp1 tp2) 0 [] → tp1 ≡ obligations_of head Tp1
-      → tp2 ≡ obligations_of head Tp2 → head ≡ f.head → r ≡ reader_at_start
-  at_start head tp1 tp2 r is one two same =
-      is ∙ ap (λ (l : List ObName). Reading (Start l tp2) 0 []) (one ∙ ap (λ (h : Head). obligations_of h Tp1) same)
-      ∙ ap (λ (l : List ObName). Reading (Start (obligations_of f.head Tp1) l) 0 []) (two ∙ ap (λ (h : Head). obligations_of h Tp2) same)
+-- a part that is a header, by its level
+pub came_header :
+    {F : Type 0} (feeds : Ghosts F) (was now : Fed F) (item : Item) (level : Level) → item.part ≡ part.Header level → Came feeds was now item
+    → Came feeds was now (record { offset = offset_of was.reader; part = part.Header level })
+came_header feeds was now item level is came =
+    let make : Part → Item = λ p. record { offset = offset_of was.reader; part = p } in
+    let here : Came feeds was now (make item.part) = record {
+      part = record { offset = refl; stands = came.part.stands; behind = came.part.behind };
+      bytes = came.bytes;
+    } in
+    subst (λ (p : Part). Came feeds was now (make p)) is here
 
-  pub header_refused : (e : JudgeEnd) → IsMisspeltBehind reader_at_start Before e → IsRefusedBehind (plan_of f) (start_of f) Before e
-  header_refused e misspelt = misspelt_refused (plan_of f) reader_at_start [] Before e misspelt
+module _ {F : Type 0} (feeds : Ghosts F) (f : Function) (feed new : F) where
+  -- some bytes that the feed might give have parts that fit from the start on, and stop so
+  abbrev pub IsMade : Result (Unit {0}) JudgeError → (List Part → List Part) → Type 0
+  IsMade end front =
+      (all : Whole) → Has feeds new all
+      → (bytes : List ℕ) × Yields feeds feed all bytes × ((parts : List Part) × FitThen (plan_of f) end (start_of f) bytes (front parts))
 
-  module _ (level : Level) (first : Progress) (Between : List ℕ → Type 0)
-      (header : Came reader_at_start Before (record { offset = 0; part = part.Header level }) first Between) where
-    pub first_line : IsLineWith (obligations_of f.head level) (place_of first)
+  -- an answer that is no certificate
+  pub answered :
+      (e : JudgeError) → (IsRefused e → IsMade (Err e) (λ parts. parts))
+      → IsWant (Err e) ⊎ ((all : Whole) → Has feeds new all → (bytes : List ℕ) × Yields feeds feed all bytes × IsJudgement f bytes (Err e))
+  answered (judge.Refused offset why) refused = inr (refused tt)
+  answered judge.Failed refused = inl (inl refl)
+  answered judge.NoMemory refused = inl (inr refl)
+
+  pub header_refused :
+      (e : JudgeError) → IsMisspeltBehind feeds (fed (reader_of f) feed) new e → IsRefused e → IsMade (Err e) (λ parts. parts)
+  header_refused e misspelt refused all have = let ends = misspelt all have refused in (ends.0, ends.1, ([], inl ends.2))
+
+  module _ (level : Level) (first : Fed F)
+      (header : Came feeds (fed (reader_of f) feed) first (record { offset = 0; part = part.Header level })) where
+    pub first_line : IsLineWith (obligations_of f.head level) (place_of first.reader)
     first_line =
         subst (λ (p : Place). IsLineWith (obligations_of f.head level) p) (sym (ap place_of header.part.behind)) (line_of_level f level)
 
-    header_leads : Leads (plan_of f) (start_of f) Before (point_of first []) Between
-    header_leads =
-        part_leads (plan_of f) reader_at_start first Before Between (record { offset = 0; part = part.Header level }) [] [] header refl
+    -- what is judged behind the header is judged of it too
+    pub behind_header :
+        (end : Result (Unit {0}) JudgeError) → IsJudgedBehind feeds (plan_of f) (stand first []) new end
+        → IsMade end (λ parts. part.Header level ∷ parts)
+    behind_header end judged all have =
+        let there = judged all have in
+        let here : FitThen (plan_of f) end (point_behind (start_of f) (part.Header level) []) there.0 there.2.0 =
+        subst (λ (p : Point Why). FitThen (plan_of f) end p there.0 there.2.0)
+        (ap (λ (r : Progress). point_of (stand (fed r first.feed) [])) header.part.behind) there.2.1 in (
+          part_text (place_of (reader_of f)) (part.Header level) ++ there.0,
+          header.bytes all there.0 there.1,
+          (there.2.0, (header.part.stands, (there.0, [], refl, refl, here))),
+        )
 
-    pub sections_refused : (e : JudgeEnd) → IsRefusedBehind (plan_of f) (point_of first []) Between e → IsRefusedBehind (plan_of f) (start_of f) Before e
-    sections_refused e refused = refused_through (plan_of f) (start_of f) (point_of first []) Before Between e header_leads refused
-
-    module _ (last : Progress) (AtEnd : List ℕ → Type 0) (sections : Leads (plan_of f) (point_of first []) Between (point_of last []) AtEnd) where
-      pub end_refused : (e : JudgeEnd) → IsRefusedBehind (plan_of f) (point_of last []) AtEnd e → IsRefusedBehind (plan_of f) (start_of f) Before e
-      end_refused e refused =
-          refused_through (plan_of f) (start_of f) (point_of last []) Before AtEnd e
-          (leads_on (plan_of f) (start_of f) (point_of first []) (point_of last []) Before Between AtEnd header_leads sections) refused
-
-      pub whole : IsLineWith [] (place_of last) → AtEnd end_text → (bytes : List ℕ) × Before bytes × IsWhole f level bytes
-      whole line ends =
-          let there = sections end_text ends in
-          let judged : IsJudged (plan_of f) (Ok tt) (point_behind (start_of f) (part.Header level) []) there.0 =
-          subst (λ (p : Point Why). IsJudged (plan_of f) (Ok tt) p there.0) (ap (λ (r : Progress). point_of r []) header.part.behind)
-          (there.2 (Ok tt) (last_judged (plan_of f) (place_of last) (offset_of last) line)) in (
-            part_text (place_of reader_at_start) (part.Header level) ++ there.0,
-            header.bytes there.0 there.1,
-            (judged.0, (header.part.stands, (there.0, [], refl, refl, judged.1))),
-          )
+    pub refused_behind :
+        (e : JudgeError) → (IsRefused e → IsJudgedBehind feeds (plan_of f) (stand first []) new (Err e)) → IsRefused e
+        → IsMade (Err e) (λ parts. parts)
+    refused_behind e judged refused all have =
+        let made = behind_header (Err e) (judged refused) all have in (made.0, made.1, (part.Header level ∷ made.2.0, made.2.1))
 
 -- some bytes that a feed may give have the judgement
 module _ {F : Type 0} (left : F → Option (List ℕ)) (bound : F → ℕ) (gave hand : F → List ℕ) where
   pub judged_some :
-      (f : Function) (old new : F) (answer : Result Level JudgeEnd)
+      (f : Function) (old new : F) (answer : Result Level JudgeError)
       → (all : Whole) × (all.may ≡ true) × MayHave left bound gave hand new all
       → IsWant answer ⊎ ((all : Whole) → MayHave left bound gave hand new all
       → (bytes : List ℕ) × MayGiveOf left bound gave old all bytes × IsJudgement f bytes answer)
@@ -111,9 +114,9 @@ module _ {F : Type 0} (left : F → Option (List ℕ)) (bound : F → ℕ) (gave
 -- no other answer is the judgement of bytes that are told
 module _ {F : Type 0} (left : F → Option (List ℕ)) (bound : F → ℕ) where
   pub no_other :
-      ((f : Function) (bytes : List ℕ) (one other : Result Level JudgeEnd) → IsTrue (is_valid f)
+      ((f : Function) (bytes : List ℕ) (one other : Result Level JudgeError) → IsTrue (is_valid f)
       → IsJudgement f bytes one → IsJudgement f bytes other → one ≡ other)
-      → (f : Function) (feed : F) (bytes : List ℕ) (one other : Result Level JudgeEnd) → IsTrue (is_valid f) → left feed ≡ Some bytes
+      → (f : Function) (feed : F) (bytes : List ℕ) (one other : Result Level JudgeError) → IsTrue (is_valid f) → left feed ≡ Some bytes
       → IsWant one ⊎ ((some : List ℕ) × MayGive left bound feed some × IsJudgement f some one)
       → IsJudgement f bytes other → IsWant one ⊎ (one ≡ other)
   unfolding MayGive

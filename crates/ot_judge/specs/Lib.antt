@@ -1,10 +1,3 @@
-pub mod Certificates
-pub mod Feeding
-pub mod Parts
-pub mod Proving
 pub mod Refusals
-pub mod Sections
-pub mod Sizes
-pub mod Verdicts
 pub use Rattle.cert_text.specs.Places
 pub use Rattle.cert_text.specs.Reading

@@ -6,14 +6,21 @@ use Rattle.fn_rules.specs.Functions.{Function}
 use Rattle.fn_rules.specs.Obligations.{obligations_of}
 use Rattle.cert_text.specs.declared.item.Part.{Part}
 use Rattle.cert_text.specs.declared.item.Part.TheVariants.{Header}
-use Rattle.cert_text.specs.Places.{Start}
+use Rattle.cert_text.specs.Places.{Place, Start, Line, Tree, Finish}
 use Rattle.ot_questions.specs.declared.why.Why.{Why}
 use Rattle.ot_questions.specs.Obligation.{plan_of}
-use Rattle.ot_judge.specs.declared.refusal.Refusal.{Refusal}
-use Rattle.ot_judge.specs.declared.refusal.JudgeEnd.{JudgeEnd}
-use Rattle.ot_judge.specs.declared.refusal.JudgeEnd.TheVariants as judge
-use Rattle.ot_judge.specs.Certificates.{IsCertificate}
-use Rattle.ot_judge.specs.Parts.{Point, FitThen, IsJudged}
+use Rattle.ot_sections.specs.declared.refusal.Refusal.{Refusal}
+use Rattle.ot_sections.specs.declared.refusal.JudgeError.{JudgeError}
+use Rattle.ot_sections.specs.declared.refusal.JudgeError.TheVariants as judge
+use Rattle.ot_sections.specs.Certificates.{IsCertificate}
+use Rattle.ot_sections.specs.Parts.{Point, FitThen, IsJudged}
+
+-- the place before the header
+abbrev pub IsStart : Place → Type 0
+IsStart (Start tp1 tp2) = Unit {0}
+IsStart (Line came names) = ⊥
+IsStart (Tree came names branches) = ⊥
+IsStart Finish = ⊥
 
 -- before the header
 abbrev pub start_of : Function → Point Why
@@ -29,12 +36,12 @@ abbrev pub IsWhole : Function → Level → List ℕ → Type 0
 IsWhole f level bytes = (parts : List Part) × FitThen (plan_of f) (Ok tt) (start_of f) bytes (Header level ∷ parts)
 
 -- the judgement of the bytes: a certificate at a level, or a refusal
-abbrev pub IsJudgement : Function → List ℕ → Result Level JudgeEnd → Type 0
+abbrev pub IsJudgement : Function → List ℕ → Result Level JudgeError → Type 0
 IsJudgement f bytes (Ok level) = IsCertificate bytes f level
 IsJudgement f bytes (Err (judge.Refused offset why)) = IsRefusal f bytes offset why
 IsJudgement f bytes (Err judge.Failed) = ⊥
 IsJudgement f bytes (Err judge.NoMemory) = ⊥
 
 -- the answer is no judgement: the feed failed, or there was no memory
-abbrev pub IsWant : Result Level JudgeEnd → Type 0
+abbrev pub IsWant : Result Level JudgeError → Type 0
 IsWant answer = (answer ≡ Err judge.Failed) ⊎ (answer ≡ Err judge.NoMemory)

@@ -4,8 +4,8 @@ use Rattle.std.specs.Fmt.{decimal}
 use Rattle.fn_text.specs.declared.fault.FaultKind.{FaultKind}
 use Rattle.fn_text.specs.declared.fault.FaultKind.TheVariants as kinds
 use Rattle.fn_text.specs.declared.fault.TextFault.{TextFault}
-use Rattle.ot_judge.specs.declared.refusal.Refusal.{Refusal}
-use Rattle.ot_judge.specs.declared.refusal.Refusal.TheVariants as why
+use Rattle.ot_sections.specs.declared.refusal.Refusal.{Refusal}
+use Rattle.ot_sections.specs.declared.refusal.Refusal.TheVariants as why
 use Rattle.case_json.specs.declared.fault.CaseFault.{CaseFault}
 use Rattle.case_json.specs.declared.fault.CaseFault.TheVariants as faults
 use Rattle.case_json.specs.declared.fault.Name.{Name}

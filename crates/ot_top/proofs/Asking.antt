@@ -12,7 +12,7 @@ use Rattle.fn_rules.specs.declared.function.ObName.TheVariants.{Pair}
 use Rattle.fn_rules.specs.Obligations.{declared_kinds, obligations_of, pairs_of}
 use Rattle.ask_core.specs.Plans.{Plan}
 use Rattle.ask_core.specs.Questions.{FailingEnd, Questions, QuestionList}
-use Rattle.ot_judge.specs.Verdicts.{ObQuestions, FailingOb, AreAsked, failing_in}
+use Rattle.ot_decide.specs.Verdicts.{ObQuestions, FailingOb, AreAsked, failing_in}
 use Rattle.ot_counter.specs.Counters.{level_of}
 use Rattle.ot_top.specs.Shown.{IsAskedAt}
 

@@ -15,14 +15,14 @@ use Rattle.fn_rules.specs.Validity.{is_valid}
 use Rattle.ot_questions.specs.declared.why.Why.{Why}
 use Rattle.ot_questions.specs.Obligation.{plan_of}
 use Rattle.ot_prove.specs.Outcomes.{answered_by}
-use Rattle.ot_judge.specs.declared.refusal.JudgeEnd.{JudgeEnd}
-use Rattle.ot_judge.specs.declared.refusal.JudgeEnd.TheVariants as judge
-use Rattle.ot_judge.specs.declared.refusal.Refusal.{Refusal}
-use Rattle.ot_judge.specs.declared.verdict.Verdict.{Verdict}
-use Rattle.ot_judge.specs.declared.verdict.Verdict.TheVariants as verdicts
-use Rattle.ot_judge.specs.Certificates.{IsCertificate}
+use Rattle.ot_sections.specs.declared.refusal.JudgeError.{JudgeError}
+use Rattle.ot_sections.specs.declared.refusal.JudgeError.TheVariants as judge
+use Rattle.ot_sections.specs.declared.refusal.Refusal.{Refusal}
+use Rattle.ot_decide.specs.declared.verdict.Verdict.{Verdict}
+use Rattle.ot_decide.specs.declared.verdict.Verdict.TheVariants as verdicts
+use Rattle.ot_sections.specs.Certificates.{IsCertificate}
 use Rattle.ot_judge.specs.Refusals.{IsWant}
-use Rattle.ot_judge.specs.Verdicts.{ObQuestions, AreAsked, IsDecidedAs, IsWithin, count_in}
+use Rattle.ot_decide.specs.Verdicts.{ObQuestions, AreAsked, IsDecidedAs, IsWithin, count_in}
 use Rattle.ot_counter.specs.Counters.{Breaks, level_of}
 use Rattle.ask_core.specs.Leading.{LeadTo}
 use Rattle.ot_values.specs.Values.{floors_of, ops_at}
@@ -36,13 +36,13 @@ use Rattle.ot_words.specs.Words.{most_questions}
 use Rattle.ot_top.proofs.Leads.{literals_lead}
 
 -- an answer that is a level, where it is no want and only one level comes
-pub level_is : (level : Level) → IsWant (Ok level) ⊎ (◌≡◌ {A = Result Level JudgeEnd} (Ok level) (Ok Tp2)) → level ≡ Tp2
+pub level_is : (level : Level) → IsWant (Ok level) ⊎ (◌≡◌ {A = Result Level JudgeError} (Ok level) (Ok Tp2)) → level ≡ Tp2
 level_is level (inl (inl failed)) = cc
 level_is level (inl (inr wanting)) = cc
 level_is level (inr same) = cc
 
 -- no refusal comes
-pub never_refused : (offset : ℕ) (why : Refusal) → IsWant (Err (judge.Refused offset why)) ⊎ (◌≡◌ {A = Result Level JudgeEnd} (Err (judge.Refused offset why)) (Ok Tp2)) → ⊥
+pub never_refused : (offset : ℕ) (why : Refusal) → IsWant (Err (judge.Refused offset why)) ⊎ (◌≡◌ {A = Result Level JudgeError} (Err (judge.Refused offset why)) (Ok Tp2)) → ⊥
 never_refused offset why (inl (inl failed)) = cc
 never_refused offset why (inl (inr wanting)) = cc
 never_refused offset why (inr same) = cc

@@ -9,11 +9,11 @@ use Rattle.fn_rules.specs.Functions.{Function}
 use Rattle.ot_outside.specs.declared.shelf.Shelf.{Ghosts}
 use Rattle.ot_outside.specs.declared.shelf_feed.ShelfFeed.{ShelfFeed}
 use Rattle.ot_outside.specs.ShelfFeed.{feed_left, file_left, room_of}
-use Rattle.ot_judge.specs.declared.refusal.JudgeEnd.{JudgeEnd}
-use Rattle.ot_judge.specs.declared.refusal.JudgeEnd.TheVariants as judge
-use Rattle.ot_judge.specs.declared.refusal.Refusal.{Refusal}
-use Rattle.ot_judge.specs.declared.refusal.Refusal.TheVariants as why
-use Rattle.ot_judge.specs.Feeding.{IsTruncated, MayGive}
+use Rattle.ot_sections.specs.declared.refusal.JudgeError.{JudgeError}
+use Rattle.ot_sections.specs.declared.refusal.JudgeError.TheVariants as judge
+use Rattle.ot_sections.specs.declared.refusal.Refusal.{Refusal}
+use Rattle.ot_sections.specs.declared.refusal.Refusal.TheVariants as why
+use Rattle.ot_sections.specs.Feeding.{IsTruncated, MayGive}
 use Rattle.ot_judge.specs.Refusals.{IsJudgement, IsWant}
 use Rattle.ot_replies.specs.declared.reply.FileKind.TheVariants as files
 use Rattle.ot_replies.specs.declared.reply.Reply.{Reply}
@@ -22,12 +22,12 @@ use Rattle.ot_top.specs.Judgements.{IsReplyToCertificate, Tells, is_truncated, r
 use Rattle.ot_replies.specs.Limits.{limit_of}
 
 -- a told judgement is no want
-pub not_want : (judgement : Result Level JudgeEnd) (r : Reply) → Tells judgement r → IsWant judgement → ⊥
+pub not_want : (judgement : Result Level JudgeError) (r : Reply) → Tells judgement r → IsWant judgement → ⊥
 not_want judgement r tells (inl failed) = subst (λ j. Tells j r) failed tells
 not_want judgement r tells (inr wanting) = subst (λ j. Tells j r) wanting tells
 
 -- a judgement that rests on the end is no want
-pub sure : (judgement : Result Level JudgeEnd) → rests_on_the_end judgement ≡ true → IsWant judgement → ⊥
+pub sure : (judgement : Result Level JudgeError) → rests_on_the_end judgement ≡ true → IsWant judgement → ⊥
 sure judgement rests (inl failed) = let clash : false ≡ true = sym (ap (λ j. rests_on_the_end j) failed) ∙ rests in cc
 sure judgement rests (inr wanting) = let clash : false ≡ true = sym (ap (λ j. rests_on_the_end j) wanting) ∙ rests in cc
 
@@ -44,7 +44,7 @@ truncated why.NotNegative is = cc
 
 -- where a judgement rests on the end, the feed is at its end
 pub at_its_end :
-    (judgement : Result Level JudgeEnd) (P : Type 0) → rests_on_the_end judgement ≡ true → IfOk judgement (λ level. P)
+    (judgement : Result Level JudgeError) (P : Type 0) → rests_on_the_end judgement ≡ true → IfOk judgement (λ level. P)
     → IfErr judgement (λ e. IsTruncated e → P) → P
 at_its_end (Ok level) P rests ok err = ok
 at_its_end (Err (judge.Refused offset cause)) P rests ok err = err (offset, ap (λ w. judge.Refused offset w) (truncated cause rests))
@@ -103,7 +103,7 @@ within_limit None room contents may shorter = may.1 refl
 within_limit (Some known) room contents may shorter =
     let not_longer = shorter known refl in omega (arith, not_longer, ap length (may.0 known refl))
 
-module _ {S : Type 0} {shelf : Ghosts S} (f : Function) (feed : ShelfFeed S shelf) (judgement : Result Level JudgeEnd)
+module _ {S : Type 0} {shelf : Ghosts S} (f : Function) (feed : ShelfFeed S shelf) (judgement : Result Level JudgeError)
     (whole : room_of feed ≡ limit_of files.Certificate)
     (judged : IsWant judgement ⊎ ((bytes : List ℕ) × MayGive feed_left room_of feed bytes × IsJudgement f bytes judgement)) where
   -- the judgement is that of the bytes within the limit

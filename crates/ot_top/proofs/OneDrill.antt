@@ -11,7 +11,7 @@ use Rattle.case_json.specs.declared.script.Event.{Event}
 use Rattle.case_json.specs.declared.script.Event.TheVariants.{Make, Take}
 use Rattle.ot_questions.specs.declared.why.Why.{Why}
 use Rattle.ot_questions.specs.Obligation.{plan_of}
-use Rattle.ot_judge.specs.Verdicts.{AreAsked, ObQuestions}
+use Rattle.ot_decide.specs.Verdicts.{AreAsked, ObQuestions}
 use Rattle.ot_session.specs.declared.answer.Take.{Take as NotTaken}
 use Rattle.ot_session.specs.declared.answer.Take.TheVariants as takes
 use Rattle.ot_session.specs.declared.answer.Took.{Took}

@@ -5,8 +5,8 @@ use Rattle.fn_rules.specs.Functions.{Function}
 use Rattle.fn_rules.specs.Validity.{is_valid}
 use Rattle.fn_text.specs.Grammar.{IsTextOf}
 use Rattle.fn_text.specs.Reading.{function_in}
-use Rattle.ot_judge.specs.declared.refusal.JudgeEnd.{JudgeEnd}
-use Rattle.ot_judge.specs.declared.refusal.JudgeEnd.TheVariants as judge
+use Rattle.ot_sections.specs.declared.refusal.JudgeError.{JudgeError}
+use Rattle.ot_sections.specs.declared.refusal.JudgeError.TheVariants as judge
 use Rattle.ot_judge.specs.Refusals.{IsJudgement}
 use Rattle.ot_replies.specs.declared.reply.FileKind.TheVariants as files
 use Rattle.ot_replies.specs.declared.reply.Reply.{Reply}
@@ -17,7 +17,7 @@ use Rattle.ot_top.specs.Replies.{IsReplyTo}
 use Rattle.ot_top.proofs.OneFile.{function_once}
 
 -- what tells a judgement is one
-judgement_told_once : (judgement : Result Level JudgeEnd) (r s : Reply) → Tells judgement r → Tells judgement s → r ≡ s
+judgement_told_once : (judgement : Result Level JudgeError) (r s : Reply) → Tells judgement r → Tells judgement s → r ≡ s
 judgement_told_once (Ok level) r s first second = first ∙ sym second
 judgement_told_once (Err (judge.Refused offset why)) r s first second = first ∙ sym second
 judgement_told_once (Err judge.Failed) r s first second = absurd first
@@ -25,7 +25,7 @@ judgement_told_once (Err judge.NoMemory) r s first second = absurd first
 
 -- a told file is not both longer than the limit and, where its judgement rests on its end, within it
 limit_or_end :
-    (certificate : List ℕ) (told : Option (List ℕ)) (judgement : Result Level JudgeEnd) (r s : Reply) → told ≡ Some certificate
+    (certificate : List ℕ) (told : Option (List ℕ)) (judgement : Result Level JudgeError) (r s : Reply) → told ≡ Some certificate
     → IsTrue (rests_on_the_end judgement) → IsTooLong files.Certificate told r
     → ¬ (IsTrue (rests_on_the_end judgement) → length certificate ≤ limit_of files.Certificate)
 limit_or_end certificate told judgement r s is rests longer within =
@@ -33,7 +33,7 @@ limit_or_end certificate told judgement r s is rests longer within =
 
 -- the reply to a judgement of a told file is one
 judgement_replied_once :
-    (certificate : List ℕ) (told : Option (List ℕ)) (judgement : Result Level JudgeEnd) (r s : Reply) → told ≡ Some certificate
+    (certificate : List ℕ) (told : Option (List ℕ)) (judgement : Result Level JudgeError) (r s : Reply) → told ≡ Some certificate
     → IsReplyToJudgement told certificate judgement r → IsReplyToJudgement told certificate judgement s → r ≡ s
 judgement_replied_once certificate told judgement r s is (inl (rests, longer)) (inl (_, too)) = longer.1 ∙ sym too.1
 judgement_replied_once certificate told judgement r s is (inl (rests, longer)) (inr (within, tells)) =
@@ -44,7 +44,7 @@ judgement_replied_once certificate told judgement r s is (inr (_, tells)) (inr (
     judgement_told_once judgement r s tells says
 
 module _ (one_judgement :
-    (f : Function) (bytes : List ℕ) (one other : Result Level JudgeEnd) → IsTrue (is_valid f) → IsJudgement f bytes one
+    (f : Function) (bytes : List ℕ) (one other : Result Level JudgeError) → IsTrue (is_valid f) → IsJudgement f bytes one
     → IsJudgement f bytes other → one ≡ other) where
   -- the reply to a certificate whose file is told is one
   certificate_replied_once :
@@ -59,7 +59,7 @@ module _ (one_judgement :
       let same : again ≡ judgement = one_judgement f (front certificate) again judgement valid second first in
       judgement_replied_once certificate told judgement r s is
       (subst (λ (l : List ℕ). IsReplyToJudgement told l judgement r) (known certificate is) reply)
-      (subst (λ (j : Result Level JudgeEnd). IsReplyToJudgement told certificate j s) same
+      (subst (λ (j : Result Level JudgeError). IsReplyToJudgement told certificate j s) same
       (subst (λ (l : List ℕ). IsReplyToJudgement told l again s) (also certificate is) said))
 
   -- the reply of `check` to told files is one

@@ -11,9 +11,9 @@ use Rattle.fn_rules.specs.Obligations.{obligations_of}
 use Rattle.ot_prove.specs.Outcomes.{answered_by}
 use Rattle.ot_questions.specs.declared.why.Why.{Why}
 use Rattle.ot_questions.specs.Obligation.{plan_of}
-use Rattle.ot_judge.specs.declared.verdict.Verdict.{Verdict}
-use Rattle.ot_judge.specs.declared.verdict.Verdict.TheVariants as verdicts
-use Rattle.ot_judge.specs.Verdicts.{AreAsked, FailingOb, IsVerdict, ObQuestions, failing_in}
+use Rattle.ot_decide.specs.declared.verdict.Verdict.{Verdict}
+use Rattle.ot_decide.specs.declared.verdict.Verdict.TheVariants as verdicts
+use Rattle.ot_decide.specs.Verdicts.{AreAsked, FailingOb, IsVerdict, ObQuestions, failing_in}
 use Rattle.ot_counter.specs.declared.counter.Counter.{Counter}
 use Rattle.ot_counter.specs.Counters.{IsCounter, IsReadOff}
 use Rattle.ot_values.specs.Values.{floors_of}

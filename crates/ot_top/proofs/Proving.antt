@@ -25,12 +25,12 @@ use Rattle.ot_questions.specs.declared.why.Why.{Why}
 use Rattle.ot_questions.specs.Meaning.{op_at}
 use Rattle.ot_questions.specs.Obligation.{plan_of}
 use Rattle.ot_questions.specs.Places.{sym_op}
-use Rattle.ot_judge.specs.declared.refusal.JudgeEnd.{JudgeEnd}
-use Rattle.ot_judge.specs.declared.verdict.Verdict.{Verdict}
-use Rattle.ot_judge.specs.declared.verdict.Verdict.TheVariants as verdicts
-use Rattle.ot_judge.specs.Certificates.{IsCertificate}
+use Rattle.ot_sections.specs.declared.refusal.JudgeError.{JudgeError}
+use Rattle.ot_decide.specs.declared.verdict.Verdict.{Verdict}
+use Rattle.ot_decide.specs.declared.verdict.Verdict.TheVariants as verdicts
+use Rattle.ot_sections.specs.Certificates.{IsCertificate}
 use Rattle.ot_judge.specs.Refusals.{IsJudgement}
-use Rattle.ot_judge.specs.Verdicts.{AreAsked, ObQuestions, IsDecidedAs, IsVerdict, IsWithin, count_in, failing_in}
+use Rattle.ot_decide.specs.Verdicts.{AreAsked, ObQuestions, IsDecidedAs, IsVerdict, IsWithin, count_in, failing_in}
 use Rattle.ot_counter.specs.declared.counter.Counter.{Counter}
 use Rattle.ot_counter.specs.Counters.{Breaks, BreaksBy, IsCounter, level_of}
 use Rattle.ask_core.specs.Leading.{LeadTo}
@@ -80,7 +80,7 @@ module _ (told : Option (List ℕ)) (bytes : List ℕ) (f : Function) (is_told :
 
 -- a certificate within the limit is accepted
 module _ (one_judgement :
-    (f : Function) (bytes : List ℕ) (one other : Result Level JudgeEnd) → IsTrue (is_valid f) → IsJudgement f bytes one
+    (f : Function) (bytes : List ℕ) (one other : Result Level JudgeError) → IsTrue (is_valid f) → IsJudgement f bytes one
     → IsJudgement f bytes other → one ≡ other)
     (f : Function) (valid : IsTrue (is_valid f)) (certificate : List ℕ) (level : Level) (is_one : IsCertificate certificate f level)
     (within : length certificate ≤ limit_of files.Certificate) where
@@ -92,14 +92,14 @@ module _ (one_judgement :
 
   accepted_file : (told : Option (List ℕ)) (r : Reply) → told ≡ Some certificate → IsReplyToCertificate f told r → r ≡ Accepted level
   accepted_file told r is (contents, known, reply) =
-      let judgement : Result Level JudgeEnd = reply.0 in
+      let judgement : Result Level JudgeError = reply.0 in
       let front : take (limit_of files.Certificate) contents ≡ certificate =
       ap (λ (l : List ℕ). take (limit_of files.Certificate) l) (known certificate is)
       ∙ take_all (limit_of files.Certificate) certificate within in
       let whole : IsJudgement f certificate judgement = subst (λ (b : List ℕ). IsJudgement f b judgement) front reply.1 in
       let same : judgement ≡ Ok level = one_judgement f certificate judgement (Ok level) valid whole is_one in
       accepted_behind told contents r is
-      (subst (λ (j : Result Level JudgeEnd). IsReplyToJudgement told contents j r) same reply.2)
+      (subst (λ (j : Result Level JudgeError). IsReplyToJudgement told contents j r) same reply.2)
 
   accepted_at :
       (bytes : List ℕ) → length bytes ≤ limit_of files.Function → function_in bytes ≡ Ok f → IsAcceptedAt bytes certificate level
@@ -125,7 +125,7 @@ module _ (is_text : (bytes : List ℕ) (f : Function) → function_in bytes ≡ 
     (is_within_limits : (bytes : List ℕ) (f : Function) → IsTextOf bytes f → IsTrue (is_valid f)) where
   pub proved :
       ((bytes : List ℕ) (f : Function) (level : Level) → IsCertificate bytes f level → HasLevel f level)
-      → ((f : Function) (bytes : List ℕ) (one other : Result Level JudgeEnd) → IsTrue (is_valid f) → IsJudgement f bytes one
+      → ((f : Function) (bytes : List ℕ) (one other : Result Level JudgeError) → IsTrue (is_valid f) → IsJudgement f bytes one
       → IsJudgement f bytes other → one ≡ other)
       → (words : List (List ℕ)) (holds : List ℕ → Option (List ℕ)) (r : Reply) (IsWritten : List ℕ → Type 0) → 0 ≡ status_of r
       → IsReply words holds r → IsWritten (text_of r) → IsProved words holds IsWritten

@@ -7,8 +7,8 @@ use Rattle.ot_outside.specs.declared.shelf.Shelf.{Ghosts}
 use Rattle.ot_outside.specs.declared.shelf_feed.ShelfFeed.{ShelfFeed}
 use Rattle.ot_outside.specs.Reads.{Reads, after_reading}
 use Rattle.ot_outside.specs.ShelfFeed.{IsAllOfReads, KeepsShelf, feed_left, gave_by, hand_of, room_of, shelf_of, unread_of}
-use Rattle.ot_judge.specs.declared.refusal.JudgeEnd.{JudgeEnd}
-use Rattle.ot_judge.specs.Feeding.{IsSpent, MayGiveOf, MayHave, Whole}
+use Rattle.ot_sections.specs.declared.refusal.JudgeError.{JudgeError}
+use Rattle.ot_sections.specs.Feeding.{IsSpent, MayGiveOf, MayHave, Whole}
 use Rattle.ot_judge.specs.Refusals.{IsJudgement, IsWant}
 use Rattle.ot_replies.specs.declared.reply.FileKind.TheVariants as files
 use Rattle.ot_replies.specs.declared.reply.Reply.{Reply}
@@ -30,7 +30,7 @@ none_unread new last (suc n) is same none empty =
     ap unread_of (same (omega (arith, is)))
     ∙ nothing_taken n (unread_of new) (ap (λ m. take m (unread_of new)) (sym is) ∙ empty)
 
-module _ {S : Type 0} {shelf : Ghosts S} (f : Function) (old new : ShelfFeed S shelf) (judgement : Result Level JudgeEnd)
+module _ {S : Type 0} {shelf : Ghosts S} (f : Function) (old new : ShelfFeed S shelf) (judgement : Result Level JudgeError)
     (whole : room_of old ≡ limit_of files.Certificate) (begins : gave_by old ≡ []) (all : IsAllOfReads old) (kept : KeepsShelf old new)
     (judged : IsWant judgement ⊎ ((all : Whole) → MayHave feed_left room_of gave_by hand_of new all
     → (bytes : List ℕ) × MayGiveOf feed_left room_of gave_by old all bytes × IsJudgement f bytes judgement)) where
@@ -123,7 +123,7 @@ module _ {S : Type 0} {shelf : Ghosts S} (f : Function) (old new : ShelfFeed S s
 
 -- a reply that is told
 pub reply_of :
-    {E : Type 0} (judgement : Result Level JudgeEnd) (P : Reply → Type 0) (answer : Result Reply E) → IfOk answer (λ r. Tells judgement r)
+    {E : Type 0} (judgement : Result Level JudgeError) (P : Reply → Type 0) (answer : Result Reply E) → IfOk answer (λ r. Tells judgement r)
     → ((r : Reply) → Tells judgement r → P r) → IfOk answer P
 reply_of judgement P (Ok r) tells gets = gets r tells
 reply_of judgement P (Err e) tells gets = tt

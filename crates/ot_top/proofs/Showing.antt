@@ -10,9 +10,9 @@ use Rattle.fn_rules.specs.Orders.{HasOneOutcome}
 use Rattle.fn_rules.specs.Properties.{HasTp1, HasTp2}
 use Rattle.fn_text.specs.Grammar.{IsTextOf}
 use Rattle.fn_text.specs.Reading.{function_in}
-use Rattle.ot_judge.specs.declared.refusal.JudgeEnd.{JudgeEnd}
-use Rattle.ot_judge.specs.declared.refusal.JudgeEnd.TheVariants as judge
-use Rattle.ot_judge.specs.Certificates.{IsCertificate}
+use Rattle.ot_sections.specs.declared.refusal.JudgeError.{JudgeError}
+use Rattle.ot_sections.specs.declared.refusal.JudgeError.TheVariants as judge
+use Rattle.ot_sections.specs.Certificates.{IsCertificate}
 use Rattle.ot_judge.specs.Refusals.{IsJudgement}
 use Rattle.ot_replies.specs.declared.reply.FileKind.{FileKind}
 use Rattle.ot_replies.specs.declared.reply.FileKind.TheVariants as files
@@ -40,7 +40,7 @@ module _ (r : Reply) (is_zero : 0 ≡ status_of r) where
 
   -- status 0 of a judgement's reply is that of an accepted certificate, all of whose bytes were judged
   accepted_bytes :
-      (f : Function) (contents : List ℕ) (judgement : Result Level JudgeEnd)
+      (f : Function) (contents : List ℕ) (judgement : Result Level JudgeError)
       → IsJudgement f (take (limit_of files.Certificate) contents) judgement
       → (IsTrue (rests_on_the_end judgement) → length contents ≤ limit_of files.Certificate) → Tells judgement r
       → (level : Level) × IsCertificate contents f level × (r ≡ Accepted level)

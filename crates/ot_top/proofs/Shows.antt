@@ -9,8 +9,8 @@ use Rattle.fn_text.specs.Reading.{function_in}
 use Rattle.ask_core.specs.Plans.{Plan}
 use Rattle.ask_core.specs.Questions.{Questions, QuestionList}
 use Rattle.ot_questions.specs.declared.why.Why.{Why}
-use Rattle.ot_judge.specs.declared.refusal.JudgeEnd.{JudgeEnd}
-use Rattle.ot_judge.specs.Certificates.{IsCertificate}
+use Rattle.ot_sections.specs.declared.refusal.JudgeError.{JudgeError}
+use Rattle.ot_sections.specs.Certificates.{IsCertificate}
 use Rattle.ot_judge.specs.Refusals.{IsJudgement}
 use Rattle.ot_outside.specs.Reads.{Reads}
 use Rattle.ot_replies.specs.declared.reply.Reply.{Reply}
@@ -47,9 +47,9 @@ module _ (words : List (List ℕ)) (holds : List ℕ → Option (List ℕ)) (IsW
     (is_text : (bytes : List ℕ) (f : Function) → function_in bytes ≡ Ok f → IsTextOf bytes f)
     (is_within_limits : (bytes : List ℕ) (f : Function) → IsTextOf bytes f → IsTrue (is_valid f))
     (is_read : (bytes : List ℕ) (f : Function) → IsTextOf bytes f → function_in bytes ≡ Ok f)
-    (some_judgement : (f : Function) (bytes : List ℕ) → (judgement : Result Level JudgeEnd) × IsJudgement f bytes judgement)
+    (some_judgement : (f : Function) (bytes : List ℕ) → (judgement : Result Level JudgeError) × IsJudgement f bytes judgement)
     (one_judgement :
-    (f : Function) (bytes : List ℕ) (one other : Result Level JudgeEnd) → IsTrue (is_valid f) → IsJudgement f bytes one
+    (f : Function) (bytes : List ℕ) (one other : Result Level JudgeError) → IsTrue (is_valid f) → IsJudgement f bytes one
     → IsJudgement f bytes other → one ≡ other)
     (one_list : (p : Plan Why) (w : List Lit) (q r : Questions Why) → QuestionList p w q → QuestionList p w r → q ≡ r)
     (is_broken : (r : Reply) → 1 ≡ status_of r → IsReply words holds r → IsWritten (text_of r) → IsBroken words holds IsWritten) where

@@ -10,8 +10,8 @@ use Rattle.fn_text.specs.Grammar.{IsTextOf}
 use Rattle.fn_text.specs.Reading.{function_in}
 use Rattle.case_json.specs.declared.fault.CaseFault.{CaseFault}
 use Rattle.case_json.specs.declared.fault.CaseFault.TheVariants as faults
-use Rattle.ot_judge.specs.declared.refusal.JudgeEnd.{JudgeEnd}
-use Rattle.ot_judge.specs.declared.refusal.JudgeEnd.TheVariants as judge
+use Rattle.ot_sections.specs.declared.refusal.JudgeError.{JudgeError}
+use Rattle.ot_sections.specs.declared.refusal.JudgeError.TheVariants as judge
 use Rattle.ot_judge.specs.Refusals.{IsJudgement}
 use Rattle.ot_replies.specs.declared.reply.Drilled.{Drilled}
 use Rattle.ot_replies.specs.declared.reply.FileKind.TheVariants as files
@@ -133,7 +133,7 @@ gone_through words holds status IsWritten (r, reply, steady, is, written) number
         inr (is ∙ ap (λ x. status_of x) same ∙ both.1, (d, done.1.1, both.0, subst IsWritten (ap (λ x. text_of x) same) written))
 
 -- the status of a judgement that is told
-judgement_status : (judgement : Result Level JudgeEnd) (r : Reply) → Tells judgement r → status_of r ≡ (if is_ok judgement then 0 else 2)
+judgement_status : (judgement : Result Level JudgeError) (r : Reply) → Tells judgement r → status_of r ≡ (if is_ok judgement then 0 else 2)
 judgement_status (Ok level) r tells = ap (λ x. status_of x) tells
 judgement_status (Err (judge.Refused offset why)) r tells = ap (λ x. status_of x) tells
 judgement_status (Err judge.Failed) r tells = absurd tells
@@ -141,11 +141,11 @@ judgement_status (Err judge.NoMemory) r tells = absurd tells
 
 module _ (texts_are_read : (bytes : List ℕ) (f : Function) → IsTextOf bytes f → function_in bytes ≡ Ok f)
     (one_judgement :
-    (f : Function) (bytes : List ℕ) (one other : Result Level JudgeEnd) → IsTrue (is_valid f) → IsJudgement f bytes one
+    (f : Function) (bytes : List ℕ) (one other : Result Level JudgeError) → IsTrue (is_valid f) → IsJudgement f bytes one
     → IsJudgement f bytes other → one ≡ other)
     (is_valid_text : (bytes : List ℕ) (f : Function) → IsTextOf bytes f → IsTrue (is_valid f)) where
   file_judged :
-      (f : Function) (told : Option (List ℕ)) (certificate : List ℕ) (judgement : Result Level JudgeEnd) (r : Reply)
+      (f : Function) (told : Option (List ℕ)) (certificate : List ℕ) (judgement : Result Level JudgeError) (r : Reply)
       → IsTrue (is_valid f) → told ≡ Some certificate → length certificate ≤ limit_of files.Certificate
       → IsJudgement f certificate judgement → IsReplyToCertificate f told r → status_of r ≡ (if is_ok judgement then 0 else 2)
   file_judged f told certificate judgement r valid is within judged (contents, known, (found, of_front, reply)) =
@@ -158,10 +158,10 @@ module _ (texts_are_read : (bytes : List ℕ) (f : Function) → IsTextOf bytes 
     where
       by_reply : found ≡ judgement → IsReplyToJudgement told contents found r → status_of r ≡ (if is_ok judgement then 0 else 2)
       by_reply same (inl longer) = absurd (let more = longer.1.0 certificate is in omega (arith, more, within))
-      by_reply same (inr h) = judgement_status found r h.1 ∙ ap (λ (j : Result Level JudgeEnd). if is_ok j then 0 else 2) same
+      by_reply same (inr h) = judgement_status found r h.1 ∙ ap (λ (j : Result Level JudgeError). if is_ok j then 0 else 2) same
 
   pub judged :
-      ((f : Function) (bytes : List ℕ) → (judgement : Result Level JudgeEnd) × IsJudgement f bytes judgement)
+      ((f : Function) (bytes : List ℕ) → (judgement : Result Level JudgeError) × IsJudgement f bytes judgement)
       → (words : List (List ℕ)) (holds : List ℕ → Option (List ℕ)) (status : ℕ) (IsWritten : List ℕ → Type 0)
       → IsAnswered words holds status IsWritten → IsJudgedAs words holds status
   judged some_judgement words holds status IsWritten (r, reply, steady, is, written) name certificate_name bytes certificate f named told

@@ -14,10 +14,10 @@ use Rattle.case_json.specs.declared.script.Script.{Script}
 use Rattle.case_json.specs.declared.trial.Trial.{Trial}
 use Rattle.case_json.specs.Cases.{trial_in}
 use Rattle.case_json.specs.Scripts.{script_in}
-use Rattle.ot_judge.specs.declared.refusal.JudgeEnd.{JudgeEnd}
-use Rattle.ot_judge.specs.declared.refusal.JudgeEnd.TheVariants as judge
-use Rattle.ot_judge.specs.declared.verdict.Verdict.{Verdict}
-use Rattle.ot_judge.specs.declared.verdict.Verdict.TheVariants as verdicts
+use Rattle.ot_sections.specs.declared.refusal.JudgeError.{JudgeError}
+use Rattle.ot_sections.specs.declared.refusal.JudgeError.TheVariants as judge
+use Rattle.ot_decide.specs.declared.verdict.Verdict.{Verdict}
+use Rattle.ot_decide.specs.declared.verdict.Verdict.TheVariants as verdicts
 use Rattle.ot_session.specs.declared.answer.Make.{Make as NotMade}
 use Rattle.ot_session.specs.declared.answer.Make.TheVariants as makes
 use Rattle.ot_session.specs.declared.answer.Take.{Take as NotTaken}
@@ -60,13 +60,13 @@ verdict_other f (verdicts.Yes bytes) r tells = named_so r (replies.Proved bytes.
 verdict_other f (verdicts.No ob answers why) r tells = named_so r (replies.Broken tells.0) 1 tells.2 refl (λ e. omega (arith, e))
 verdict_other f verdicts.Spent r tells = named_so r replies.Spent 8 tells refl (λ e. omega (arith, e))
 
-judgement_other : (judgement : Result Level JudgeEnd) (r : Reply) → Tells judgement r → status_of r ≢ 3
+judgement_other : (judgement : Result Level JudgeError) (r : Reply) → Tells judgement r → status_of r ≢ 3
 judgement_other (Ok level) r tells = named_so r (replies.Accepted level) 0 tells refl (λ e. omega (arith, e))
 judgement_other (Err (judge.Refused offset why)) r tells = named_so r (replies.Refused offset why) 2 tells refl (λ e. omega (arith, e))
 judgement_other (Err judge.Failed) r tells = absurd tells
 judgement_other (Err judge.NoMemory) r tells = absurd tells
 
-certificate_other : (told : Option (List ℕ)) (contents : List ℕ) (judgement : Result Level JudgeEnd) (r : Reply)
+certificate_other : (told : Option (List ℕ)) (contents : List ℕ) (judgement : Result Level JudgeError) (r : Reply)
     → IsReplyToJudgement told contents judgement r → status_of r ≢ 3
 certificate_other told contents judgement r (inl longer) =
     named_so r (replies.TooLong files.Certificate) 9 longer.1.1 refl (λ e. omega (arith, e))

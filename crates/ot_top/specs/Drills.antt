@@ -4,7 +4,7 @@ use Rattle.fn_rules.specs.declared.function.Level.TheVariants.{Tp2}
 use Rattle.fn_rules.specs.Obligations.{obligations_of}
 use Rattle.ot_questions.specs.declared.why.Why.{Why}
 use Rattle.ot_questions.specs.Obligation.{plan_of}
-use Rattle.ot_judge.specs.Verdicts.{ObQuestions, AreAsked, count_in}
+use Rattle.ot_decide.specs.Verdicts.{ObQuestions, AreAsked, count_in}
 use Rattle.ot_session.specs.Views.{View, data_in, IsBegun}
 use Rattle.ot_drill.specs.declared.limits.TheConstants.{SITES}
 use Rattle.ot_drill.specs.Events.{drill_events}

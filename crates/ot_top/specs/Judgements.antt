@@ -3,10 +3,10 @@ use Rattle.std.specs.Prelude.{◌≡◌, ℕ, ◌≤◌, ◌⊎◌, Bool, true, 
 use Rattle.std.specs.Option.{ForSome}
 use Rattle.fn_rules.specs.declared.function.Level.{Level}
 use Rattle.fn_rules.specs.Functions.{Function}
-use Rattle.ot_judge.specs.declared.refusal.JudgeEnd.{JudgeEnd}
-use Rattle.ot_judge.specs.declared.refusal.JudgeEnd.TheVariants as judge
-use Rattle.ot_judge.specs.declared.refusal.Refusal.{Refusal}
-use Rattle.ot_judge.specs.declared.refusal.Refusal.TheVariants as why
+use Rattle.ot_sections.specs.declared.refusal.JudgeError.{JudgeError}
+use Rattle.ot_sections.specs.declared.refusal.JudgeError.TheVariants as judge
+use Rattle.ot_sections.specs.declared.refusal.Refusal.{Refusal}
+use Rattle.ot_sections.specs.declared.refusal.Refusal.TheVariants as why
 use Rattle.ot_judge.specs.Refusals.{IsJudgement}
 use Rattle.ot_replies.specs.declared.reply.FileKind.TheVariants as files
 use Rattle.ot_replies.specs.declared.reply.Reply.{Reply}
@@ -18,14 +18,14 @@ is_truncated why.Truncated = true
 is_truncated other = false
 
 -- bytes behind those that were judged could change the judgement: they are accepted, or they end too early
-abbrev pub rests_on_the_end : Result Level JudgeEnd → Bool
+abbrev pub rests_on_the_end : Result Level JudgeError → Bool
 rests_on_the_end (Ok level) = true
 rests_on_the_end (Err (judge.Refused offset why)) = is_truncated why
 rests_on_the_end (Err judge.Failed) = false
 rests_on_the_end (Err judge.NoMemory) = false
 
 -- the reply tells the judgement
-abbrev pub Tells : Result Level JudgeEnd → Reply → Type 0
+abbrev pub Tells : Result Level JudgeError → Reply → Type 0
 Tells (Ok level) r = r ≡ Accepted level
 Tells (Err (judge.Refused offset why)) r = r ≡ Refused offset why
 Tells (Err judge.Failed) r = ⊥
@@ -36,7 +36,7 @@ Tells (Err judge.NoMemory) r = ⊥
 
 -- the reply to a judgement of the contents within the limit: the limit, where the file goes on behind it and that could
 -- change the judgement, and otherwise the judgement
-abbrev pub IsReplyToJudgement : Option (List ℕ) → List ℕ → Result Level JudgeEnd → Reply → Type 0
+abbrev pub IsReplyToJudgement : Option (List ℕ) → List ℕ → Result Level JudgeError → Reply → Type 0
 IsReplyToJudgement told contents judgement r =
     (IsTrue (rests_on_the_end judgement) × IsTooLong files.Certificate told r)
     ⊎ ((IsTrue (rests_on_the_end judgement) → length contents ≤ limit_of files.Certificate) × Tells judgement r)
@@ -44,7 +44,7 @@ IsReplyToJudgement told contents judgement r =
 -- the reply to contents
 abbrev pub IsReplyToContents : Function → Option (List ℕ) → List ℕ → Reply → Type 0
 IsReplyToContents f told contents r =
-    (judgement : Result Level JudgeEnd)
+    (judgement : Result Level JudgeError)
     × IsJudgement f (take (limit_of files.Certificate) contents) judgement
     × IsReplyToJudgement told contents judgement r
 

@@ -13,10 +13,10 @@ use Rattle.fn_text.specs.Grammar.{IsTextOf}
 use Rattle.ot_questions.specs.declared.why.Why.{Why}
 use Rattle.ot_questions.specs.Instances.{form_behind}
 use Rattle.ot_questions.specs.Obligation.{plan_of}
-use Rattle.ot_judge.specs.declared.refusal.JudgeEnd.{JudgeEnd}
-use Rattle.ot_judge.specs.Certificates.{IsCertificate}
+use Rattle.ot_sections.specs.declared.refusal.JudgeError.{JudgeError}
+use Rattle.ot_sections.specs.Certificates.{IsCertificate}
 use Rattle.ot_judge.specs.Refusals.{IsJudgement}
-use Rattle.ot_judge.specs.Verdicts.{ObQuestions, AreAsked, count_in, failing_in}
+use Rattle.ot_decide.specs.Verdicts.{ObQuestions, AreAsked, count_in, failing_in}
 use Rattle.ot_counter.specs.declared.counter.Counter.{Counter}
 use Rattle.ot_counter.specs.declared.counter.Side.{Side}
 use Rattle.ot_counter.specs.Counters.{Breaks, BreaksBy}
@@ -122,7 +122,7 @@ IsJudgedAs words holds status =
     → asked_by words ≡ Some (Check name certificate_name) → holds name ≡ Some bytes → holds certificate_name ≡ Some certificate
     → length bytes ≤ limit_of files.Function → IsTextOf bytes f
     → length certificate ≤ limit_of files.Certificate
-    → (judgement : Result Level JudgeEnd) × IsJudgement f certificate judgement × (status ≡ (if is_ok judgement then 0 else 2))
+    → (judgement : Result Level JudgeError) × IsJudgement f certificate judgement × (status ≡ (if is_ok judgement then 0 else 2))
 
 -- the name of the function's file, which every command but one has
 abbrev pub function_name : Asked → Option (List ℕ)

@@ -3,9 +3,9 @@ use Rattle.std.specs.Prelude.{◌≡◌, ℕ, ◌≤◌}
 use Rattle.fn_rules.specs.declared.function.Level.{Level}
 use Rattle.fn_rules.specs.Functions.{Function}
 use Rattle.ot_prove.specs.Outcomes.{answered_by}
-use Rattle.ot_judge.specs.declared.verdict.Verdict.{Verdict}
-use Rattle.ot_judge.specs.declared.verdict.Verdict.TheVariants as verdicts
-use Rattle.ot_judge.specs.Verdicts.{IsDecidedAs, IsWithin}
+use Rattle.ot_decide.specs.declared.verdict.Verdict.{Verdict}
+use Rattle.ot_decide.specs.declared.verdict.Verdict.TheVariants as verdicts
+use Rattle.ot_decide.specs.Verdicts.{IsDecidedAs, IsWithin}
 use Rattle.ot_counter.specs.declared.counter.Counter.{Counter}
 use Rattle.ot_counter.specs.Counters.{IsCounter}
 use Rattle.ot_replies.specs.declared.reply.FileKind.TheVariants as files

@@ -1,7 +1,7 @@
 //! `check FUNCTION CERTIFICATE`: whether the certificate is one of the function.
 ghost use Rattle.std.specs.Prelude.{◌≡◌, [], Some, Err, IfOk, IsErrOf};
 ghost use Rattle.fn_rules.specs.Rules.{function_of};
-ghost use Rattle.ot_judge.specs.declared.refusal.JudgeEnd.TheVariants as judge;
+ghost use Rattle.ot_sections.specs.declared.refusal.JudgeError.TheVariants as judge;
 ghost use Rattle.ot_outside.specs.Faults.{Rose};
 ghost use Rattle.ot_outside.specs.Reads.{IsSameReading, after_reading};
 ghost use Rattle.ot_outside.specs.ShelfFeed.{IsAllOfReads, file_left, gave_by, held_by, room_of, shelf_of};
@@ -15,7 +15,7 @@ ghost use Rattle.ot_replies.specs.declared.reply.FileKind.TheVariants as files;
 
 use crate::load::{Stop, limit, load_function};
 use fn_rules::{Level, Rules};
-use ot_judge::{JudgeEnd, Refusal, check_all};
+use ot_judge::{JudgeError, Refusal, check_all};
 use ot_outside::{Shelf, ShelfFeed};
 use ot_replies::{FileKind, Reply};
 use std::alloc::Global;
@@ -30,27 +30,27 @@ fn is_truncated(why: Refusal) -> bool
 }
 
 // Whether bytes behind those that were judged could change the judgement.
-fn rests_on_the_end(judgement: &Result<Level, JudgeEnd>) -> bool
+fn rests_on_the_end(judgement: &Result<Level, JudgeError>) -> bool
     ensures { result ≡ rests_on_the_end judgement.now }
 {
     match judgement {
         Ok(_) => true,
-        Err(JudgeEnd::Refused { why, .. }) => is_truncated(*why),
-        Err(JudgeEnd::Failed | JudgeEnd::NoMemory) => false,
+        Err(JudgeError::Refused { why, .. }) => is_truncated(*why),
+        Err(JudgeError::Failed | JudgeError::NoMemory) => false,
     }
 }
 
 // The reply that tells a judgement.
-fn told(judgement: Result<Level, JudgeEnd>) -> Result<Reply, Stop>
+fn told(judgement: Result<Level, JudgeError>) -> Result<Reply, Stop>
     ensures ok { IfOk result (λ reply. Tells judgement reply) }
     ensures replied { (r : Reply) → result ≡ Err (Stop.Replied r) → ⊥ }
     ensures shelf { IsErrOf result Stop.Shelf → judgement ≡ Err judge.Failed }
 {
     match judgement {
         Ok(level) => Ok(Reply::Accepted(level)),
-        Err(JudgeEnd::Refused { offset, why }) => Ok(Reply::Refused { offset, why }),
-        Err(JudgeEnd::Failed) => Err(Stop::Shelf),
-        Err(JudgeEnd::NoMemory) => Err(Stop::NoMemory),
+        Err(JudgeError::Refused { offset, why }) => Ok(Reply::Refused { offset, why }),
+        Err(JudgeError::Failed) => Err(Stop::Shelf),
+        Err(JudgeError::NoMemory) => Err(Stop::NoMemory),
     }
 }
 

@@ -2,7 +2,7 @@
 ghost use Rattle.std.specs.Prelude.{◌≡◌, ◌≢◌, ◌≤◌, ◌<◌, ◌^◌, IfOk, length, None};
 ghost use Rattle.fn_rules.specs.Rules.{function_of};
 ghost use Rattle.ot_drill.specs.Workload.{drill_function};
-ghost use Rattle.ot_judge.specs.Certificates.{IsCertificate};
+ghost use Rattle.ot_sections.specs.Certificates.{IsCertificate};
 ghost use Rattle.ot_top.specs.Drills.{IsDrilled, IsReplyToDrill};
 ghost use Rattle.ot_replies.specs.Texts.{status_of};
 
@@ -14,7 +14,7 @@ use ot_counter::failing_ends_have_counterexamples;
 use ot_drill::{
     MOST_ROUNDS, SITES, count_cases, drill_functions_have_both_properties, play, rules,
 };
-use ot_judge::{JudgeEnd, check_all};
+use ot_judge::{JudgeError, check_all};
 use ot_model::NoMemory;
 use ot_outside::SliceFeed;
 use ot_replies::{Drilled, Reply};
@@ -41,9 +41,9 @@ fn accepted(alloc: Global, rules: &Rules, certificate: &[u8]) -> Result<Level, N
 {
     match check_all(alloc, rules, &mut SliceFeed::new(certificate)) {
         Ok(level) => Ok(level),
-        Err(JudgeEnd::NoMemory) => Err(NoMemory),
-        Err(JudgeEnd::Failed) => unreachable!(),
-        Err(JudgeEnd::Refused { .. }) => unreachable!(),
+        Err(JudgeError::NoMemory) => Err(NoMemory),
+        Err(JudgeError::Failed) => unreachable!(),
+        Err(JudgeError::Refused { .. }) => unreachable!(),
     }
 }
 

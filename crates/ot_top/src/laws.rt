@@ -8,7 +8,8 @@ ghost use Rattle.ot_top.specs.Sessions.{IsReplyToSession};
 ghost use Rattle.ot_replies.specs.Texts.{status_of};
 
 use fn_text::what_is_read_is_in_the_grammar;
-use ot_judge::{bytes_have_one_judgement, obligations_have_one_question_list};
+use ot_decide::obligations_have_one_question_list;
+use ot_judge::bytes_have_one_judgement;
 use ot_replies::Reply;
 use ot_session::{makes_have_one_outcome, sessions_begin_as_one, takes_have_one_answer};
 

@@ -16,9 +16,9 @@ use crate::answer::answer;
 use crate::load::Stop;
 use fn_text::{texts_of_functions_are_read, what_is_read_is_in_the_grammar};
 use ot_counter::failing_ends_have_counterexamples;
+use ot_decide::failing_triples_show_tp1;
 use ot_judge::{
     all_bytes_have_a_judgement, bytes_have_one_judgement, certificates_show_the_properties,
-    failing_triples_show_tp1,
 };
 use ot_outside::{Shelf, Sink, write_all};
 use ot_prove::plans_have_one_question_list;

@@ -18,7 +18,7 @@ use crate::load::{Stop, load_function};
 use diff_graph::{Lit, answered};
 use fn_rules::{Level, ObName, Rules};
 use ot_counter::{Counter, build};
-use ot_judge::{Verdict, prove_all};
+use ot_decide::{Verdict, prove_all};
 use ot_model::NoMemory;
 use ot_outside::Shelf;
 use ot_prove::Answer;

@@ -1,14 +1,12 @@
 -- Some bytes that the feed may give have the judgement, and no other answer has it.
 use Rattle.fn_rules.specs.Rules.{function_of}
-use Rattle.ot_judge.proofs.Coming.{some_all}
 use Rattle.ot_judge.proofs.WholeRun.{judged_some, no_other}
 use Rattle.ot_judge.proofs.check.check_all.Goals as goal
 
 pub returns-clause-judged : goal.returns-clause-judged
 returns-clause-judged g c =
     judged_some g.F.Feed.left g.F.Feed.bound g.F.Feed.gave g.F.Feed.hand (function_of c.args.rules.now) c.args.feed.now
-    c.judge_all.new.feed c.judge_all.result
-    (some_all g.F.Feed.left g.F.Feed.bound g.F.Feed.gave g.F.Feed.hand c.judge_all.new.feed) c.judge_all.ensures.judged
+    c.judge_all.new.feed c.judge_all.result (c.feeds_have_bytes.ensures c.judge_all.new.feed) c.judge_all.ensures.judged
 
 pub returns-clause-only : goal.returns-clause-only
 returns-clause-only g c =

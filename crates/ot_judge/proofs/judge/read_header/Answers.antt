@@ -1,9 +1,9 @@
-use Rattle.cert_text.specs.declared.item.Part.TheVariants as part
-use Rattle.ot_judge.specs.Feeding.{MayGiveOf, place_of}
-use Rattle.ot_judge.proofs.Coming.{taken_as}
+use Rattle.std.proofs.Common.{◌≡◌}
+use Rattle.ot_sections.specs.Feeding.{fed}
+use Rattle.ot_judge.proofs.WholeRun.{came_header}
 use Rattle.ot_judge.proofs.judge.read_header.Goals as goal
 
-pub returns-clause-bytes : goal.returns-clause-bytes
-returns-clause-bytes g c =
-    taken_as (place_of c.args.reader.now) c.in_ok-part.field-0.part (part.Header c.in-Header.level) (MayGiveOf g.F.Feed.left g.F.Feed.bound g.F.Feed.gave c.args.feed.now)
-    (MayGiveOf g.F.Feed.left g.F.Feed.bound g.F.Feed.gave c.expect_part.new.feed) (cc) c.in_ok-part.ensures.bytes
+pub returns-clause-header : goal.returns-clause-header
+returns-clause-header g c =
+    came_header g.F.Feed (fed c.args.reader.now c.args.feed.now) (fed c.expect_part.new.reader c.expect_part.new.feed) _ c.in-Header.level (cc)
+    c.in_ok-part.ensures.came

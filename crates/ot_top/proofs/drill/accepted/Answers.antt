@@ -2,7 +2,7 @@
 use Rattle.std.proofs.Common.{◌≡◌, ◌≤◌, ◌⊎◌, Result, Ok, Err, subst, arith}
 use Rattle.fn_rules.specs.declared.function.Level.{Level}
 use Rattle.fn_rules.specs.declared.function.Level.TheVariants.{Tp2}
-use Rattle.ot_judge.specs.declared.refusal.JudgeEnd.{JudgeEnd}
+use Rattle.ot_sections.specs.declared.refusal.JudgeError.{JudgeError}
 use Rattle.ot_judge.specs.Refusals.{IsWant}
 use Rattle.ot_top.proofs.Drilling.{level_is, never_refused}
 use Rattle.ot_top.proofs.drill.accepted.Goals as goal
@@ -10,7 +10,7 @@ use Rattle.ot_top.proofs.drill.accepted.Goals as goal
 pub returns-in-Ok : goal.returns-in-Ok
 returns-in-Ok c =
     level_is c.in-Ok.level
-    (subst (λ (r : Result Level JudgeEnd). IsWant r ⊎ (r ≡ Ok Tp2)) c.in-Ok.is
+    (subst (λ (r : Result Level JudgeError). IsWant r ⊎ (r ≡ Ok Tp2)) c.in-Ok.is
     (c.check_all.ensures.only c.args.certificate.now (Ok Tp2) c.new.ensures.left c.requires.certificate))
 
 pub unreachable-requires : goal.unreachable-requires
@@ -21,6 +21,6 @@ unreachable-requires c =
 pub unreachable-requires-in-Err-Refused : goal.unreachable-requires-in-Err-Refused
 unreachable-requires-in-Err-Refused c =
     never_refused _ _
-    (subst (λ (e : JudgeEnd). IsWant (Err e) ⊎ (◌≡◌ {A = Result Level JudgeEnd} (Err e) (Ok Tp2))) c.in-Err-Refused.field-0-is
-    (subst (λ (r : Result Level JudgeEnd). IsWant r ⊎ (r ≡ Ok Tp2)) c.in-Err-Refused.is
+    (subst (λ (e : JudgeError). IsWant (Err e) ⊎ (◌≡◌ {A = Result Level JudgeError} (Err e) (Ok Tp2))) c.in-Err-Refused.field-0-is
+    (subst (λ (r : Result Level JudgeError). IsWant r ⊎ (r ≡ Ok Tp2)) c.in-Err-Refused.is
     (c.check_all.ensures.only c.args.certificate.now (Ok Tp2) c.new.ensures.left c.requires.certificate)))

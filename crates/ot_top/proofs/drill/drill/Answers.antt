@@ -4,7 +4,7 @@ use Rattle.fn_rules.specs.declared.function.Level.TheVariants.{Tp2}
 use Rattle.fn_rules.specs.Functions.{Function}
 use Rattle.fn_rules.specs.Rules.{function_of}
 use Rattle.ot_drill.specs.Workload.{drill_function}
-use Rattle.ot_judge.specs.Certificates.{IsCertificate}
+use Rattle.ot_sections.specs.Certificates.{IsCertificate}
 use Rattle.ot_replies.specs.declared.reply.Reply.{Reply}
 use Rattle.ot_replies.specs.declared.reply.Reply.TheVariants.{Proved}
 use Rattle.ot_replies.specs.Texts.{status_of}

@@ -1,0 +1,10 @@
+mod Bounded
+mod Bounds
+mod FirstTriples
+mod Leaves
+mod Lines
+mod Listed
+mod Lists
+mod Settled
+mod Spelled
+mod VerdictExamples

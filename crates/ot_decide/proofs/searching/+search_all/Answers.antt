@@ -1,0 +1,93 @@
+-- One obligation, and then those behind it.
+use Rattle.std.proofs.Common.{◌-◌, List, ◌∷◌, rules, subst, sym}
+use Rattle.std.proofs.lemmas.Result.{IfOk-weaker}
+use Rattle.fn_rules.specs.declared.function.ObName.{ObName}
+use Rattle.fn_rules.specs.Obligations.{is_obligation}
+use Rattle.fn_rules.specs.Rules.{function_of}
+use Rattle.ot_prove.specs.declared.outcome.Outcome.{Outcome}
+use Rattle.ot_prove.specs.Outcomes.{IsDecided}
+use Rattle.ot_questions.specs.declared.why.Why.{Why}
+use Rattle.ot_questions.specs.Obligation.{plan_below}
+use Rattle.ot_decide.specs.declared.verdict.Search.TheVariants as search
+use Rattle.ot_decide.specs.Proving.{AreSettled}
+use Rattle.ot_decide.proofs.Listed.{all_split}
+use Rattle.ot_decide.proofs.Settled.{searched_spellable, settled_behind, settled_refuted, settled_spent}
+use Rattle.ot_decide.proofs.searching.+search_all.Goals as goal
+
+pub search_ob-requires : goal.search_ob-requires
+search_ob-requires t c = record {
+  listed =
+      (all_split (is_obligation (function_of c.args.rules.now).head) c.args.names.now c.in-Some.ob.now c.in-Some.others.now
+      c.in-Some.ensures.cases.0 c.requires.listed).0;
+  bounded = c.requires.bounded;
+}
+
+pub write_ob-requires-clause-spellable : goal.write_ob-requires-clause-spellable
+write_ob-requires-clause-spellable t c =
+    let f = function_of c.args.rules.now in
+    let plan = plan_below f c.args.below in
+    searched_spellable f.head plan c.in-Some.ob.now c.args.budget c.in-Yes.asked c.in-Yes.tree c.search_ob.ensures.short
+    (subst (λ (o : Outcome Why). IsDecided (plan c.in-Some.ob.now) c.args.budget o) c.in-Yes.is c.in_ok-tree.ensures.decides)
+
+pub search_all-requires : goal.search_all-requires
+search_all-requires t c = (
+  search rules,
+  (
+    (all_split (is_obligation (function_of c.args.rules.now).head) c.args.names.now c.in-Some.ob.now c.in-Some.others.now
+        c.in-Some.ensures.cases.0 c.requires.listed).1,
+    c.requires.bounded,
+  ),
+)
+
+pub returns-in_ok-write_ob-in-Yes : goal.returns-in_ok-write_ob-in-Yes
+returns-in_ok-write_ob-in-Yes t c =
+    let f = function_of c.args.rules.now in
+    let plan = plan_below f c.args.below in
+    let before = c.args.bytes.now.items in
+    let middle = c.write_ob.new.out.items in
+    let after = c.search_all.new.bytes.items in
+    let searched =
+    subst (λ (o : Outcome Why). IsDecided (plan c.in-Some.ob.now) c.args.budget o) c.in-Yes.is c.in_ok-tree.ensures.decides in
+    rw c.in-Some.ensures.cases.0
+    (record {
+      settled =
+          IfOk-weaker c.search_all.result
+          (AreSettled f.head plan c.in-Some.others.now (c.args.budget - c.in-Yes.asked) middle after)
+          (AreSettled f.head plan (c.in-Some.ob.now ∷ c.in-Some.others.now) c.args.budget before after)
+          (λ v. settled_behind f.head plan c.in-Some.ob.now c.in-Some.others.now c.args.budget c.in-Yes.asked c.in-Yes.tree
+          c.search_ob.ensures.short searched before middle after v c.in_ok-write_ob-in-Yes.ensures.ok)
+          c.search_all.ensures.settled;
+    })
+
+pub returns-in-No : goal.returns-in-No
+returns-in-No t c =
+    let f = function_of c.args.rules.now in
+    let plan = plan_below f c.args.below in
+    let listed =
+    (all_split (is_obligation f.head) c.args.names.now c.in-Some.ob.now c.in-Some.others.now
+    c.in-Some.ensures.cases.0 c.requires.listed).0 in
+    record {
+      settled =
+          subst
+          (λ (n : List ObName). AreSettled f.head plan n c.args.budget c.args.bytes.now.items c.args.bytes.now.items
+          (search.Fails c.in-Some.ob.now c.in-No.answers c.in-No.why))
+          (sym c.in-Some.ensures.cases.0)
+          (settled_refuted f.head plan c.in-Some.ob.now c.in-Some.others.now c.args.budget c.in-No.answers c.in-No.why
+          c.args.bytes.now.items c.args.bytes.now.items listed
+          (subst (λ (o : Outcome Why). IsDecided (plan c.in-Some.ob.now) c.args.budget o) c.in-No.is c.in_ok-tree.ensures.decides));
+    }
+
+pub returns-in-Spent : goal.returns-in-Spent
+returns-in-Spent t c =
+    let f = function_of c.args.rules.now in
+    let plan = plan_below f c.args.below in
+    record {
+      settled =
+          subst
+          (λ (n : List ObName). AreSettled f.head plan n c.args.budget c.args.bytes.now.items c.args.bytes.now.items search.Spent)
+          (sym c.in-Some.ensures.cases.0)
+          (settled_spent f.head plan c.in-Some.ob.now c.in-Some.others.now c.args.budget c.args.bytes.now.items c.args.bytes.now.items
+          (c.obligations_have_one_question_list.ensures.some_below f c.args.below c.in-Some.others.now c.head-head.ensures.valid
+          c.requires.bounded)
+          (subst (λ (o : Outcome Why). IsDecided (plan c.in-Some.ob.now) c.args.budget o) c.in-Spent.is c.in_ok-tree.ensures.decides));
+    }

@@ -1,0 +1,4 @@
+pub mod Below
+pub mod Proving
+pub mod Sizes
+pub mod Verdicts

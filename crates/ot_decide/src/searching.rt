@@ -1,0 +1,135 @@
+//! The search of a list of obligations.
+ghost use Rattle.std.specs.Prelude.{◌≡◌, ◌≤◌, Some, true, IfOk, IsTrue};
+ghost use Rattle.std.specs.List.{list_all};
+ghost use Rattle.fn_rules.specs.Obligations.{is_obligation};
+ghost use Rattle.fn_rules.specs.Rules.{function_of};
+ghost use Rattle.ask_core.specs.declared.asker.TheConstants.{MAX_QUESTIONS};
+ghost use Rattle.ask_core.specs.Askers.{IsFine, longest_path};
+ghost use Rattle.ask_core.specs.Plans.{premised};
+ghost use Rattle.ot_questions.specs.Obligation.{plan_below, plan_of};
+ghost use Rattle.ot_prove.specs.declared.split.TheConstants.{MAX_NAMES};
+ghost use Rattle.ot_prove.specs.Outcomes.{IsDecided};
+ghost use Rattle.ot_decide.specs.Below.{IsBound};
+ghost use Rattle.ot_decide.specs.Proving.{AreSettled};
+
+use crate::below::shorter_plans_keep_limits;
+use crate::verdict::Search;
+use crate::verdicts::obligations_have_one_question_list;
+use ask_core::{Asker, NoMemory, Premised};
+use bumpalo::Bump;
+use cert_text::write_ob;
+use diff_graph::Lit;
+use fn_rules::{ObName, Rules};
+use ot_paths::PathAsker;
+use ot_prove::{Outcome, prove};
+use ot_questions::Why;
+use ot_sections::shorter_than;
+use std::alloc::Global;
+
+// Searches the plan of an obligation, whose goals stand in the arena.
+fn search_in<'a>(
+    alloc: Global,
+    bump: &'a Bump,
+    rules: &'a Rules,
+    ob: ObName,
+    budget: u64,
+) -> Result<Outcome<Why>, NoMemory>
+    requires listed { IsTrue (is_obligation (function_of rules.now).head ob) }
+    ensures decides { IfOk result (IsDecided (plan_of (function_of rules.now) ob) budget) }
+{
+    let mut asker = PathAsker::new(bump, rules, ob);
+    prove(alloc, &mut asker, budget)
+}
+
+// Searches an asker's plan behind a premise.
+fn search_behind<A: Asker>(
+    alloc: Global,
+    premise: Lit,
+    inner: A,
+    budget: u64,
+) -> Result<Outcome<A::Why>, NoMemory>
+    requires few { A.name_count inner ≤ MAX_NAMES }
+    requires fine { IsFine (A.name_count inner) (premised premise (A.root inner)) }
+    ensures { IfOk result (λ o. IsDecided (premised premise (A.root inner)) budget o) }
+{
+    let mut asker = Premised::new(premise, inner);
+    prove(alloc, &mut asker, budget)
+}
+
+// Searches the plan of an obligation on the documents of fewer cells than the bound.
+fn search_below<'a>(
+    alloc: Global,
+    bump: &'a Bump,
+    rules: &'a Rules,
+    bound: u32,
+    ob: ObName,
+    budget: u64,
+) -> Result<Outcome<Why>, NoMemory>
+    requires listed { IsTrue (is_obligation (function_of rules.now).head ob) }
+    requires bounded { IsBound (Some bound) }
+    ensures decides { IfOk result (IsDecided (plan_below (function_of rules.now) (Some bound) ob) budget) }
+{
+    shorter_plans_keep_limits();
+    let _head = rules.head();
+    let asker = PathAsker::new(bump, rules, ob);
+    search_behind(alloc, shorter_than(bound), asker, budget)
+}
+
+// Searches the plan of an obligation in an arena of its own.
+fn search_ob(
+    alloc: Global,
+    rules: &Rules,
+    below: Option<u32>,
+    ob: ObName,
+    budget: u64,
+) -> Result<Outcome<Why>, NoMemory>
+    requires listed { IsTrue (is_obligation (function_of rules.now).head ob) }
+    requires bounded { IsBound below }
+    ensures decides { IfOk result (IsDecided (plan_below (function_of rules.now) below ob) budget) }
+    ensures short { longest_path (plan_below (function_of rules.now) below ob) ≤ MAX_QUESTIONS }
+{
+    shorter_plans_keep_limits();
+    let _head = rules.head();
+    let bump = Bump::new(alloc);
+    match below {
+        None => search_in(alloc, &bump, rules, ob, budget),
+        Some(bound) => search_below(alloc, &bump, rules, bound, ob, budget),
+    }
+}
+
+/// Searches obligations in order by at most `budget` questions of all of them together, and appends the section of each that
+/// holds, up to the first that does not. With `below` they are searched on the documents of fewer cells than that alone.
+///
+/// `Spent` comes exactly where there are more questions, `Fails` exactly where there are not and one of the obligations
+/// fails, and else `AllHold`, with sections that have exactly these questions. The error is want of memory.
+pub fn search_all(
+    alloc: Global,
+    rules: &Rules,
+    below: Option<u32>,
+    names: &[ObName],
+    budget: u64,
+    bytes: &mut Vec<u8>,
+) -> Result<Search, NoMemory>
+    requires listed { list_all (is_obligation (function_of rules.now).head) names.now ≡ true }
+    requires bounded { IsBound below }
+    ensures settled { IfOk result (AreSettled (function_of rules.now).head (plan_below (function_of rules.now) below) names.now budget
+        bytes.old.items bytes.new.items) }
+{
+    obligations_have_one_question_list();
+    let _head = rules.head();
+    let Some((ob, others)) = names.split_first() else {
+        return Ok(Search::AllHold);
+    };
+    match search_ob(alloc, rules, below, *ob, budget)? {
+        Outcome::Yes { tree, asked } => {
+            write_ob(*ob, &tree, bytes)?;
+            search_all(alloc, rules, below, others, budget - asked, bytes)
+        }
+        Outcome::No { answers, why } => Ok(Search::Fails {
+            ob: *ob,
+            answers,
+            why,
+        }),
+        Outcome::Spent => Ok(Search::Spent),
+    }
+}

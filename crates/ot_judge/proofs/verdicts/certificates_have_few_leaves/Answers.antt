@@ -1,5 +1,0 @@
-use Rattle.ot_judge.proofs.Leaves.{few_leaves}
-use Rattle.ot_judge.proofs.verdicts.certificates_have_few_leaves.Goals as goal
-
-pub returns : goal.returns
-returns c = few_leaves

@@ -1,4 +1,0 @@
-use Rattle.ot_judge.proofs.verdicts.proofs_are_certificates.Goals as goal
-
-pub returns : goal.returns
-returns c f level budget bytes (lists, asked, (within, none, proof)) = (proof.trees, proof.fit, proof.text)

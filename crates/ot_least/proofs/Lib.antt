@@ -1,0 +1,3 @@
+mod LowShows
+mod Breaking
+mod Shorter

@@ -1,0 +1,61 @@
+//! What low certificates show, and what the length of a failing end is. These functions work nothing out: their contracts
+//! are the laws.
+ghost use Rattle.std.specs.Prelude.{◌≡◌, ◌<◌, ◌≤ℤ◌, ◌-ℤ◌, ◌∷◌, ℕ, ℤ, pos, IsTrue, List, Some};
+ghost use Rattle.diff_graph.specs.declared.lit.Lit.{Lit};
+ghost use Rattle.diff_graph.specs.Literals.{AreMet, IsPossible};
+ghost use Rattle.diff_graph.specs.Solutions.{AreLeast, valuation_of};
+ghost use Rattle.fn_rules.specs.declared.function.Level.{Level};
+ghost use Rattle.fn_rules.specs.declared.function.ObName.{ObName};
+ghost use Rattle.fn_rules.specs.Functions.{Function};
+ghost use Rattle.fn_rules.specs.Obligations.{is_obligation};
+ghost use Rattle.fn_rules.specs.Validity.{is_valid};
+ghost use Rattle.ask_core.specs.Leading.{LeadTo};
+ghost use Rattle.ot_questions.specs.declared.why.Why.{Why};
+ghost use Rattle.ot_questions.specs.Names.{length_name, zero_name};
+ghost use Rattle.ot_questions.specs.Obligation.{plan_below, plan_of};
+ghost use Rattle.ot_values.specs.Values.{floors_of};
+ghost use Rattle.ot_least.specs.Lows.{HasAt, IsLow, level_of};
+
+use ask_core::{answers_lead_to_ends, fitting_trees_hold};
+use ot_questions::{
+    Why, bounded_plans_mean_shorter_documents, pair_plans_mean_tp1, plans_compare_like_with_like,
+    triple_plans_mean_tp2,
+};
+use ot_values::answers_have_least_values;
+
+/// A function that has a low certificate at a level has the level's property on every document of fewer cells than the
+/// bound: at level tp1 the first one, and at level tp2 the second one, which says nothing of the first.
+pub fn low_certificates_show_shorter_documents()
+    ensures { (bytes : List ℕ) (f : Function) (level : Level) (bound n : ℕ) → IsLow bytes f level bound → n < bound
+        → HasAt f level n }
+{
+    fitting_trees_hold::<Why>();
+    bounded_plans_mean_shorter_documents();
+    pair_plans_mean_tp1();
+    triple_plans_mean_tp2();
+}
+
+/// Where answers lead to an end of an obligation that fails, the property is broken on a document of so many cells as
+/// integers that meet the answers give to the length.
+pub fn failing_ends_break_at_their_length()
+    ensures { (f : Function) (ob : ObName) (why : Why) (w : List Lit) (v : ℕ → ℤ) (n : ℕ) → IsTrue (is_valid f)
+        → IsTrue (is_obligation f.head ob) → LeadTo why (plan_of f ob) w → v zero_name ≡ pos 0 → v length_name ≡ pos n
+        → AreMet v w → ¬ HasAt f (level_of ob) n }
+{
+    answers_lead_to_ends::<Why>();
+    pair_plans_mean_tp1();
+    triple_plans_mean_tp2();
+}
+
+/// A failing end on the documents of fewer cells than a bound is one of the obligation, behind the first question. And the
+/// least values that meet the answers there give fewer cells than the bound: the first question is met without its answer.
+pub fn failing_ends_below_a_bound_are_shorter()
+    ensures leads { (f : Function) (ob : ObName) (why : Why) (w : List Lit) (bound : ℕ) → LeadTo why (plan_below f (Some bound) ob) w
+        → (l : Lit) × (rest : List Lit) × (w ≡ l ∷ rest) × LeadTo why (plan_of f ob) rest }
+    ensures shorter { (f : Function) (ob : ObName) (why : Why) (l : Lit) (rest : List Lit) (bound : ℕ) (values : List ℤ)
+        → IsTrue (is_valid f) → LeadTo why (plan_below f (Some bound) ob) (l ∷ rest) → IsPossible (l ∷ rest)
+        → AreLeast rest (floors_of ob) values → valuation_of values length_name ≤ℤ (pos bound -ℤ pos 1) }
+{
+    plans_compare_like_with_like();
+    answers_have_least_values();
+}

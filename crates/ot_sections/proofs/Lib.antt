@@ -1,0 +1,11 @@
+mod AllJudged
+mod Coming
+mod Fitting
+mod Leading
+mod Leaving
+mod Listed
+mod Only
+mod Premises
+mod SectionRun
+mod Tokens
+mod TreeRun

@@ -1,0 +1,68 @@
+-- A tree that is judged token by token.
+use Rattle.std.proofs.Common.{◌≡◌, ℕ, List, [], length, Ok, arith, refl, sym, ap, subst, ◌∙◌}
+use Rattle.std.proofs.lemmas.List.{length-map}
+use Rattle.fn_rules.specs.declared.function.ObName.{ObName}
+use Rattle.ask_core.specs.declared.tree.Tok.{Tok}
+use Rattle.ask_core.specs.Plans.{Plan}
+use Rattle.ask_core.specs.Trees.{Branch}
+use Rattle.ask_core.specs.Paths.{OpenPlace, branch_at, branches_at}
+use Rattle.cert_check.specs.declared.verdict.CheckError.{CheckError}
+use Rattle.cert_check.specs.Steps.{after}
+use Rattle.cert_check.specs.Judging.{IsCauseOf}
+use Rattle.cert_text.specs.declared.item.Part.TheVariants as part
+use Rattle.cert_text.specs.Places.{Place, Start, Line, Tree, Finish}
+use Rattle.ot_outside.specs.declared.feed.Feed.{Ghosts}
+use Rattle.ot_sections.specs.declared.refusal.JudgeError.{JudgeError}
+use Rattle.ot_sections.specs.Parts.{end_of_token}
+use Rattle.ot_sections.specs.Feeding.{Fed}
+use Rattle.ot_sections.specs.Stands.{Came, IsMisspeltBehind, IsRefusedAnyway, IsTreeOf, Leads, LeadsAnyway, Stand, opened, stand, tree_with}
+use Rattle.ot_sections.proofs.Leading.{leads_on, leads_same, misspelt_refused, part_leads, refused_through, token_refused}
+
+module _ {N W : Type 0} (plan : N → Plan W) where
+  -- as many places as branches are open
+  pub counted : (places : List (OpenPlace N)) → length (branches_at plan places) ≡ length places
+  counted places = length-map places (branch_at plan)
+
+  pub one_place : (places : List (OpenPlace N)) (root : Plan W) → branches_at plan places ≡ opened root → length places ≡ 1
+  one_place places root is = omega (arith, counted places, ap length is)
+
+  pub no_branch : (places : List (OpenPlace N)) → places ≡ [] → branches_at plan places ≡ []
+  no_branch places none = ap (λ (p : List (OpenPlace N)). branches_at plan p) none
+
+-- a place in a tree, by its open branches
+pub tree_is : (place : Place) (count : ℕ) → IsTreeOf count place → place ≡ tree_with count place
+tree_is (Tree came names branches) count is = ap (λ (n : ℕ). Tree came names n) is
+tree_is (Start tp1 tp2) count is = refl
+tree_is (Line came names) count is = refl
+tree_is Finish count is = refl
+
+module _ {F W : Type 0} (feeds : Ghosts F) where
+  pub leads_first :
+      (at : Fed F) (branches first : List (Branch W)) → branches ≡ first → LeadsAnyway feeds (stand at first) (stand at branches)
+  leads_first at branches first is plan =
+      subst (λ (b : List (Branch W)). Leads feeds plan (stand at first) (stand at b)) (sym is)
+      (leads_same feeds plan (stand at first))
+
+  module _ (first : Stand F W) (was : Fed F) (branches : List (Branch W)) (leads : LeadsAnyway feeds first (stand was branches)) where
+    -- a token that is taken leads behind it
+    pub leads_token :
+        (now : Fed F) (offset : ℕ) (t : Tok) (next : List (Branch W))
+        → Came feeds was now (record { offset = offset; part = part.Tok t }) → after t branches ≡ Ok next
+        → LeadsAnyway feeds first (stand now next)
+    leads_token now offset t next comes taken plan =
+        leads_on feeds plan first (stand was branches) (stand now next) (leads plan)
+        (part_leads feeds plan was now (record { offset = offset; part = part.Tok t }) branches next comes taken)
+
+    -- one that is refused, and bytes that are no token, are refused
+    pub refused_token :
+        (now : Fed F) (offset : ℕ) (t : Tok) (why : CheckError)
+        → Came feeds was now (record { offset = offset; part = part.Tok t }) → IsCauseOf why t branches
+        → IsRefusedAnyway feeds first now.feed (end_of_token offset why)
+    refused_token now offset t why comes cause plan =
+        refused_through feeds plan first (stand was branches) now.feed (end_of_token offset why) (leads plan)
+        (token_refused feeds plan was now offset t branches why comes cause)
+
+    pub refused_bytes : (now : F) (e : JudgeError) → IsMisspeltBehind feeds was now e → IsRefusedAnyway feeds first now e
+    refused_bytes now e misspelt plan =
+        refused_through feeds plan first (stand was branches) now e (leads plan)
+        (misspelt_refused feeds plan was branches now e misspelt)

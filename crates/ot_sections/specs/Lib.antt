@@ -1,0 +1,7 @@
+pub mod Certificates
+pub mod Feeding
+pub mod Parts
+pub mod Sections
+pub mod Stands
+pub use Rattle.cert_text.specs.Places
+pub use Rattle.cert_text.specs.Reading

@@ -1,0 +1,50 @@
+//! The tree of one obligation of a function, on all documents or on those below a length.
+ghost use Rattle.std.specs.Prelude.{◌≡◌, ◌+◌, ◌^◌, ◌<◌, ◌≤◌, [], Some, IfErr, IfSome, OnOk, IsTrue};
+ghost use Rattle.fn_rules.specs.Obligations.{is_obligation};
+ghost use Rattle.fn_rules.specs.Rules.{function_of};
+ghost use Rattle.cert_text.specs.Reading.{fed_to};
+ghost use Rattle.ot_questions.specs.Obligation.{plan_below};
+ghost use Rattle.ot_sections.specs.Feeding.{Leaves, fed};
+ghost use Rattle.ot_sections.specs.Stands.{IsBetween, IsRefusedAnyway, IsTreeOf, LeadsAnyway, opened, place_of, stand, tree_with};
+
+use crate::premise::{MAX_BOUND, shorter_than};
+use crate::refusal::JudgeError;
+use crate::tree::{judge_tree, judge_tree_behind};
+use bumpalo::Bump;
+use cert_text::Reader;
+use fn_rules::{ObName, Rules};
+use ot_outside::Feed;
+use ot_paths::PathAsker;
+use ot_questions::plans_keep_limits;
+use std::alloc::Global;
+
+/// Judges the tree of an obligation, whose goals stand in the arena.
+pub(crate) fn judge_in<'a, F: Feed>(
+    alloc: Global,
+    bump: &'a Bump,
+    rules: &'a Rules,
+    below: Option<u32>,
+    ob: ObName,
+    reader: &mut Reader,
+    feed: &mut F,
+) -> Result<(), JudgeError>
+    requires bounded { IfSome below (λ bound. bound ≤ MAX_BOUND) }
+    requires listed { IsTrue (is_obligation (function_of rules.now).head ob) }
+    requires between { IsBetween reader.old }
+    requires tree { IsTreeOf 1 (place_of reader.old) }
+    requires room { fed_to reader.old + F.bound feed.old < 2 ^ 63 }
+    ensures closed { OnOk result (IsBetween reader.new × (place_of reader.new ≡ tree_with 0 (place_of reader.old))) }
+    ensures leads { OnOk result (LeadsAnyway F.Feed
+        (stand (fed reader.old feed.old) (opened (plan_below (function_of rules.now) below ob))) (stand (fed reader.new feed.new) [])) }
+    ensures refused { IfErr result (IsRefusedAnyway F.Feed
+        (stand (fed reader.old feed.old) (opened (plan_below (function_of rules.now) below ob))) feed.new) }
+    ensures leaves { Leaves F.Feed (fed reader.old feed.old) (fed reader.new feed.new) result }
+{
+    plans_keep_limits();
+    let _head = rules.head();
+    let asker = PathAsker::new(bump, rules, ob);
+    match below {
+        None => judge_tree(alloc, asker, reader, feed),
+        Some(bound) => judge_tree_behind(alloc, shorter_than(bound), asker, reader, feed),
+    }
+}
