@@ -285,7 +285,8 @@ def is_event(value):
     return value[0] == "take" and is_whole(value[2], MAX_NUMBER)
 
 
-def script_of(content):
+def parts_of(content, is_event):
+    """The document, the number of sites and the events of a file, or its first fault."""
     top = json_of(content)
     part = top.get if isinstance(top, dict) else lambda key: None
     doc = doc_of(part("doc"))
@@ -301,6 +302,11 @@ def script_of(content):
         raise Ended(9, "limit events")
     if not all(is_event(event) for event in events):
         raise Ended(4, "case field events")
+    return doc, sites, events
+
+
+def script_of(content):
+    doc, sites, events = parts_of(content, is_event)
     return doc, sites, [(word, site, tuple(what) if word == "make" else what) for word, site, what in events]
 
 

@@ -1,4 +1,4 @@
-//! The questions of one pair, along the answers yes, also over a goal that is given, and those of a guard alone.
+//! The questions of one pair, along the answers yes, and those of a guard alone.
 ghost use Rattle.std.specs.Prelude.{IsTrue};
 ghost use Rattle.fn_rules.specs.Obligations.{is_obligation};
 ghost use Rattle.fn_rules.specs.Rules.{function_of};
@@ -10,8 +10,8 @@ use diff_graph::Lit;
 use fn_rules::{Atom, Cmp, Guard, ObName, Rules, Side, Sort};
 use ot_model::Kind;
 use ot_paths::{PathAsker, conditions_are_nodes};
-use ot_questions::{Who, plans_keep_limits};
-use ot_terms::{Goal, SymOp, Why, place_form, start_goal};
+use ot_questions::Who;
+use ot_terms::{Goal, SymOp, Why, place_form};
 use std::process::Abort;
 use std::test::Fail;
 
@@ -47,27 +47,6 @@ fn a_pair_asks_its_questions(rt: HostRuntime) -> Result<(), Fail> {
     let bump = Bump::new(rt.alloc());
     let mut asker = PathAsker::new(&bump, &rules, ObName::Pair(Kind::Del, Kind::Del));
     assert_eq!(rt; asker.names(), 9);
-    first_questions_are_asked(&rt, &mut asker)?;
-    Ok(())
-}
-
-// Over the goal that the pair begins with, which transforms.
-fn asker_of_start<'a>(bump: &'a Bump, rules: &'a Rules) -> Result<PathAsker<'a>, NoMemory>
-    requires { IsTrue (is_obligation (function_of rules.now).head (ObName.Pair Kind.Del Kind.Del)) }
-{
-    plans_keep_limits();
-    let _head = rules.head();
-    let goal = start_goal(bump, rules, ObName::Pair(Kind::Del, Kind::Del))?;
-    Ok(PathAsker::over(bump, rules, ObName::Pair(Kind::Del, Kind::Del), goal))
-}
-
-#[test]
-fn a_goal_that_transforms_asks_the_same(rt: HostRuntime) -> Result<(), Fail> {
-    let rules = staying(&rt, rt.alloc(), MARKS)?;
-    let head = rules.head();
-    assert!(rt; head.declares_pair(Kind::Del, Kind::Del));
-    let bump = Bump::new(rt.alloc());
-    let mut asker = asker_of_start(&bump, &rules)?;
     first_questions_are_asked(&rt, &mut asker)?;
     Ok(())
 }

@@ -1,5 +1,5 @@
--- The lines of a counterexample.
-use Rattle.std.proofs.Common.{◌≡◌, [], ◌∷◌, ◌++◌, codes, refl, pos}
+-- The lines of a counterexample, and of a hub.
+use Rattle.std.proofs.Common.{◌≡◌, [], ◌∷◌, ◌++◌, None, codes, refl, pos}
 use lib.Utf8.{encode}
 use Rattle.std.specs.Fmt.{digits}
 use Rattle.ot_model.specs.Cells.{live_cell}
@@ -8,6 +8,7 @@ use Rattle.fn_rules.specs.declared.function.Level.TheVariants.{Tp2}
 use Rattle.ot_questions.specs.declared.why.Why.TheVariants.{Operations}
 use Rattle.ot_counter.specs.declared.counter.Side.TheVariants.{Op}
 use Rattle.ot_replies.specs.CounterTexts.{counter_text, line_of}
+use Rattle.ot_replies.specs.HubTexts.{hub_text}
 
 -- two insertions and a deletion, whose third has two forms
 counterexample :
@@ -23,3 +24,15 @@ counterexample :
     ++ line_of (codes "op 3 ins 0 c 3") ++ line_of (codes "left ins 0 c 3") ++ line_of (codes "right ins 1 c 3")
 unfolding encode digits
 counterexample = refl
+
+-- a hub with a client whose operation is pending
+hub :
+    hub_text (record {
+      logged = 0;
+      doc = [];
+      clients = record { received = 0; pending = 1; doc = live_cell 97 ∷ [] } ∷ record { received = 0; pending = 0; doc = [] } ∷ [];
+      differ = None;
+    })
+    ≡ line_of (codes "server 0 []") ++ line_of (codes "client 1 0 1 [a]") ++ line_of (codes "client 2 0 0 []") ++ line_of (codes "same")
+unfolding encode digits
+hub = refl

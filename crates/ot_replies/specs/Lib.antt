@@ -4,6 +4,7 @@ pub mod DocumentTexts
 pub mod OrderTexts
 pub mod CounterTexts
 pub mod SessionTexts
+pub mod HubTexts
 pub mod LevelTexts
 pub mod DrillTexts
 pub mod Texts

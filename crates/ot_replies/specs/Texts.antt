@@ -7,12 +7,13 @@ use Rattle.ot_replies.specs.declared.reply.FileKind.{FileKind}
 use Rattle.ot_replies.specs.declared.reply.FileKind.TheVariants as files
 use Rattle.ot_replies.specs.declared.reply.Reply.{Reply}
 use Rattle.ot_replies.specs.declared.reply.Reply.TheVariants.{Proved, Broken, Spent, Accepted, Refused, FunctionRefused}
-use Rattle.ot_replies.specs.declared.reply.Reply.TheVariants.{CaseRefused, Integrated, Usage, TooLong, EventRefused, StuckAt, Replayed, Drilled}
+use Rattle.ot_replies.specs.declared.reply.Reply.TheVariants.{CaseRefused, Integrated, Usage, TooLong, EventRefused, StuckAt, Replayed, Served, Drilled}
 use Rattle.ot_replies.specs.FaultTexts.{text_fault_text, case_fault_text, refusal_text}
 use Rattle.ot_replies.specs.OrderTexts.{orders_text}
 use Rattle.ot_replies.specs.CounterTexts.{counter_text}
 use Rattle.ot_replies.specs.LevelTexts.{accepted_text}
 use Rattle.ot_replies.specs.DrillTexts.{drill_text}
+use Rattle.ot_replies.specs.HubTexts.{hub_text}
 use Rattle.ot_replies.specs.SessionTexts.{event_fault_text, sites_text, stuck_text}
 
 -- too much of a part is a limit, and every other fault is one of the case
@@ -20,10 +21,10 @@ abbrev pub case_status : CaseFault → ℕ
 case_status (faults.Limit name) = 9
 case_status fault = 4
 
--- two sites differ, or none do
-abbrev pub differ_status : Option (ℕ × ℕ) → ℕ
+-- two sites differ, or a client does, or none do
+abbrev pub differ_status : {X : Type 0} → Option X → ℕ
 differ_status None = 0
-differ_status (Some pair) = 1
+differ_status (Some found) = 1
 
 abbrev pub status_of : Reply → ℕ
 status_of (Proved bytes) = 0
@@ -32,6 +33,7 @@ status_of Spent = 8
 status_of (Accepted level) = 0
 status_of (Integrated ends same) = if same then 0 else 1
 status_of (Replayed ends differ) = differ_status differ
+status_of (Served end) = differ_status end.differ
 status_of (StuckAt i) = 1
 status_of (Drilled d) = differ_status d.differ
 status_of (EventRefused i fault) = 4
@@ -56,6 +58,7 @@ text_of Spent = codes "spent" ++ 10 ∷ []
 text_of (Accepted level) = accepted_text level
 text_of (Integrated ends same) = orders_text (map outcome_of ends) same
 text_of (Replayed ends differ) = sites_text ends differ
+text_of (Served end) = hub_text end
 text_of (StuckAt i) = stuck_text i
 text_of (Drilled d) = drill_text d
 text_of (EventRefused i fault) = event_fault_text i fault

@@ -18,7 +18,7 @@ pub enum FileKind {
     /// A certificate.
     Certificate,
 
-    /// A case or a session.
+    /// A case, a session or a hub.
     Case,
 }
 
@@ -32,19 +32,49 @@ pub struct SiteEnd {
     pub doc: Doc,
 }
 
-/// Why an event of a session is refused.
+/// How many entries of the log a client of a hub has received, how many of its operations are pending, and the document that it
+/// holds.
+#[derive(Debug, Drop)]
+pub struct ClientEnd {
+    /// How many entries of the log it has received.
+    pub received: u32,
+
+    /// How many of its operations did not come back to it.
+    pub pending: u32,
+
+    /// The document.
+    pub doc: Doc,
+}
+
+/// What the server of a hub and its clients hold.
+#[derive(Debug, Drop)]
+pub struct HubEnd {
+    /// How many entries the server's log has.
+    pub logged: u32,
+
+    /// The server's document.
+    pub doc: Doc,
+
+    /// What each client holds, by their numbers.
+    pub clients: List<ClientEnd>,
+
+    /// The first client that has received the whole log, has nothing pending, and holds another document than the server.
+    pub differ: Option<u32>,
+}
+
+/// Why an event of a session or of a hub is refused.
 #[derive(Clone, Copy, Debug, PartialEq, Eq)]
 pub enum EventFault {
-    /// There is no such site.
+    /// There is no such site, or no such client.
     Site,
 
-    /// The operation names another site.
+    /// The operation names another one.
     Owner,
 
     /// The function is not for operations of this kind.
     Kind,
 
-    /// The operation is not enabled on the site's document.
+    /// The operation is not enabled on the document of the site or the client.
     Enabled,
 
     /// No operation with this number was made.
@@ -100,13 +130,13 @@ pub enum Reply {
     /// The function's file is refused for its first fault.
     FunctionRefused(TextFault),
 
-    /// The case or the session is refused for its first fault.
+    /// The case, the session or the hub is refused for its first fault.
     CaseRefused(CaseFault),
 
-    /// The event of a session with this number is refused, which counts from 0.
+    /// The event of a session or of a hub with this number is refused, which counts from 0.
     EventRefused(u32, EventFault),
 
-    /// A site of a session is stuck at the event with this number.
+    /// A site of a session, or the server or a client of a hub, is stuck at the event with this number.
     StuckAt(u32),
 
     /// How integrating ended, an order each, and whether every order gave the same document.
@@ -115,6 +145,9 @@ pub enum Reply {
     /// What the sites of a session hold, and the first two that have integrated the same operations and hold different
     /// documents.
     Replayed(List<SiteEnd>, Option<(u32, u32)>),
+
+    /// What the server of a hub and its clients hold.
+    Served(HubEnd),
 
     /// What came of a workload.
     Drilled(Drilled),

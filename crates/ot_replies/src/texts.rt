@@ -8,6 +8,7 @@ mod counters;
 mod documents;
 mod drills;
 mod faults;
+mod hubs;
 mod orders;
 mod sessions;
 
@@ -17,6 +18,7 @@ use counters::write_counter;
 use drills::write_drilled;
 use faults::{write_case_fault, write_refusal, write_text_fault};
 use fn_rules::Level;
+use hubs::write_hub;
 use orders::write_ends;
 use ot_model::NoMemory;
 use sessions::{write_event_fault, write_sites, write_stuck};
@@ -32,8 +34,8 @@ fn case_status(fault: &CaseFault) -> u8
     }
 }
 
-// Whether two sites differ.
-fn differ_status(differ: Option<(u32, u32)>) -> u8
+// Whether two sites differ, or a client does.
+fn differ_status<T: Copy>(differ: Option<T>) -> u8
     ensures { result ≡ differ_status differ }
 {
     match differ {
@@ -53,6 +55,7 @@ pub fn status(reply: &Reply) -> u8
         Reply::Accepted(_) => 0,
         Reply::Integrated(_, same) => { if *same { 0 } else { 1 } }
         Reply::Replayed(_, differ) => differ_status(*differ),
+        Reply::Served(end) => differ_status(end.differ),
         Reply::Drilled(drilled) => differ_status(drilled.differ),
         Reply::StuckAt(_) => 1,
         Reply::EventRefused(..) => 4,
@@ -121,6 +124,7 @@ fn written(alloc: Global, reply: &Reply) -> Result<Vec<u8>, NoMemory>
         Reply::EventRefused(number, fault) => write_event_fault(alloc, *number, *fault, &mut text)?,
         Reply::StuckAt(number) => write_stuck(alloc, *number, &mut text)?,
         Reply::Replayed(ends, differ) => write_sites(alloc, ends.as_slice(), *differ, &mut text)?,
+        Reply::Served(end) => write_hub(alloc, end, &mut text)?,
         Reply::Drilled(drilled) => write_drilled(alloc, drilled, &mut text)?,
         Reply::Usage => text.extend_from_slice(b"usage: otp COMMAND ARGUMENTS\n")?,
         Reply::TooLong(kind) => write_limit(alloc, *kind, &mut text)?,

@@ -120,37 +120,26 @@ pub have_read_both :
 have_read_both old mid new first second opened behind =
     (mid.bytes, inr (new.bytes, behind ∙ ap (λ (r : Reads). after_reading second new.bytes r) opened))
 
--- what is answered behind both files of a command that reads two whole
+-- the reply to the bytes that were given of another file is that to those that are told
+pub file_told :
+    (kind : FileKind) (Gets : List ℕ → Type 0) (told : Option (List ℕ)) (given : List ℕ) → ForSome told (λ bytes. bytes ≡ given)
+    → (r : Reply) → IsReplyToFile kind (Some given) Gets r → IsReplyToFile kind told Gets r
+file_told kind Gets told given agrees r (inl long) = inl (long_told told given agrees kind r long)
+file_told kind Gets told given agrees r (inr (bytes, holds, gets)) =
+    inr (bytes, bytes_told told given agrees kind bytes holds, gets)
+
+-- what is answered behind both files of a command
 module _ (old mid new : Reads) (first second : List ℕ) (opened : mid ≡ after_reading first mid.bytes old)
-    (behind : new ≡ after_reading second new.bytes mid) (told other : Option (List ℕ)) (tells : ForSome told (IsReadFirst old new first))
-    (tells_other : ForSome other (IsReadSecond old new second)) (f : Function) (read : IsReadAs (Ok f) (Some mid.bytes)) (r : Reply)
-    (Gets : Function → List ℕ → Type 0) where
-  is_first : IsReadFirst old new first mid.bytes
-  is_first = first_behind old mid new first mid.bytes second new.bytes opened behind
+    (behind : new ≡ after_reading second new.bytes mid) (told : Option (List ℕ)) (tells : ForSome told (IsReadFirst old new first))
+    (f : Function) (read : IsReadAs (Ok f) (Some mid.bytes)) where
+  pub known_function : IsReadAs (Ok f) told
+  known_function =
+      read_told told mid.bytes
+      (known_first old new first mid.bytes told (first_behind old mid new first mid.bytes second new.bytes opened behind) tells) (Ok f) read
 
-  agrees_other : ForSome other (λ bytes. bytes ≡ new.bytes)
-  agrees_other = known_second old mid new first mid.bytes second new.bytes other opened behind tells_other
-
-  pub read_of_known : IsReadAs (Ok f) told
-  read_of_known = read_told told mid.bytes (known_first old new first mid.bytes told is_first tells) (Ok f) read
-
-  pub long_behind : IsTooLong files.Case (Some new.bytes) r → IsReplyToFunction told (λ g. IsReplyToFile files.Case other (Gets g) r) r
-  long_behind long = inr (f, read_of_known, inl (long_told other new.bytes agrees_other files.Case r long))
-
-  pub file_behind :
-      (bytes : List ℕ) → Holds files.Case bytes (Some new.bytes) → Gets f bytes
-      → IsReplyToFunction told (λ g. IsReplyToFile files.Case other (Gets g) r) r
-  file_behind bytes holds gets = inr (f, read_of_known, inr (bytes, bytes_told other new.bytes agrees_other files.Case bytes holds, gets))
-
--- words that ask for a command are answered as it is
-pub asked_given :
-    (words : List (List ℕ)) (asked : Asked) (old new : Reads) (r : Reply) → asked_by words ≡ Some asked → IsReplyOfGiven old new asked r
-    → IsAnswerOfGiven words old new r
-asked_given words asked old new r is reply = (
-  subst (λ (o : Option Asked). IfSome o (HasRead old new)) (sym is) reply.0,
-  λ holds tells.
-      let both = reply.1 holds (subst (λ (o : Option Asked). IfSome o (TellsGiven old new holds)) is tells) in (
-        subst (λ (o : Option Asked). MatchOption o (r ≡ Usage) (λ a. IsReplyTo holds a r)) (sym is) both.0,
-        subst (λ (o : Option Asked). IfSome o (λ a. IsSteadyReply holds a r)) (sym is) both.1,
-      ),
-)
+  pub then_given :
+      (other : Option (List ℕ)) → ForSome other (IsReadSecond old new second) → (Gets : Option (List ℕ) → Function → Type 0) (r : Reply)
+      → (ForSome other (λ bytes. bytes ≡ new.bytes) → Gets (Some new.bytes) f → Gets other f) → Gets (Some new.bytes) f
+      → IsReplyToFunction told (Gets other) r
+  then_given other tells_other Gets r told_too gets =
+      inr (f, known_function, told_too (known_second old mid new first mid.bytes second new.bytes other opened behind tells_other) gets)

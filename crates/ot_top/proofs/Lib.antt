@@ -6,10 +6,14 @@ mod Ending
 mod Ends
 mod Feeding
 mod Given
+mod HubEnding
+mod HubRunning
+mod HubStatus
 mod Judged
 mod Leads
 mod OneDrill
 mod OneFile
+mod OneHub
 mod OneJudgement
 mod OneOutcome
 mod OneReply
@@ -18,6 +22,7 @@ mod Proving
 mod ReadCertificate
 mod Refusing
 mod Running
+mod RunsBy
 mod Showing
 mod Shows
 mod Steady

@@ -1,4 +1,4 @@
--- The replies to a case and to a session are told by the function and the file.
+-- The replies to a case, to a session and to a hub are told by the function and the file.
 use Rattle.std.proofs.Common.{◌≡◌, ℕ, ◌↔◌, Bool, true, false, List, [], ◌∷◌, map, Option, Some, Result, Ok, Err, IsTrue, refl, sym, ap, ◌∙◌}
 use Rattle.fn_rules.specs.Functions.{Function}
 use Rattle.fn_rules.specs.Orders.{Outcome}
@@ -11,9 +11,8 @@ use Rattle.ot_integrate.specs.Ends.{outcome_of}
 use Rattle.ot_replies.specs.declared.reply.FileKind.TheVariants as files
 use Rattle.ot_replies.specs.declared.reply.Reply.{Reply}
 use Rattle.ot_replies.specs.declared.reply.Reply.TheVariants.{Integrated}
-use Rattle.ot_words.specs.Commands.{Integrate, Replay}
-use Rattle.ot_top.specs.Replies.{HaveOneEnd, IsReplyTo, IsReplyToCase, IsReplyToFile, IsReplyToTrial, TellsOutcomes, outcomes_of}
-use Rattle.ot_top.specs.Sessions.{IsReplyToSession}
+use Rattle.ot_words.specs.Commands.{Integrate}
+use Rattle.ot_top.specs.Replies.{HaveOneEnd, IsReplyTo, IsReplyToCase, IsReplyToFile, IsReplyToFunction, IsReplyToTrial, TellsOutcomes, outcomes_of}
 use Rattle.ot_top.proofs.OneFile.{file_once, function_once}
 
 -- ends with one outcome are one
@@ -69,22 +68,18 @@ case_replied_once f bytes r s first second = trial_replied_once f (trial_in f by
 
 module _ (holds : List ℕ → Option (List ℕ)) (name other_name bytes contents : List ℕ) (r s : Reply) (told : holds name ≡ Some bytes)
     (other_told : holds other_name ≡ Some contents) where
+  -- the reply to a function's file and then to another one is one, where each function gets one reply to given bytes
+  pub file_replied_once :
+      (Replies : Function → List ℕ → Reply → Type 0) → ((f : Function) (b : List ℕ) (one other : Reply) → Replies f b one → Replies f b other → one ≡ other)
+      → IsReplyToFunction (holds name) (λ f. IsReplyToFile files.Case (holds other_name) (λ b. Replies f b r) r) r
+      → IsReplyToFunction (holds name) (λ f. IsReplyToFile files.Case (holds other_name) (λ b. Replies f b s) s) s → r ≡ s
+  file_replied_once Replies one_reply first second =
+      function_once (holds name) bytes told (λ f. IsReplyToFile files.Case (holds other_name) (λ b. Replies f b r) r)
+      (λ f. IsReplyToFile files.Case (holds other_name) (λ b. Replies f b s) s) r s (r ≡ s) first second (λ same. same)
+      (λ f read gets others.
+      file_once (holds other_name) contents other_told files.Case (λ b. Replies f b r) (λ b. Replies f b s) r s (r ≡ s)
+      gets others (λ same. same) (one_reply f contents r s))
+
   -- the reply of `integrate` to told files is one
   pub integrate_replied_once : IsReplyTo holds (Integrate name other_name) r → IsReplyTo holds (Integrate name other_name) s → r ≡ s
-  integrate_replied_once first second =
-      function_once (holds name) bytes told (λ f. IsReplyToFile files.Case (holds other_name) (λ b. IsReplyToCase f b r) r)
-      (λ f. IsReplyToFile files.Case (holds other_name) (λ b. IsReplyToCase f b s) s) r s (r ≡ s) first second (λ same. same)
-      (λ f read gets others.
-      file_once (holds other_name) contents other_told files.Case (λ b. IsReplyToCase f b r) (λ b. IsReplyToCase f b s) r s (r ≡ s)
-      gets others (λ same. same) (case_replied_once f contents r s))
-
-  -- the reply of `replay` to told files is one
-  pub replay_replied_once :
-      ((f : Function) (b : List ℕ) (one other : Reply) → IsReplyToSession f b one → IsReplyToSession f b other → one ≡ other)
-      → IsReplyTo holds (Replay name other_name) r → IsReplyTo holds (Replay name other_name) s → r ≡ s
-  replay_replied_once one_reply first second =
-      function_once (holds name) bytes told (λ f. IsReplyToFile files.Case (holds other_name) (λ b. IsReplyToSession f b r) r)
-      (λ f. IsReplyToFile files.Case (holds other_name) (λ b. IsReplyToSession f b s) s) r s (r ≡ s) first second (λ same. same)
-      (λ f read gets others.
-      file_once (holds other_name) contents other_told files.Case (λ b. IsReplyToSession f b r) (λ b. IsReplyToSession f b s) r s (r ≡ s)
-      gets others (λ same. same) (one_reply f contents r s))
+  integrate_replied_once first second = file_replied_once IsReplyToCase case_replied_once first second

@@ -11,7 +11,7 @@ use Rattle.ot_session.specs.declared.answer.Take.{Take as NotTaken}
 use Rattle.ot_session.specs.declared.answer.Take.TheVariants as takes
 use Rattle.ot_session.specs.declared.answer.Took.{Took}
 use Rattle.ot_session.specs.Views.{View, data_in}
-use Rattle.ot_top.specs.declared.replay.Halt.{Halt}
+use Rattle.ot_top.specs.declared.halt.Halt.{Halt}
 use Rattle.ot_replies.specs.declared.reply.EventFault.TheVariants as why
 use Rattle.ot_replies.specs.declared.reply.Reply.{Reply}
 use Rattle.ot_replies.specs.declared.reply.Reply.TheVariants.{EventRefused, CaseRefused, Spent}

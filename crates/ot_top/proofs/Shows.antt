@@ -22,7 +22,7 @@ use Rattle.ot_top.specs.Steady.{AreSteady}
 use Rattle.ot_replies.specs.Texts.{status_of, text_of}
 use Rattle.ot_top.proofs.Proving.{complete, proved}
 use Rattle.ot_top.proofs.Showing.{shown}
-use Rattle.ot_top.proofs.Steady.{steady}
+use Rattle.ot_top.proofs.Steady.{served, steady}
 use Rattle.ot_top.proofs.Told.{IsAnswered, judged}
 use Rattle.ot_top.proofs.Unread.{unread}
 
@@ -80,4 +80,8 @@ module _ (words : List (List ℕ)) (holds : List ℕ → Option (List ℕ)) (IsW
             λ name session bytes f named known text agree one.
             let told = answered (of_reply status 1 one (λ e. omega (arith, e)) (λ e. omega (arith, e)) (λ e. omega (arith, e))) in
             steady is_read words holds told.0 told.2 name session bytes f named known text agree (sym told.3 ∙ one);
+        served =
+            λ name hub bytes f named known text agree one.
+            let told = answered (of_reply status 1 one (λ e. omega (arith, e)) (λ e. omega (arith, e)) (λ e. omega (arith, e))) in
+            served is_read words holds told.0 told.2 name hub bytes f named known text agree (sym told.3 ∙ one);
       }

@@ -9,10 +9,11 @@ use Rattle.ot_replies.specs.declared.reply.FileKind.{FileKind}
 use Rattle.ot_replies.specs.declared.reply.FileKind.TheVariants as files
 use Rattle.ot_replies.specs.declared.reply.Reply.{Reply}
 use Rattle.ot_replies.specs.declared.reply.Reply.TheVariants.{FunctionRefused, TooLong}
-use Rattle.ot_words.specs.Commands.{Asked, Replay}
+use Rattle.ot_words.specs.Words.{asked_by}
+use Rattle.ot_words.specs.Commands.{Asked, Replay, Hub}
 use Rattle.ot_replies.specs.Limits.{IsTooLong}
 use Rattle.ot_top.specs.Replies.{IsFunctionRefusal, IsReadAs}
-use Rattle.ot_top.specs.Steady.{AreSteady, IsSteady, IsSteadyReply}
+use Rattle.ot_top.specs.Steady.{AreSteady, IsServed, IsSteady, IsSteadyReply}
 use Rattle.ot_replies.specs.Texts.{status_of}
 
 -- a reply of another status
@@ -36,12 +37,23 @@ pub same_function :
     → g ≡ f
 same_function told f g bytes read is is_g = ok_is g f (sym is_g ∙ (read bytes is).1)
 
+-- words that ask for a command have the reply of that command, which is steady
+pub steady_asked : (words : List (List ℕ)) (holds : List ℕ → Option (List ℕ)) (r : Reply) (asked : Asked) → asked_by words ≡ Some asked
+    → AreSteady words holds r → IsSteadyReply holds asked r
+steady_asked words holds r asked named are =
+    subst (λ (o : Option Asked). IfSome o (λ a. IsSteadyReply holds a r)) named are
+
 -- what words ask has a status other than 1
 pub steady :
     ((bytes : List ℕ) (f : Function) → IsTextOf bytes f → function_in bytes ≡ Ok f)
     → (words : List (List ℕ)) (holds : List ℕ → Option (List ℕ)) (r : Reply) → AreSteady words holds r
     → IsSteady words holds (status_of r)
 steady read words holds r are name session bytes f named told text agrees =
-    let reply : IsSteadyReply holds (Replay name session) r =
-    subst (λ (o : Option Asked). IfSome o (λ asked. IsSteadyReply holds asked r)) named are in
-    reply bytes f told (read bytes f text) agrees
+    steady_asked words holds r (Replay name session) named are bytes f told (read bytes f text) agrees
+
+pub served :
+    ((bytes : List ℕ) (f : Function) → IsTextOf bytes f → function_in bytes ≡ Ok f)
+    → (words : List (List ℕ)) (holds : List ℕ → Option (List ℕ)) (r : Reply) → AreSteady words holds r
+    → IsServed words holds (status_of r)
+served read words holds r are name hub bytes f named told text agrees =
+    steady_asked words holds r (Hub name hub) named are bytes f told (read bytes f text) agrees

@@ -1,6 +1,6 @@
 -- What statuses tell, from the reply that was written.
 use Rattle.std.proofs.Common.{◌≡◌, ◌≢◌, ◌≤◌, ◌⊎◌, ℕ, true, false, Bool, List, length, take, Option, Some, None, Result, Ok, Err, refl, ap, ◌∙◌, subst, inl, inr, arith}
-use Rattle.std.specs.Prelude.{IfSome, IsTrue, is_ok, if◌then◌else◌}
+use Rattle.std.specs.Prelude.{IsTrue, is_ok, if◌then◌else◌}
 use Rattle.std.proofs.lemmas.Bool.{cases_eq}
 use Rattle.std.proofs.lemmas.List.{take_all}
 use Rattle.fn_rules.specs.declared.function.Level.{Level}
@@ -17,17 +17,17 @@ use Rattle.ot_replies.specs.declared.reply.Drilled.{Drilled}
 use Rattle.ot_replies.specs.declared.reply.FileKind.TheVariants as files
 use Rattle.ot_replies.specs.declared.reply.Reply.{Reply}
 use Rattle.ot_replies.specs.declared.reply.Reply.TheVariants as replies
-use Rattle.ot_words.specs.Commands.{Asked, Check, Drill}
+use Rattle.ot_words.specs.Commands.{Check, Drill}
 use Rattle.ot_top.specs.Drills.{IsDrilled, IsReplyToQuestions}
 use Rattle.ot_replies.specs.DrillTexts.{drill_text}
 use Rattle.ot_top.specs.Judgements.{IsReplyToCertificate, IsReplyToJudgement, Tells}
 use Rattle.ot_replies.specs.Limits.{limit_of}
 use Rattle.ot_top.specs.Replies.{IsReply}
 use Rattle.ot_top.specs.Shown.{IsGoneThrough, IsJudgedAs}
-use Rattle.ot_top.specs.Steady.{AreSteady, IsSteadyReply}
+use Rattle.ot_top.specs.Steady.{AreSteady}
 use Rattle.ot_replies.specs.Texts.{differ_status, status_of, text_of}
-use Rattle.ot_words.specs.Words.{asked_by}
 use Rattle.ot_top.proofs.Proving.{gets, reply_to_asked}
+use Rattle.ot_top.proofs.Steady.{steady_asked}
 
 -- what was answered: the status and the text of a reply, where it is none of the faults and no want of memory
 abbrev pub IsAnswered : List (List ℕ) → (List ℕ → Option (List ℕ)) → ℕ → (List ℕ → Type 0) → Type 0
@@ -61,7 +61,7 @@ case_named (faults.Order i) = omega arith
 case_named (faults.Limit name) = omega arith
 case_named faults.NoMemory = omega arith
 
-differ_named : (differ : Option (ℕ × ℕ)) → differ_status differ ≤ 9
+differ_named : {X : Type 0} → (differ : Option X) → differ_status differ ≤ 9
 differ_named None = omega arith
 differ_named (Some pair) = omega arith
 
@@ -80,6 +80,7 @@ reply_named (replies.EventRefused i fault) = omega arith
 reply_named (replies.StuckAt i) = omega arith
 reply_named (replies.Integrated ends same) = same_named same
 reply_named (replies.Replayed ends differ) = differ_named differ
+reply_named (replies.Served end) = differ_named end.differ
 reply_named (replies.Drilled d) = differ_named d.differ
 reply_named replies.Usage = omega arith
 reply_named (replies.TooLong kind) = omega arith
@@ -103,12 +104,6 @@ whole status Shelf Sink Want Written on_shelf on_sink on_want written no_shelf n
       | inl (inr (inr ten)) ↦ inl (ten, on_want ten)
       | inr none ↦ inr (written none.0 none.1 none.2)
     ]
-
--- words that ask for a command have the reply of that command, which is steady
-steady_asked : (words : List (List ℕ)) (holds : List ℕ → Option (List ℕ)) (r : Reply) (asked : Asked) → asked_by words ≡ Some asked
-    → AreSteady words holds r → IsSteadyReply holds asked r
-steady_asked words holds r asked named are =
-    subst (λ (o : Option Asked). IfSome o (λ a. IsSteadyReply holds a r)) named are
 
 -- a workload's reply
 agrees : (differ : Option (ℕ × ℕ)) → differ_status differ ≢ 1 → (differ ≡ None) × (differ_status differ ≡ 0)

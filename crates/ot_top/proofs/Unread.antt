@@ -8,12 +8,15 @@ use Rattle.fn_text.specs.Grammar.{IsTextOf}
 use Rattle.fn_text.specs.Reading.{function_in}
 use Rattle.case_json.specs.declared.fault.CaseFault.{CaseFault}
 use Rattle.case_json.specs.declared.fault.CaseFault.TheVariants as faults
+use Rattle.case_json.specs.declared.hub.HubScript.{HubScript}
 use Rattle.case_json.specs.declared.script.Event.{Event}
 use Rattle.case_json.specs.declared.script.Event.TheVariants.{Make, Take}
 use Rattle.case_json.specs.declared.script.Script.{Script}
 use Rattle.case_json.specs.declared.trial.Trial.{Trial}
 use Rattle.case_json.specs.Cases.{trial_in}
+use Rattle.case_json.specs.Hubs.{hub_script_in}
 use Rattle.case_json.specs.Scripts.{script_in}
+use Rattle.ot_hub.specs.Views.{HubData, begun}
 use Rattle.ot_sections.specs.declared.refusal.JudgeError.{JudgeError}
 use Rattle.ot_sections.specs.declared.refusal.JudgeError.TheVariants as judge
 use Rattle.ot_decide.specs.declared.verdict.Verdict.{Verdict}
@@ -26,7 +29,8 @@ use Rattle.ot_session.specs.Views.{View}
 use Rattle.ot_replies.specs.declared.reply.FileKind.TheVariants as files
 use Rattle.ot_replies.specs.declared.reply.Reply.{Reply}
 use Rattle.ot_replies.specs.declared.reply.Reply.TheVariants as replies
-use Rattle.ot_words.specs.Commands.{Asked, Prove, Check, Integrate, Replay, Drill}
+use Rattle.ot_words.specs.Commands.{Asked, Prove, Check, Integrate, Replay, Hub, Drill}
+use Rattle.ot_top.specs.Hubs.{IsDone, IsRefused, IsReplyToHub, IsReplyToHubScript, TellsHub}
 use Rattle.ot_top.specs.Judgements.{IsReplyToJudgement, Tells}
 use Rattle.ot_replies.specs.Limits.{limit_of}
 use Rattle.ot_top.specs.Replies.{IsReplyTo, IsReplyToCase, IsReplyToFile, IsReplyToFunction, IsReplyToTrial, TellsOutcomes}
@@ -34,7 +38,9 @@ use Rattle.ot_top.specs.Sessions.{IsReplyToScript, IsReplyToSession, Runs, Tells
 use Rattle.ot_top.specs.Shown.{IsUnread, function_name}
 use Rattle.ot_replies.specs.Texts.{differ_status, status_of}
 use Rattle.ot_top.specs.Verdicts.{TellsVerdict}
+use Rattle.ot_top.proofs.HubStatus.{refused_other}
 use Rattle.ot_top.proofs.Proving.{reply_to_asked}
+use Rattle.ot_top.proofs.RunsBy.{runs_other}
 use Rattle.ot_top.proofs.Told.{IsAnswered}
 
 -- a reply of another status
@@ -76,7 +82,7 @@ same_other : (same : Bool) → ◌≢◌ {A = ℕ} (if same then 0 else 1) 3
 same_other true is = absurd (omega (arith, is))
 same_other false is = absurd (omega (arith, is))
 
-differ_other : (differ : Option (ℕ × ℕ)) → differ_status differ ≢ 3
+differ_other : {X : Type 0} → (differ : Option X) → differ_status differ ≢ 3
 differ_other None is = absurd (omega (arith, is))
 differ_other (Some pair) is = absurd (omega (arith, is))
 
@@ -103,11 +109,11 @@ not_taken_other i (takes.Stuck o) r tells = named_so r (replies.StuckAt i) 1 tel
 not_taken_other i takes.Spent r tells = named_so r replies.Spent 8 tells refl (λ e. omega (arith, e))
 not_taken_other i takes.NoMemory r tells = absurd tells
 
-runs_other : (v : View) (i : ℕ) (events : List Event) (r : Reply) → Runs v i events r → status_of r ≢ 3
-runs_other v i [] r tells = sites_other v r tells
-runs_other v i (Make s o ∷ events) r (inl refused) = not_made_other i refused.0 r refused.2
-runs_other v i (Take s n ∷ events) r (inl refused) = not_taken_other i refused.0 r refused.3
-runs_other v i (event ∷ events) r (inr done) = runs_other done.0 (i + 1) events r done.2
+session_runs_other : (v : View) (i : ℕ) (events : List Event) (r : Reply) → Runs v i events r → status_of r ≢ 3
+session_runs_other v i [] r tells = sites_other v r tells
+session_runs_other v i (Make s o ∷ events) r (inl refused) = not_made_other i refused.0 r refused.2
+session_runs_other v i (Take s n ∷ events) r (inl refused) = not_taken_other i refused.0 r refused.3
+session_runs_other v i (event ∷ events) r (inr done) = session_runs_other done.0 (i + 1) events r done.2
 
 trial_other : (f : Function) (read : Result Trial CaseFault) (r : Reply) → IsReplyToTrial f read r → status_of r ≢ 3
 trial_other f (Err fault) r tells = refused_case fault r tells
@@ -115,7 +121,16 @@ trial_other f (Ok t) r tells = outcomes_other _ r tells
 
 script_other : (f : Function) (read : Result Script CaseFault) (r : Reply) → IsReplyToScript f read r → status_of r ≢ 3
 script_other f (Err fault) r tells = refused_case fault r tells
-script_other f (Ok script) r tells = runs_other tells.0 0 script.events r tells.2
+script_other f (Ok script) r tells = session_runs_other tells.0 0 script.events r tells.2
+
+hub_other : (hub : HubData) (r : Reply) → TellsHub hub r → status_of r ≢ 3
+hub_other hub (replies.Served end) tells = differ_other end.differ
+hub_other hub _ tells = absurd tells
+
+hub_script_other : (f : Function) (read : Result HubScript CaseFault) (r : Reply) → IsReplyToHubScript f read r → status_of r ≢ 3
+hub_script_other f (Err fault) r tells = refused_case fault r tells
+hub_script_other f (Ok script) r tells =
+    runs_other TellsHub IsRefused IsDone 3 hub_other refused_other (begun f script.doc script.clients) 0 script.events r tells
 
 case_reply_other : (f : Function) (bytes : List ℕ) (r : Reply) → IsReplyToCase f bytes r → status_of r ≢ 3
 unfolding IsReplyToCase
@@ -124,6 +139,10 @@ case_reply_other f bytes r tells = trial_other f (trial_in f bytes) r tells
 session_reply_other : (f : Function) (bytes : List ℕ) (r : Reply) → IsReplyToSession f bytes r → status_of r ≢ 3
 unfolding IsReplyToSession
 session_reply_other f bytes r tells = script_other f (script_in bytes) r tells
+
+hub_reply_other : (f : Function) (bytes : List ℕ) (r : Reply) → IsReplyToHub f bytes r → status_of r ≢ 3
+unfolding IsReplyToHub
+hub_reply_other f bytes r tells = hub_script_other f (hub_script_in bytes) r tells
 
 file_other : (told : Option (List ℕ)) (Gets : List ℕ → Type 0) (r : Reply) → ((bytes : List ℕ) → Gets bytes → status_of r ≢ 3)
     → IsReplyToFile files.Case told Gets r → status_of r ≢ 3
@@ -167,6 +186,10 @@ module _ (texts_are_read : (bytes : List ℕ) (f : Function) → IsTextOf bytes 
       let same : function ≡ name = cc in
       read_or_not (holds function) bytes _ r (ap (λ n. holds n) same ∙ told) small
       (λ f gets. file_other (holds session) (λ b. IsReplyToSession f b r) r (λ b. session_reply_other f b r) gets) reply
+  unread_reply holds (Hub function hub) name bytes r named told small reply =
+      let same : function ≡ name = cc in
+      read_or_not (holds function) bytes _ r (ap (λ n. holds n) same ∙ told) small
+      (λ f gets. file_other (holds hub) (λ b. IsReplyToHub f b r) r (λ b. hub_reply_other f b r) gets) reply
   unread_reply holds (Drill number) name bytes r named told small reply = absurd (cc)
 
   pub unread :

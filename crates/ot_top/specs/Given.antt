@@ -3,7 +3,7 @@ use Rattle.std.specs.Prelude.{◌≡◌, ◌⊎◌, ℕ, List, Option, IfSome}
 use Rattle.std.specs.Option.{ForSome}
 use Rattle.ot_outside.specs.Reads.{Reads, after_reading}
 use Rattle.ot_replies.specs.declared.reply.Reply.{Reply}
-use Rattle.ot_words.specs.Commands.{Asked, Prove, Check, Integrate, Replay, Drill}
+use Rattle.ot_words.specs.Commands.{Asked, Prove, Check, Integrate, Replay, Hub, Drill}
 use Rattle.ot_words.specs.Words.{asked_by}
 use Rattle.ot_top.specs.Replies.{IsReply, IsReplyTo}
 use Rattle.ot_top.specs.Steady.{AreSteady, IsSteadyReply}
@@ -33,6 +33,7 @@ HasRead old new (Prove level budget function) = new ≡ after_reading function n
 HasRead old new (Check function certificate) = HaveRead old new function certificate
 HasRead old new (Integrate function case) = HaveRead old new function case
 HasRead old new (Replay function session) = HaveRead old new function session
+HasRead old new (Hub function hub) = HaveRead old new function hub
 HasRead old new (Drill number) = Unit {0}
 
 -- of the files of a command `holds` tells nothing but the bytes that were given
@@ -44,6 +45,8 @@ TellsGiven old new holds (Integrate function case) =
     ForSome (holds function) (IsReadFirst old new function) × ForSome (holds case) (IsReadSecond old new case)
 TellsGiven old new holds (Replay function session) =
     ForSome (holds function) (IsReadFirst old new function) × ForSome (holds session) (IsReadSecond old new session)
+TellsGiven old new holds (Hub function hub) =
+    ForSome (holds function) (IsReadFirst old new function) × ForSome (holds hub) (IsReadSecond old new hub)
 TellsGiven old new holds (Drill number) = Unit {0}
 
 -- the command has read its files, and this is the reply to it, whatever is told of what was given

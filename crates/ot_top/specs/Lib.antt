@@ -1,6 +1,8 @@
 pub mod Judgements
 pub mod Verdicts
 pub mod Sessions
+pub mod Running
+pub mod Hubs
 pub mod Drills
 pub mod Replies
 pub mod Given

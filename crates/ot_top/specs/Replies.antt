@@ -16,8 +16,9 @@ use Rattle.ot_replies.specs.declared.reply.FileKind.{FileKind}
 use Rattle.ot_replies.specs.declared.reply.FileKind.TheVariants as files
 use Rattle.ot_replies.specs.declared.reply.Reply.{Reply}
 use Rattle.ot_replies.specs.declared.reply.Reply.TheVariants.{FunctionRefused, CaseRefused, Integrated, Usage}
-use Rattle.ot_words.specs.Commands.{Asked, Prove, Check, Integrate, Replay, Drill}
+use Rattle.ot_words.specs.Commands.{Asked, Prove, Check, Integrate, Replay, Hub, Drill}
 use Rattle.ot_top.specs.Drills.{IsReplyToDrill}
+use Rattle.ot_top.specs.Hubs.{IsReplyToHub}
 use Rattle.ot_top.specs.Judgements.{IsReplyToCertificate}
 use Rattle.ot_replies.specs.Limits.{limit_of, IsTooLong}
 use Rattle.ot_top.specs.Sessions.{IsReplyToSession}
@@ -68,6 +69,16 @@ IsReplyToTrial f (Ok t) r = TellsOutcomes (outcomes_of f t) r
 unfoldable pub IsReplyToCase : Function → List ℕ → Reply → Type 0
 IsReplyToCase f bytes r = IsReplyToTrial f (trial_in f bytes) r
 
+-- the reply to a case's file, to a session's, and to a hub's
+abbrev pub IsReplyToCaseFile : Function → Option (List ℕ) → Reply → Type 0
+IsReplyToCaseFile f told r = IsReplyToFile files.Case told (λ bytes. IsReplyToCase f bytes r) r
+
+abbrev pub IsReplyToSessionFile : Function → Option (List ℕ) → Reply → Type 0
+IsReplyToSessionFile f told r = IsReplyToFile files.Case told (λ bytes. IsReplyToSession f bytes r) r
+
+abbrev pub IsReplyToHubFile : Function → Option (List ℕ) → Reply → Type 0
+IsReplyToHubFile f told r = IsReplyToFile files.Case told (λ bytes. IsReplyToHub f bytes r) r
+
 -- the reply to a command, where `holds` says what each name holds
 abbrev pub IsReplyTo : (List ℕ → Option (List ℕ)) → Asked → Reply → Type 0
 IsReplyTo holds (Prove level budget function) r =
@@ -75,11 +86,11 @@ IsReplyTo holds (Prove level budget function) r =
 IsReplyTo holds (Check function certificate) r =
     IsReplyToFunction (holds function) (λ f. IsReplyToCertificate f (holds certificate) r) r
 IsReplyTo holds (Integrate function case) r =
-    IsReplyToFunction (holds function)
-    (λ f. IsReplyToFile files.Case (holds case) (λ bytes. IsReplyToCase f bytes r) r) r
+    IsReplyToFunction (holds function) (λ f. IsReplyToCaseFile f (holds case) r) r
 IsReplyTo holds (Replay function session) r =
-    IsReplyToFunction (holds function)
-    (λ f. IsReplyToFile files.Case (holds session) (λ bytes. IsReplyToSession f bytes r) r) r
+    IsReplyToFunction (holds function) (λ f. IsReplyToSessionFile f (holds session) r) r
+IsReplyTo holds (Hub function hub) r =
+    IsReplyToFunction (holds function) (λ f. IsReplyToHubFile f (holds hub) r) r
 IsReplyTo holds (Drill number) r = IsReplyToDrill number r
 
 -- the reply to words
@@ -96,4 +107,5 @@ AreOffered holds Offered (Prove level budget function) = Offered function
 AreOffered holds Offered (Check function certificate) = Offered function × (GoesOn (holds function) → Offered certificate)
 AreOffered holds Offered (Integrate function case) = Offered function × (GoesOn (holds function) → Offered case)
 AreOffered holds Offered (Replay function session) = Offered function × (GoesOn (holds function) → Offered session)
+AreOffered holds Offered (Hub function hub) = Offered function × (GoesOn (holds function) → Offered hub)
 AreOffered holds Offered (Drill number) = Unit {0}

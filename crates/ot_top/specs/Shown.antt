@@ -25,7 +25,7 @@ use Rattle.ot_replies.specs.declared.reply.FileKind.TheVariants as files
 use Rattle.ot_replies.specs.declared.reply.Reply.{Reply}
 use Rattle.ot_replies.specs.declared.reply.Drilled.{Drilled}
 use Rattle.ot_replies.specs.declared.reply.Reply.TheVariants.{Accepted, Spent}
-use Rattle.ot_words.specs.Commands.{Asked, Prove, Check, Integrate, Replay, Drill}
+use Rattle.ot_words.specs.Commands.{Asked, Prove, Check, Integrate, Replay, Hub, Drill}
 use Rattle.ot_top.specs.Drills.{IsDrilled}
 use Rattle.ot_replies.specs.DrillTexts.{drill_text}
 use Rattle.ot_replies.specs.CounterTexts.{counter_text}
@@ -130,6 +130,7 @@ function_name (Prove level budget name) = Some name
 function_name (Check name certificate_name) = Some name
 function_name (Integrate name case) = Some name
 function_name (Replay name session) = Some name
+function_name (Hub name hub) = Some name
 function_name (Drill number) = None
 
 -- the words name a function's file; where that is told and within its limit, the status is 3 exactly where it is the text

@@ -10,6 +10,7 @@ ghost use Rattle.ot_words.specs.Words.{IsWithinBounds, asked_by};
 
 use crate::check::check;
 use crate::drill::drill;
+use crate::hub::hub;
 use crate::integrate::integrate;
 use crate::load::Stop;
 use crate::prove::prove;
@@ -25,12 +26,8 @@ fn reply_to<H: Shelf>(alloc: Global, shelf: &mut H, command: &Command<'_>) -> Re
     requires within { IsWithinBounds (asked_of command.now) }
 
     ensures ok { IfOk result (λ reply. IsReplyTo (H.holds shelf.old) (asked_of command.now) reply) }
-    ensures replied { (r : Reply) → result ≡ Err (Stop.Replied r) → IsReplyTo (H.holds shelf.old) (asked_of command.now) r }
     ensures steady { IfOk result (λ reply. IsSteadyReply (H.holds shelf.old) (asked_of command.now) reply) }
-    ensures steady_replied { (r : Reply) → result ≡ Err (Stop.Replied r) → IsSteadyReply (H.holds shelf.old) (asked_of command.now) r }
     ensures given { IfOk result (IsReplyOfGiven (H.reads shelf.old) (H.reads shelf.new) (asked_of command.now)) }
-    ensures given_replied { (r : Reply) → result ≡ Err (Stop.Replied r)
-        → IsReplyOfGiven (H.reads shelf.old) (H.reads shelf.new) (asked_of command.now) r }
     ensures shelf { IsErrOf result Stop.Shelf → Rose (H.faults shelf.old) (H.faults shelf.new) }
     ensures unchanged { Unchanged H.holds H.offered H.faults shelf.old shelf.new }
 {
@@ -46,6 +43,10 @@ fn reply_to<H: Shelf>(alloc: Global, shelf: &mut H, command: &Command<'_>) -> Re
         } => check(alloc, shelf, function, certificate),
         Command::Integrate { function, case } => integrate(alloc, shelf, function, case),
         Command::Replay { function, session } => replay(alloc, shelf, function, session),
+        Command::Hub {
+            function,
+            hub: name,
+        } => hub(alloc, shelf, function, name),
         Command::Drill { number } => Ok(drill(alloc, number)?),
     }
 }
@@ -59,12 +60,8 @@ pub(crate) fn answer<H: Shelf>(
     requires { IfSome (asked_by (map string_bytes words.now)) (AreOffered (H.holds shelf.old) (H.offered shelf.old)) }
 
     ensures ok { IfOk result (λ reply. IsReply (map string_bytes words.now) (H.holds shelf.old) reply) }
-    ensures replied { (r : Reply) → result ≡ Err (Stop.Replied r) → IsReply (map string_bytes words.now) (H.holds shelf.old) r }
     ensures steady { IfOk result (λ reply. AreSteady (map string_bytes words.now) (H.holds shelf.old) reply) }
-    ensures steady_replied { (r : Reply) → result ≡ Err (Stop.Replied r) → AreSteady (map string_bytes words.now) (H.holds shelf.old) r }
     ensures given { IfOk result (IsAnswerOfGiven (map string_bytes words.now) (H.reads shelf.old) (H.reads shelf.new)) }
-    ensures given_replied { (r : Reply) → result ≡ Err (Stop.Replied r)
-        → IsAnswerOfGiven (map string_bytes words.now) (H.reads shelf.old) (H.reads shelf.new) r }
     ensures shelf { IsErrOf result Stop.Shelf → Rose (H.faults shelf.old) (H.faults shelf.new) }
     ensures unchanged { Unchanged H.holds H.offered H.faults shelf.old shelf.new }
 {

@@ -43,7 +43,6 @@ fn rests_on_the_end(judgement: &Result<Level, JudgeError>) -> bool
 // The reply that tells a judgement.
 fn told(judgement: Result<Level, JudgeError>) -> Result<Reply, Stop>
     ensures ok { IfOk result (λ reply. Tells judgement reply) }
-    ensures replied { (r : Reply) → result ≡ Err (Stop.Replied r) → ⊥ }
     ensures shelf { IsErrOf result Stop.Shelf → judgement ≡ Err judge.Failed }
 {
     match judgement {
@@ -65,7 +64,6 @@ fn reply_to_feed<H: Shelf>(
     requires read { IsAllOfReads feed.old }
 
     ensures ok { IfOk result (λ reply. IsReplyToCertificate (function_of rules.now) (file_left feed.old) reply) }
-    ensures replied { (r : Reply) → result ≡ Err (Stop.Replied r) → ⊥ }
     ensures shelf { IsErrOf result Stop.Shelf → Rose (H.faults (shelf_of feed.old)) (H.faults (shelf_of feed.new)) }
     ensures unchanged { Unchanged H.holds H.offered H.faults (shelf_of feed.old) (shelf_of feed.new) }
     ensures held { held_by feed.new ≡ held_by feed.old }
@@ -90,7 +88,6 @@ fn reply_to_certificate<H: Shelf>(
     requires { H.offered shelf.old name.now }
 
     ensures ok { IfOk result (λ reply. IsReplyToCertificate (function_of rules.now) (H.holds shelf.old name.now) reply) }
-    ensures replied { (r : Reply) → result ≡ Err (Stop.Replied r) → ⊥ }
     ensures given { IfOk result (λ reply.
         IsReplyToCertificate (function_of rules.now) (Some (H.reads shelf.new).bytes) reply) }
     ensures read { H.reads shelf.new ≡ after_reading name.now (H.reads shelf.new).bytes (H.reads shelf.old) }
@@ -113,15 +110,12 @@ pub(crate) fn check<H: Shelf>(
     requires certificate { GoesOn (H.holds shelf.old function.now) → H.offered shelf.old certificate.now }
 
     ensures ok { IfOk result (λ reply. IsReplyTo (H.holds shelf.old) (Check function.now certificate.now) reply) }
-    ensures replied { (r : Reply) → result ≡ Err (Stop.Replied r)
-        → IsReplyTo (H.holds shelf.old) (Check function.now certificate.now) r }
     ensures given { IfOk result (IsReplyOfGiven (H.reads shelf.old) (H.reads shelf.new) (Check function.now certificate.now)) }
-    ensures given_replied { (r : Reply) → result ≡ Err (Stop.Replied r)
-        → IsReplyOfGiven (H.reads shelf.old) (H.reads shelf.new) (Check function.now certificate.now) r }
     ensures shelf { IsErrOf result Stop.Shelf → Rose (H.faults shelf.old) (H.faults shelf.new) }
     ensures unchanged { Unchanged H.holds H.offered H.faults shelf.old shelf.new }
 {
-    let rules = load_function(alloc, shelf, function)?;
-    let reply = reply_to_certificate(alloc, shelf, &rules, certificate)?;
-    Ok(reply)
+    match load_function(alloc, shelf, function)? {
+        Ok(rules) => Ok(reply_to_certificate(alloc, shelf, &rules, certificate)?),
+        Err(reply) => Ok(reply),
+    }
 }

@@ -1,15 +1,16 @@
 //! `integrate FUNCTION CASE`: the operations of the case, integrated in each of its orders.
-ghost use Rattle.std.specs.Prelude.{◌≡◌, ◌≤◌, ◌↔◌, Err, IfOk, IsErrOf, IsTrue, All, length, map};
+ghost use Rattle.std.specs.Prelude.{◌≡◌, ◌≤◌, ◌↔◌, Some, IfOk, IsErrOf, IsTrue, All, length, map};
 ghost use Rattle.case_json.specs.Tests.{IsReady};
 ghost use Rattle.fn_rules.specs.Orders.{integrated, Document};
 ghost use Rattle.fn_rules.specs.Rules.{function_of};
 ghost use Rattle.ot_integrate.specs.Ends.{outcome_of};
 ghost use Rattle.ot_outside.specs.Faults.{Rose};
+ghost use Rattle.ot_outside.specs.Reads.{after_reading};
 ghost use Rattle.ot_outside.specs.Unchanged.{Unchanged};
 ghost use Rattle.ot_words.specs.Commands.{Integrate};
 ghost use Rattle.ot_replies.specs.Limits.{limit_of};
 ghost use Rattle.ot_top.specs.Given.{IsReplyOfGiven};
-ghost use Rattle.ot_top.specs.Replies.{GoesOn, HaveOneEnd, IsReplyTo, IsReplyToCase, TellsOutcomes, outcomes_of};
+ghost use Rattle.ot_top.specs.Replies.{GoesOn, HaveOneEnd, IsReplyTo, IsReplyToCase, IsReplyToCaseFile, TellsOutcomes, outcomes_of};
 ghost use Rattle.ot_replies.specs.declared.reply.FileKind.TheVariants as files;
 
 use crate::load::{Stop, load_function, read_file};
@@ -95,6 +96,27 @@ fn reply_to_case(alloc: Global, rules: &Rules, bytes: &[u8]) -> Result<Reply, No
     }
 }
 
+// The reply to a case's file.
+fn reply_to_case_file<H: Shelf>(
+    alloc: Global,
+    shelf: &mut H,
+    rules: &Rules,
+    name: &str,
+) -> Result<Reply, Stop>
+    requires { H.offered shelf.old name.now }
+
+    ensures ok { IfOk result (λ reply. IsReplyToCaseFile (function_of rules.now) (H.holds shelf.old name.now) reply) }
+    ensures given { IfOk result (λ reply. IsReplyToCaseFile (function_of rules.now) (Some (H.reads shelf.new).bytes) reply) }
+    ensures read { H.reads shelf.new ≡ after_reading name.now (H.reads shelf.new).bytes (H.reads shelf.old) }
+    ensures shelf { IsErrOf result Stop.Shelf → Rose (H.faults shelf.old) (H.faults shelf.new) }
+    ensures unchanged { Unchanged H.holds H.offered H.faults shelf.old shelf.new }
+{
+    match read_file(alloc, shelf, name, FileKind::Case)? {
+        Ok(bytes) => Ok(reply_to_case(alloc, rules, &bytes)?),
+        Err(reply) => Ok(reply),
+    }
+}
+
 /// The reply to the command.
 pub(crate) fn integrate<H: Shelf>(
     alloc: Global,
@@ -106,16 +128,12 @@ pub(crate) fn integrate<H: Shelf>(
     requires case { GoesOn (H.holds shelf.old function.now) → H.offered shelf.old case.now }
 
     ensures ok { IfOk result (λ reply. IsReplyTo (H.holds shelf.old) (Integrate function.now case.now) reply) }
-    ensures replied { (r : Reply) → result ≡ Err (Stop.Replied r)
-        → IsReplyTo (H.holds shelf.old) (Integrate function.now case.now) r }
     ensures given { IfOk result (IsReplyOfGiven (H.reads shelf.old) (H.reads shelf.new) (Integrate function.now case.now)) }
-    ensures given_replied { (r : Reply) → result ≡ Err (Stop.Replied r)
-        → IsReplyOfGiven (H.reads shelf.old) (H.reads shelf.new) (Integrate function.now case.now) r }
     ensures shelf { IsErrOf result Stop.Shelf → Rose (H.faults shelf.old) (H.faults shelf.new) }
     ensures unchanged { Unchanged H.holds H.offered H.faults shelf.old shelf.new }
 {
-    let rules = load_function(alloc, shelf, function)?;
-    let bytes = read_file(alloc, shelf, case, FileKind::Case)?;
-    let reply = reply_to_case(alloc, &rules, &bytes)?;
-    Ok(reply)
+    match load_function(alloc, shelf, function)? {
+        Ok(rules) => Ok(reply_to_case_file(alloc, shelf, &rules, case)?),
+        Err(reply) => Ok(reply),
+    }
 }

@@ -2,7 +2,8 @@
 ghost use Rattle.std.specs.Prelude.{◌≡◌, ◌≢◌, ℕ, List, Option, Some};
 ghost use Rattle.fn_rules.specs.declared.function.Level.{Level};
 ghost use Rattle.fn_rules.specs.Functions.{Function};
-ghost use Rattle.ot_words.specs.Commands.{Prove, Check, Integrate, Replay, Drill};
+ghost use Rattle.ot_words.specs.Commands.{Prove, Check, Integrate, Replay, Hub, Drill};
+ghost use Rattle.ot_top.specs.Hubs.{IsReplyToHub};
 ghost use Rattle.ot_top.specs.Replies.{IsReplyTo};
 ghost use Rattle.ot_top.specs.Sessions.{IsReplyToSession};
 ghost use Rattle.ot_replies.specs.Texts.{status_of};
@@ -24,6 +25,12 @@ pub fn sessions_have_one_reply()
     takes_have_one_answer();
 }
 
+/// The bytes of a hub get one reply under a function: each event is done in one way or refused for one reason, so the status and
+/// the text of `hub` are told by its files.
+pub fn hubs_have_one_reply()
+    ensures { (f : Function) (bytes : List ℕ) (one other : Reply) → IsReplyToHub f bytes one → IsReplyToHub f bytes other → one ≡ other }
+{}
+
 /// Where the files that a command names are told, two replies to the command are one, so they have one status and one text;
 /// but the certificates that `prove` writes may differ.
 pub fn commands_have_one_reply()
@@ -36,6 +43,9 @@ pub fn commands_have_one_reply()
     ensures replay { (holds : List ℕ → Option (List ℕ)) (name session_name bytes contents : List ℕ) (one other : Reply)
         → holds name ≡ Some bytes → holds session_name ≡ Some contents
         → IsReplyTo holds (Replay name session_name) one → IsReplyTo holds (Replay name session_name) other → one ≡ other }
+    ensures hub { (holds : List ℕ → Option (List ℕ)) (name hub_name bytes contents : List ℕ) (one other : Reply)
+        → holds name ≡ Some bytes → holds hub_name ≡ Some contents
+        → IsReplyTo holds (Hub name hub_name) one → IsReplyTo holds (Hub name hub_name) other → one ≡ other }
     ensures prove { (holds : List ℕ → Option (List ℕ)) (level : Level) (budget : ℕ) (name bytes : List ℕ) (one other : Reply)
         → holds name ≡ Some bytes → IsReplyTo holds (Prove level budget name) one → IsReplyTo holds (Prove level budget name) other
         → (status_of one ≡ status_of other) × (status_of one ≢ 0 → one ≡ other) }
@@ -49,4 +59,5 @@ pub fn commands_have_one_reply()
     makes_have_one_outcome();
     takes_have_one_answer();
     sessions_have_one_reply();
+    hubs_have_one_reply();
 }

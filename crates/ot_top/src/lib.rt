@@ -6,6 +6,7 @@
 //! `integrate FN CASE` integrates the operations of a case in each of its orders and compares the
 //! documents.
 //! `replay FN SESSION` runs the events of a session, and compares sites that have integrated the same operations.
+//! `hub FN HUB` runs the events of a hub, and compares its clients with its server.
 //! `drill N` generates a workload, and goes the whole way from its function to its sites.
 //!
 //! The program above relies on one clause: `run` writes the reply that `IsReply` tells, and ends with
@@ -16,6 +17,8 @@
 mod answer;
 mod check;
 mod drill;
+mod halt;
+mod hub;
 mod integrate;
 mod laws;
 mod load;
@@ -23,6 +26,6 @@ mod program;
 mod prove;
 mod replay;
 
-pub use laws::{commands_have_one_reply, sessions_have_one_reply};
-pub use ot_replies::{Drilled, EventFault, FileKind, Reply, SiteEnd};
+pub use laws::{commands_have_one_reply, hubs_have_one_reply, sessions_have_one_reply};
+pub use ot_replies::{ClientEnd, Drilled, EventFault, FileKind, HubEnd, Reply, SiteEnd};
 pub use program::{NO_MEMORY, SHELF_FAULT, SINK_FAULT, run};

@@ -1,5 +1,5 @@
-//! Files as they are read, and what stops a command before its work is done.
-ghost use Rattle.std.specs.Prelude.{◌≡◌, Some, Ok, Err, IfOk, IsErrOf};
+//! Files as they are read, and why a command gets no reply.
+ghost use Rattle.std.specs.Prelude.{◌≡◌, Some, Ok, IfErr, IfOk, IsErrOf};
 ghost use Rattle.fn_rules.specs.Rules.{function_of};
 ghost use Rattle.ot_outside.specs.Faults.{Rose};
 ghost use Rattle.ot_outside.specs.Reads.{after_reading};
@@ -14,12 +14,9 @@ use ot_outside::{Failed, ReadError, Shelf, read_all};
 use ot_replies::{FileKind, Reply};
 use std::alloc::Global;
 
-/// Why a command goes no further.
-#[derive(Debug, Drop)]
+/// Why a command gets no reply.
+#[derive(Clone, Copy, Debug)]
 pub(crate) enum Stop {
-    /// What it has read gets a reply.
-    Replied(Reply),
-
     /// The shelf failed; its count of faults rose.
     Shelf,
 
@@ -58,58 +55,61 @@ pub(crate) fn limit(kind: FileKind) -> usize
     }
 }
 
-/// The bytes of a file within its limit.
+/// The bytes of a file within its limit, or the reply to a file that is longer.
 pub(crate) fn read_file<H: Shelf>(
     alloc: Global,
     shelf: &mut H,
     name: &str,
     kind: FileKind,
-) -> Result<Vec<u8>, Stop>
+) -> Result<Result<Vec<u8>, Reply>, Stop>
     requires { H.offered shelf.old name.now }
 
-    ensures ok { IfOk result (λ bytes. Holds kind bytes.items (H.holds shelf.old name.now)) }
-    ensures replied { (r : Reply) → result ≡ Err (Stop.Replied r) → IsTooLong kind (H.holds shelf.old name.now) r }
+    ensures ok { IfOk result (λ answer. IfOk answer (λ bytes. Holds kind bytes.items (H.holds shelf.old name.now))) }
+    ensures replied { IfOk result (λ answer. IfErr answer (IsTooLong kind (H.holds shelf.old name.now))) }
 
     // Of what the calls gave, whether or not the shelf tells what the name holds.
     ensures read { H.reads shelf.new ≡ after_reading name.now (H.reads shelf.new).bytes (H.reads shelf.old) }
-    ensures given { IfOk result (λ bytes. Holds kind bytes.items (Some (H.reads shelf.new).bytes)) }
-    ensures given_replied { (r : Reply) → result ≡ Err (Stop.Replied r) → IsTooLong kind (Some (H.reads shelf.new).bytes) r }
+    ensures given { IfOk result (λ answer. IfOk answer (λ bytes. Holds kind bytes.items (Some (H.reads shelf.new).bytes))) }
+    ensures given_replied { IfOk result (λ answer. IfErr answer (IsTooLong kind (Some (H.reads shelf.new).bytes))) }
 
     ensures shelf { IsErrOf result Stop.Shelf → Rose (H.faults shelf.old) (H.faults shelf.new) }
     ensures unchanged { Unchanged H.holds H.offered H.faults shelf.old shelf.new }
 {
     let mut bytes = Vec::new(alloc);
     match read_all(shelf, name, limit(kind), &mut bytes) {
-        Ok(()) => Ok(bytes),
-        Err(ReadError::TooLong) => Err(Stop::Replied(Reply::TooLong(kind))),
+        Ok(()) => Ok(Ok(bytes)),
+        Err(ReadError::TooLong) => Ok(Err(Reply::TooLong(kind))),
         Err(ReadError::Failed) => Err(Stop::Shelf),
         Err(ReadError::NoMemory) => Err(Stop::NoMemory),
     }
 }
 
-/// The function of a file.
+/// The function of a file, or the reply to a file that is refused.
 pub(crate) fn load_function<H: Shelf>(
     alloc: Global,
     shelf: &mut H,
     name: &str,
-) -> Result<Rules, Stop>
+) -> Result<Result<Rules, Reply>, Stop>
     requires { H.offered shelf.old name.now }
 
-    ensures ok { IfOk result (λ rules. IsReadAs (Ok (function_of rules)) (H.holds shelf.old name.now)) }
-    ensures replied { (r : Reply) → result ≡ Err (Stop.Replied r) → IsFunctionRefusal (H.holds shelf.old name.now) r }
+    ensures ok { IfOk result (λ answer. IfOk answer (λ rules. IsReadAs (Ok (function_of rules)) (H.holds shelf.old name.now))) }
+    ensures replied { IfOk result (λ answer. IfErr answer (IsFunctionRefusal (H.holds shelf.old name.now))) }
 
     // Of what the calls gave, whether or not the shelf tells what the name holds.
     ensures read { H.reads shelf.new ≡ after_reading name.now (H.reads shelf.new).bytes (H.reads shelf.old) }
-    ensures given { IfOk result (λ rules. IsReadAs (Ok (function_of rules)) (Some (H.reads shelf.new).bytes)) }
-    ensures given_replied { (r : Reply) → result ≡ Err (Stop.Replied r) → IsFunctionRefusal (Some (H.reads shelf.new).bytes) r }
+    ensures given { IfOk result (λ answer. IfOk answer (λ rules. IsReadAs (Ok (function_of rules)) (Some (H.reads shelf.new).bytes))) }
+    ensures given_replied { IfOk result (λ answer. IfErr answer (IsFunctionRefusal (Some (H.reads shelf.new).bytes))) }
 
     ensures shelf { IsErrOf result Stop.Shelf → Rose (H.faults shelf.old) (H.faults shelf.new) }
     ensures unchanged { Unchanged H.holds H.offered H.faults shelf.old shelf.new }
 {
-    let bytes = read_file(alloc, shelf, name, FileKind::Function)?;
+    let bytes = match read_file(alloc, shelf, name, FileKind::Function)? {
+        Ok(bytes) => bytes,
+        Err(reply) => return Ok(Err(reply)),
+    };
     match read_rules(alloc, &bytes) {
-        Ok(rules) => Ok(rules),
-        Err(TextError::Fault(fault)) => Err(Stop::Replied(Reply::FunctionRefused(fault))),
+        Ok(rules) => Ok(Ok(rules)),
+        Err(TextError::Fault(fault)) => Ok(Err(Reply::FunctionRefused(fault))),
         Err(TextError::NoMemory) => Err(Stop::NoMemory),
     }
 }

@@ -60,7 +60,6 @@ fn write_answer<H: Shelf, S: Sink>(
 {
     let reply = match answer(alloc, words, shelf) {
         Ok(reply) => reply,
-        Err(Stop::Replied(reply)) => reply,
         Err(Stop::Shelf) => return SHELF_FAULT,
         Err(Stop::NoMemory) => return NO_MEMORY,
     };

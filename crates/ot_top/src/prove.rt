@@ -1,5 +1,5 @@
 //! `prove [--tp1] [--budget N] FUNCTION`: a certificate of the function, or a counterexample.
-ghost use Rattle.std.specs.Prelude.{◌≡◌, Err, IfOk, IsErrOf, IsTrue};
+ghost use Rattle.std.specs.Prelude.{◌≡◌, IfOk, IsErrOf, IsTrue};
 ghost use Rattle.ask_core.specs.Plans.{Fails};
 ghost use Rattle.diff_graph.specs.Literals.{IsPossible};
 ghost use Rattle.fn_rules.specs.Obligations.{is_obligation};
@@ -86,15 +86,12 @@ pub(crate) fn prove<H: Shelf>(
     requires { H.offered shelf.old function.now }
 
     ensures ok { IfOk result (λ reply. IsReplyTo (H.holds shelf.old) (Prove level budget function.now) reply) }
-    ensures replied { (r : Reply) → result ≡ Err (Stop.Replied r)
-        → IsReplyTo (H.holds shelf.old) (Prove level budget function.now) r }
     ensures given { IfOk result (IsReplyOfGiven (H.reads shelf.old) (H.reads shelf.new) (Prove level budget function.now)) }
-    ensures given_replied { (r : Reply) → result ≡ Err (Stop.Replied r)
-        → IsReplyOfGiven (H.reads shelf.old) (H.reads shelf.new) (Prove level budget function.now) r }
     ensures shelf { IsErrOf result Stop.Shelf → Rose (H.faults shelf.old) (H.faults shelf.new) }
     ensures unchanged { Unchanged H.holds H.offered H.faults shelf.old shelf.new }
 {
-    let rules = load_function(alloc, shelf, function)?;
-    let reply = reply_to_function(alloc, &rules, level, budget)?;
-    Ok(reply)
+    match load_function(alloc, shelf, function)? {
+        Ok(rules) => Ok(reply_to_function(alloc, &rules, level, budget)?),
+        Err(reply) => Ok(reply),
+    }
 }

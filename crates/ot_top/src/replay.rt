@@ -1,5 +1,5 @@
 //! `replay FUNCTION SESSION`: the events of a session, and whether sites that have integrated the same agree.
-ghost use Rattle.std.specs.Prelude.{◌≡◌, ◌≢◌, ◌+◌, ◌-◌, ◌≤◌, ◌↔◌, ℕ, List, length, map, reverse, Err, None, IfOk, IsErrOf, IsTrue, OnOk, Ok, true, false};
+ghost use Rattle.std.specs.Prelude.{◌≡◌, ◌≢◌, ◌+◌, ◌-◌, ◌≤◌, ◌↔◌, ℕ, List, length, map, reverse, Err, Some, None, IfOk, IsErrOf, IsTrue, OnOk, Ok, true, false};
 ghost use Rattle.std.specs.List.{list_all};
 ghost use Rattle.case_json.specs.Scripts.{IsPlayable};
 ghost use Rattle.case_json.specs.declared.limits.TheConstants.{MAX_EVENTS, MAX_SITES};
@@ -8,17 +8,19 @@ ghost use Rattle.fn_rules.specs.Rules.{function_of};
 ghost use Rattle.ot_causal.specs.Members.{has, have_one_set};
 ghost use Rattle.ot_causal.specs.Sessions.{IsSite};
 ghost use Rattle.ot_outside.specs.Faults.{Rose};
+ghost use Rattle.ot_outside.specs.Reads.{after_reading};
 ghost use Rattle.ot_outside.specs.Unchanged.{Unchanged};
 ghost use Rattle.ot_session.specs.Views.{view_of, data_in};
 ghost use Rattle.ot_words.specs.Commands.{Replay};
 ghost use Rattle.ot_top.specs.Given.{IsReplyOfGiven};
-ghost use Rattle.ot_top.specs.Replies.{GoesOn, IsReplyTo};
+ghost use Rattle.ot_top.specs.Replies.{GoesOn, IsReplyTo, IsReplyToSessionFile};
 ghost use Rattle.ot_top.specs.Sessions.{Differ, IsDone, IsFirstOther, IsFirstPair, IsRefused, IsReplyToSession, IsReplyToScript};
 ghost use Rattle.ot_top.specs.Sessions.{Runs, TellsNotMade, TellsNotTaken, TellsSites, end_of};
 ghost use Rattle.ot_top.specs.Steady.{IsSteadyReply, MakesSitesAgree};
 ghost use Rattle.ot_replies.specs.Texts.{status_of};
-ghost use Rattle.ot_top.specs.declared.replay.Halt.TheVariants as halts;
+ghost use Rattle.ot_top.specs.declared.halt.Halt.TheVariants as halts;
 
+use crate::halt::Halt;
 use crate::load::{Stop, load_function, read_file};
 use case_json::{CaseFault, Event, Name, Script, script_read};
 use fn_rules::Rules;
@@ -29,16 +31,6 @@ use ot_replies::{EventFault, FileKind, Reply, SiteEnd};
 use ot_session::{Make, Session, Take};
 use plain_list::List;
 use std::alloc::Global;
-
-// Why events are run no further.
-#[derive(Debug, Drop)]
-enum Halt {
-    // An event is refused, and the session gets this reply.
-    Refused(Reply),
-
-    // The allocator refused memory.
-    NoMemory,
-}
 
 // What comes of an operation that is not made, in the event with this number.
 fn not_made(number: u32, why: Make) -> Halt
@@ -248,6 +240,28 @@ fn reply_to_session(alloc: Global, rules: &Rules, bytes: &[u8]) -> Result<Reply,
     }
 }
 
+// The reply to a session's file.
+fn reply_to_session_file<H: Shelf>(
+    alloc: Global,
+    shelf: &mut H,
+    rules: &Rules,
+    name: &str,
+) -> Result<Reply, Stop>
+    requires { H.offered shelf.old name.now }
+
+    ensures ok { IfOk result (λ reply. IsReplyToSessionFile (function_of rules.now) (H.holds shelf.old name.now) reply) }
+    ensures steady { MakesSitesAgree (function_of rules.now) → IfOk result (λ reply. status_of reply ≢ 1) }
+    ensures given { IfOk result (λ reply. IsReplyToSessionFile (function_of rules.now) (Some (H.reads shelf.new).bytes) reply) }
+    ensures read { H.reads shelf.new ≡ after_reading name.now (H.reads shelf.new).bytes (H.reads shelf.old) }
+    ensures shelf { IsErrOf result Stop.Shelf → Rose (H.faults shelf.old) (H.faults shelf.new) }
+    ensures unchanged { Unchanged H.holds H.offered H.faults shelf.old shelf.new }
+{
+    match read_file(alloc, shelf, name, FileKind::Case)? {
+        Ok(bytes) => Ok(reply_to_session(alloc, rules, &bytes)?),
+        Err(reply) => Ok(reply),
+    }
+}
+
 /// The reply to the command.
 pub(crate) fn replay<H: Shelf>(
     alloc: Global,
@@ -259,18 +273,13 @@ pub(crate) fn replay<H: Shelf>(
     requires session { GoesOn (H.holds shelf.old function.now) → H.offered shelf.old session.now }
 
     ensures ok { IfOk result (λ reply. IsReplyTo (H.holds shelf.old) (Replay function.now session.now) reply) }
-    ensures replied { (r : Reply) → result ≡ Err (Stop.Replied r)
-        → IsReplyTo (H.holds shelf.old) (Replay function.now session.now) r }
     ensures steady { IfOk result (λ reply. IsSteadyReply (H.holds shelf.old) (Replay function.now session.now) reply) }
-    ensures steady_replied { (r : Reply) → result ≡ Err (Stop.Replied r) → status_of r ≢ 1 }
     ensures given { IfOk result (IsReplyOfGiven (H.reads shelf.old) (H.reads shelf.new) (Replay function.now session.now)) }
-    ensures given_replied { (r : Reply) → result ≡ Err (Stop.Replied r)
-        → IsReplyOfGiven (H.reads shelf.old) (H.reads shelf.new) (Replay function.now session.now) r }
     ensures shelf { IsErrOf result Stop.Shelf → Rose (H.faults shelf.old) (H.faults shelf.new) }
     ensures unchanged { Unchanged H.holds H.offered H.faults shelf.old shelf.new }
 {
-    let rules = load_function(alloc, shelf, function)?;
-    let bytes = read_file(alloc, shelf, session, FileKind::Case)?;
-    let reply = reply_to_session(alloc, &rules, &bytes)?;
-    Ok(reply)
+    match load_function(alloc, shelf, function)? {
+        Ok(rules) => Ok(reply_to_session_file(alloc, shelf, &rules, session)?),
+        Err(reply) => Ok(reply),
+    }
 }

@@ -8,9 +8,9 @@ use Rattle.clap.specs.ValueTests.{is_unsigned_in}
 use Rattle.clap.specs.Words.{Row, first_of}
 use Rattle.clap.specs.declared.builder.value_parser.ValueParser.TheVariants.{Unsigned}
 use Rattle.fn_rules.specs.declared.function.Level.{Level}
-use Rattle.ot_words.specs.Commands.{Asked, Prove, Check, Integrate, Replay, Drill}
+use Rattle.ot_words.specs.Commands.{Asked, Prove, Check, Integrate, Replay, Hub, Drill}
 use Rattle.ot_drill.specs.declared.limits.TheConstants.{MOST_ROUNDS}
-use Rattle.ot_words.specs.Words.{IsWithinBounds, asked_by, check_in, drill_app, drill_by, drill_in, found_by, integrate_in, level_by, most_questions}
+use Rattle.ot_words.specs.Words.{IsWithinBounds, asked_by, check_in, drill_app, drill_by, drill_in, found_by, hub_in, integrate_in, level_by, most_questions}
 use Rattle.ot_words.specs.Words.{names_by, number_by, prove_app, prove_by, prove_in, replay_in}
 
 number_within : (most : ℕ) (text : List ℕ) (n : ℕ) → number_by most text ≡ Some n → n ≤ most
@@ -118,4 +118,6 @@ within_bounds (word ∷ words) =
     (names_are_within Integrate (λ one other. tt) (names_by (codes "integrate") words))
     (one_of (bytes_eq word (codes "replay")) (replay_in words) _
     (names_are_within Replay (λ one other. tt) (names_by (codes "replay") words))
-    (one_of (bytes_eq word (codes "drill")) (drill_in words) None (drills_are_within words) none_is_within))))
+    (one_of (bytes_eq word (codes "hub")) (hub_in words) _
+    (names_are_within Hub (λ one other. tt) (names_by (codes "hub") words))
+    (one_of (bytes_eq word (codes "drill")) (drill_in words) None (drills_are_within words) none_is_within)))))

@@ -13,6 +13,8 @@ pub data Asked : Type 0 where
   Integrate : List ℕ → List ℕ → Asked
   -- of a function's file and a session's file: the events are run
   Replay : List ℕ → List ℕ → Asked
+  -- of a function's file and a hub's file: the events are run
+  Hub : List ℕ → List ℕ → Asked
   -- the workload of a number is gone through
   Drill : ℕ → Asked
 
@@ -21,4 +23,5 @@ asked_of (rust.Prove level budget function) = Prove level budget function.now
 asked_of (rust.Check function certificate) = Check function.now certificate.now
 asked_of (rust.Integrate function case) = Integrate function.now case.now
 asked_of (rust.Replay function session) = Replay function.now session.now
+asked_of (rust.Hub function hub) = Hub function.now hub.now
 asked_of (rust.Drill number) = Drill number

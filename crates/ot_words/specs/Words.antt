@@ -9,7 +9,7 @@ use Rattle.clap.specs.declared.builder.value_parser.ValueParser.TheVariants.{Uns
 use Rattle.fn_rules.specs.declared.function.Level.{Level}
 use Rattle.fn_rules.specs.declared.function.Level.TheVariants.{Tp1, Tp2}
 use Rattle.ot_drill.specs.declared.limits.TheConstants.{MOST_ROUNDS}
-use Rattle.ot_words.specs.Commands.{Asked, Prove, Check, Integrate, Replay, Drill}
+use Rattle.ot_words.specs.Commands.{Asked, Prove, Check, Integrate, Replay, Hub, Drill}
 
 -- the clap command of a name, with no option for help and no arguments
 abbrev pub bare_app : List ℕ → App
@@ -105,6 +105,9 @@ integrate_in words = option_map (λ names. Integrate names.0 names.1) (names_by 
 abbrev pub replay_in : List (List ℕ) → Option Asked
 replay_in words = option_map (λ names. Replay names.0 names.1) (names_by (codes "replay") words)
 
+abbrev pub hub_in : List (List ℕ) → Option Asked
+hub_in words = option_map (λ names. Hub names.0 names.1) (names_by (codes "hub") words)
+
 -- the command that words name: the first word says which, and the others are its arguments
 abbrev pub asked_by : List (List ℕ) → Option Asked
 asked_by [] = None
@@ -113,8 +116,9 @@ asked_by (word ∷ words) =
     else (if bytes_eq word (codes "check") then check_in words
     else (if bytes_eq word (codes "integrate") then integrate_in words
     else (if bytes_eq word (codes "replay") then replay_in words
+    else (if bytes_eq word (codes "hub") then hub_in words
     else (if bytes_eq word (codes "drill") then drill_in words
-    else None))))
+    else None)))))
 
 -- the number that is asked for is within its bounds
 abbrev pub IsWithinBounds : Asked → Type 0

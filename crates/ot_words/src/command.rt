@@ -43,6 +43,15 @@ pub enum Command<'a> {
         session: &'a str,
     },
 
+    /// The events of a hub are run.
+    Hub {
+        /// The name of the function's file.
+        function: &'a str,
+
+        /// The name of the hub's file.
+        hub: &'a str,
+    },
+
     /// The workload that is generated from a number is gone through.
     Drill {
         /// The number.

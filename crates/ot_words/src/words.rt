@@ -4,7 +4,7 @@ ghost use Rattle.clap.specs.Words.{app_of, first_of, found_of, is_simple_and_fre
 ghost use Rattle.ot_drill.specs.declared.limits.TheConstants.{MOST_ROUNDS};
 ghost use Rattle.ot_words.specs.Commands.{asked_of};
 ghost use Rattle.clap.specs.declared.builder.value_parser.ValueParser.TheVariants.{Unsigned};
-ghost use Rattle.ot_words.specs.Words.{asked_by, bare_app, budget_rule, check_in, drill_app, drill_by, drill_in, found_by, integrate_in, level_by};
+ghost use Rattle.ot_words.specs.Words.{asked_by, bare_app, budget_rule, check_in, drill_app, drill_by, drill_in, found_by, hub_in, integrate_in, level_by};
 ghost use Rattle.ot_words.specs.Words.{most_questions, names_by, number_by, number_rule, prove_app, prove_by, prove_in, replay_in, required_rule, tp1_rule, two_files, values_in};
 
 use crate::command::Command;
@@ -240,6 +240,16 @@ fn replay_in<'a>(alloc: Global, words: &'a [String]) -> Result<Option<Command<'a
     }
 }
 
+// `hub FUNCTION HUB`
+fn hub_in<'a>(alloc: Global, words: &'a [String]) -> Result<Option<Command<'a>>, NoMemory>
+    ensures { IfOk result (λ command. option_map asked_of command ≡ hub_in (map string_bytes words.entry.now)) }
+{
+    match two_names(alloc, "hub", words)? {
+        Some((function, hub)) => Ok(Some(Command::Hub { function, hub })),
+        None => Ok(None),
+    }
+}
+
 // The number that clap finds.
 fn drill_by<'a>(matches: &ArgMatches<'a>) -> Option<Command<'a>>
     ensures { option_map asked_of result ≡ drill_by (rows_of (found_of matches.now)) }
@@ -273,6 +283,7 @@ pub fn read_words<'a>(alloc: Global, words: &'a [String]) -> Result<Option<Comma
         "check" => check_in(alloc, arguments),
         "integrate" => integrate_in(alloc, arguments),
         "replay" => replay_in(alloc, arguments),
+        "hub" => hub_in(alloc, arguments),
         "drill" => drill_in(alloc, arguments),
         _ => Ok(None),
     }

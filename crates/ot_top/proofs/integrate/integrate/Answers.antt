@@ -1,67 +1,43 @@
 -- The function is read, and then the case.
-use Rattle.std.proofs.Common.{inl, rules, subst, List, ℕ}
+use Rattle.std.proofs.Common.{inl, rules}
 use Rattle.fn_rules.specs.Rules.{function_of}
 use Rattle.ot_replies.specs.declared.reply.FileKind.TheVariants as files
-use Rattle.ot_top.specs.Replies.{IsReplyToCase}
-use Rattle.ot_top.specs.Replies.{IsReplyToFile}
-use Rattle.ot_top.proofs.Behind.{then_too_long, then_gets}
-use Rattle.ot_top.proofs.Given.{file_behind, have_read_both, long_behind, refused_first}
+use Rattle.ot_top.specs.Replies.{IsReplyToCase, IsReplyToCaseFile}
+use Rattle.ot_top.proofs.Behind.{then_gets}
+use Rattle.ot_top.proofs.Given.{file_told, have_read_both, refused_first, then_given}
 use Rattle.ot_top.proofs.integrate.integrate.Goals as goal
 
-pub returns-in_err-bytes-clause-replied : goal.returns-in_err-bytes-clause-replied
-returns-in_err-bytes-clause-replied g c =
-    λ r is.
-    then_too_long files.Case (g.H.Shelf.holds c.args.shelf.now c.args.function.now) (g.H.Shelf.holds c.args.shelf.now c.args.case.now)
-    (g.H.Shelf.holds c.load_function.new.shelf c.args.case.now) (function_of c.in_ok-rules.rules) (λ f bytes. IsReplyToCase f bytes r) r
-    (c.load_function.ensures.unchanged.same_files c.args.case.now) c.in_ok-rules.ensures.ok (c.in_err-bytes.ensures.replied r (search rules))
+pub returns-in_ok-reply_to_case_file-in-Ok-clause-ok : goal.returns-in_ok-reply_to_case_file-in-Ok-clause-ok
+returns-in_ok-reply_to_case_file-in-Ok-clause-ok g c =
+    then_gets (g.H.Shelf.holds c.args.shelf.now c.args.function.now) (g.H.Shelf.holds c.args.shelf.now c.args.case.now)
+    (g.H.Shelf.holds c.load_function.new.shelf c.args.case.now) (function_of c.in-Ok.rules)
+    (λ told f. IsReplyToCaseFile f told c.in_ok-reply_to_case_file-in-Ok.field-0) c.in_ok-reply_to_case_file-in-Ok.field-0
+    (c.load_function.ensures.unchanged.same_files c.args.case.now) (search rules) c.in_ok-reply_to_case_file-in-Ok.ensures.ok
 
-pub returns-clause-ok : goal.returns-clause-ok
-returns-clause-ok g c =
-    then_gets files.Case (g.H.Shelf.holds c.args.shelf.now c.args.function.now) (g.H.Shelf.holds c.args.shelf.now c.args.case.now)
-    (g.H.Shelf.holds c.load_function.new.shelf c.args.case.now) (function_of c.in_ok-rules.rules)
-    (λ f bytes. IsReplyToCase f bytes c.in_ok-reply.reply) c.in_ok-reply.reply
-    (c.load_function.ensures.unchanged.same_files c.args.case.now) c.in_ok-rules.ensures.ok c.in_ok-bytes.bytes.items
-    c.in_ok-bytes.ensures.ok
-    (subst (λ (bytes : List ℕ). IsReplyToCase (function_of c.in_ok-rules.rules) bytes c.in_ok-reply.reply)
-    c.deref.ensures.value c.in_ok-reply.ensures)
+pub returns-in-Err-clause-given : goal.returns-in-Err-clause-given
+returns-in-Err-clause-given g c = (
+  ((g.H.Shelf.reads c.load_function.new.shelf).bytes, inl c.load_function.ensures.read),
+  λ holds tells. (
+    refused_first (g.H.Shelf.reads c.args.shelf.now) (g.H.Shelf.reads c.load_function.new.shelf) c.args.function.now
+        (g.H.Shelf.reads c.load_function.new.shelf).bytes (inl c.load_function.ensures.read) (holds c.args.function.now) tells.0 c.in-Err.reply
+        (λ f. IsReplyToCaseFile f (holds c.args.case.now) c.in-Err.reply) (search rules),
+    tt,
+  ),
+)
 
-pub returns-in_err-rules-clause-given_replied : goal.returns-in_err-rules-clause-given_replied
-returns-in_err-rules-clause-given_replied g c =
-    λ r is. (
-      ((g.H.Shelf.reads c.load_function.new.shelf).bytes, inl c.load_function.ensures.read),
-      λ holds tells.
-          let refused = c.in_err-rules.ensures.given_replied r (search rules) in (
-            refused_first (g.H.Shelf.reads c.args.shelf.now) (g.H.Shelf.reads c.load_function.new.shelf) c.args.function.now
-                (g.H.Shelf.reads c.load_function.new.shelf).bytes (inl c.load_function.ensures.read) (holds c.args.function.now) tells.0 r
-                (λ f. IsReplyToFile files.Case (holds c.args.case.now) (λ bytes. IsReplyToCase f bytes r) r) refused,
-            tt,
-          ),
-    )
-
-pub returns-in_err-bytes-clause-given_replied : goal.returns-in_err-bytes-clause-given_replied
-returns-in_err-bytes-clause-given_replied g c =
-    λ r is. (
-      have_read_both (g.H.Shelf.reads c.args.shelf.now) (g.H.Shelf.reads c.load_function.new.shelf) (g.H.Shelf.reads c.read_file.new.shelf) c.args.function.now c.args.case.now c.load_function.ensures.read c.read_file.ensures.read,
-      λ holds tells.
-          let long = c.in_err-bytes.ensures.given_replied r (search rules) in (
-            long_behind (g.H.Shelf.reads c.args.shelf.now) (g.H.Shelf.reads c.load_function.new.shelf) (g.H.Shelf.reads c.read_file.new.shelf)
-                c.args.function.now c.args.case.now c.load_function.ensures.read c.read_file.ensures.read (holds c.args.function.now)
-                (holds c.args.case.now) tells.0 tells.1 (function_of c.in_ok-rules.rules) c.in_ok-rules.ensures.given
-                r (λ f bytes. IsReplyToCase f bytes r) long,
-            tt,
-          ),
-    )
-
-pub returns-clause-given : goal.returns-clause-given
-returns-clause-given g c = (
-  have_read_both (g.H.Shelf.reads c.args.shelf.now) (g.H.Shelf.reads c.load_function.new.shelf) (g.H.Shelf.reads c.read_file.new.shelf) c.args.function.now c.args.case.now c.load_function.ensures.read c.read_file.ensures.read,
-  λ holds tells.
-      let r = c.in_ok-reply.reply in (
-        file_behind (g.H.Shelf.reads c.args.shelf.now) (g.H.Shelf.reads c.load_function.new.shelf) (g.H.Shelf.reads c.read_file.new.shelf)
-            c.args.function.now c.args.case.now c.load_function.ensures.read c.read_file.ensures.read (holds c.args.function.now)
-            (holds c.args.case.now) tells.0 tells.1 (function_of c.in_ok-rules.rules) c.in_ok-rules.ensures.given
-            r (λ f bytes. IsReplyToCase f bytes r) c.in_ok-bytes.bytes.items c.in_ok-bytes.ensures.given
-            (subst (λ (bytes : List ℕ). IsReplyToCase (function_of c.in_ok-rules.rules) bytes r) c.deref.ensures.value c.in_ok-reply.ensures),
+pub returns-in_ok-reply_to_case_file-in-Ok-clause-given : goal.returns-in_ok-reply_to_case_file-in-Ok-clause-given
+returns-in_ok-reply_to_case_file-in-Ok-clause-given g c =
+    let old = g.H.Shelf.reads c.args.shelf.now in
+    let mid = g.H.Shelf.reads c.load_function.new.shelf in
+    let new = g.H.Shelf.reads c.reply_to_case_file.new.shelf in
+    let r = c.in_ok-reply_to_case_file-in-Ok.field-0 in (
+      have_read_both old mid new c.args.function.now c.args.case.now c.load_function.ensures.read c.reply_to_case_file.ensures.read,
+      λ holds tells. (
+        then_given old mid new c.args.function.now c.args.case.now c.load_function.ensures.read c.reply_to_case_file.ensures.read
+            (holds c.args.function.now) tells.0 (function_of c.in-Ok.rules) (search rules) (holds c.args.case.now) tells.1
+            (λ told f. IsReplyToCaseFile f told r) r
+            (λ agrees. file_told files.Case (λ bytes. IsReplyToCase (function_of c.in-Ok.rules) bytes r) (holds c.args.case.now) new.bytes agrees r)
+            c.in_ok-reply_to_case_file-in-Ok.ensures.given,
         tt,
       ),
-)
+    )

@@ -1,6 +1,8 @@
 use Rattle.ot_top.proofs.OneDrill.{drill_replied_once}
 use Rattle.ot_top.proofs.OneJudgement.{check_replied_once}
-use Rattle.ot_top.proofs.OneOutcome.{integrate_replied_once, replay_replied_once}
+use Rattle.ot_top.specs.Hubs.{IsReplyToHub}
+use Rattle.ot_top.specs.Sessions.{IsReplyToSession}
+use Rattle.ot_top.proofs.OneOutcome.{file_replied_once, integrate_replied_once}
 use Rattle.ot_top.proofs.OneVerdict.{prove_replied_once}
 use Rattle.ot_top.proofs.laws.commands_have_one_reply.Goals as goal
 
@@ -17,7 +19,13 @@ returns-clause-integrate c =
 pub returns-clause-replay : goal.returns-clause-replay
 returns-clause-replay c =
     λ holds name session_name bytes contents one other told session_told first second.
-    replay_replied_once holds name session_name bytes contents one other told session_told c.sessions_have_one_reply.ensures first second
+    file_replied_once holds name session_name bytes contents one other told session_told IsReplyToSession c.sessions_have_one_reply.ensures first
+    second
+
+pub returns-clause-hub : goal.returns-clause-hub
+returns-clause-hub c =
+    λ holds name hub_name bytes contents one other told hub_told first second.
+    file_replied_once holds name hub_name bytes contents one other told hub_told IsReplyToHub c.hubs_have_one_reply.ensures first second
 
 pub returns-clause-prove : goal.returns-clause-prove
 returns-clause-prove c =

@@ -1,0 +1,81 @@
+#!/usr/bin/env python3
+"""Measures `otp hub` on great hubs: time and peak memory.
+
+usage: hub.py
+
+The function is examples/functions/sites.ot, which has TP1 alone. Sixteen clients make 64 operations each on a document of
+1,024 cells, a third of them deletions. In the first hub all of them are made, then all are sent, and then each client takes
+the whole log: the server carries most messages over 960 entries, and a client most entries over 64 pending operations. In
+the second one they are made, sent and taken in a drawn order, and then what is left. The last one has as many events as one
+can have.
+"""
+import json
+import os
+import random
+import subprocess
+import tempfile
+
+from measure import measure
+
+HERE = os.path.dirname(os.path.abspath(__file__))
+TOP = os.path.dirname(HERE)
+PROGRAM = os.path.join(TOP, "crates/otp/out/otp")
+FUNCTION = os.path.join(TOP, "examples/functions/sites.ot")
+DOCUMENT = "y" * 1_024
+
+
+def edit(client, op, at=0, char=()):
+    return ["edit", client, [op, at, *char, client]]
+
+
+def clients_of(count):
+    return range(1, count + 1)
+
+
+def edits_of(clients, each):
+    """Those of each turn, a client each, at places that every client has."""
+    return [edit(client, "del", at=turn) if turn % 3 == 2 else edit(client, "ins", at=turn, char="abc"[client % 3])
+            for turn in range(each) for client in clients_of(clients)]
+
+
+def ups_of(clients, each):
+    return [["up", client] for _ in range(each) for client in clients_of(clients)]
+
+
+def downs_of(clients, each):
+    return [["down", client] for client in clients_of(clients) for _ in range(clients * each)]
+
+
+def up_then_down(clients, each):
+    return {"doc": DOCUMENT, "sites": clients, "events": edits_of(clients, each) + ups_of(clients, each) + downs_of(clients, each)}
+
+
+def interleaved(clients, each):
+    events = edits_of(clients, each) + ups_of(clients, each) + downs_of(clients, each)
+    random.Random(1).shuffle(events)
+    return {"doc": DOCUMENT, "sites": clients, "events": events + ups_of(clients, each) + downs_of(clients, each)}
+
+
+def longest():
+    return {"doc": "", "sites": 1, "events": [edit(1, "ins", char="a")] + [["up", 1]] * 65_535}
+
+
+def report(name, hub):
+    with tempfile.NamedTemporaryFile("w", suffix=".json") as file:
+        json.dump(hub, file)
+        file.flush()
+        text, status, seconds, peak = measure([PROGRAM, "hub", FUNCTION, file.name])
+        last = text.splitlines()[-1] if text else ""
+        print(f"{name}: {len(hub['events'])} events, {seconds:.2f} s, {peak} KiB at the peak: {last} ({status})")
+
+
+def main():
+    # Builds the program where that is needed, so that it is not measured.
+    subprocess.run([os.path.join(TOP, "otp")], stdout=subprocess.DEVNULL, check=False)
+    report("all up, then all down", up_then_down(16, 64))
+    report("interleaved", interleaved(16, 64))
+    report("as many events as there can be", longest())
+
+
+if __name__ == "__main__":
+    main()
