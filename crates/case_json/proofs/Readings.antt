@@ -20,10 +20,12 @@ use Rattle.ot_model.specs.declared.op.Op.{Op}
 use Rattle.fn_rules.specs.Functions.{Function}
 use Rattle.case_json.specs.declared.limits.TheConstants.{MAX_ORDERS}
 use Rattle.case_json.specs.declared.fault.CaseFault.{CaseFault}
-use Rattle.case_json.specs.declared.fault.CaseFault.TheVariants.{Json, Field, Limit, NoMemory}
+use Rattle.case_json.specs.declared.fault.CaseFault.TheVariants.{Json, Field, Limit}
 use Rattle.case_json.specs.declared.fault.Name.TheVariants.{Doc, Ops, Orders, Cells}
+use Rattle.case_json.specs.declared.stop.CaseError.{CaseError}
+use Rattle.case_json.specs.declared.stop.CaseError.TheVariants.{Fault, NoMemory}
 use Rattle.case_json.specs.declared.trial.Trial.{Trial}
-use Rattle.case_json.specs.Faults.{Reads, and_then, seen_as}
+use Rattle.case_json.specs.Faults.{Reads, StopsAt, and_then, seen_as}
 use Rattle.case_json.specs.DocText.{cells_within, no_cells, with_first, with_cells_behind, cell_at}
 use Rattle.case_json.specs.Json.{json_in, elements_of}
 use Rattle.case_json.specs.Operations.{operation_in}
@@ -32,24 +34,18 @@ use Rattle.case_json.specs.Cases.{document_from, document_in, operations_in, ord
 use Rattle.case_json.proofs.Elements.{elements_from-few}
 use Rattle.case_json.proofs.FirstFault.{TestsDecide, faultless-ready}
 
--- a fault of the first reading is the fault of both
-pub fault_first : {A B : Type 0} (fault : CaseFault) (reading : Result A CaseFault) (further : A → Result B CaseFault)
-    → Reads (Err fault) reading → Reads (Err fault) (and_then reading further)
-fault_first fault reading further (inl wanting) = let is : fault ≡ NoMemory = cc in inl (ap Err is)
-fault_first fault reading further (inr is) = inr (rw (← is) refl)
+-- what stops the first reading stops both
+stops_first : {A B : Type 0} (error : CaseError) (reading : Result A CaseFault) (further : A → Result B CaseFault)
+    → StopsAt error reading → StopsAt error (and_then reading further)
+stops_first (Fault fault) reading further is = rw is refl
+stops_first NoMemory reading further is = tt
 
--- the same of an answer that passes the fault on
-pub fault_passed_on : {A B : Type 0} (answer : Result B CaseFault) (fault : CaseFault) (reading : Result A CaseFault)
-    (further : A → Result B CaseFault) → IsErrAnd answer (λ passed. passed ≡ fault) → Reads (Err fault) reading
+-- the same of an answer that passes the error on
+pub error_passed_on : {A B : Type 0} (answer : Result B CaseError) (error : CaseError) (reading : Result A CaseFault)
+    (further : A → Result B CaseFault) → IsErrAnd answer (λ passed. passed ≡ error) → Reads (Err error) reading
     → Reads answer (and_then reading further)
-fault_passed_on {A} {B} (Ok value) fault reading further passes reads = absurd passes
-fault_passed_on {A} {B} (Err passed) fault reading further passes reads =
-    rw passes (fault_first fault reading further reads)
-
--- a value that was read is the reading
-pub value_read : {A : Type 0} (value : A) (reading : Result A CaseFault) → Reads (Ok value) reading → reading ≡ Ok value
-value_read value reading (inl wanting) = cc
-value_read value reading (inr is) = sym is
+error_passed_on {A} {B} (Ok value) error reading further passes reads = absurd passes
+error_passed_on {A} {B} (Err passed) error reading further passes reads = rw passes (stops_first error reading further reads)
 
 memory_or_not : (code : Code) → (code ≡ OutOfMemory) ⊎ (¬ (code ≡ OutOfMemory))
 memory_or_not Invalid = inr (λ is. cc)
@@ -61,14 +57,14 @@ pub json_value : (bytes : List ℕ) (json : Data) → IsUtf8 bytes → read byte
 json_value bytes json utf8 is = rw (is_utf8-from_IsUtf8 bytes utf8, is) refl
 
 -- bytes that were not
-pub json_fault : (bytes : List ℕ) (error : Error) (answer : Result Value CaseFault)
-    → IsErrAnd answer (λ fault. (IsMemory error → fault ≡ NoMemory) × (¬ (IsMemory error) → fault ≡ Json))
+pub json_fault : (bytes : List ℕ) (error : Error) (answer : Result Value CaseError)
+    → IsErrAnd answer (λ stop. (IsMemory error → stop ≡ NoMemory) × (¬ (IsMemory error) → stop ≡ Fault Json))
     → (¬ (IsMemory error) → IsUtf8 bytes → read bytes ≡ None)
     → Reads (seen_as view answer) (ok_or (json_in bytes) Json)
 json_fault bytes error (Ok value) gives refuses = absurd gives
-json_fault bytes error (Err fault) gives refuses = elim (memory_or_not error.code) [
-  | inl memory ↦ inl (ap Err (gives.0 memory))
-  | inr other ↦ inr (ap Err (gives.1 other) ∙ sym (unread (is_utf8 bytes) refl (refuses other)))
+json_fault bytes error (Err stop) gives refuses = elim (memory_or_not error.code) [
+  | inl memory ↦ rw (gives.0 memory) tt
+  | inr other ↦ rw (gives.1 other) (unread (is_utf8 bytes) refl (refuses other))
 ]
   where
     unread : (utf8 : Bool) → is_utf8 bytes ≡ utf8 → (IsUtf8 bytes → read bytes ≡ None)

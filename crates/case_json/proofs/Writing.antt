@@ -1,14 +1,14 @@
 -- The writing of a document's text, cell by cell.
 use Rattle.std.proofs.Common.{◌≡◌, ℕ, ◌+◌, ◌<◌, List, [], ◌∷◌, ◌++◌, length, take, drop, sym, ap, ◌∙◌, append_assoc, append-nil, arith}
-use Rattle.std.proofs.Common.{get_or, inl, inr, Result, Ok, Err, OnErr}
+use Rattle.std.proofs.Common.{get_or, length-append, Some, Result, Ok, Err, OnErr}
 use Rattle.std.specs.Prelude.{encode_utf8_all}
-use Rattle.std.proofs.lemmas.List.{take_more, drop_more, take-append-drop, take-append-le, take_all}
-use Rattle.std.proofs.lemmas.Bool.{cases_lt}
+use Rattle.std.proofs.lemmas.List.{take_more, drop_more, take-append-drop, take-append-le}
 use Rattle.std.proofs.lemmas.Grind.{flat_map-append}
 use Rattle.std.proofs.lemmas.Str.{encodes-append}
-use Rattle.std.proofs.Math.Seq.{take-append-add, take-append_seam}
+use Rattle.std.proofs.Math.Seq.{take-append-add}
 use Rattle.ot_model.specs.declared.cell.Cell.{Cell}
-use Rattle.case_json.specs.DocText.{cell_text, doc_text, AppendsFront}
+use Rattle.case_json.specs.DocText.{cell_text, doc_text}
+use Rattle.ot_outside.specs.Whole.{AppendsFront}
 
 -- the bytes of a document's text
 abbrev pub doc_bytes : List Cell → List ℕ
@@ -41,20 +41,26 @@ doc_bytes-around doc i other inside =
     (ap doc_bytes (drop_more doc i other inside) ∙ doc_bytes-cons (get_or doc i other) (drop (i + 1) doc))
 
 -- a front behind what was written before
-pub front_behind : (old front new text : List ℕ) → AppendsFront (old ++ front) new text → AppendsFront old new (front ++ text)
+pub front_behind :
+    (old front new text : List ℕ) → AppendsFront (Some (old ++ front)) text (Some new)
+    → AppendsFront (Some old) (front ++ text) (Some new)
 front_behind old front new text behind =
-    let taken = sym (take-append-add front text behind.0) in
-    (length front + behind.0, behind.1 ∙ append_assoc old front (take behind.0 text) ∙ ap (λ (written : List ℕ). old ++ written) taken)
+    let taken = sym (take-append-add front text behind.0) in (
+      length front + behind.0,
+      omega (arith, behind.1, length-append front text),
+      behind.2
+          ∙ ap Some (append_assoc old front (take behind.0 text) ∙ ap (λ (written : List ℕ). old ++ written) taken),
+    )
 
 -- a front of a front
-pub front_longer : (old new text more : List ℕ) → AppendsFront old new text → AppendsFront old new (text ++ more)
-front_longer old new text more front = elim (cases_lt front.0 (length text)) [
-  | inl shorter ↦ (front.0, front.1 ∙ behind_old (sym (take-append-le front.0 text more (omega arith))))
-  | inr longer ↦ (length text, front.1 ∙ behind_old (take_all front.0 text longer ∙ sym (take-append_seam text more)))
-]
-  where
-    behind_old : {one other : List ℕ} → one ≡ other → old ++ one ≡ old ++ other
-    behind_old same = ap (λ (written : List ℕ). old ++ written) same
+pub front_longer :
+    (old new text more : List ℕ) → AppendsFront (Some old) text (Some new)
+    → AppendsFront (Some old) (text ++ more) (Some new)
+front_longer old new text more front = (
+  front.0,
+  omega (arith, front.1, length-append text more),
+  front.2 ∙ ap (λ (written : List ℕ). Some (old ++ written)) (sym (take-append-le front.0 text more front.1)),
+)
 
 -- what holds is a clause on failure
 pub on_err : {T E P : Type 0} → (r : Result T E) → P → OnErr r P
@@ -63,6 +69,6 @@ on_err (Err error) fact = fact
 
 -- a front of a text whose first part was written before
 pub front_of_rest : (old new whole written text more : List ℕ) → whole ≡ written ++ (text ++ more)
-    → AppendsFront (old ++ written) new text → AppendsFront old new whole
+    → AppendsFront (Some (old ++ written)) text (Some new) → AppendsFront (Some old) whole (Some new)
 front_of_rest old new whole written text more is front =
     rw is (front_behind old written new (text ++ more) (front_longer (old ++ written) new text more front))

@@ -1,6 +1,6 @@
 -- The text of a document: its cells in order, each as its character behind a `~` if it is dead.
 -- Texts are lists of characters here.
-use Rattle.std.specs.Prelude.{◌≡◌, ℕ, Bool, zero, suc, nat_eq, true, false, if◌then◌else◌, List, [], ◌∷◌, ◌++◌, take, Option, Some}
+use Rattle.std.specs.Prelude.{ℕ, Bool, zero, suc, nat_eq, true, false, if◌then◌else◌, List, [], ◌∷◌, Option, Some}
 use Rattle.std.specs.Prelude.{None, Result, Ok, Err}
 use Rattle.std.specs.Prelude.{is_some}
 use Rattle.std.specs.List.{flat_map}
@@ -98,7 +98,3 @@ unfoldable pub cells_within : ℕ → List ℕ → Result (List Cell) CaseFault
 cells_within zero text = no_cells text
 cells_within (suc room) [] = Ok []
 cells_within (suc room) (ch ∷ behind) = with_cells_behind (cell_at (ch ∷ behind)) (cells_within room)
-
--- a front of this text was put behind what was there
-abbrev pub AppendsFront : List ℕ → List ℕ → List ℕ → Type 0
-AppendsFront old new text = (n : ℕ) × (new ≡ old ++ take n text)

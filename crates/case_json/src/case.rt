@@ -15,6 +15,7 @@ use crate::first_fault::fault_of;
 use crate::json::list_at;
 use crate::laws::read_trials_are_ready;
 use crate::limits::MAX_ORDERS;
+use crate::stop::CaseError;
 use crate::trial::Trial;
 use fn_rules::Rules;
 use ot_model::{Doc, MAX_OPERATIONS};
@@ -22,20 +23,20 @@ use serde_json::Value;
 use std::alloc::Global;
 
 /// Reads a case for a function, and answers the first fault in the order of the tests.
-pub fn trial_read(alloc: Global, rules: &Rules, bytes: &[u8]) -> Result<Trial, CaseFault>
+pub fn trial_read(alloc: Global, rules: &Rules, bytes: &[u8]) -> Result<Trial, CaseError>
     ensures reading { Reads result (trial_in (function_of rules.now) bytes.now) }
     ensures ready { IfOk result (λ trial. IsReady (function_of rules.now) trial) }
 {
     read_trials_are_ready();
     let trial = case_read(alloc, bytes)?;
     match fault_of(rules, &trial) {
-        Some(fault) => Err(fault),
+        Some(fault) => Err(CaseError::Fault(fault)),
         None => Ok(trial),
     }
 }
 
 /// Reads the parts of a case.
-fn case_read(alloc: Global, bytes: &[u8]) -> Result<Trial, CaseFault>
+fn case_read(alloc: Global, bytes: &[u8]) -> Result<Trial, CaseError>
     ensures { Reads result (case_in bytes.now) }
 {
     let json = json_read(alloc, bytes)?;
@@ -43,13 +44,13 @@ fn case_read(alloc: Global, bytes: &[u8]) -> Result<Trial, CaseFault>
 }
 
 /// Reads bytes as JSON.
-pub(crate) fn json_read(alloc: Global, bytes: &[u8]) -> Result<Value, CaseFault>
+pub(crate) fn json_read(alloc: Global, bytes: &[u8]) -> Result<Value, CaseError>
     ensures { Reads (seen_as view result) (ok_or (json_in bytes.now) Json) }
 {
     Ok(Value::from_slice(alloc, bytes)?)
 }
 
-fn parts_read(alloc: Global, json: &Value) -> Result<Trial, CaseFault>
+fn parts_read(alloc: Global, json: &Value) -> Result<Trial, CaseError>
     ensures { Reads result (parts_in (view json.now)) }
 {
     let doc = document(alloc, json)?;
@@ -59,11 +60,11 @@ fn parts_read(alloc: Global, json: &Value) -> Result<Trial, CaseFault>
 }
 
 /// Reads the document under the key `doc`.
-pub(crate) fn document(alloc: Global, json: &Value) -> Result<Doc, CaseFault>
+pub(crate) fn document(alloc: Global, json: &Value) -> Result<Doc, CaseError>
     ensures { Reads result (document_in (view json.now)) }
 {
     match json.get("doc").and_then(Value::as_str) {
         Some(text) => doc_read(alloc, text),
-        None => Err(CaseFault::Field(Name::Doc)),
+        None => Err(CaseError::Fault(CaseFault::Field(Name::Doc))),
     }
 }

@@ -5,16 +5,18 @@ ghost use Rattle.std.specs.Option.{option_map};
 ghost use Rattle.std.specs.Str.{chars};
 ghost use Rattle.ot_model.specs.declared.cell.Cell.{Cell as CellValue};
 ghost use Rattle.case_json.specs.Faults.{Reads};
-ghost use Rattle.case_json.specs.DocText.{doc_text, cell_text, char_text, cells_within, AppendsFront};
+ghost use Rattle.case_json.specs.DocText.{doc_text, cell_text, char_text, cells_within};
 ghost use Rattle.case_json.specs.DocText.{cell_at, char_at, escaped_at, meant_by};
+ghost use Rattle.ot_outside.specs.Whole.{AppendsFront};
 
 use crate::fault::{CaseFault, Name};
+use crate::stop::CaseError;
 use ot_model::{Cell, Doc, MAX_CELLS, NoMemory};
 use std::alloc::Global;
 
 /// Reads the text of a document. Of a malformed place (`Field(Doc)`) and a cell too many
 /// (`Limit(Cells)`) it answers the one that comes first in the text.
-pub fn doc_read(alloc: Global, text: &str) -> Result<Doc, CaseFault>
+pub fn doc_read(alloc: Global, text: &str) -> Result<Doc, CaseError>
     ensures reading { Reads result (cells_within MAX_CELLS (chars text.now)) }
     ensures written { (doc : List CellValue) → length doc ≤ MAX_CELLS → chars text.now ≡ doc_text doc → Reads result (Ok doc) }
 {
@@ -22,10 +24,10 @@ pub fn doc_read(alloc: Global, text: &str) -> Result<Doc, CaseFault>
     let mut rest = text;
     while !rest.is_empty() {
         let Some((cell, behind)) = first_cell(rest) else {
-            return Err(CaseFault::Field(Name::Doc));
+            return Err(CaseError::Fault(CaseFault::Field(Name::Doc)));
         };
         if doc.len() == MAX_CELLS {
-            return Err(CaseFault::Limit(Name::Cells));
+            return Err(CaseError::Fault(CaseFault::Limit(Name::Cells)));
         }
         doc.push(cell)?;
         rest = behind;
@@ -36,7 +38,8 @@ pub fn doc_read(alloc: Global, text: &str) -> Result<Doc, CaseFault>
 /// Writes the text of a document behind what is there. Where memory is wanting, a front of it.
 pub fn doc_write(doc: &Doc, out: &mut Vec<u8>) -> Result<(), NoMemory>
     ensures ok { OnOk result (out.new.items ≡ out.old.items ++ encode_utf8_all (doc_text doc.now)) }
-    ensures err { OnErr result (AppendsFront out.old.items out.new.items (encode_utf8_all (doc_text doc.now))) }
+    ensures err { OnErr result
+        (AppendsFront (Some out.old.items) (encode_utf8_all (doc_text doc.now)) (Some out.new.items)) }
 {
     for cell in doc.cells() {
         write_cell(*cell, out)?;
@@ -47,7 +50,8 @@ pub fn doc_write(doc: &Doc, out: &mut Vec<u8>) -> Result<(), NoMemory>
 /// Writes a cell.
 fn write_cell(cell: Cell, out: &mut Vec<u8>) -> Result<(), NoMemory>
     ensures ok { OnOk result (out.new.items ≡ out.old.items ++ encode_utf8_all (cell_text cell)) }
-    ensures err { OnErr result (AppendsFront out.old.items out.new.items (encode_utf8_all (cell_text cell))) }
+    ensures err { OnErr result
+        (AppendsFront (Some out.old.items) (encode_utf8_all (cell_text cell)) (Some out.new.items)) }
 {
     if cell.live {
         return char_write(cell.ch, out);
@@ -127,7 +131,8 @@ pub(crate) fn split_char(text: &str) -> Option<(char, &str)>
 /// own. Where memory is wanting, a front of it.
 pub fn char_write(ch: char, out: &mut Vec<u8>) -> Result<(), NoMemory>
     ensures ok { OnOk result (out.new.items ≡ out.old.items ++ encode_utf8_all (char_text ch)) }
-    ensures err { OnErr result (AppendsFront out.old.items out.new.items (encode_utf8_all (char_text ch))) }
+    ensures err { OnErr result
+        (AppendsFront (Some out.old.items) (encode_utf8_all (char_text ch)) (Some out.new.items)) }
 {
     match ch {
         '\\' => out.extend_from_slice(b"\\\\"),

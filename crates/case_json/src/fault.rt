@@ -1,8 +1,5 @@
 //! What is wrong with a case or a session.
-ghost use Rattle.std.specs.Prelude.{◌≡◌};
-ghost use Rattle.case_json.specs.declared.fault.CaseFault.TheVariants.{NoMemory};
 
-use std::alloc::{AllocError, AllocFailed};
 use thiserror::Error;
 
 /// A part of a case or a session.
@@ -57,40 +54,4 @@ pub enum CaseFault {
     /// There is more of the part than is allowed.
     #[error("too many")]
     Limit(Name),
-
-    /// There was no memory.
-    #[error("out of memory")]
-    NoMemory,
-}
-
-impl From<AllocError> for CaseFault {
-    ghost from_gives = { λ _ e. e ≡ NoMemory };
-
-    fn from(_: AllocError) -> CaseFault {
-        CaseFault::NoMemory
-    }
-}
-
-impl<T: Drop> From<AllocFailed<T>> for CaseFault {
-    ghost from_gives = { λ _ e. e ≡ NoMemory };
-
-    fn from(_: AllocFailed<T>) -> CaseFault {
-        CaseFault::NoMemory
-    }
-}
-
-impl From<serde_json::Error> for CaseFault {
-    ghost use Rattle.serde_json.specs.Errors.{IsMemory};
-    ghost use Rattle.serde_json.specs.declared.error.Error as json;
-    ghost use Rattle.case_json.specs.declared.fault.CaseFault.TheVariants.{Json};
-
-    ghost from_gives = { λ error fault. (IsMemory error → fault ≡ NoMemory) × (¬ (IsMemory error) → fault ≡ Json) };
-
-    fn from(error: serde_json::Error) -> CaseFault {
-        if error.is_memory() {
-            CaseFault::NoMemory
-        } else {
-            CaseFault::Json
-        }
-    }
 }

@@ -5,11 +5,11 @@ ghost use Rattle.case_json.specs.Faults.{Reads};
 ghost use Rattle.case_json.specs.Json.{is_word};
 ghost use Rattle.case_json.specs.Hubs.{hub_event_in, hub_event_from, edit_from, move_from, hub_script_in, IsHubPlayable};
 
-use crate::fault::CaseFault;
 use crate::json::{Element, elements, number};
 use crate::limits::MAX_NUMBER;
 use crate::operation::operation;
 use crate::parts::parts_read;
+use crate::stop::CaseError;
 use ot_model::{Doc, Op};
 use plain_list::List;
 use serde_json::Value;
@@ -42,7 +42,7 @@ pub struct HubScript {
 }
 
 /// Reads the script of a hub, and answers the first fault in the order of the tests.
-pub fn hub_read(alloc: Global, bytes: &[u8]) -> Result<HubScript, CaseFault>
+pub fn hub_read(alloc: Global, bytes: &[u8]) -> Result<HubScript, CaseError>
     ensures reading { Reads result (hub_script_in bytes.now) }
     ensures limits { IfOk result IsHubPlayable }
 {

@@ -11,6 +11,7 @@ ghost use Rattle.case_json.specs.Cases.{elements_from, elements_at};
 use crate::doc_text::split_char;
 use crate::fault::{CaseFault, Name};
 use crate::limits::MAX_NUMBER;
+use crate::stop::CaseError;
 use plain_list::List;
 use serde_json::Value;
 use std::alloc::{AllocError, Global};
@@ -104,17 +105,17 @@ pub(crate) fn list_at<T: Element>(
     key: &str,
     part: Name,
     most: usize,
-) -> Result<List<T>, CaseFault>
+) -> Result<List<T>, CaseError>
     ensures { Reads result (elements_at key.now part most T.Element.meant (view json.now)) }
 {
     let Some(items) = json.get(key).and_then(elements) else {
-        return Err(CaseFault::Field(part));
+        return Err(CaseError::Fault(CaseFault::Field(part)));
     };
     if items.len() > most {
-        return Err(CaseFault::Limit(part));
+        return Err(CaseError::Fault(CaseFault::Limit(part)));
     }
     match list_of_items(alloc, items)? {
         Some(list) => Ok(list),
-        None => Err(CaseFault::Field(part)),
+        None => Err(CaseError::Fault(CaseFault::Field(part))),
     }
 }

@@ -20,6 +20,7 @@ mod operation;
 mod parts;
 mod script;
 mod session;
+mod stop;
 mod trial;
 
 pub use case::trial_read;
@@ -30,4 +31,5 @@ pub use laws::read_trials_are_ready;
 pub use limits::{MAX_EVENTS, MAX_NUMBER, MAX_ORDERS, MAX_POSITION, MAX_SITES};
 pub use script::{Event, Script};
 pub use session::script_read;
+pub use stop::CaseError;
 pub use trial::Trial;

@@ -8,6 +8,7 @@ use crate::case::{document, json_read};
 use crate::fault::{CaseFault, Name};
 use crate::json::{Element, list_at};
 use crate::limits::{MAX_EVENTS, MAX_SITES};
+use crate::stop::CaseError;
 use ot_model::Doc;
 use plain_list::List;
 use serde_json::Value;
@@ -22,7 +23,7 @@ pub(crate) struct Parts<E> {
 }
 
 /// Reads the parts of a script, and answers the first fault in the order of the tests.
-pub(crate) fn parts_read<E: Element>(alloc: Global, bytes: &[u8]) -> Result<Parts<E>, CaseFault>
+pub(crate) fn parts_read<E: Element>(alloc: Global, bytes: &[u8]) -> Result<Parts<E>, CaseError>
     ensures reading { Reads result (parts_in E.Element.meant bytes.now) }
     ensures limits { IfOk result (λ parts. AreWithinLimits parts.doc parts.sites parts.events) }
 {
@@ -30,7 +31,7 @@ pub(crate) fn parts_read<E: Element>(alloc: Global, bytes: &[u8]) -> Result<Part
     parts_of(alloc, &json)
 }
 
-fn parts_of<E: Element>(alloc: Global, json: &Value) -> Result<Parts<E>, CaseFault>
+fn parts_of<E: Element>(alloc: Global, json: &Value) -> Result<Parts<E>, CaseError>
     ensures reading { Reads result (parts_from E.Element.meant (view json.now)) }
     ensures limits { IfOk result (λ parts. AreWithinLimits parts.doc parts.sites parts.events) }
 {

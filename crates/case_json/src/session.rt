@@ -5,17 +5,17 @@ ghost use Rattle.case_json.specs.Faults.{Reads};
 ghost use Rattle.case_json.specs.Json.{is_word};
 ghost use Rattle.case_json.specs.Scripts.{event_in, event_from, make_from, take_from, script_in, IsPlayable};
 
-use crate::fault::CaseFault;
 use crate::json::{Element, elements, number};
 use crate::limits::MAX_NUMBER;
 use crate::operation::operation;
 use crate::parts::parts_read;
 use crate::script::{Event, Script};
+use crate::stop::CaseError;
 use serde_json::Value;
 use std::alloc::{AllocError, Global};
 
 /// Reads the script of a session, and answers the first fault in the order of the tests.
-pub fn script_read(alloc: Global, bytes: &[u8]) -> Result<Script, CaseFault>
+pub fn script_read(alloc: Global, bytes: &[u8]) -> Result<Script, CaseError>
     ensures reading { Reads result (script_in bytes.now) }
     ensures limits { IfOk result IsPlayable }
 {

@@ -1,11 +1,12 @@
 //! What a reader and the writers are to one another. A law is a clause and no code: a caller whose proof
 //! needs it calls it.
-ghost use Rattle.std.specs.Prelude.{◌≡◌, ℕ, ◌<◌, List, [], Result, Ok, length};
+ghost use Rattle.std.specs.Prelude.{◌≡◌, ◌++◌, ℕ, ◌<◌, List, [], Result, Ok, length};
 ghost use Rattle.fn_rules.specs.declared.function.Level.{Level};
 ghost use Rattle.fn_rules.specs.declared.function.ObName.{ObName};
 ghost use Rattle.ask_core.specs.Trees.{AnswerTree};
 ghost use Rattle.cert_text.specs.declared.item.Item.{Item};
-ghost use Rattle.cert_text.specs.Places.{Start, names_of};
+ghost use Rattle.cert_text.specs.declared.item.Part.{Part};
+ghost use Rattle.cert_text.specs.Places.{Place, Start, Stands, names_of, part_text};
 ghost use Rattle.cert_text.specs.declared.item.CertError.{CertError};
 ghost use Rattle.cert_text.specs.Reading.{Progress, Reading, Reads};
 ghost use Rattle.cert_text.specs.Certificates.{HasTrees, certificate_parts, certificate_text, placed};
@@ -30,4 +31,12 @@ pub fn read_certificates_are_written()
 /// A law and no code: whatever bytes are still to come, they give a reader some parts, and end in some way.
 pub fn all_bytes_are_read()
     ensures { (reader : Progress) (bytes : List ℕ) → (items : List Item) × (end : Result (Unit {0}) CertError) × Reads reader bytes items end }
+{}
+
+/// A law and no code: two parts that may stand at a place, and that the same bytes begin with, are the same; and each
+/// part that may stand there has some bytes.
+pub fn parts_are_told_apart()
+    ensures one_part { (place : Place) (p q : Part) (rest more : List ℕ) → Stands place p → Stands place q
+        → part_text place p ++ rest ≡ part_text place q ++ more → (p ≡ q) × (rest ≡ more) }
+    ensures some_bytes { (place : Place) (p : Part) → Stands place p → 0 < length (part_text place p) }
 {}

@@ -21,6 +21,9 @@ mod writer;
 
 pub use ask_core::{MAX_PICKS, NoMemory, Picks, Tok, Tree};
 pub use item::{CertError, Item, Part};
-pub use laws::{all_bytes_are_read, read_certificates_are_written, written_certificates_are_read};
+pub use laws::{
+    all_bytes_are_read, parts_are_told_apart, read_certificates_are_written,
+    written_certificates_are_read,
+};
 pub use reader::Reader;
 pub use writer::{write_end, write_header, write_ob};

@@ -1,10 +1,11 @@
 //! Certificates, written part by part.
-ghost use Rattle.std.specs.Prelude.{◌≡◌, ◌∷◌, ◌++◌, [], OnOk, OnErr};
+ghost use Rattle.std.specs.Prelude.{◌≡◌, ◌∷◌, ◌++◌, [], OnOk, OnErr, Some};
 ghost use Rattle.std.specs.Fmt.{decimal};
 ghost use Rattle.ask_core.specs.Trees.{AnswerTree, tokens_of};
 ghost use Rattle.cert_text.specs.Numbers.{more_numbers_text, numbers_text};
 ghost use Rattle.cert_text.specs.Spelling.{AreSpellable, end_text, header_text, ob_text, token_text, tokens_text};
-ghost use Rattle.cert_text.specs.Writing.{AppendsFront, section_text};
+ghost use Rattle.cert_text.specs.Writing.{section_text};
+ghost use Rattle.ot_outside.specs.Whole.{AppendsFront};
 
 use crate::line::{end_line, header_line, ob_line};
 use crate::{NoMemory, Tok, Tree};
@@ -15,7 +16,7 @@ use itoa::Buffer;
 /// front of it was appended.
 pub fn write_header(names: &[ObName], level: Level, out: &mut Vec<u8>) -> Result<(), NoMemory>
     ensures ok { OnOk result (out.new.items ≡ out.old.items ++ header_text names.now level) }
-    ensures err { OnErr result (AppendsFront out.old.items (header_text names.now level) out.new.items) }
+    ensures err { OnErr result (AppendsFront (Some out.old.items) (header_text names.now level) (Some out.new.items)) }
 {
     let line = header_line(*out.allocator(), names, level);
     append(line.as_slice(), out)
@@ -26,7 +27,7 @@ pub fn write_ob(name: ObName, tree: &Tree, out: &mut Vec<u8>) -> Result<(), NoMe
     requires one_tree { (t : AnswerTree) × (tree.now ≡ tokens_of t) }
     requires spellable { AreSpellable tree.now }
     ensures ok { OnOk result (out.new.items ≡ out.old.items ++ section_text name tree.now) }
-    ensures err { OnErr result (AppendsFront out.old.items (section_text name tree.now) out.new.items) }
+    ensures err { OnErr result (AppendsFront (Some out.old.items) (section_text name tree.now) (Some out.new.items)) }
 {
     let line = ob_line(*out.allocator(), name);
     append(line.as_slice(), out)?;
@@ -37,21 +38,21 @@ pub fn write_ob(name: ObName, tree: &Tree, out: &mut Vec<u8>) -> Result<(), NoMe
 /// Appends the last line. After `NoMemory` a front of it was appended.
 pub fn write_end(out: &mut Vec<u8>) -> Result<(), NoMemory>
     ensures ok { OnOk result (out.new.items ≡ out.old.items ++ end_text) }
-    ensures err { OnErr result (AppendsFront out.old.items end_text out.new.items) }
+    ensures err { OnErr result (AppendsFront (Some out.old.items) end_text (Some out.new.items)) }
 {
     append(b"end\n", out)
 }
 
 fn append(bytes: &[u8], out: &mut Vec<u8>) -> Result<(), NoMemory>
     ensures ok { OnOk result (out.new.items ≡ out.old.items ++ bytes.now) }
-    ensures err { OnErr result (AppendsFront out.old.items bytes.now out.new.items) }
+    ensures err { OnErr result (AppendsFront (Some out.old.items) bytes.now (Some out.new.items)) }
 {
     out.extend_from_slice(bytes)
 }
 
 fn write_number(number: u32, out: &mut Vec<u8>) -> Result<(), NoMemory>
     ensures ok { OnOk result (out.new.items ≡ out.old.items ++ decimal number) }
-    ensures err { OnErr result (AppendsFront out.old.items (decimal number) out.new.items) }
+    ensures err { OnErr result (AppendsFront (Some out.old.items) (decimal number) (Some out.new.items)) }
 {
     let mut buffer = Buffer::new();
     append(buffer.format(number).as_bytes(), out)
@@ -59,7 +60,8 @@ fn write_number(number: u32, out: &mut Vec<u8>) -> Result<(), NoMemory>
 
 fn write_more_numbers(numbers: &[u32], out: &mut Vec<u8>) -> Result<(), NoMemory>
     ensures ok { OnOk result (out.new.items ≡ out.old.items ++ more_numbers_text numbers.now) }
-    ensures err { OnErr result (AppendsFront out.old.items (more_numbers_text numbers.now) out.new.items) }
+    ensures err { OnErr result
+        (AppendsFront (Some out.old.items) (more_numbers_text numbers.now) (Some out.new.items)) }
 {
     let Some((first, rest)) = numbers.split_first() else {
         return Ok(());
@@ -71,7 +73,7 @@ fn write_more_numbers(numbers: &[u32], out: &mut Vec<u8>) -> Result<(), NoMemory
 
 fn write_numbers(numbers: &[u32], out: &mut Vec<u8>) -> Result<(), NoMemory>
     ensures ok { OnOk result (out.new.items ≡ out.old.items ++ numbers_text numbers.now) }
-    ensures err { OnErr result (AppendsFront out.old.items (numbers_text numbers.now) out.new.items) }
+    ensures err { OnErr result (AppendsFront (Some out.old.items) (numbers_text numbers.now) (Some out.new.items)) }
 {
     let Some((first, rest)) = numbers.split_first() else {
         return Ok(());
@@ -82,7 +84,7 @@ fn write_numbers(numbers: &[u32], out: &mut Vec<u8>) -> Result<(), NoMemory>
 
 fn write_token(tok: &Tok, out: &mut Vec<u8>) -> Result<(), NoMemory>
     ensures ok { OnOk result (out.new.items ≡ out.old.items ++ token_text tok.now) }
-    ensures err { OnErr result (AppendsFront out.old.items (token_text tok.now) out.new.items) }
+    ensures err { OnErr result (AppendsFront (Some out.old.items) (token_text tok.now) (Some out.new.items)) }
 {
     match tok {
         Tok::Ask => append(b"?", out),
@@ -98,14 +100,14 @@ fn write_token(tok: &Tok, out: &mut Vec<u8>) -> Result<(), NoMemory>
 // Writes a token that was taken out of a tree.
 fn write_taken(tok: Tok, out: &mut Vec<u8>) -> Result<(), NoMemory>
     ensures ok { OnOk result (out.new.items ≡ out.old.items ++ token_text tok) }
-    ensures err { OnErr result (AppendsFront out.old.items (token_text tok) out.new.items) }
+    ensures err { OnErr result (AppendsFront (Some out.old.items) (token_text tok) (Some out.new.items)) }
 {
     write_token(&tok, out)
 }
 
 fn write_tokens(tree: &Tree, out: &mut Vec<u8>) -> Result<(), NoMemory>
     ensures ok { OnOk result (out.new.items ≡ out.old.items ++ tokens_text tree.now) }
-    ensures err { OnErr result (AppendsFront out.old.items (tokens_text tree.now) out.new.items) }
+    ensures err { OnErr result (AppendsFront (Some out.old.items) (tokens_text tree.now) (Some out.new.items)) }
 {
     let alloc = *out.allocator();
     let mut tokens = tree.tokens();

@@ -1,10 +1,9 @@
 -- What a file is read as: a function, or the fault of the first token that cannot go on.
-use Rattle.std.specs.Prelude.{◌≡◌, ℕ, List, Result, Ok, Err, ◌⊎◌}
+use Rattle.std.specs.Prelude.{ℕ, List, Result, Ok, Err}
 use Rattle.fn_rules.specs.declared.function.Head.{Head}
 use Rattle.fn_rules.specs.Functions.{Function}
 use Rattle.fn_rules.specs.Building.{PairCases, function_from}
 use Rattle.fn_text.specs.declared.fault.TextFault.{TextFault}
-use Rattle.fn_text.specs.declared.fault.FaultKind.TheVariants as faults
 use Rattle.fn_tokens.specs.Tokens.{tokens_in}
 use Rattle.fn_text.specs.Meaning.{to_formulas}
 use Rattle.fn_text.specs.Reader.{read_from, first_state}
@@ -17,12 +16,3 @@ built_from (Err fault) = Err fault
 -- the function that bytes are read as, or the first fault
 unfoldable pub function_in : List ℕ → Result Function TextFault
 function_in bytes = built_from (read_from to_formulas (first_state to_formulas) (tokens_in bytes))
-
--- memory ran out, which no place is told of
-abbrev pub memory_fault : TextFault
-memory_fault = record { line = 0; column = 0; kind = faults.NoMemory }
-
--- what a call answered, seen by a view, is what is read, unless memory ran out
-abbrev pub Answers : {X Y : Type 0} → (X → Y) → Result X TextFault → Result Y TextFault → Type 0
-Answers view (Ok x) read = read ≡ Ok (view x)
-Answers view (Err e) read = (e ≡ memory_fault) ⊎ (read ≡ Err e)

@@ -1,11 +1,13 @@
 -- What a refusal says: the first wrong token, and its cause.
-use Rattle.std.specs.Prelude.{◌≡◌, ◌↔◌, ℕ, List, ◌∷◌, ◌++◌, reverse, Result, Ok, Err, ◌⊎◌}
+use Rattle.std.specs.Prelude.{◌≡◌, ◌↔◌, ℕ, List, ◌∷◌, ◌++◌, reverse, Result, Ok, Err}
 use Rattle.fn_rules.specs.Functions.{Function}
 use Rattle.fn_tokens.specs.declared.token.Placed.{Placed}
 use Rattle.fn_tokens.specs.Tokens.{bare, tokens_in}
 use Rattle.fn_text.specs.declared.fault.TextFault.{TextFault}
+use Rattle.fn_text.specs.declared.stop.TextError.{TextError}
+use Rattle.fn_text.specs.declared.stop.TextError.TheVariants as errors
 use Rattle.fn_text.specs.Grammar.{IsTextOf}
-use Rattle.fn_text.specs.Reading.{function_in, memory_fault}
+use Rattle.fn_text.specs.Reading.{function_in}
 use Rattle.fn_text.specs.Causes.{fault_behind}
 use Rattle.fn_text.specs.GoingOn.{GoesOn}
 
@@ -27,11 +29,15 @@ abbrev pub RefusalsAreFinal : Type 0
 RefusalsAreFinal =
     (bytes : List ℕ) (fault : TextFault) → function_in bytes ≡ Err fault → IsRefusedFor (tokens_in bytes) fault
 
--- what a call answers of bytes, seen by a view: a function whose text they are, want of memory, or the fault of their
--- first wrong token
-abbrev pub IsAnswerFor : {X : Type 0} → (X → Function) → List ℕ → Result X TextFault → Type 0
+-- what a call answers of bytes, seen by a view: a function whose text they are, the fault of their first wrong token, or
+-- want of memory, which says nothing of them
+abbrev pub IsStoppedFor : List ℕ → TextError → Type 0
+IsStoppedFor bytes (errors.Fault fault) = IsRefusedFor (tokens_in bytes) fault
+IsStoppedFor bytes errors.NoMemory = Unit {0}
+
+abbrev pub IsAnswerFor : {X : Type 0} → (X → Function) → List ℕ → Result X TextError → Type 0
 IsAnswerFor view bytes (Ok x) = IsTextOf bytes (view x)
-IsAnswerFor view bytes (Err fault) = (fault ≡ memory_fault) ⊎ IsRefusedFor (tokens_in bytes) fault
+IsAnswerFor view bytes (Err error) = IsStoppedFor bytes error
 
 -- what a file is: the text of a function, or refused for a fault
 abbrev pub IsAnsweredBy : List ℕ → Result Function TextFault → Type 0

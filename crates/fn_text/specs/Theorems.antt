@@ -5,8 +5,6 @@ use Rattle.fn_rules.specs.declared.guard.Tightness.TheVariants.{Loose}
 use Rattle.fn_rules.specs.Formulas.{Formula}
 use Rattle.fn_rules.specs.Functions.{Function}
 use Rattle.fn_rules.specs.Validity.{is_valid}
-use Rattle.fn_rules.specs.declared.rules.Rules.{Rules}
-use Rattle.fn_rules.specs.Rules.{function_of}
 use Rattle.fn_tokens.specs.declared.token.Token.{Token}
 use Rattle.fn_tokens.specs.declared.token.Token.TheVariants.{Open, FileEnd}
 use Rattle.fn_tokens.specs.declared.token.Placed.{Placed}
@@ -15,7 +13,7 @@ use Rattle.fn_tokens.specs.Tokens.{tokens_in, bare}
 use Rattle.fn_text.specs.Print.{guard_tokens, function_tokens, printed}
 use Rattle.fn_text.specs.Meaning.{Maker, to_formulas}
 use Rattle.fn_text.specs.Reader.{State, turn}
-use Rattle.fn_text.specs.Reading.{function_in, memory_fault}
+use Rattle.fn_text.specs.Reading.{function_in}
 use Rattle.fn_text.specs.Grammar.{Phrase, written_as, made, IsTextOf}
 
 -- bytes that are the text of a function are read as that function
@@ -37,11 +35,6 @@ PrintsAreTexts = (f : Function) → IsTrue (is_valid f) → IsTextOf (printed f)
 -- so it is read as that function
 abbrev pub PrintsAreRead : Type 0
 PrintsAreRead = (f : Function) → IsTrue (is_valid f) → function_in (printed f) ≡ Ok f
-
--- what reading a printed text answers: the function, unless memory ran out
-abbrev pub IsReadBack : Function → Result Rules TextFault → Type 0
-IsReadBack f (Ok rules) = function_of rules ≡ f
-IsReadBack f (Err fault) = fault ≡ memory_fault
 
 -- the pairs of parentheses among tokens
 abbrev pub parentheses_in : List Token → ℕ

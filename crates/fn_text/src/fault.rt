@@ -43,18 +43,15 @@ pub enum FaultKind {
 
     /// A number behind `otfn` that no language has.
     Version,
-
-    /// Memory ran out, which says nothing of the text.
-    NoMemory,
 }
 
 /// The first token that cannot go on, with its place and its cause.
 #[derive(Clone, Copy, Debug, PartialEq, Eq)]
 pub struct TextFault {
-    /// The line, counted from 1; 0 where memory ran out.
+    /// The line, counted from 1.
     pub line: u32,
 
-    /// The byte of that line, counted from 1; 0 where memory ran out.
+    /// The byte of that line, counted from 1.
     pub column: u32,
 
     /// The cause.

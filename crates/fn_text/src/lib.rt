@@ -24,7 +24,7 @@ pub use fault::{FaultKind, TextFault};
 pub use fn_tokens::{Placed, Sign, Token, Word, lex};
 pub use grammar::{taken_tokens_can_go_on, what_is_read_is_in_the_grammar};
 pub use printer::print;
-pub use reading::{read, read_rules};
+pub use reading::read;
 pub use round_trip::read_back;
 pub use std::alloc::AllocError as NoMemory;
 pub use stop::TextError;

@@ -7,10 +7,9 @@ ghost use Rattle.fn_tokens.specs.Tokens.{tokens_in};
 ghost use Rattle.fn_text.specs.Meaning.{to_formulas};
 ghost use Rattle.fn_text.specs.Reader.{read_from, first_state};
 ghost use Rattle.fn_text.specs.Made.{Gives};
-ghost use Rattle.fn_text.specs.Reading.{function_in, Answers};
+ghost use Rattle.fn_text.specs.Reading.{function_in};
 ghost use Rattle.fn_text.specs.Refusals.{IsAnswerFor};
 
-use crate::fault::{FaultKind, TextFault};
 use crate::reader::read_tokens;
 use crate::stop::TextError;
 use fn_rules::{Block, Head, Rules};
@@ -27,9 +26,9 @@ fn parts(alloc: Global, bytes: &[u8]) -> Result<(Head, Vec<Block>), TextError>
     read_tokens(alloc, &tokens)
 }
 
-/// Reads the text of a function, as `read` does, with want of memory apart from the faults of the text.
+/// What bytes are read as.
 #[tactic(auto, unfolding(crate::specs::Reading::function_in))]
-pub fn read_rules(alloc: Global, bytes: &[u8]) -> Result<Rules, TextError>
+fn function_read(alloc: Global, bytes: &[u8]) -> Result<Rules, TextError>
     requires { length bytes.now < 2 ^ 31 }
     ensures { Gives function_of result (function_in bytes.now) }
 {
@@ -40,23 +39,15 @@ pub fn read_rules(alloc: Global, bytes: &[u8]) -> Result<Rules, TextError>
 /// Reads the text of a function.
 ///
 /// A text that is refused is refused for the first token that cannot go on, with its place and its
-/// cause. Memory may run out: then the kind is `NoMemory`, and line and column are 0.
-pub fn read(alloc: Global, bytes: &[u8]) -> Result<Rules, TextFault>
+/// cause. Want of memory is no fault of the text.
+pub fn read(alloc: Global, bytes: &[u8]) -> Result<Rules, TextError>
     requires { length bytes.now < 2 ^ 31 }
     // A function whose text the bytes are by the grammar, or the fault of their first wrong token, whose
     // cause is told on tokens, or want of memory.
     ensures text_or_first_wrong { IsAnswerFor function_of bytes.now result }
 
     // The function or the fault that the reader's definition gives, or want of memory.
-    ensures read { Answers function_of result (function_in bytes.now) }
+    ensures read { Gives function_of result (function_in bytes.now) }
 {
-    match read_rules(alloc, bytes) {
-        Ok(rules) => Ok(rules),
-        Err(TextError::Fault(fault)) => Err(fault),
-        Err(TextError::NoMemory) => Err(TextFault {
-            line: 0,
-            column: 0,
-            kind: FaultKind::NoMemory,
-        }),
-    }
+    function_read(alloc, bytes)
 }

@@ -1,24 +1,23 @@
 //! Printing and reading, one behind the other.
 
+ghost use Rattle.std.specs.Prelude.{◌≡◌, IfOk};
 ghost use Rattle.fn_rules.specs.Rules.{function_of};
-ghost use Rattle.fn_text.specs.Theorems.{IsReadBack};
 
-use crate::fault::{FaultKind, TextFault};
+use crate::NoMemory;
 use crate::printer::print;
 use crate::reading::read;
+use crate::stop::TextError;
 use fn_rules::Rules;
 use std::alloc::Global;
 
-/// Reads what is printed of a function. This gives the function, and no fault but want of memory.
-pub fn read_back(alloc: Global, rules: &Rules) -> Result<Rules, TextFault>
-    ensures { IsReadBack (function_of rules.now) result }
+/// Reads what is printed of a function. This gives the function, unless memory runs out.
+pub fn read_back(alloc: Global, rules: &Rules) -> Result<Rules, NoMemory>
+    ensures { IfOk result (λ read. function_of read ≡ function_of rules.now) }
 {
-    match print(alloc, rules) {
-        Ok(text) => read(alloc, &text),
-        Err(_) => Err(TextFault {
-            line: 0,
-            column: 0,
-            kind: FaultKind::NoMemory,
-        }),
+    let text = print(alloc, rules)?;
+    match read(alloc, &text) {
+        Ok(read) => Ok(read),
+        Err(TextError::Fault(_)) => unreachable!(),
+        Err(TextError::NoMemory) => Err(NoMemory),
     }
 }

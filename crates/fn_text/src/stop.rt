@@ -12,7 +12,7 @@ pub enum TextError {
     /// A token cannot go on.
     Fault(TextFault),
 
-    /// Memory ran out.
+    /// Memory ran out, which says nothing of the text.
     NoMemory,
 }
 

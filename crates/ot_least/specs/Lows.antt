@@ -1,6 +1,5 @@
--- Low certificates: that a function has a property on all documents of fewer cells than a bound. And the least number of
--- cells of a document that breaks it.
-use Rattle.std.specs.Prelude.{◌≡◌, ℕ, ◌<◌, ◌≤◌, List, [], ◌∷◌, ◌++◌, Some, codes}
+-- Low certificates: that a function has a property on all documents of fewer cells than a bound.
+use Rattle.std.specs.Prelude.{◌≡◌, ℕ, ◌≤◌, List, [], ◌∷◌, ◌++◌, Some, codes}
 use Rattle.std.specs.Fmt.{decimal}
 use Rattle.fn_rules.specs.declared.function.Head.{Head}
 use Rattle.fn_rules.specs.declared.function.Level.{Level}
@@ -26,11 +25,6 @@ HasAt f Tp2 n = HasTp2At f n
 abbrev pub IsBroken : Function → Level → Type 0
 IsBroken f Tp1 = ¬ HasTp1 f
 IsBroken f Tp2 = HasTp1 f × ¬ HasTp2 f
-
--- so many cells has a document on which the function breaks the property, and no such document has fewer
-pub record IsLeastLength (f : Function) (level : Level) (cells : ℕ) : Type 0 where
-  pub breaks : ¬ HasAt f level cells
-  pub shorter : (n : ℕ) → n < cells → HasAt f level n
 
 -- the level whose property an obligation is a part of
 abbrev pub level_of : ObName → Level

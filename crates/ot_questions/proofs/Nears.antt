@@ -103,10 +103,6 @@ pub IsNear-plus : (m n : ℕ) (j k : ℤ) → IsNear m j → IsNear n k → IsNe
 IsNear-plus m n j k near other = record { low = omega (arith, ints); high = omega (arith, ints) }
 
 -- both sides of an atom stay near
-pub near_thing : (sort : Sort) (o : SymOp) (p : Place) → p ≡ sym_thing sort o → IsNearOp 200 o → IsNear 999 p.off
-near_thing sort o p e near =
-    subst (λ q. IsNear 999 q.off) (sym e) (IsNear-more 200 999 _ (lit≤ tt) (sym_thing_near 200 sort o near))
-
 pub near_thing_plus :
     (sort : Sort) (o : SymOp) (p q : Place) (k : ℤ) → p ≡ sym_thing sort o → q ≡ plus p k → IsNearOp 200 o → IsNear 99 k
     → IsNear 999 q.off
@@ -141,5 +137,3 @@ IsResultOf-nop a b = record { near = λ n x y. IsNear-zero (n + 99); kind = λ h
 
 pub IsResultOf-same : (a b : SymOp) → IsResultOf a b a
 IsResultOf-same a b = record { near = λ n x y. IsNear-more n (n + 99) _ (omega arith) x; kind = λ head h. h }
-
-pub ruleset may_come_out = (IsResultOf-nop, IsResultOf-same)

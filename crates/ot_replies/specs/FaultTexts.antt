@@ -25,7 +25,6 @@ kind_word kinds.Atoms = codes "atoms"
 kind_word kinds.Nesting = codes "nesting"
 kind_word kinds.Outcome = codes "result"
 kind_word kinds.Version = codes "version"
-kind_word kinds.NoMemory = codes "memory"
 
 abbrev pub name_word : Name → List ℕ
 name_word names.Doc = codes "doc"
@@ -63,7 +62,6 @@ case_text (faults.Enabled i) = codes "case enabled " ++ decimal i
 case_text (faults.Pair i j) = codes "case pair " ++ decimal i ++ codes " " ++ decimal j
 case_text (faults.Order i) = codes "case order " ++ decimal i
 case_text (faults.Limit name) = codes "limit " ++ name_word name
-case_text faults.NoMemory = codes "memory"
 
 abbrev pub case_fault_text : CaseFault → List ℕ
 case_fault_text fault = case_text fault ++ 10 ∷ []

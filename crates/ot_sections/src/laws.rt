@@ -13,7 +13,7 @@ ghost use Rattle.ot_sections.specs.Feeding.{Has, Whole};
 ghost use Rattle.ot_sections.specs.Parts.{FitThen, IsAnswer, IsJudged, Point};
 
 use cert_check::tokens_are_taken_one_by_one;
-use cert_text::all_bytes_are_read;
+use cert_text::{all_bytes_are_read, parts_are_told_apart};
 use ot_outside::Feed;
 
 /// Sections of trees that fit, one for each obligation, and the last line behind them are parts that fit one after another
@@ -32,7 +32,9 @@ pub fn sections_are_parts_that_fit<W: Copy>()
 pub fn bytes_are_judged_once<W: Copy>()
     ensures { (plan : ObName → Plan W) (point : Point W) (bytes : List ℕ) (parts others : List Part) (one other : Result (Unit {0}) JudgeError)
         → FitThen plan one point bytes parts → FitThen plan other point bytes others → (one ≡ other) × (parts ≡ others) }
-{}
+{
+    parts_are_told_apart();
+}
 
 /// Any bytes behind a point are made of some parts that fit, and stop there, or are refused.
 pub fn all_bytes_are_judged<W: Copy>()

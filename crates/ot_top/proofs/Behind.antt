@@ -1,9 +1,8 @@
 -- The reply behind a function's file, from what another file gets.
-use Rattle.std.proofs.Common.{◌≡◌, ℕ, List, Option, Result, Ok, Err, inl, inr, subst}
-use Rattle.std.specs.Prelude.{IfErr, IfOk}
+use Rattle.std.proofs.Common.{◌≡◌, ℕ, List, Option, Ok, inr, subst}
 use Rattle.fn_rules.specs.Functions.{Function}
 use Rattle.ot_replies.specs.declared.reply.Reply.{Reply}
-use Rattle.ot_top.specs.Replies.{IsFunctionRefusal, IsReadAs, IsReplyToFunction}
+use Rattle.ot_top.specs.Replies.{IsReadAs, IsReplyToFunction}
 
 -- the function's file is told first, and the shelf holds the same of the other one when it is opened
 pub then_gets :

@@ -1,6 +1,5 @@
 -- From what the calls on a shelf gave to the replies of commands.
-use Rattle.std.proofs.Common.{◌≡◌, ℕ, suc, List, [], ◌∷◌, length, Option, Some, Result, Ok, Err, IfOk, refl, sym, ap, ◌∙◌, subst, inl, inr, arith}
-use Rattle.std.specs.Prelude.{IfSome, MatchOption}
+use Rattle.std.proofs.Common.{◌≡◌, ℕ, suc, List, [], ◌∷◌, length, Option, Some, Result, Ok, Err, refl, sym, ap, ◌∙◌, inl, inr, arith}
 use Rattle.std.specs.Option.{ForSome}
 use Rattle.fn_rules.specs.Functions.{Function}
 use Rattle.fn_text.specs.declared.fault.TextFault.{TextFault}
@@ -8,14 +7,10 @@ use Rattle.ot_outside.specs.Reads.{Reads, after_reading, IsSameReading}
 use Rattle.ot_replies.specs.declared.reply.FileKind.{FileKind}
 use Rattle.ot_replies.specs.declared.reply.FileKind.TheVariants as files
 use Rattle.ot_replies.specs.declared.reply.Reply.{Reply}
-use Rattle.ot_replies.specs.declared.reply.Reply.TheVariants.{Usage}
 use Rattle.ot_replies.specs.Limits.{IsTooLong}
-use Rattle.ot_words.specs.Commands.{Asked}
-use Rattle.ot_words.specs.Words.{asked_by}
-use Rattle.ot_top.specs.Given.{IsAnswerOfGiven, IsReadFirst, IsReadSecond, IsReplyOfGiven, HasRead, HaveRead, TellsGiven}
+use Rattle.ot_top.specs.Given.{IsReadFirst, IsReadSecond, HaveRead}
 use Rattle.ot_top.specs.Judgements.{IsReplyToCertificate}
-use Rattle.ot_top.specs.Replies.{Holds, IsFunctionRefusal, IsReadAs, IsReplyTo, IsReplyToFile, IsReplyToFunction}
-use Rattle.ot_top.specs.Steady.{IsSteadyReply}
+use Rattle.ot_top.specs.Replies.{Holds, IsFunctionRefusal, IsReadAs, IsReplyToFile, IsReplyToFunction}
 
 -- two openings are no single one
 twice_is_not_once :

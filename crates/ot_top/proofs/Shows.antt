@@ -23,7 +23,7 @@ use Rattle.ot_replies.specs.Texts.{status_of, text_of}
 use Rattle.ot_top.proofs.Proving.{complete, proved}
 use Rattle.ot_top.proofs.Showing.{shown}
 use Rattle.ot_top.proofs.Steady.{served, steady}
-use Rattle.ot_top.proofs.Told.{IsAnswered, judged}
+use Rattle.ot_top.proofs.Told.{IsAnswered, gone_through, judged}
 use Rattle.ot_top.proofs.Unread.{unread}
 
 -- the reply, of what the shelf tells and of what its calls gave, is the reply of what is known
@@ -76,6 +76,7 @@ module _ (words : List (List ℕ)) (holds : List ℕ → Option (List ℕ)) (IsW
             λ of_a_reply.
             judged is_read one_judgement is_within_limits some_judgement words holds status IsWritten (answered of_a_reply);
         unread = λ of_a_reply. unread is_read is_text words holds status IsWritten (answered of_a_reply);
+        gone_through = λ of_a_reply. gone_through words holds status IsWritten (answered of_a_reply);
         steady =
             λ name session bytes f named known text agree one.
             let told = answered (of_reply status 1 one (λ e. omega (arith, e)) (λ e. omega (arith, e)) (λ e. omega (arith, e))) in

@@ -59,7 +59,6 @@ case_named (faults.Enabled i) = omega arith
 case_named (faults.Pair i j) = omega arith
 case_named (faults.Order i) = omega arith
 case_named (faults.Limit name) = omega arith
-case_named faults.NoMemory = omega arith
 
 differ_named : {X : Type 0} → (differ : Option X) → differ_status differ ≤ 9
 differ_named None = omega arith

@@ -55,7 +55,6 @@ case_other (faults.Enabled i) is = absurd (omega (arith, is))
 case_other (faults.Pair i j) is = absurd (omega (arith, is))
 case_other (faults.Order i) is = absurd (omega (arith, is))
 case_other (faults.Limit name) is = absurd (omega (arith, is))
-case_other faults.NoMemory is = absurd (omega (arith, is))
 
 refused_case : (fault : CaseFault) (r : Reply) → r ≡ replies.CaseRefused fault → status_of r ≢ 3
 refused_case fault r same is = case_other fault (sym (ap (λ x. status_of x) same) ∙ is)

@@ -8,4 +8,5 @@ pub mod Replies
 pub mod Given
 pub mod Shown
 pub mod Shows
+pub mod Answers
 pub mod Steady

@@ -27,10 +27,8 @@ fn function_read(alloc: Global, number: u32) -> Result<Rules, NoMemory>
     ensures { IfOk result (λ read. function_of read ≡ drill_function number) }
 {
     let made = rules(alloc, number)?;
-    match read_back(alloc, &made) {
-        Ok(read) => Ok(read),
-        Err(_) => Err(NoMemory),
-    }
+    let read = read_back(alloc, &made)?;
+    Ok(read)
 }
 
 // The level at which a certificate is accepted.

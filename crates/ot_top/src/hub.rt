@@ -19,7 +19,7 @@ ghost use Rattle.ot_top.specs.declared.halt.Halt.TheVariants as halts;
 
 use crate::halt::Halt;
 use crate::load::{Stop, load_function, read_file};
-use case_json::{CaseFault, HubEvent, HubScript, Name, hub_read};
+use case_json::{CaseError, CaseFault, HubEvent, HubScript, Name, hub_read};
 use fn_rules::Rules;
 use ot_hub::{Edit, Hub, Move};
 use ot_model::{Doc, NoMemory, Op};
@@ -208,8 +208,8 @@ fn reply_to_hub(alloc: Global, rules: &Rules, bytes: &[u8]) -> Result<Reply, NoM
 {
     match hub_read(alloc, bytes) {
         Ok(script) => run_script(alloc, rules, &script),
-        Err(CaseFault::NoMemory) => Err(NoMemory),
-        Err(fault) => Ok(Reply::CaseRefused(fault)),
+        Err(CaseError::Fault(fault)) => Ok(Reply::CaseRefused(fault)),
+        Err(CaseError::NoMemory) => Err(NoMemory),
     }
 }
 

@@ -14,7 +14,7 @@ ghost use Rattle.ot_top.specs.Replies.{GoesOn, HaveOneEnd, IsReplyTo, IsReplyToC
 ghost use Rattle.ot_replies.specs.declared.reply.FileKind.TheVariants as files;
 
 use crate::load::{Stop, load_function, read_file};
-use case_json::{CaseFault, Trial, trial_read};
+use case_json::{CaseError, Trial, trial_read};
 use fn_rules::Rules;
 use ot_integrate::End;
 use ot_model::{Doc, NoMemory};
@@ -91,8 +91,8 @@ fn reply_to_case(alloc: Global, rules: &Rules, bytes: &[u8]) -> Result<Reply, No
 {
     match trial_read(alloc, rules, bytes) {
         Ok(trial) => outcomes(alloc, rules, &trial),
-        Err(CaseFault::NoMemory) => Err(NoMemory),
-        Err(fault) => Ok(Reply::CaseRefused(fault)),
+        Err(CaseError::Fault(fault)) => Ok(Reply::CaseRefused(fault)),
+        Err(CaseError::NoMemory) => Err(NoMemory),
     }
 }
 

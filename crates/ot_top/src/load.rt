@@ -8,7 +8,7 @@ ghost use Rattle.ot_replies.specs.Limits.{limit_of, IsTooLong};
 ghost use Rattle.ot_top.specs.Replies.{Holds, IsFunctionRefusal, IsReadAs};
 
 use fn_rules::Rules;
-use fn_text::{TextError, read_rules};
+use fn_text::{TextError, read};
 use ot_model::NoMemory;
 use ot_outside::{Failed, ReadError, Shelf, read_all};
 use ot_replies::{FileKind, Reply};
@@ -107,7 +107,7 @@ pub(crate) fn load_function<H: Shelf>(
         Ok(bytes) => bytes,
         Err(reply) => return Ok(Err(reply)),
     };
-    match read_rules(alloc, &bytes) {
+    match read(alloc, &bytes) {
         Ok(rules) => Ok(Ok(rules)),
         Err(TextError::Fault(fault)) => Ok(Err(Reply::FunctionRefused(fault))),
         Err(TextError::NoMemory) => Err(Stop::NoMemory),

@@ -1,12 +1,12 @@
 //! The call that does all that the program does.
-ghost use Rattle.std.specs.Prelude.{◌≡◌, ◌≢◌, ◌≤◌, ◌⊎◌, ℕ, List, Option, map, IfSome, string_bytes};
+ghost use Rattle.std.specs.Prelude.{◌≡◌, ◌≢◌, ◌≤◌, ℕ, List, Option, map, IfSome, string_bytes};
 ghost use Rattle.std.specs.Io.KnownBytes.{append_known};
 ghost use Rattle.ot_outside.specs.Faults.{Rose};
 ghost use Rattle.ot_outside.specs.Whole.{AppendsFront};
 ghost use Rattle.ot_outside.specs.Unchanged.{Unchanged};
+ghost use Rattle.ot_top.specs.Answers.{Answers, Faults, counted};
 ghost use Rattle.ot_top.specs.Given.{IsAnswerOfGiven};
 ghost use Rattle.ot_top.specs.Replies.{AreOffered, IsReply};
-ghost use Rattle.ot_top.specs.Shown.{IsGoneThrough};
 ghost use Rattle.ot_top.specs.Shows.{AreKnown, Shows};
 ghost use Rattle.ot_top.specs.Steady.{AreSteady};
 ghost use Rattle.ot_replies.specs.Texts.{status_of, text_of};
@@ -82,38 +82,21 @@ fn write_answer<H: Shelf, S: Sink>(
 pub fn run<H: Shelf, S: Sink>(alloc: Global, words: &[String], shelf: &mut H, out: &mut S) -> u8
     requires { IfSome (asked_by (map string_bytes words.now)) (AreOffered (H.holds shelf.old) (H.offered shelf.old)) }
 
-    // Every other status is that of the reply, whose text was appended: the one that the files get where the shelf tells
-    // them, and whether or not it does, the one that those bytes get that its calls gave.
-    ensures replied { result ≢ SHELF_FAULT → result ≢ SINK_FAULT → result ≢ NO_MEMORY →
-        (reply : Reply) × IsReply (map string_bytes words.now) (H.holds shelf.old) reply
-        × IsAnswerOfGiven (map string_bytes words.now) (H.reads shelf.old) (H.reads shelf.new) reply × (result ≡ status_of reply)
-        × (S.written out.new ≡ append_known (S.written out.old) (text_of reply)) }
+    // What is answered, of what the shelf tells and of what its calls gave.
+    ensures answered { Answers (map string_bytes words.now) (H.holds shelf.old) (H.reads shelf.old) (H.reads shelf.new)
+        (λ text. S.written out.new ≡ append_known (S.written out.old) text) result }
 
     // What the status shows, whether the files are known as what the shelf tells or as what its calls gave.
     ensures shows { (holds : List ℕ → Option (List ℕ))
         → AreKnown (map string_bytes words.now) (H.holds shelf.old) (H.reads shelf.old) (H.reads shelf.new) holds
         → Shows (map string_bytes words.now) holds (λ text. S.written out.new ≡ append_known (S.written out.old) text) result }
 
-    // No event of a workload is refused, no site of it is stuck, and no two sites of it differ.
-    ensures gone_through { result ≢ SHELF_FAULT → result ≢ SINK_FAULT → result ≢ NO_MEMORY
-        → IsGoneThrough (map string_bytes words.now) result (λ text. S.written out.new ≡ append_known (S.written out.old) text) }
+    // When the statuses of faults and of want of memory come, and what was written then.
+    ensures faults { Faults (map string_bytes words.now) (H.holds shelf.old) (counted (H.faults shelf.old) (H.faults shelf.new))
+        (counted (S.faults out.old) (S.faults out.new)) (S.written out.old) (S.written out.new) result }
 
-    // Where neither count of faults rises, there was no memory and nothing was written, or the whole reply was.
-    ensures whole { ¬ (Rose (H.faults shelf.old) (H.faults shelf.new)) → ¬ (Rose (S.faults out.old) (S.faults out.new))
-        → ((result ≡ NO_MEMORY) × (S.written out.new ≡ S.written out.old))
-        ⊎ ((reply : Reply) × IsReply (map string_bytes words.now) (H.holds shelf.old) reply × (result ≡ status_of reply)
-        × (S.written out.new ≡ append_known (S.written out.old) (text_of reply))) }
-    ensures named { result ≤ NO_MEMORY }
-
-    ensures shelf_fault { result ≡ SHELF_FAULT → Rose (H.faults shelf.old) (H.faults shelf.new) × (S.written out.new ≡ S.written out.old) }
-    ensures sink_fault { result ≡ SINK_FAULT →
-        Rose (S.faults out.old) (S.faults out.new)
-        × ((reply : Reply) × IsReply (map string_bytes words.now) (H.holds shelf.old) reply
-        × AppendsFront (S.written out.old) (text_of reply) (S.written out.new)) }
-    ensures no_memory { result ≡ NO_MEMORY → S.written out.new ≡ S.written out.old }
-
+    // What is left alone.
     ensures unchanged { Unchanged H.holds H.offered H.faults shelf.old shelf.new }
-    ensures sink_faults { S.faults out.old ≤ S.faults out.new }
 {
     certificates_show_the_properties();
     bytes_have_one_judgement();

@@ -22,7 +22,7 @@ ghost use Rattle.ot_top.specs.declared.halt.Halt.TheVariants as halts;
 
 use crate::halt::Halt;
 use crate::load::{Stop, load_function, read_file};
-use case_json::{CaseFault, Event, Name, Script, script_read};
+use case_json::{CaseError, CaseFault, Event, Name, Script, script_read};
 use fn_rules::Rules;
 use ot_causal::closed_lists_are_told_by_their_counts;
 use ot_model::{NoMemory, Op};
@@ -235,8 +235,8 @@ fn reply_to_session(alloc: Global, rules: &Rules, bytes: &[u8]) -> Result<Reply,
 {
     match script_read(alloc, bytes) {
         Ok(script) => run_script(alloc, rules, &script),
-        Err(CaseFault::NoMemory) => Err(NoMemory),
-        Err(fault) => Ok(Reply::CaseRefused(fault)),
+        Err(CaseError::Fault(fault)) => Ok(Reply::CaseRefused(fault)),
+        Err(CaseError::NoMemory) => Err(NoMemory),
     }
 }
 

@@ -4,7 +4,7 @@
 
 ghost use Rattle.std.specs.Prelude.{◌<◌, ◌^◌, length};
 
-use fn_text::{TextFault, print, read};
+use fn_text::{TextError, print, read};
 use ot_outside::{FileShelf, read_all};
 use std::alloc::Global;
 use std::{env, io};
@@ -13,7 +13,7 @@ use std::{env, io};
 const LIMIT: usize = 16_777_216;
 
 // How many bytes the canonical text of the function has, none where memory ran out.
-fn printed_size(alloc: Global, bytes: &[u8]) -> Result<Option<usize>, TextFault>
+fn printed_size(alloc: Global, bytes: &[u8]) -> Result<Option<usize>, TextError>
     requires { length bytes.now < 2 ^ 31 }
 {
     let rules = read(alloc, bytes)?;
@@ -31,7 +31,7 @@ fn main(rt: HostRuntime) -> io::Result<()> {
             Ok(()) => match printed_size(rt.alloc(), &bytes) {
                 Ok(Some(size)) => println!(rt; "{name}: {} bytes, printed in {size}", bytes.len())?,
                 Ok(None) => println!(rt; "{name}: no memory")?,
-                Err(fault) => println!(rt; "{name}: {fault:?}")?,
+                Err(error) => println!(rt; "{name}: {error:?}")?,
             },
             Err(_) => println!(rt; "{name}: not read")?,
         }

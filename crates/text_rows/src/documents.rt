@@ -1,5 +1,5 @@
 //! The text of documents, both ways.
-use case_json::{CaseFault, Name, doc_read, doc_write};
+use case_json::{CaseError, CaseFault, Name, doc_read, doc_write};
 use ot_model::{Cell, Doc};
 use std::alloc::{AllocError, Global};
 use std::test::Fail;
@@ -43,7 +43,11 @@ fn a_malformed_text_is_refused(rt: HostRuntime) -> Result<(), Fail> {
         "\\", "a\\", "~", "a~", "\\a", "~\\x", "~~", "~~a", "a\\N", "~\\",
     ] {
         let fault = doc_read(rt.alloc(), text).err();
-        assert_eq!(rt; fault, Some(CaseFault::Field(Name::Doc)), "{text}");
+        assert_eq!(rt;
+            fault,
+            Some(CaseError::Fault(CaseFault::Field(Name::Doc))),
+            "{text}"
+        );
     }
     Ok(())
 }

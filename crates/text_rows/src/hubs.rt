@@ -1,5 +1,5 @@
 //! Scripts of hubs that are read, and the first fault of each other one.
-use case_json::{CaseFault, HubEvent, Name, hub_read};
+use case_json::{CaseError, CaseFault, HubEvent, Name, hub_read};
 use ot_model::Op;
 use std::alloc::Global;
 use std::process::Abort;
@@ -29,8 +29,8 @@ const NO_EVENTS: [&[u8]; 11] = [
 
 fn expect_fault(rt: &impl Abort, alloc: Global, text: &[u8], want: &CaseFault) {
     match hub_read(alloc, text) {
-        Ok(_) => assert!(rt; false, "{text:?}"),
-        Err(fault) => assert!(rt; fault == *want, "{text:?}"),
+        Err(CaseError::Fault(fault)) => assert!(rt; fault == *want, "{text:?}"),
+        _ => assert!(rt; false, "{text:?}"),
     }
 }
 

@@ -8,6 +8,8 @@ use Rattle.fn_tokens.proofs.Ends.{file_ends}
 use Rattle.fn_rules.specs.Functions.{Function, GuardedCase}
 use Rattle.fn_rules.specs.Building.{PairCases}
 use Rattle.fn_text.specs.declared.fault.TextFault.{TextFault}
+use Rattle.fn_text.specs.declared.stop.TextError.{TextError}
+use Rattle.fn_text.specs.declared.stop.TextError.TheVariants as errors
 use Rattle.fn_text.specs.declared.control.Move.{Move}
 use Rattle.fn_text.specs.Moves.{move_for}
 use Rattle.fn_text.specs.Meaning.{Formulas, to_formulas}
@@ -15,7 +17,8 @@ use Rattle.fn_text.specs.Reader.{State, after_move, read_from, first_state}
 use Rattle.fn_text.specs.Theorems.{state_behind}
 use Rattle.fn_text.specs.Reading.{function_in, built_from}
 use Rattle.fn_text.specs.GoingOn.{GoesOn}
-use Rattle.fn_text.specs.Refusals.{IsRefusedFor, IsAnsweredBy, HasOneAnswer, AnswersAreRead}
+use Rattle.fn_text.specs.Made.{Gives}
+use Rattle.fn_text.specs.Refusals.{IsRefusedFor, IsAnswerFor, IsAnsweredBy, HasOneAnswer, AnswersAreRead}
 use Rattle.fn_text.proofs.WrittenIsRead.Guards.{going}
 use Rattle.fn_text.proofs.WrittenIsRead.Files.{text_is_read}
 use Rattle.fn_text.proofs.ReadIsWritten.Functions.{found}
@@ -109,3 +112,10 @@ one_answer bytes = record {
   is = read_is_answer bytes (function_in bytes) refl;
   only = λ other is. sym (answer_is_read bytes other is);
 }
+
+-- so what is answered of bytes is their function or their refusal, unless memory ran out
+pub answered_for : {X : Type 0} (view : X → Function) (bytes : List ℕ) (answer : Result X TextError) →
+    Gives view answer (function_in bytes) → IsAnswerFor view bytes answer
+answered_for view bytes (Ok x) gives = found bytes (view x) gives
+answered_for view bytes (Err (errors.Fault fault)) gives = refusals_are_final bytes fault gives
+answered_for view bytes (Err errors.NoMemory) gives = tt

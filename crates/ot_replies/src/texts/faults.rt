@@ -26,7 +26,6 @@ fn kind_word(kind: FaultKind) -> &'static str
         FaultKind::Nesting => "nesting",
         FaultKind::Outcome => "result",
         FaultKind::Version => "version",
-        FaultKind::NoMemory => "memory",
     }
 }
 
@@ -116,7 +115,6 @@ fn case_text(alloc: Global, fault: &CaseFault) -> Result<String, NoMemory>
             let word = name_word(*name);
             Ok(format!(in alloc; "limit {word}")?)
         }
-        CaseFault::NoMemory => Ok(format!(in alloc; "memory")?),
     }
 }
 

@@ -1,4 +1,3 @@
-use Rattle.std.proofs.Common.{inr, sym}
 use Rattle.serde_json.specs.View.{view}
 use Rattle.case_json.proofs.Readings.{json_value, json_fault}
 use Rattle.case_json.proofs.case.json_read.Goals as goal
@@ -11,4 +10,4 @@ returns-in_err-from_slice c =
 pub returns : goal.returns
 returns c =
     let ok = c.in_ok-from_slice.ensures.ok in
-    inr (sym (json_value c.args.bytes.now (view c.in_ok-from_slice.field-0) ok.0 ok.1))
+    json_value c.args.bytes.now (view c.in_ok-from_slice.field-0) ok.0 ok.1

@@ -1,10 +1,11 @@
-use Rattle.std.proofs.Common.{◌≡◌, ◌<◌, [], ◌∷◌, ◌++◌, length, length-append, Ok, Err, refl, sym, ap, arith, rules, inr, lit≤, ◌∙◌}
+use Rattle.std.proofs.Common.{◌≡◌, ◌<◌, [], ◌∷◌, ◌++◌, length, length-append, Ok, Err, refl, sym, ap, arith, rules, lit≤, ◌∙◌}
 use Rattle.std.specs.Str.{chars}
 use Rattle.std.proofs.lemmas.Str.{chars-nil}
 use Rattle.std.proofs.lemmas.List.{nil_from_length}
 use Rattle.ot_model.specs.declared.limits.TheConstants.{MAX_CELLS}
 use Rattle.case_json.specs.declared.fault.CaseFault.TheVariants.{Field, Limit}
 use Rattle.case_json.specs.declared.fault.Name.TheVariants.{Doc, Cells}
+use Rattle.case_json.specs.declared.stop.CaseError.TheVariants.{Fault}
 use Rattle.case_json.proofs.Reading.{chars_some, reading_goes_on, reading_stops, reading_is_full, reading_ends, written_reads}
 use Rattle.case_json.proofs.doc_text.doc_read.Goals as goal
 
@@ -26,28 +27,28 @@ loop-rest-preserved c =
 pub returns-in_default-clause-reading : goal.returns-in_default-clause-reading
 returns-in_default-clause-reading c =
     let l = c.loop-rest in
-    inr (sym (reading_stops MAX_CELLS l.doc (chars c.args.text.now) (chars l.rest.now) l.invariant.read
-    (chars_some l.rest.now l.invariant.text (search rules)) (sym c.in_default.ensures.reads)))
+    reading_stops MAX_CELLS l.doc (chars c.args.text.now) (chars l.rest.now) l.invariant.read
+    (chars_some l.rest.now l.invariant.text (search rules)) (sym c.in_default.ensures.reads)
 
 pub returns-then-len-eq-MAX_CELLS-clause-reading : goal.returns-then-len-eq-MAX_CELLS-clause-reading
 returns-then-len-eq-MAX_CELLS-clause-reading c =
     let l = c.loop-rest in
-    inr (sym (reading_is_full MAX_CELLS l.doc (chars c.args.text.now) (chars l.rest.now) l.invariant.read
-    c.in-Some.cell (chars c.in-Some.behind.now) (omega arith) (sym c.in-Some.ensures.reads)))
+    reading_is_full MAX_CELLS l.doc (chars c.args.text.now) (chars l.rest.now) l.invariant.read
+    c.in-Some.cell (chars c.in-Some.behind.now) (omega arith) (sym c.in-Some.ensures.reads)
 
 pub returns-clause-reading : goal.returns-clause-reading
 returns-clause-reading c =
     let l = c.loop-rest in
-    inr (sym (reading_ends MAX_CELLS l.doc (chars c.args.text.now) (chars l.rest.now) l.invariant.read
-    (ap chars (nil_from_length l.rest.now (search rules)) ∙ chars-nil)))
+    reading_ends MAX_CELLS l.doc (chars c.args.text.now) (chars l.rest.now) l.invariant.read
+    (ap chars (nil_from_length l.rest.now (search rules)) ∙ chars-nil)
 
 pub returns-in_default-clause-written : goal.returns-in_default-clause-written
 returns-in_default-clause-written c =
-    written_reads (Err (Field Doc)) (chars c.args.text.now) (returns-in_default-clause-reading c)
+    written_reads (Err (Fault (Field Doc))) (chars c.args.text.now) (returns-in_default-clause-reading c)
 
 pub returns-then-len-eq-MAX_CELLS-clause-written : goal.returns-then-len-eq-MAX_CELLS-clause-written
 returns-then-len-eq-MAX_CELLS-clause-written c =
-    written_reads (Err (Limit Cells)) (chars c.args.text.now) (returns-then-len-eq-MAX_CELLS-clause-reading c)
+    written_reads (Err (Fault (Limit Cells))) (chars c.args.text.now) (returns-then-len-eq-MAX_CELLS-clause-reading c)
 
 pub returns-clause-written : goal.returns-clause-written
 returns-clause-written c = written_reads (Ok c.loop-rest.doc) (chars c.args.text.now) (returns-clause-reading c)

@@ -5,9 +5,9 @@ use Rattle.serde_json.specs.View.{view}
 use Rattle.case_json.specs.declared.fault.Name.TheVariants.{Events}
 use Rattle.case_json.specs.declared.limits.TheConstants.{MAX_EVENTS}
 use Rattle.case_json.specs.Json.{elements_of}
-use Rattle.case_json.specs.Cases.{document_in, elements_at}
+use Rattle.case_json.specs.Cases.{document_in}
 use Rattle.case_json.proofs.Elements.{elements_from-few}
-use Rattle.case_json.proofs.Readings.{value_read, document_from-few}
+use Rattle.case_json.proofs.Readings.{document_from-few}
 use Rattle.case_json.proofs.Scripts.{sites_from-within}
 use Rattle.case_json.proofs.parts.parts_of.Goals as goal
 
@@ -18,10 +18,10 @@ returns-clause-limits g c =
     record {
       few_cells =
           document_from-few (option_and_then as_str (get (codes "doc") json)) c.in_ok-doc.doc
-          (value_read c.in_ok-doc.doc (document_in json) c.in_ok-doc.ensures);
+          c.in_ok-doc.ensures;
       some_sites = sites.0;
       few_sites = sites.1;
       few_events =
           elements_from-few Events MAX_EVENTS g.E.Element.meant (option_and_then elements_of (get (codes "events") json)) c.in_ok-events.events
-          (value_read c.in_ok-events.events (elements_at (codes "events") Events MAX_EVENTS g.E.Element.meant json) c.in_ok-events.ensures);
+          c.in_ok-events.ensures;
     }

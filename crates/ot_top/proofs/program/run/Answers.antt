@@ -5,7 +5,7 @@ use Rattle.std.specs.Io.KnownBytes.{append_known}
 use Rattle.ot_top.proofs.Proving.{broken}
 use Rattle.ot_top.proofs.Showing.{has_level}
 use Rattle.ot_top.proofs.Shows.{reply_known, shows}
-use Rattle.ot_top.proofs.Told.{gone_through, named, whole}
+use Rattle.ot_top.proofs.Told.{named, whole}
 use Rattle.ot_top.proofs.program.run.Goals as goal
 
 pub returns-clause-shows : goal.returns-clause-shows
@@ -26,28 +26,28 @@ returns-clause-shows g c =
     (λ r. broken grammar.text grammar.valid counters.broken counters.by_the_cause c.failing_triples_show_tp1.ensures words holds r
     (λ text. g.S.Sink.written c.write_answer.new.out ≡ append_known (g.S.Sink.written c.args.out.now) text))
 
-pub returns-clause-gone_through : goal.returns-clause-gone_through
-returns-clause-gone_through g c =
-    λ no_shelf_fault no_sink_fault no_want.
-    let told = c.write_answer.ensures.replied no_shelf_fault no_sink_fault no_want in
-    gone_through (map string_bytes c.args.words.now) (g.H.Shelf.holds c.args.shelf.now) c.write_answer.result
-    (λ text. g.S.Sink.written c.write_answer.new.out ≡ append_known (g.S.Sink.written c.args.out.now) text)
-    (told.0, told.1, told.2, told.4, told.5)
+pub returns-clause-answered : goal.returns-clause-answered
+returns-clause-answered g c =
+    record {
+      replied =
+          λ of_a_reply.
+          let told = c.write_answer.ensures.replied of_a_reply.0 of_a_reply.1 of_a_reply.2 in (told.0, told.1, told.3, told.4, told.5);
+      named =
+          named c.write_answer.result
+          (λ no_shelf_fault no_sink_fault no_want.
+          let told = c.write_answer.ensures.replied no_shelf_fault no_sink_fault no_want in (told.0, told.4));
+    }
 
-pub returns-clause-replied : goal.returns-clause-replied
-returns-clause-replied g c =
-    λ no_shelf_fault no_sink_fault no_want.
-    let told = c.write_answer.ensures.replied no_shelf_fault no_sink_fault no_want in (told.0, told.1, told.3, told.4, told.5)
-
-pub returns-clause-whole : goal.returns-clause-whole
-returns-clause-whole g c =
-    whole c.write_answer.result _ _ _ _ (λ six. (c.write_answer.ensures.shelf_fault six).0)
-    (λ seven. (c.write_answer.ensures.sink_fault seven).0) c.write_answer.ensures.no_memory
-    (λ no_shelf_fault no_sink_fault no_want.
-    let told = c.write_answer.ensures.replied no_shelf_fault no_sink_fault no_want in (told.0, told.1, told.4, told.5))
-
-pub returns-clause-named : goal.returns-clause-named
-returns-clause-named g c =
-    named c.write_answer.result
-    (λ no_shelf_fault no_sink_fault no_want.
-    let told = c.write_answer.ensures.replied no_shelf_fault no_sink_fault no_want in (told.0, told.4))
+pub returns-clause-faults : goal.returns-clause-faults
+returns-clause-faults g c =
+    record {
+      shelf_fault = c.write_answer.ensures.shelf_fault;
+      sink_fault = c.write_answer.ensures.sink_fault;
+      no_memory = c.write_answer.ensures.no_memory;
+      whole =
+          whole c.write_answer.result _ _ _ _ (λ six. (c.write_answer.ensures.shelf_fault six).0)
+          (λ seven. (c.write_answer.ensures.sink_fault seven).0) c.write_answer.ensures.no_memory
+          (λ no_shelf_fault no_sink_fault no_want.
+          let told = c.write_answer.ensures.replied no_shelf_fault no_sink_fault no_want in (told.0, told.1, told.4, told.5));
+      sink_faults = c.write_answer.ensures.sink_faults;
+    }
