@@ -3,11 +3,11 @@
 
 usage: hub.py
 
-The function is examples/functions/sites.ot, which has TP1 alone. Sixteen clients make 64 operations each on a document of
-1,024 cells, a third of them deletions. In the first hub all of them are made, then all are sent, and then each client takes
-the whole log: the server carries most messages over 960 entries, and a client most entries over 64 pending operations. In
-the second one they are made, sent and taken in a drawn order, and then what is left. The last one has as many events as one
-can have.
+The function is examples/functions/sites.ot, which has TP1 alone. Sixteen clients make 64 operations each on a document
+of 1,024 cells, a third of them deletions. In the first hub all of them are made, then all go up, and then each client
+takes the whole log: the server carries a message over up to 960 entries, and a client an entry over up to 64 pending
+operations. In the second one they are made, sent and taken in a drawn order, and then what is left. The last one has as
+many events as one can have.
 """
 import json
 import os

@@ -1,11 +1,12 @@
 #!/usr/bin/env python3
 """Measures `otp prove` and then `otp check` of what it wrote: seconds, questions a second, peak memory, bytes.
 
-usage: prove.py [RUNS]      (after `otp`, or `rt run` in crates/otp; the least of RUNS runs is shown, 5 where none is given)
+usage: prove.py [RUNS]      (after `otp`, or `rt run` in crates/otp; the least of RUNS runs is shown, 5 where none is
+                            given)
 
 The peak of the prover is shown beside the bytes of its certificate, which it holds whole before it writes them. Where
-z3 or cvc5 is installed, the same obligations are given to them too: each failing end of the plan that bench/certificate.py
-walks through has to be met by no integers.
+z3 or cvc5 is installed, the same obligations are given to them too: each failing end of the plan that
+bench/certificate.py walks through has to be met by no integers.
 """
 import os
 import shutil

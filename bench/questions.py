@@ -3,10 +3,11 @@
 
 usage: questions.py      (after `rt run` in crates/question_rate, or `rt ci`)
 
-The obligations of a function like examples/functions/ttf.ot, or like ttfu.ot, are walked through what their askers ask, yes before
-no and without a solver, up to so many turns each; a turn is a question or an end. Two insertions have so many more cases,
-each of which a later one implies. The time is that of the processor, less that of a run without turns; of five runs the fastest counts.
-The first two functions have so few questions that their rate is no more than a lower bound.
+The obligations of a function like examples/functions/ttf.ot, or like ttfu.ot, are walked through what their askers ask,
+yes before no and without a solver, up to so many turns each; a turn is a question or an end. Two insertions have so
+many more cases, each of which a later one implies. The time is that of the processor, less that of a run without turns;
+of five runs the fastest counts. The first two functions have so few questions that their rate is no more than a lower
+bound.
 """
 import os
 import re

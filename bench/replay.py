@@ -4,11 +4,11 @@
 usage: replay.py
 
 The function is examples/functions/ttf.ot, and each document is empty. In the first two sessions two sites make 512
-insertions each, and site 1 takes 488 of those of site 2, or 489, which wants more forms than are allowed. In the others each
-of three sites makes so many operations, a third of them deletions; site 1 takes those of the others in rising order, site 2
-in falling order, where all but the last of a site are held, and site 3 those of site 2 and then those of site 1. The last
-session is as long as one can be: all its events but the first are repeats. How many forms were counted is what sessions.py
-says.
+insertions each, and site 1 takes 488 of those of site 2, or 489, which wants more forms than are allowed. In the others
+each of three sites makes so many operations, a third of them deletions; site 1 takes those of the others in rising
+order, site 2 in falling order, where all but the last of a site are held, and site 3 those of site 2 and then those of
+site 1. The last session is as long as one can be: all its events but the first are repeats. How many forms were counted
+is what sessions.py says.
 """
 import json
 import os

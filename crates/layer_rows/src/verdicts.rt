@@ -1,8 +1,8 @@
-//! Verdicts of deletions that leave tombstones, with their case and without it; and searches on short documents.
+//! Verdicts of deletions that leave tombstones, with their case and without it.
 
 use crate::functions::{MARKS, built, staying};
 use fn_rules::{Block, Level, ObName, Rules};
-use ot_decide::{Search, Verdict, prove_all, search_all};
+use ot_decide::{Verdict, prove_all};
 use ot_model::Kind;
 use ot_questions::Why;
 use std::alloc::Global;
@@ -54,37 +54,6 @@ fn a_function_without_a_case_fails(rt: HostRuntime) -> Result<(), Fail> {
         Verdict::No { ob, answers, why } => {
             assert_eq!(rt; ob, ObName::Pair(Kind::Del, Kind::Del));
             assert_eq!(rt; answers.len(), 5);
-            assert!(rt; answers.iter().all(|answer| answer.yes));
-            assert_eq!(rt; why, Why::Undefined);
-        }
-        _ => assert!(rt; false, "the function has no case"),
-    }
-    Ok(())
-}
-
-#[test]
-fn no_deletion_is_enabled_on_a_document_without_cells(rt: HostRuntime) -> Result<(), Fail> {
-    let rules = without_cases(&rt, rt.alloc())?;
-    let names = [ObName::Pair(Kind::Del, Kind::Del)];
-    let mut bytes = Vec::new(rt.alloc());
-    let search = search_all(rt.alloc(), &rules, Some(1), &names, 4, &mut bytes)?;
-    assert!(rt; matches!(&search, Search::AllHold));
-    assert!(rt; bytes.starts_with(b"ob del del\n????x"));
-    assert!(rt; bytes.ends_with(b";....\n"));
-    let search = search_all(rt.alloc(), &rules, Some(1), &names, 3, &mut bytes)?;
-    assert!(rt; matches!(&search, Search::Spent));
-    Ok(())
-}
-
-#[test]
-fn on_a_document_of_one_cell_the_missing_case_is_met(rt: HostRuntime) -> Result<(), Fail> {
-    let rules = without_cases(&rt, rt.alloc())?;
-    let names = [ObName::Pair(Kind::Del, Kind::Del)];
-    let mut bytes = Vec::new(rt.alloc());
-    match search_all(rt.alloc(), &rules, Some(2), &names, 6, &mut bytes)? {
-        Search::Fails { ob, answers, why } => {
-            assert_eq!(rt; ob, names[0]);
-            assert_eq!(rt; answers.len(), 6);
             assert!(rt; answers.iter().all(|answer| answer.yes));
             assert_eq!(rt; why, Why::Undefined);
         }

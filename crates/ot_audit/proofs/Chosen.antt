@@ -1,0 +1,51 @@
+-- Cases of a slice, and the plain cases that they stand for.
+use Rattle.std.proofs.Common.{◌≡◌, ℕ, zero, suc, ◌+◌, ◌<◌, Option, Some, List, [], ◌∷◌, length, get_or, map, take, refl, ap, sym, subst, ◌∙◌, arith}
+use Rattle.std.specs.Prelude.{slice_get}
+use Rattle.std.specs.List.{AllByRecursion}
+use Rattle.std.proofs.lemmas.List.{length-map}
+use Rattle.fn_rules.specs.declared.function.Case.{Case}
+use Rattle.fn_rules.specs.Functions.{GuardedCase, case_of}
+use Rattle.ot_questions.specs.Nears.{IsNearCase}
+use Rattle.ot_questions.specs.declared.place.SymOp.{SymOp}
+use Rattle.ot_terms.specs.Goals.{GoalTree}
+use Rattle.ot_audit.specs.declared.target.Target.{Target}
+use Rattle.ot_audit.specs.declared.target.Target.TheVariants as targets
+use Rattle.ot_audit.specs.Goals.{IsTargetOf, unless_true, at_own, at_target}
+
+pub near_at :
+    (xs : List Case) (i : ℕ) (d : Case) → AllByRecursion IsNearCase (map case_of xs) → i < length xs → IsNearCase (case_of (get_or xs i d))
+near_at [] i d near below = absurd (omega arith)
+near_at (x ∷ xs) zero d near below = near.0
+near_at (x ∷ xs) (suc i) d near below = near_at xs i d near.1 (omega arith)
+
+pub near_front : (xs : List Case) (i : ℕ) → AllByRecursion IsNearCase (map case_of xs) → AllByRecursion IsNearCase (map case_of (take i xs))
+near_front xs zero near = tt
+near_front [] (suc i) near = tt
+near_front (x ∷ xs) (suc i) near = (near.0, near_front xs i near.1)
+
+pub got_at : (xs : List Case) (i : ℕ) (d : Case) → i < length xs → slice_get (map case_of xs) i ≡ Some (case_of (get_or xs i d))
+got_at [] i d below = absurd (omega arith)
+got_at (x ∷ xs) zero d below = refl
+got_at (x ∷ xs) (suc i) d below = got_at xs i d (omega arith)
+
+pub front_cases : (xs : List Case) (i : ℕ) → map case_of (take i xs) ≡ take i (map case_of xs)
+front_cases xs zero = refl
+front_cases [] (suc i) = refl
+front_cases (x ∷ xs) (suc i) = ap (λ cs. case_of x ∷ cs) (front_cases xs i)
+
+-- the guard of a case behind those of all earlier ones
+pub case_reached :
+    (xs : List Case) (i : ℕ) (x : Case) (a b : SymOp) (own g : GoalTree) → i < length xs → x ≡ get_or xs i x
+    → own ≡ at_own (Some (case_of x)) a b → g ≡ unless_true (map case_of (take i xs)) a b own
+    → g ≡ at_target (map case_of xs) (targets.Case i) a b
+case_reached xs i x a b own g below is here behind =
+    let got : Some (case_of x) ≡ slice_get (map case_of xs) i = ap (λ y. Some (case_of y)) is ∙ sym (got_at xs i x below) in
+    behind
+    ∙ ap (λ h. unless_true (map case_of (take i xs)) a b h) (here ∙ ap (λ o. at_own o a b) got)
+    ∙ ap (λ cs. unless_true cs a b (at_own (slice_get (map case_of xs) i) a b)) (front_cases xs i)
+
+-- a target of as many cases
+pub target_there : (xs : List Case) (cs : List GuardedCase) (target : Target) → map case_of xs ≡ cs → IsTargetOf (length cs) target → IsTargetOf (length xs) target
+target_there xs cs target e h =
+    let same : length xs ≡ length cs = sym (length-map xs case_of) ∙ ap length e in
+    subst (λ n. IsTargetOf n target) (sym same) h
