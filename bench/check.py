@@ -50,4 +50,5 @@ def main():
                 print(f"{name}: no certificate")
 
 
-main()
+if __name__ == "__main__":
+    main()

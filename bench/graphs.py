@@ -56,4 +56,5 @@ def main():
             report_rate(count, rounds, in_c)
 
 
-main()
+if __name__ == "__main__":
+    main()

@@ -53,4 +53,5 @@ def main():
     report("at the front", case(lambda site: 0))
 
 
-main()
+if __name__ == "__main__":
+    main()

@@ -2,7 +2,7 @@
 """Measures `otp prove` and then `otp check` of what it wrote: seconds, questions a second, peak memory, bytes.
 
 usage: prove.py [RUNS]      (after `otp`, or `rt run` in crates/otp; the least of RUNS runs is shown, 5 where none is
-                            given)
+                            given; OTP=PROGRAM in the environment names another program to measure)
 
 The peak of the prover is shown beside the bytes of its certificate, which it holds whole before it writes them. Where
 z3 or cvc5 is installed, the same obligations are given to them too: each failing end of the plan that
@@ -19,7 +19,7 @@ from measure import measure
 
 HERE = os.path.dirname(os.path.abspath(__file__))
 TOP = os.path.dirname(HERE)
-PROGRAM = os.path.join(TOP, "crates/otp/out/otp")
+PROGRAM = os.environ.get("OTP") or os.path.join(TOP, "crates/otp/out/otp")
 SHIPPED = os.path.join(TOP, "examples/functions")
 
 
@@ -95,7 +95,8 @@ def report(folder, runs, name, text, options):
 def main():
     runs = int(sys.argv[1]) if len(sys.argv) > 1 else 5
     # Builds the program where that is needed, so that it is not measured.
-    subprocess.run([os.path.join(TOP, "otp")], stdout=subprocess.DEVNULL, check=False)
+    if "OTP" not in os.environ:
+        subprocess.run([os.path.join(TOP, "otp")], stdout=subprocess.DEVNULL, check=False)
     with tempfile.TemporaryDirectory() as folder:
         report(folder, runs, "ttf", shipped("ttf.ot"), [])
         report(folder, runs, "ttfu", shipped("ttfu.ot"), [])
@@ -106,4 +107,5 @@ def main():
         report(folder, runs, "14 cases a block", with_tombstones([11, 13, 12, 13]), [])
 
 
-main()
+if __name__ == "__main__":
+    main()
