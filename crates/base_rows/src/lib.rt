@@ -3,10 +3,6 @@
 #![tactic(auto)]
 
 #[cfg(test)]
-mod askers;
-#[cfg(test)]
-mod cycles;
-#[cfg(test)]
 mod documents;
 #[cfg(test)]
 mod fixtures;
@@ -16,8 +12,6 @@ mod floors;
 mod lists;
 #[cfg(test)]
 mod operations;
-#[cfg(test)]
-mod orders;
 #[cfg(test)]
 mod paths;
 #[cfg(test)]

@@ -39,13 +39,13 @@ fn table_of<const N: usize>(
         let (x, y, k, wanted) = steps[place];
         let lit = lit_of::<N>(rt, x, y, k);
         lits.push(lit)?;
-        assert_eq!(rt; bounds.allows(lit), wanted, "literal {place}");
+        assert!(rt; bounds.allows(lit) == wanted, "literal {place}");
         if bounds.allows(lit) {
             bounds.add(lit, place as u32);
         } else {
             let picks = bounds.why_not(alloc, lit, place as u32)?;
-            assert_eq!(rt; is_negative_cycle(&lits, &picks), Ok(()), "literal {place}");
-            assert!(rt; picks.len() <= N, "literal {place}");
+            let is_short = picks.len() <= N && is_negative_cycle(&lits, &picks).is_ok();
+            assert!(rt; is_short, "literal {place}");
         }
     }
     Ok(bounds)
@@ -62,37 +62,20 @@ fn assert_tightest<const N: usize>(
     requires few { N ≤ 16 }
 {
     for x in 0..N as u8 {
-        assert_eq!(rt;
-            bounds.tightest(0, x),
-            from_0[x as usize],
-            "0 to {x} of {}",
-            N
-        );
-        assert_eq!(rt;
-            bounds.tightest(x, 0),
-            to_0[x as usize],
-            "{x} to 0 of {}",
-            N
-        );
+        assert!(rt; bounds.tightest(0, x) == from_0[x as usize], "0 to {x}");
+        assert!(rt; bounds.tightest(x, 0) == to_0[x as usize], "{x} to 0");
     }
 }
 
 #[test]
-fn two_literals_exclude_each_other(rt: HostRuntime) -> Result<(), Fail> {
+fn a_copy_is_a_table_of_its_own(rt: HostRuntime) -> Result<(), Fail> {
     let mut bounds = Bounds::<3>::new();
     let before = bounds;
     let below = lit_of::<3>(&rt, 1, 2, -1);
     assert!(rt; bounds.allows(below));
     bounds.add(below, 0);
-    assert!(rt; bounds.allows(lit_of::<3>(&rt, 2, 1, 1)));
-    assert_eq!(rt; bounds.tightest(1, 2), Some(-1));
-    assert_eq!(rt; bounds.tightest(2, 1), None);
-    assert_eq!(rt; before.tightest(1, 2), None, "a copy is a table of its own");
-    let back = lit_of::<3>(&rt, 2, 1, 0);
-    assert!(rt; !bounds.allows(back));
-    let mut picks = bounds.why_not(rt.alloc(), back, 1)?;
-    picks.sort_unstable();
-    assert_eq!(rt; picks.as_slice(), [0, 1].as_slice());
+    assert!(rt; bounds.tightest(1, 2) == Some(-1));
+    assert!(rt; before.tightest(1, 2).is_none());
     Ok(())
 }
 
@@ -120,6 +103,11 @@ fn one_or_two_names_and_the_offsets_at_the_edges(rt: HostRuntime) -> Result<(), 
         ],
     )?;
     assert_tightest(&rt, &two, &[Some(0), Some(1001)], &[Some(0), Some(-1001)]);
+    let _excluding = table_of::<3>(
+        &rt,
+        rt.alloc(),
+        &[(1, 2, -1, true), (2, 1, 1, true), (2, 1, 0, false)],
+    )?;
     Ok(())
 }
 

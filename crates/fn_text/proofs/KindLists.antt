@@ -11,9 +11,9 @@ use Rattle.fn_rules.specs.declared.function.Head.{Head}
 use Rattle.fn_rules.specs.Functions.{is_declared}
 use Rattle.ot_model.proofs.KindRows.{Contains-kind, Contains-pair}
 use Rattle.fn_rules.proofs.LimitsKept.{each_true}
-use Rattle.fn_text.specs.declared.control.Seconds.{Seconds}
-use Rattle.fn_text.specs.declared.control.Pairs.{Pairs}
-use Rattle.fn_text.specs.Kinds.{seconds_of, with_seconds, has_second, with_second, has_seen, with_pair, declares_some, comes_next}
+use Rattle.fn_moves.specs.declared.control.Seconds.{Seconds}
+use Rattle.fn_moves.specs.declared.control.Pairs.{Pairs}
+use Rattle.fn_moves.specs.Kinds.{seconds_of, with_seconds, has_second, with_second, has_seen, with_pair, declares_some, comes_next}
 use Rattle.fn_text.specs.Reader.{no_seconds, no_pairs}
 
 pub list_all_from : {X : Type 0} (p : X → Bool) (xs : List X) → ((x : X) → p x ≡ true) → list_all p xs ≡ true

@@ -10,10 +10,10 @@ use Rattle.ot_model.specs.declared.op.TheConstants.{KINDS}
 use Rattle.ot_model.specs.Kinds.{is_same_kind}
 use Rattle.fn_rules.specs.declared.function.Head.{Head}
 use Rattle.fn_rules.specs.Functions.{is_declared}
-use Rattle.fn_text.specs.declared.language.Language.{Language}
-use Rattle.fn_text.specs.declared.language.Language.TheVariants.{One, Two}
-use Rattle.fn_text.specs.Kinds.{with_kind}
-use Rattle.fn_text.specs.Languages.{language_numbered, number_of, has_word, has_words, language_for}
+use Rattle.fn_moves.specs.declared.language.Language.{Language}
+use Rattle.fn_moves.specs.declared.language.Language.TheVariants.{One, Two}
+use Rattle.fn_moves.specs.Kinds.{with_kind}
+use Rattle.fn_moves.specs.Languages.{language_numbered, number_of, has_word, has_words, language_for}
 use Rattle.fn_text.proofs.KindLists.{list_all_from, each_kind_true, same_kind}
 
 pub numbered : (language : Language) → language_numbered (number_of language) ≡ Some language

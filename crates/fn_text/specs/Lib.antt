@@ -1,5 +1,4 @@
 pub mod Grammar
-pub mod Meaning
 pub mod Reading
 pub mod Theorems
 pub mod Counting
@@ -9,14 +8,6 @@ pub mod GoingOn
 pub mod Refusals
 pub mod Print
 pub mod Offsets
-pub mod Kinds
-pub mod Languages
-pub mod Controls
-pub mod FixedMoves
-pub mod LineMoves
-pub mod GuardMoves
-pub mod Moves
-pub mod Faults
 pub mod Reader
 pub mod Made
 pub use Rattle.fn_rules.specs.Formulas

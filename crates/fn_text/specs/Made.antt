@@ -9,8 +9,8 @@ use Rattle.fn_text.specs.declared.reader.Level.{Level}
 use Rattle.fn_text.specs.declared.reader.Outer.{Outer}
 use Rattle.fn_text.specs.declared.reader.Outer.TheVariants as rust
 use Rattle.fn_text.specs.declared.reader.Reader.{Reader}
-use Rattle.fn_text.specs.declared.fault.TextFault.{TextFault}
-use Rattle.fn_text.specs.Meaning.{Formulas}
+use Rattle.fn_moves.specs.declared.fault.TextFault.{TextFault}
+use Rattle.fn_moves.specs.Meaning.{Formulas}
 use Rattle.fn_text.specs.Reader.{State}
 use Rattle.fn_text.specs.Reader as plain
 

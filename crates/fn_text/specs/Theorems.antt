@@ -8,10 +8,10 @@ use Rattle.fn_rules.specs.Validity.{is_valid}
 use Rattle.fn_tokens.specs.declared.token.Token.{Token}
 use Rattle.fn_tokens.specs.declared.token.Token.TheVariants.{Open, FileEnd}
 use Rattle.fn_tokens.specs.declared.token.Placed.{Placed}
-use Rattle.fn_text.specs.declared.fault.TextFault.{TextFault}
+use Rattle.fn_moves.specs.declared.fault.TextFault.{TextFault}
 use Rattle.fn_tokens.specs.Tokens.{tokens_in, bare}
 use Rattle.fn_text.specs.Print.{guard_tokens, function_tokens, printed}
-use Rattle.fn_text.specs.Meaning.{Maker, to_formulas}
+use Rattle.fn_moves.specs.Meaning.{Maker, to_formulas}
 use Rattle.fn_text.specs.Reader.{State, turn}
 use Rattle.fn_text.specs.Reading.{function_in}
 use Rattle.fn_text.specs.Grammar.{Phrase, written_as, made, IsTextOf}

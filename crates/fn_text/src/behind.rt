@@ -1,11 +1,11 @@
 //! What a token that goes on makes of the control.
 
 ghost use Rattle.std.specs.Prelude.{◌≡◌, ◌+◌, true};
-ghost use Rattle.fn_text.specs.Kinds.{with_kind};
-ghost use Rattle.fn_text.specs.Moves.{HasRoom};
+ghost use Rattle.fn_moves.specs.Kinds.{with_kind};
+ghost use Rattle.fn_moves.specs.Moves.{HasRoom};
 ghost use Rattle.fn_text.specs.Reader.{with_want, want_behind, control_behind};
 
-use crate::control::{Control, Move, Next, Want};
+use fn_moves::{Control, Move, Next, Want};
 use fn_rules::{Cmp, Head, Side, Sort};
 use ot_model::Kind;
 
@@ -48,132 +48,140 @@ fn behind_atom(sort: Sort, left: Side, cmp: Cmp) -> Want
     }
 }
 
-impl Control {
-    fn wanting(self, want: Want) -> Control
-        ensures { result ≡ with_want self want }
-    {
-        Control { want, ..self }
-    }
+fn wanting(control: Control, want: Want) -> Control
+    ensures { result ≡ with_want control want }
+{
+    Control { want, ..control }
+}
 
-    fn with_head(self, want: Want, head: Head) -> Control
-        ensures { result ≡ record self { want = want; head = head } }
-    {
-        Control { want, head, ..self }
+fn with_head(control: Control, want: Want, head: Head) -> Control
+    ensures { result ≡ record control { want = want; head = head } }
+{
+    Control {
+        want,
+        head,
+        ..control
     }
+}
 
-    // The control in a block whose kinds were read.
-    fn in_block(self, first: Kind, second: Kind) -> Control
-        ensures { result ≡ control_behind self (Move.BeginBlock first second) }
-    {
-        Control {
-            want: Want::BlockEnd,
-            begun: true,
-            first,
-            second,
-            seen: self.seen.with(first, second),
-            cases: 0,
-            ..self
-        }
+// The control in a block whose kinds were read.
+fn in_block(control: Control, first: Kind, second: Kind) -> Control
+    ensures { result ≡ control_behind control (Move.BeginBlock first second) }
+{
+    Control {
+        want: Want::BlockEnd,
+        begun: true,
+        first,
+        second,
+        seen: control.seen.with(first, second),
+        cases: 0,
+        ..control
     }
+}
 
-    // The control at the guard of one more case.
-    fn in_case(self) -> Control
-        requires { HasRoom self Move.BeginCase }
-        ensures { result ≡ control_behind self Move.BeginCase }
-    {
-        Control {
-            want: Want::Operand,
-            cases: self.cases + 1,
-            atoms: 0,
-            ..self
-        }
+// The control at the guard of one more case.
+fn in_case(control: Control) -> Control
+    requires { HasRoom control Move.BeginCase }
+    ensures { result ≡ control_behind control Move.BeginCase }
+{
+    Control {
+        want: Want::Operand,
+        cases: control.cases + 1,
+        atoms: 0,
+        ..control
     }
+}
 
-    // The control in one more pair of parentheses.
-    fn opened(self) -> Control
-        requires { HasRoom self Move.Open }
-        ensures { result ≡ control_behind self Move.Open }
-    {
-        Control {
-            want: Want::Operand,
-            outside: self.outside + self.nots + 1,
-            nots: 0,
-            ..self
-        }
+// The control in one more pair of parentheses.
+fn opened(control: Control) -> Control
+    requires { HasRoom control Move.Open }
+    ensures { result ≡ control_behind control Move.Open }
+{
+    Control {
+        want: Want::Operand,
+        outside: control.outside + control.nots + 1,
+        nots: 0,
+        ..control
     }
+}
 
-    // The control behind one more `not`.
-    fn negated(self) -> Control
-        requires { HasRoom self Move.Negate }
-        ensures { result ≡ control_behind self Move.Negate }
-    {
-        Control {
-            want: Want::Operand,
-            nots: self.nots + 1,
-            ..self
-        }
+// The control behind one more `not`.
+fn negated(control: Control) -> Control
+    requires { HasRoom control Move.Negate }
+    ensures { result ≡ control_behind control Move.Negate }
+{
+    Control {
+        want: Want::Operand,
+        nots: control.nots + 1,
+        ..control
     }
+}
 
-    // The control behind the first token of one more atom.
-    fn with_atom(self, want: Want) -> Control
-        requires { HasRoom self Move.Always }
-        ensures { result ≡ record self { want = want; atoms = self.atoms + 1 } }
-    {
-        Control {
-            want,
-            atoms: self.atoms + 1,
-            ..self
-        }
+// The control behind the first token of one more atom.
+fn with_atom(control: Control, want: Want) -> Control
+    requires { HasRoom control Move.Always }
+    ensures { result ≡ record control { want = want; atoms = control.atoms + 1 } }
+{
+    Control {
+        want,
+        atoms: control.atoms + 1,
+        ..control
     }
+}
 
-    // The control behind a whole operand.
-    fn behind_operand(self, want: Want) -> Control
-        ensures { result ≡ record self { want = want; nots = 0 } }
-    {
-        Control {
-            want,
-            nots: 0,
-            ..self
-        }
+// The control behind a whole operand.
+fn behind_operand(control: Control, want: Want) -> Control
+    ensures { result ≡ record control { want = want; nots = 0 } }
+{
+    Control {
+        want,
+        nots: 0,
+        ..control
     }
+}
 
-    /// The control behind a token that does this.
-    pub(crate) fn behind(self, move_: Move) -> Control
-        requires { HasRoom self move_ }
-        ensures { result ≡ control_behind self move_ }
-    {
-        let c = self;
-        match move_ {
-            Move::Skip(want) => c.wanting(want),
-            Move::SetLanguage(language) => Control {
-                language,
-                ..c.wanting(Want::LineEnd(Next::Text))
+/// The control behind a token that does this.
+pub(crate) fn behind(control: Control, move_: Move) -> Control
+    requires { HasRoom control move_ }
+    ensures { result ≡ control_behind control move_ }
+{
+    match move_ {
+        Move::Skip(want) => wanting(control, want),
+        Move::SetLanguage(language) => Control {
+            language,
+            ..wanting(control, Want::LineEnd(Next::Text))
+        },
+        Move::SetMode(mode) => with_head(
+            control,
+            Want::LineEnd(Next::Kinds),
+            Head {
+                mode,
+                ..control.head
             },
-            Move::SetMode(mode) => c.with_head(Want::LineEnd(Next::Kinds), Head { mode, ..c.head }),
-            Move::Declare(kind) => c.with_head(Want::NextKind, with_kind(c.head, kind)),
-            Move::AssumeSites => c.with_head(Want::Differ, with_sites(c.head)),
-            Move::AssumeChars => c.with_head(Want::Differ, with_chars(c.head)),
-            Move::BlockWord(line, column) => Control {
-                line,
-                column,
-                ..c.wanting(Want::BlockFirst)
-            },
-            Move::BeginBlock(first, second) => c.in_block(first, second),
-            Move::BeginCase => c.in_case(),
-            Move::Open => c.opened(),
-            Move::Negate => c.negated(),
-            Move::Always => c.with_atom(Want::Operator),
-            Move::BeginAtom(sort, left) => c.with_atom(Want::Comparison(sort, left)),
-            Move::Compare(sort, left, cmp) => c.wanting(behind_atom(sort, left, cmp)),
-            Move::Shift(..) => c.wanting(Want::Operator),
-            Move::And | Move::Or => c.behind_operand(Want::Operand),
-            Move::Close => c.wanting(Want::Operator),
-            Move::Colon => c.behind_operand(Want::Result),
-            Move::EndCase(_) => c.wanting(Want::Line),
-            Move::End => Control {
-                begun: false,
-                ..c.wanting(Want::LineEnd(Next::File))
-            },
-        }
+        ),
+        Move::Declare(kind) => with_head(control, Want::NextKind, with_kind(control.head, kind)),
+        Move::AssumeSites => with_head(control, Want::Differ, with_sites(control.head)),
+        Move::AssumeChars => with_head(control, Want::Differ, with_chars(control.head)),
+        Move::BlockWord(line, column) => Control {
+            line,
+            column,
+            ..wanting(control, Want::BlockFirst)
+        },
+        Move::BeginBlock(first, second) => in_block(control, first, second),
+        Move::BeginCase => in_case(control),
+        Move::Open => opened(control),
+        Move::Negate => negated(control),
+        Move::Always => with_atom(control, Want::Operator),
+        Move::BeginAtom(sort, left) => with_atom(control, Want::Comparison(sort, left)),
+        Move::Compare(sort, left, cmp) => wanting(control, behind_atom(sort, left, cmp)),
+        Move::Shift(..) => wanting(control, Want::Operator),
+        Move::And | Move::Or => behind_operand(control, Want::Operand),
+        Move::Close => wanting(control, Want::Operator),
+        Move::Colon => behind_operand(control, Want::Result),
+        Move::EndCase(_) => wanting(control, Want::Line),
+        Move::End => Control {
+            begun: false,
+            ..wanting(control, Want::LineEnd(Next::File))
+        },
     }
 }

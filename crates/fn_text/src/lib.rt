@@ -7,12 +7,7 @@
 #![tactic(auto)]
 
 mod behind;
-mod cause;
-mod control;
-mod fault;
 mod grammar;
-mod language;
-mod moves;
 mod printer;
 mod reader;
 mod reading;
@@ -20,7 +15,7 @@ mod round_trip;
 mod stop;
 mod theorems;
 
-pub use fault::{FaultKind, TextFault};
+pub use fn_moves::{FaultKind, TextFault};
 pub use fn_tokens::{Placed, Sign, Token, Word, lex};
 pub use grammar::{taken_tokens_can_go_on, what_is_read_is_in_the_grammar};
 pub use printer::print;

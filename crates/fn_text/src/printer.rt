@@ -5,7 +5,7 @@ ghost use Rattle.fn_rules.specs.Formulas.{formula_of, other_side};
 ghost use Rattle.fn_rules.specs.Functions.{case_of};
 ghost use Rattle.fn_rules.specs.Rules.{function_of};
 ghost use Rattle.fn_rules.specs.Validity.{is_valid};
-ghost use Rattle.fn_text.specs.Languages.{language_for};
+ghost use Rattle.fn_moves.specs.Languages.{language_for};
 ghost use Rattle.fn_text.specs.Print.{offset_tokens, atom_tokens, guard_tokens, result_tokens, case_tokens, block_tokens, kind_tokens};
 ghost use Rattle.fn_text.specs.Print.{declared_block, blocks_with, function_tokens, printed, head_tokens, assumption_tokens};
 ghost use Rattle.fn_text.specs.Print.{first_lines};
@@ -13,7 +13,7 @@ ghost use Rattle.fn_text.specs.Reading.{function_in};
 ghost use Rattle.fn_text.specs.Offsets.{HasOffset, HasOffsets, HasResultOffset, HasCaseOffsets};
 
 use crate::NoMemory;
-use crate::language::Language;
+use fn_moves::Language;
 use fn_rules::{Atom, Case, Guard, Head, Res, Rules, Side, Sort, Tightness};
 use fn_tokens::{Sign, Token, Word, spell};
 use ot_model::{KINDS, Kind, Mode};

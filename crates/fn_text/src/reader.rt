@@ -4,17 +4,17 @@ ghost use Rattle.std.specs.Prelude.{◌≡◌, IfOk, OnOk, map, option_map, Ok, 
 ghost use Rattle.fn_rules.specs.Formulas.{formula_of};
 ghost use Rattle.fn_rules.specs.Functions.{case_of};
 ghost use Rattle.fn_rules.specs.Building.{block_of};
-ghost use Rattle.fn_text.specs.Meaning.{res_of, signed, to_formulas};
+ghost use Rattle.fn_moves.specs.Meaning.{res_of, signed, to_formulas};
 ghost use Rattle.fn_text.specs.Reader.{negate, join, choose, conjunction, disjunction, blocks_of, left_for, told, moved, turn, ended};
 ghost use Rattle.fn_text.specs.Reader.{read_from, first_state};
-ghost use Rattle.fn_text.specs.Controls.{depth_of};
-ghost use Rattle.fn_text.specs.Moves.{HasRoom};
+ghost use Rattle.fn_moves.specs.Controls.{depth_of};
+ghost use Rattle.fn_moves.specs.Moves.{HasRoom};
 ghost use Rattle.fn_text.specs.Made.{state_of, level_of, outer_of, Gives};
 
 use crate::NoMemory;
-use crate::control::{Control, Move, Want, Written};
-use crate::fault::{FaultKind, TextFault};
+use crate::behind::behind;
 use crate::stop::TextError;
+use fn_moves::{Control, FaultKind, Move, TextFault, Want, Written};
 use fn_rules::{Atom, Block, Case, Cmp, Guard, Head, Res, Side, Sort};
 use fn_tokens::{Placed, Sign};
 use ot_model::Kind;
@@ -156,7 +156,7 @@ impl Reader {
         requires { HasRoom self.old.control move_ }
         ensures { state_of self.new ≡ told (state_of self.old) move_ }
     {
-        self.control = self.control.behind(move_);
+        self.control = behind(self.control, move_);
     }
 
     /// Puts the block that was begun to those that are done.

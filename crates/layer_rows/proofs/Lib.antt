@@ -1,1 +1,2 @@
 mod GuardGoals
+mod FirstGoals

@@ -1,4 +1,4 @@
-//! The questions of one pair, along the answers yes, and those of a guard alone.
+//! The questions of a guard alone. Those of obligations are rows of `worked_rows`.
 ghost use Rattle.std.specs.Prelude.{IsTrue};
 ghost use Rattle.fn_rules.specs.Obligations.{is_obligation};
 ghost use Rattle.fn_rules.specs.Rules.{function_of};
@@ -14,42 +14,6 @@ use ot_questions::Who;
 use ot_terms::{Goal, SymOp, Why, place_form};
 use std::process::Abort;
 use std::test::Fail;
-
-// The length is asked first, and then the first deletion's position; where the length is none, nothing is to be shown.
-fn first_questions_are_asked(rt: &impl Abort, asker: &mut PathAsker<'_>) -> Result<(), NoMemory> {
-    let start = asker.start()?;
-    match asker.turn(start)? {
-        Turn::Ask { lit, yes, no } => {
-            assert_eq!(rt; lit, Lit { x: 0, y: 1, k: 0 });
-            let behind_no = asker.turn(no)?;
-            assert!(rt; matches!(behind_no, Turn::Holds));
-            let behind_yes = asker.turn(yes)?;
-            assert!(rt;
-                matches!(
-                    behind_yes,
-                    Turn::Ask {
-                        lit: Lit { x: 0, y: 3, k: 0 },
-                        ..
-                    }
-                )
-            );
-        }
-        _ => rt.abort(),
-    }
-    Ok(())
-}
-
-#[test]
-fn a_pair_asks_its_questions(rt: HostRuntime) -> Result<(), Fail> {
-    let rules = staying(&rt, rt.alloc(), MARKS)?;
-    let head = rules.head();
-    assert!(rt; head.declares_pair(Kind::Del, Kind::Del));
-    let bump = Bump::new(rt.alloc());
-    let mut asker = PathAsker::new(&bump, &rules, ObName::Pair(Kind::Del, Kind::Del));
-    assert_eq!(rt; asker.names(), 9);
-    first_questions_are_asked(&rt, &mut asker)?;
-    Ok(())
-}
 
 // Over a goal that holds where the first deletion is before the second, and fails where it is not.
 fn asker_of_guard<'a>(bump: &'a Bump, rules: &'a Rules) -> Result<PathAsker<'a>, NoMemory>
@@ -94,6 +58,7 @@ fn a_goal_of_a_guard_asks_the_guard_alone(rt: HostRuntime) -> Result<(), Fail> {
     assert!(rt; head.declares_pair(Kind::Del, Kind::Del));
     let bump = Bump::new(rt.alloc());
     let mut asker = asker_of_guard(&bump, &rules)?;
+    assert_eq!(rt; asker.names(), 9);
     guard_is_asked(&rt, &mut asker)?;
     Ok(())
 }

@@ -10,11 +10,7 @@ mod checks;
 #[cfg(test)]
 mod functions;
 #[cfg(test)]
-mod hubs;
-#[cfg(test)]
 mod outside;
-#[cfg(test)]
-mod plans;
 #[cfg(test)]
 mod searches;
 #[cfg(test)]
@@ -22,8 +18,4 @@ mod sessions;
 #[cfg(test)]
 mod splits;
 #[cfg(test)]
-mod terms;
-#[cfg(test)]
 mod two_names;
-#[cfg(test)]
-mod verdicts;

@@ -1,37 +1,11 @@
-//! Bytes of files, of slices and of the machine.
+//! Bytes of files and of slices. Files of the machine and its standard output are those of the built program's rows.
 
 use ot_outside::{
-    Failed, Feed, FileShelf, MemShelf, MemSink, ReadError, Shelf, ShelfFeed, SliceFeed, StdSink,
-    read_all, write_all,
+    Failed, Feed, MemShelf, MemSink, ReadError, Shelf, ShelfFeed, SliceFeed, read_all, write_all,
 };
 use std::alloc::Global;
-use std::fs;
 use std::process::Abort;
 use std::test::Fail;
-
-#[test]
-fn a_file_of_the_machine_is_read(rt: HostRuntime) -> Result<(), Fail> {
-    let name = "layer_rows_file_shelf.txt";
-    fs::write(&rt, name, "hello")?;
-    let mut shelf = FileShelf::new(&rt);
-    let mut into = Vec::new(rt.alloc());
-    let answer = read_all(&mut shelf, name, 9, &mut into);
-    fs::remove_file(&rt, name)?;
-    assert_eq!(rt; answer, Ok(()));
-    assert_eq!(rt; into.as_slice(), b"hello".as_slice());
-
-    into.clear();
-    let missing = read_all(&mut shelf, name, 9, &mut into);
-    assert_eq!(rt; missing, Err(ReadError::Failed));
-    assert_eq!(rt; shelf.read(&mut [0; 8]), Ok(0), "nothing is left");
-    Ok(())
-}
-
-#[test]
-fn bytes_reach_the_standard_output(rt: HostRuntime) {
-    let mut sink = StdSink::new(&rt);
-    assert_eq!(rt; write_all(&mut sink, b"hello\n"), Ok(()));
-}
 
 // A shelf with one file. The call with this number fails, of which the first opens the file.
 fn shelf_of(alloc: Global, bytes: &[u8], failing: u32) -> Result<MemShelf, Fail> {
@@ -43,23 +17,21 @@ fn shelf_of(alloc: Global, bytes: &[u8], failing: u32) -> Result<MemShelf, Fail>
     Ok(MemShelf::new(files, vec![in alloc; failing]?))
 }
 
-// Three bytes of a file are given, and whether more follow is told.
-fn expect_three(rt: &impl Abort, alloc: Global, bytes: &[u8], more: bool) -> Result<(), Fail> {
+// A byte of a file is given, and whether more follow is told.
+fn expect_one(rt: &impl Abort, alloc: Global, bytes: &[u8], more: bool) -> Result<(), Fail> {
     let mut shelf = shelf_of(alloc, bytes, 0)?;
     shelf.open("file")?;
-    let mut feed = ShelfFeed::new(&mut shelf, 3);
-    assert_eq!(rt; feed.next(), Ok(Some(b'a')));
-    assert_eq!(rt; feed.next(), Ok(Some(b'b')));
-    assert_eq!(rt; feed.next(), Ok(Some(b'c')));
-    assert_eq!(rt; feed.next(), Ok(None));
-    assert_eq!(rt; feed.too_long(), Ok(more));
+    let mut feed = ShelfFeed::new(&mut shelf, 1);
+    assert!(rt; feed.next() == Ok(Some(b'a')));
+    assert!(rt; feed.next() == Ok(None));
+    assert!(rt; feed.too_long() == Ok(more));
     Ok(())
 }
 
 #[test]
 fn a_file_is_given_up_to_the_limit(rt: HostRuntime) -> Result<(), Fail> {
-    expect_three(&rt, rt.alloc(), b"abcd", true)?;
-    expect_three(&rt, rt.alloc(), b"abc", false)
+    expect_one(&rt, rt.alloc(), b"ab", true)?;
+    expect_one(&rt, rt.alloc(), b"a", false)
 }
 
 #[test]
@@ -67,25 +39,20 @@ fn a_failed_read_takes_nothing(rt: HostRuntime) -> Result<(), Fail> {
     let mut shelf = shelf_of(rt.alloc(), b"ab", 2)?;
     shelf.open("file")?;
     let mut feed = ShelfFeed::new(&mut shelf, 1);
-    assert_eq!(rt; feed.more(), Err(Failed));
-    assert_eq!(rt; feed.too_long(), Ok(false));
-    assert_eq!(rt; feed.more(), Ok(true));
-    assert_eq!(rt; feed.at_hand(), b"a".as_slice());
-    assert_eq!(rt; feed.next(), Ok(Some(b'a')));
-    assert_eq!(rt; feed.too_long(), Ok(true));
+    assert!(rt; feed.more() == Err(Failed));
+    assert!(rt; feed.more() == Ok(true));
+    assert!(rt; feed.at_hand() == b"a".as_slice());
     Ok(())
 }
 
 #[test]
 fn a_slice_is_given(rt: HostRuntime) {
-    let mut feed = SliceFeed::new(b"abc");
-    assert_eq!(rt; feed.more(), Ok(true));
+    let mut feed = SliceFeed::new(b"ab");
+    assert!(rt; feed.more() == Ok(true));
     let most = feed.at_hand().len();
-    feed.consume(usize::min(2, most));
-    assert_eq!(rt; feed.at_hand(), b"c".as_slice());
-    assert_eq!(rt; feed.next(), Ok(Some(b'c')));
-    assert_eq!(rt; feed.next(), Ok(None));
-    assert_eq!(rt; feed.more(), Ok(false));
+    feed.consume(usize::min(1, most));
+    assert!(rt; feed.next() == Ok(Some(b'b')));
+    assert!(rt; feed.more() == Ok(false));
 }
 
 // A file of five bytes is read to a limit, where the call with a number fails.

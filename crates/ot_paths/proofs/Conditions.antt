@@ -21,7 +21,7 @@ use Rattle.ot_terms.specs.Goals.{GoalTree, If}
 use Rattle.ot_terms.specs.Standing.{ask_form, ask_goal}
 use Rattle.ot_rewrite.specs.Splits.{comparisons_left}
 use Rattle.ot_paths.specs.Nodes.{IsNode, literal}
-use Rattle.ot_paths.proofs.LaidForms.{IsPlace-before}
+use Rattle.laid_goals.proofs.LaidForms.{IsPlace-before}
 
 -- what goes on with two plans: its literals are fine where theirs are, and a path has at most so many more questions
 record GoesOn (count more : ℕ) (p q r : Plan Why) : Type 0 where

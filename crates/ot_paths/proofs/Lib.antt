@@ -1,5 +1,3 @@
 mod Conditions
 mod GivenGoals
-mod LaidForms
-mod LaidGoals
 mod Questions

@@ -1,6 +1,5 @@
 pub mod Given
 pub mod Nodes
 pub mod OneProof
-pub mod Sharing
 pub use Rattle.ot_terms.specs.Belonging
 pub use Rattle.ot_terms.specs.Standing

@@ -7,10 +7,7 @@
 #![tactic(auto)]
 
 mod asker;
-mod behind;
-mod kept;
 mod laws;
-mod laying;
 
 pub use ask_core::NoMemory;
 pub use asker::PathAsker;

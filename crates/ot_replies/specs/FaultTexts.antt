@@ -1,9 +1,9 @@
 -- The lines of faults: of the text of a function, of a certificate, and of a case.
 use Rattle.std.specs.Prelude.{ℕ, List, [], ◌∷◌, ◌++◌, codes}
 use Rattle.std.specs.Fmt.{decimal}
-use Rattle.fn_text.specs.declared.fault.FaultKind.{FaultKind}
-use Rattle.fn_text.specs.declared.fault.FaultKind.TheVariants as kinds
-use Rattle.fn_text.specs.declared.fault.TextFault.{TextFault}
+use Rattle.fn_moves.specs.declared.fault.FaultKind.{FaultKind}
+use Rattle.fn_moves.specs.declared.fault.FaultKind.TheVariants as kinds
+use Rattle.fn_moves.specs.declared.fault.TextFault.{TextFault}
 use Rattle.ot_sections.specs.declared.refusal.Refusal.{Refusal}
 use Rattle.ot_sections.specs.declared.refusal.Refusal.TheVariants as why
 use Rattle.case_json.specs.declared.fault.CaseFault.{CaseFault}

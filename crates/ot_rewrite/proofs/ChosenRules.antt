@@ -27,7 +27,7 @@ use Rattle.fn_rules.specs.declared.guard.Cmp.{Cmp}
 use Rattle.fn_rules.specs.declared.guard.Cmp.TheVariants as cmp
 use Rattle.ot_questions.specs.declared.place.Place.{Place}
 use Rattle.ot_terms.specs.Placing.{compared}
-use Rattle.ot_rewrite.specs.Table.{choose_case, choose_by_kinds, rewrite_choose}
+use Rattle.goal_rules.specs.Table.{choose_case, choose_by_kinds, rewrite_choose}
 use Rattle.ot_rewrite.proofs.Rewritings.{IsRewriting}
 use Rattle.ot_rewrite.proofs.Operands.{next_are_operands}
 use Rattle.ot_rewrite.proofs.ChosenCases.{drop_next, drop_within, of_next, AreNear-cases, some_names, result_moves, first_stays}

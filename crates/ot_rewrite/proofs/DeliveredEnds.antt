@@ -22,7 +22,7 @@ use Rattle.ot_terms.specs.Goals.{GoalTree, Fails}
 use Rattle.ot_terms.specs.Changes.{doc_of}
 use Rattle.ot_terms.specs.Standing.{ask_form, ask_read, ask_goal, changes_of}
 use Rattle.ot_terms.specs.Starting.{enabled_form}
-use Rattle.ot_rewrite.specs.Ends.{same_documents, same_lengths, both_ways, one_place, one_form}
+use Rattle.goal_rules.specs.Ends.{same_documents, same_lengths, both_ways, one_place, one_form}
 
 -- reading asks the changes of a document for no site, and nop is none of them
 ask_cell-changes :

@@ -26,8 +26,8 @@ use Rattle.ot_terms.specs.Changes.{changed, doc_of}
 use Rattle.ot_terms.specs.Starting.{enabled_form}
 use Rattle.ot_terms.specs.Standing.{changes_of, results_of}
 use Rattle.ot_terms.specs.Belonging.{IsPlace, IsLowerable, HasPlaces, HasNames, IsDocOf, IsIndexOf, AreMade, AreResults, IsNextResult, IsProgressOf, HasParts, next_operands}
-use Rattle.ot_rewrite.specs.Ends.{same_documents, both_ways, one_place, end_goal}
-use Rattle.ot_rewrite.specs.Table.{with_result, go_on, rewrite_deliver}
+use Rattle.goal_rules.specs.Ends.{same_documents, both_ways, one_place, end_goal}
+use Rattle.goal_rules.specs.Table.{with_result, go_on, rewrite_deliver}
 use Rattle.ot_rewrite.proofs.Rewritings.{IsRewriting}
 use Rattle.ot_rewrite.proofs.Operands.{IsOperand, AreOperands, operand_reach, IsOperand-more, pair_results, triple_results, made_pair, made_triple, next_are_operands}
 use Rattle.ot_rewrite.proofs.ChosenCases.{name_of_place, some_names, operand_reach_low}

@@ -13,8 +13,8 @@ use Rattle.ot_terms.specs.declared.goal.Progress.{Progress}
 use Rattle.ot_terms.specs.Goals.{Deliver}
 use Rattle.ot_terms.specs.Standing.{ask_goal, ask_after, ask_pair_after, ask_second_way_after, ask_triple_after, results_of}
 use Rattle.ot_terms.specs.Belonging.{AreMade, next_operands}
-use Rattle.ot_rewrite.specs.Ends.{end_goal}
-use Rattle.ot_rewrite.specs.Table.{with_result, go_on, rewrite_deliver}
+use Rattle.goal_rules.specs.Ends.{end_goal}
+use Rattle.goal_rules.specs.Table.{with_result, go_on, rewrite_deliver}
 use Rattle.ot_rewrite.proofs.DeliveredEnds.{one_form_asks, both_ways_ask}
 
 taken_set : {X : Type 0} (xs : List X) (n : ℕ) (x : X) → n < length xs → take (suc n) (slice_set xs n x) ≡ take n xs ++ x ∷ []

@@ -24,8 +24,8 @@ use Rattle.ot_terms.specs.Starting.{enabled_form}
 use Rattle.ot_terms.specs.Standing.{results_of}
 use Rattle.ot_terms.specs.Weights.{form_weight, cases_weight, doc_weight, transforms_of, function_weight, cases_of_kinds, goal_weight}
 use Rattle.ot_terms.specs.Belonging.{next_operands}
-use Rattle.ot_rewrite.specs.Ends.{same_documents, same_lengths, both_ways, one_place, end_goal}
-use Rattle.ot_rewrite.specs.Table.{with_result, go_on, rewrite_deliver}
+use Rattle.goal_rules.specs.Ends.{same_documents, same_lengths, both_ways, one_place, end_goal}
+use Rattle.goal_rules.specs.Table.{with_result, go_on, rewrite_deliver}
 use Rattle.ot_rewrite.proofs.DeliveredPlans.{results_of-with_result}
 
 -- the block of two kinds is no heavier than all blocks together

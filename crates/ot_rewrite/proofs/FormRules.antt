@@ -11,7 +11,7 @@ use Rattle.ot_terms.specs.Forms.{FormTree, True, Le, Lt, Eq, And, Or, Not}
 use Rattle.ot_terms.specs.Goals.{GoalTree, If}
 use Rattle.ot_terms.specs.Standing.{ask_form, ask_goal}
 use Rattle.ot_terms.specs.Belonging.{IsPlace, IsLowerable}
-use Rattle.ot_rewrite.specs.Table.{rewrite_if}
+use Rattle.goal_rules.specs.Table.{rewrite_if}
 use Rattle.ot_rewrite.proofs.Rewritings.{IsRewriting}
 
 -- a place that may be lowered is one, and so is the place before it

@@ -2,10 +2,10 @@
 use Rattle.std.proofs.Common.{◌≡◌, Option, Some, None, MatchOption, sym, subst}
 use Rattle.fn_rules.specs.Functions.{Function}
 use Rattle.ot_terms.specs.Goals.{GoalTree}
-use Rattle.ot_rewrite.specs.declared.front.Front.{Front}
+use Rattle.goal_rules.specs.declared.front.Front.{Front}
 use Rattle.ot_rewrite.specs.Reaching.{Advances}
-use Rattle.ot_rewrite.specs.Steps.{front_tree}
-use Rattle.ot_rewrite.specs.Table.{rewritten}
+use Rattle.goal_rules.specs.Steps.{front_tree}
+use Rattle.goal_rules.specs.Table.{rewritten}
 
 abbrev pub Given : Function → GoalTree → Option Front → Type 0
 Given f old o = MatchOption o (rewritten f old ≡ None) (λ next. Advances f old (front_tree next))

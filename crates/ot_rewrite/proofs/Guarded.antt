@@ -15,7 +15,7 @@ use Rattle.ot_terms.specs.declared.goal.Progress.{Progress}
 use Rattle.ot_terms.specs.Forms.{FormTree, True, Le, Lt, Eq, And, Or, Not}
 use Rattle.ot_terms.specs.Goals.{GoalTree, If, Fails, Choose, Deliver}
 use Rattle.ot_terms.specs.Placing.{compared, guard_form}
-use Rattle.ot_rewrite.specs.Table.{rewrite_if, choose_case, choose_by_kinds, rewrite_choose, rewritten}
+use Rattle.goal_rules.specs.Table.{rewrite_if, choose_case, choose_by_kinds, rewrite_choose, rewritten}
 use Rattle.ot_rewrite.specs.Leading.{led_order, led_comparison, led_guard, led_case, led_by_kinds, led_choice}
 use Rattle.ot_rewrite.specs.Reaching.{Reaches, Advances}
 use Rattle.ot_rewrite.proofs.Reached.{reaches_itself, rule_before}

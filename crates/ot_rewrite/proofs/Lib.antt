@@ -5,15 +5,12 @@ mod SameRules
 mod Operands
 mod ChosenCases
 mod ChosenRules
-mod CasesLeft
 mod DeliveredEnds
 mod DeliveredPlans
 mod DeliveredWeights
 mod DeliveredParts
 mod FrontLaws
-mod CellExamples
 mod RulesKept
-mod MoveExamples
 mod Reached
 mod Ready
 mod Guarded

@@ -8,7 +8,7 @@ use Rattle.ot_terms.specs.Goals.{GoalTree}
 use Rattle.ot_terms.specs.Standing.{ask_goal}
 use Rattle.ot_terms.specs.Weights.{goal_weight}
 use Rattle.ot_terms.specs.Belonging.{IsGoalOf}
-use Rattle.ot_rewrite.specs.Table.{rewritten}
+use Rattle.goal_rules.specs.Table.{rewritten}
 use Rattle.ot_rewrite.specs.Reaching.{after_rules, Reaches, Advances}
 use Rattle.ot_rewrite.proofs.RulesKept.{rule_kept, rule_belongs}
 

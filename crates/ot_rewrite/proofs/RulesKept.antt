@@ -5,7 +5,7 @@ use Rattle.fn_rules.specs.Functions.{Function}
 use Rattle.fn_rules.specs.Validity.{is_valid}
 use Rattle.ot_terms.specs.Goals.{GoalTree, Holds, Fails, If, Choose, Deliver, Same}
 use Rattle.ot_terms.specs.Belonging.{IsGoalOf}
-use Rattle.ot_rewrite.specs.Table.{rewrite_choose, rewrite_deliver, rewritten}
+use Rattle.goal_rules.specs.Table.{rewrite_choose, rewrite_deliver, rewritten}
 use Rattle.ot_rewrite.proofs.Rewritings.{IsRewriting}
 use Rattle.ot_rewrite.proofs.ChosenRules.{choose_rule}
 use Rattle.ot_rewrite.proofs.DeliveredParts.{deliver_rule}

@@ -8,7 +8,7 @@ use Rattle.ot_questions.specs.declared.why.Why.TheVariants.{Undefined}
 use Rattle.ot_terms.specs.Forms as forms
 use Rattle.ot_terms.specs.Forms.{FormTree}
 use Rattle.ot_terms.specs.Goals.{GoalTree, Holds, Fails, If}
-use Rattle.ot_rewrite.specs.Table.{rewritten}
+use Rattle.goal_rules.specs.Table.{rewritten}
 use Rattle.ot_rewrite.specs.Splits.{SplitTree, Yes, No, Ask, first_question, LeadsTo, there, by_rule, EndsInYes, EndsInNo, EndsAtQuestion, split_of}
 use Rattle.ot_rewrite.proofs.SplitForms.{EndsAs, split_is}
 

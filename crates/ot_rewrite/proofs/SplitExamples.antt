@@ -9,7 +9,7 @@ use Rattle.ot_terms.specs.Forms.{FormTree, True, Le, Lt, Eq, And, Or, Not}
 use Rattle.ot_terms.specs.Belonging.{IsPlace, HasPlaces}
 use Rattle.ot_terms.specs.Goals.{Holds, Fails, If}
 use Rattle.ot_rewrite.specs.Splits.{Yes, No, Ask, split_of, comparisons_left, LeadsTo, there, by_rule}
-use Rattle.ot_rewrite.specs.Table.{rewritten}
+use Rattle.goal_rules.specs.Table.{rewritten}
 
 -- the positions of two operations, the first one also with an offset
 abbrev a : Place

@@ -15,7 +15,7 @@ use Rattle.ot_terms.specs.Forms.{FormTree, form_holds}
 use Rattle.ot_terms.specs.Goals.{GoalTree, If}
 use Rattle.ot_terms.specs.Standing.{ask_form}
 use Rattle.ot_terms.specs.Belonging.{HasPlaces}
-use Rattle.ot_rewrite.specs.Table.{rewritten}
+use Rattle.goal_rules.specs.Table.{rewritten}
 use Rattle.ot_rewrite.specs.Splits.{SplitTree, Yes, No, Ask, LeadsTo, there, by_rule, EndsInYes, EndsInNo, EndsAtQuestion, split_holds, ask_split, comparisons_left, HasFewer, HasSplitPlaces, HasLowOffsets, split_le, split_eq, split_and, split_or, split_not, split_of}
 use Rattle.ot_rewrite.proofs.FormRules.{IsPlace-before}
 

@@ -8,7 +8,7 @@ use Rattle.ot_terms.specs.Belonging.{IsGoalOf}
 use Rattle.ot_terms.proofs.GoalTruth.{goal_holds_alike}
 use Rattle.ot_rewrite.specs.Fronts.{is_at_front}
 use Rattle.ot_rewrite.specs.Reaching.{IsStep}
-use Rattle.ot_rewrite.specs.Table.{rewritten}
+use Rattle.goal_rules.specs.Table.{rewritten}
 use Rattle.ot_rewrite.proofs.FrontLaws.{goal_stops}
 use Rattle.ot_rewrite.proofs.RulesKept.{rule_kept, rule_belongs}
 

@@ -8,12 +8,12 @@ ghost use Rattle.ot_questions.specs.Nears.{IsNear, IsNearOp, IsNearCase, HasNear
 ghost use Rattle.ot_terms.specs.Goals as goals;
 ghost use Rattle.ot_terms.specs.Goals.{goal_tree};
 ghost use Rattle.ot_rewrite.specs.Leading as leading;
-ghost use Rattle.ot_rewrite.specs.Steps.{front_tree, IsChoosable};
+ghost use Rattle.goal_rules.specs.Steps.{front_tree, IsChoosable};
 
-use crate::front::Front;
 use ask_core::NoMemory;
 use bumpalo::Bump;
 use fn_rules::{Atom, Case, Cmp, Guard, Rules, Side};
+use goal_rules::Front;
 use ot_terms::{Form, Goal, Place, Progress, SymOp, Why, place_form};
 
 // Two places of one name are compared at once.

@@ -9,15 +9,14 @@ ghost use Rattle.ot_terms.specs.Truth.{goal_holds};
 ghost use Rattle.ot_terms.specs.Weights.{goal_weight};
 ghost use Rattle.ot_rewrite.specs.Fronts.{is_at_front};
 ghost use Rattle.ot_rewrite.specs.Reaching.{Reaches, Advances};
-ghost use Rattle.ot_rewrite.specs.Steps.{front_tree, IsReady};
-ghost use Rattle.ot_rewrite.specs.Table.{rewritten};
+ghost use Rattle.goal_rules.specs.Steps.{front_tree, IsReady};
+ghost use Rattle.goal_rules.specs.Table.{rewritten};
 
-use crate::front::Front;
 use crate::guarding::choose_on;
-use crate::rewriting::rewrite;
 use ask_core::NoMemory;
 use bumpalo::Bump;
 use fn_rules::Rules;
+use goal_rules::{Front, rewrite};
 use ot_terms::Goal;
 
 // The goal after one rule or several; none where no rule fits.

@@ -1,7 +1,7 @@
 -- Two replies to a told file are one, or both come of what the file holds.
 use Rattle.std.proofs.Common.{◌≡◌, ℕ, List, length, Option, Some, Ok, Err, sym, ap, ◌∙◌, subst, inl, inr, arith}
 use Rattle.fn_rules.specs.Functions.{Function}
-use Rattle.fn_text.specs.declared.fault.TextFault.{TextFault}
+use Rattle.fn_moves.specs.declared.fault.TextFault.{TextFault}
 use Rattle.fn_text.specs.Reading.{function_in}
 use Rattle.ot_replies.specs.declared.reply.FileKind.{FileKind}
 use Rattle.ot_replies.specs.declared.reply.Reply.{Reply}

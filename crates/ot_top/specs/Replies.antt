@@ -6,7 +6,7 @@ use Rattle.std.specs.Option.{ForSome}
 use Rattle.ot_model.specs.declared.cell.Cell.{Cell}
 use Rattle.fn_rules.specs.Functions.{Function}
 use Rattle.fn_rules.specs.Orders.{Outcome, Document, integrated}
-use Rattle.fn_text.specs.declared.fault.TextFault.{TextFault}
+use Rattle.fn_moves.specs.declared.fault.TextFault.{TextFault}
 use Rattle.fn_text.specs.Reading.{function_in}
 use Rattle.case_json.specs.declared.fault.CaseFault.{CaseFault}
 use Rattle.case_json.specs.declared.trial.Trial.{Trial}

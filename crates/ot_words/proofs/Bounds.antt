@@ -10,7 +10,8 @@ use Rattle.clap.specs.declared.builder.value_parser.ValueParser.TheVariants.{Uns
 use Rattle.fn_rules.specs.declared.function.Level.{Level}
 use Rattle.ot_words.specs.Commands.{Asked, Prove, Check, Integrate, Replay, Hub, Drill}
 use Rattle.ot_drill.specs.declared.limits.TheConstants.{MOST_ROUNDS}
-use Rattle.ot_words.specs.Words.{IsWithinBounds, asked_by, check_in, drill_app, drill_by, drill_in, found_by, hub_in, integrate_in, level_by, most_questions}
+use Rattle.clap_words.specs.Found.{found_by}
+use Rattle.ot_words.specs.Words.{IsWithinBounds, asked_by, check_in, drill_app, drill_by, drill_in, hub_in, integrate_in, level_by, most_questions}
 use Rattle.ot_words.specs.Words.{names_by, number_by, prove_app, prove_by, prove_in, replay_in}
 
 number_within : (most : ℕ) (text : List ℕ) (n : ℕ) → number_by most text ≡ Some n → n ≤ most

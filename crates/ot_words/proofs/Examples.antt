@@ -3,7 +3,8 @@ use Rattle.std.proofs.Common.{◌≡◌, [], ◌∷◌, Some, None, codes, refl}
 use Rattle.clap.proofs.OnLiterals.{clap_on_literals}
 use Rattle.fn_rules.specs.declared.function.Level.TheVariants.{Tp1, Tp2}
 use Rattle.ot_words.specs.Commands.{Prove, Check, Integrate}
-use Rattle.ot_words.specs.Words.{asked_by, names_by, prove_in, found_by}
+use Rattle.clap_words.specs.Found.{found_by}
+use Rattle.ot_words.specs.Words.{asked_by, names_by, prove_in}
 
 -- two file names, of which the empty word and `-` are such
 two_names : asked_by (codes "check" ∷ codes "a" ∷ codes "b" ∷ []) ≡ Some (Check (codes "a") (codes "b"))

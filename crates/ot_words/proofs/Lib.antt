@@ -1,5 +1,4 @@
 mod Apps
 pub mod Bounds
 mod Examples
-mod NamesRead
 mod PlainNames

@@ -3,7 +3,8 @@ use Rattle.std.proofs.Common.{◌≡◌, ◌==◌, ◌&&◌, ℕ, List, [], ◌�
 use Rattle.std.specs.Prelude.{nat_eq}
 use Rattle.std.specs.Cmp.Lexicographic.{pointwise}
 use Rattle.clap.proofs.OnLiterals.{clap_on_literals}
-use Rattle.ot_words.specs.Words.{names_by, found_by}
+use Rattle.clap_words.specs.Found.{found_by}
+use Rattle.ot_words.specs.Words.{names_by}
 
 abbrev pub begins_with_dash : List ℕ → Bool
 begins_with_dash [] = false

@@ -2,10 +2,11 @@
 use Rattle.std.specs.Prelude.{ℕ, ◌≤◌, List, [], ◌∷◌, Option, Some, None, codes, if◌then◌else◌, true, option_map, option_and_then}
 use Rattle.std.specs.Str.{bytes_eq}
 use Rattle.std.specs.Str.Parse.{digits_value, without_leading_plus}
-use Rattle.clap.specs.Words.{App, Row, Rule, Kinds, new_app, new_rule, with_rule, matches_of, first_of, fault_of}
+use Rattle.clap.specs.Words.{App, Row, Rule, new_app, new_rule, with_rule, first_of}
 use Rattle.clap.specs.ValueTests.{is_unsigned_in}
 use Rattle.clap.specs.declared.builder.action.ArgAction.TheVariants.{SetTrue}
 use Rattle.clap.specs.declared.builder.value_parser.ValueParser.TheVariants.{Unsigned}
+use Rattle.clap_words.specs.Found.{found_by}
 use Rattle.fn_rules.specs.declared.function.Level.{Level}
 use Rattle.fn_rules.specs.declared.function.Level.TheVariants.{Tp1, Tp2}
 use Rattle.ot_drill.specs.declared.limits.TheConstants.{MOST_ROUNDS}
@@ -52,15 +53,6 @@ prove_app = with_rule (with_rule (with_rule (bare_app (codes "prove")) tp1_rule)
 -- the clap command `drill`: a number, which clap reads
 abbrev pub drill_app : App
 drill_app = with_rule (bare_app (codes "drill")) number_rule
-
--- what clap finds, where it refuses for no kind of error
-abbrev pub unless_refused : Kinds → List Row → Option (List Row)
-unless_refused [] rows = Some rows
-unless_refused (kind ∷ kinds) rows = None
-
--- what clap finds in the words, unless it refuses them
-unfoldable pub found_by : App → List (List ℕ) → Option (List Row)
-found_by app words = unless_refused (fault_of app words) (matches_of app words)
 
 -- the values of both arguments, if they are there
 abbrev pub values_in : List Row → Option (List ℕ × List ℕ)

@@ -1,16 +1,16 @@
 //! The words of a command. The first one says which command it is, and clap reads the others.
 ghost use Rattle.std.specs.Prelude.{◌≡◌, ◌≤◌, codes, map, false, true, IfOk, IfSome, string_bytes, option_map};
-ghost use Rattle.clap.specs.Words.{app_of, first_of, found_of, is_simple_and_free, rows_of, rule_of};
+ghost use Rattle.clap.specs.Words.{app_of, first_of, found_of, rows_of, rule_of};
 ghost use Rattle.ot_drill.specs.declared.limits.TheConstants.{MOST_ROUNDS};
 ghost use Rattle.ot_words.specs.Commands.{asked_of};
 ghost use Rattle.clap.specs.declared.builder.value_parser.ValueParser.TheVariants.{Unsigned};
-ghost use Rattle.ot_words.specs.Words.{asked_by, bare_app, budget_rule, check_in, drill_app, drill_by, drill_in, found_by, hub_in, integrate_in, level_by};
+ghost use Rattle.ot_words.specs.Words.{asked_by, bare_app, budget_rule, check_in, drill_app, drill_by, drill_in, hub_in, integrate_in, level_by};
 ghost use Rattle.ot_words.specs.Words.{most_questions, names_by, number_by, number_rule, prove_app, prove_by, prove_in, replay_in, required_rule, tp1_rule, two_files, values_in};
 
 use crate::command::Command;
 use clap::builder::ValueParser;
-use clap::error::ErrorKind;
 use clap::{Arg, ArgAction, ArgMatches};
+use clap_words::matches_in;
 use fn_rules::Level;
 use ot_drill::MOST_ROUNDS;
 use ot_model::NoMemory;
@@ -111,24 +111,6 @@ fn two_files(alloc: Global, name: &str) -> Result<clap::Command<'_>, NoMemory>
     let first = Arg::new(alloc, "first").required(true);
     let second = Arg::new(alloc, "second").required(true);
     bare.arg(first)?.arg(second)
-}
-
-// What clap finds in the words, unless it refuses them.
-fn matches_in<'a>(
-    command: clap::Command<'a>,
-    words: &'a [String],
-) -> Result<Option<ArgMatches<'a>>, NoMemory>
-    requires { is_simple_and_free (app_of command) ≡ true }
-    ensures { IfOk result (λ found. option_map (λ m. rows_of (found_of m)) found
-        ≡ found_by (app_of command.entry) (map string_bytes words.entry.now)) }
-{
-    match command.try_get_matches_from(words) {
-        Ok(matches) => Ok(Some(matches)),
-        Err(error) => match error.kind() {
-            ErrorKind::OutOfMemory => Err(NoMemory),
-            _ => Ok(None),
-        },
-    }
 }
 
 // The value of an argument.

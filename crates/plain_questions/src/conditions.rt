@@ -6,15 +6,14 @@ ghost use Rattle.ask_core.specs.Plans.{Plan};
 ghost use Rattle.ask_core.specs.Plans as ends;
 ghost use Rattle.ot_questions.specs.declared.why.Why.{Why};
 ghost use Rattle.ot_questions.specs.Nexts.{next_after};
-ghost use Rattle.plain_questions.specs.Walks.{told};
+ghost use Rattle.plain_walks.specs.Walks.{told};
 ghost use Rattle.ot_questions.specs.Nears.{IsNear, IsNearOp};
 ghost use Rattle.ot_questions.specs.Questions as plans;
 ghost use Rattle.ot_questions.specs.Obligation as obligations;
 
-use crate::ask::{Answers, ask_eq, ask_le, ask_lt};
-use crate::stop::Stop;
 use fn_rules::Head;
 use ot_questions::{Place, SymOp};
+use plain_walks::{Answers, Stop, ask_eq, ask_le, ask_lt};
 
 // Whether an operation is enabled on a document of the length plus an offset.
 #[tactic(auto, unfolding(ot_questions::specs::Questions::ask_enabled))]

@@ -4,11 +4,7 @@
 //! one: rows compare the two. It says in the words of a program what `plan_of` of `ot_questions` says.
 #![tactic(auto)]
 
-mod ask;
 mod conditions;
-mod guards;
 mod obligation;
-mod reading;
-mod stop;
 
 pub use obligation::next_question;

@@ -7,7 +7,7 @@ ghost use Rattle.ask_core.specs.Plans as ends;
 ghost use Rattle.fn_rules.specs.Rules.{function_of};
 ghost use Rattle.fn_rules.specs.Obligations.{is_obligation};
 ghost use Rattle.ot_questions.specs.Nexts.{next_after};
-ghost use Rattle.plain_questions.specs.Walks.{told, found, ended};
+ghost use Rattle.plain_walks.specs.Walks.{told, found, ended};
 ghost use Rattle.ot_questions.specs.Nears.{IsNear, IsNearOp, IsDeclaredOp};
 ghost use Rattle.ot_questions.specs.declared.place.SymOp.{SymOp};
 ghost use Rattle.ot_questions.specs.declared.why.Why.{Why};
@@ -16,18 +16,15 @@ ghost use Rattle.ot_questions.specs.Questions.{ask_le, ask_enabled};
 ghost use Rattle.ot_questions.specs.Questions as plans;
 ghost use Rattle.ot_questions.specs.Obligation as obligations;
 
-use crate::ask::{Answers, ask_eq, ask_le, ask_lt};
 use crate::conditions::{ask_all_enabled, ask_allowed, ask_enabled};
-use crate::guards::ask_transform;
-use crate::reading::{ask_cell, ask_same};
-use crate::stop::Stop;
 use fn_rules::{Head, ObName, Rules};
 use ot_model::Mode;
 use ot_questions::{Next, Place, SymOp, Who, Why, offsets_stay_near};
+use plain_walks::{Answers, Stop, ask_cell, ask_eq, ask_le, ask_lt, ask_same, ask_transform};
 
 // Whether the cells at the index are the same in the documents that the operations made, the last one
 // first.
-#[tactic(auto, using(crate::proofs::Ends::next_after_holds), unfolding(ot_questions::specs::Obligation::ask_documents))]
+#[tactic(auto, using(plain_walks::proofs::Ends::next_after_holds), unfolding(ot_questions::specs::Obligation::ask_documents))]
 fn ask_documents(
     mode: Mode,
     left: &[SymOp],
@@ -62,7 +59,7 @@ fn total_growth(mode: Mode, first: SymOp, then: SymOp) -> i32
 }
 
 // Whether both ways have one length, and then the same cells.
-#[tactic(auto, using(crate::proofs::Ends::next_after_fails), unfolding(ot_questions::specs::Obligation::ask_lengths))]
+#[tactic(auto, using(plain_walks::proofs::Ends::next_after_fails), unfolding(ot_questions::specs::Obligation::ask_lengths))]
 fn ask_lengths(
     mode: Mode,
     a: SymOp,
@@ -101,7 +98,7 @@ fn ask_enabled_behind(
 
 // Whether both forms are enabled behind the other operation, and then whether both ways give one
 // document.
-#[tactic(auto, using(crate::proofs::Ends::next_after_fails), unfolding(ot_questions::specs::Obligation::ask_ways))]
+#[tactic(auto, using(plain_walks::proofs::Ends::next_after_fails), unfolding(ot_questions::specs::Obligation::ask_ways))]
 fn ask_ways(
     mode: Mode,
     a: SymOp,
@@ -154,7 +151,7 @@ fn ask_made_together(ops: &[SymOp], answers: &mut Answers<'_>) -> Result<bool, S
     ask_all_enabled(ops, answers)
 }
 
-#[tactic(auto, using(crate::proofs::Ends::next_after_holds), unfolding(ot_questions::specs::Obligation::ask_pair))]
+#[tactic(auto, using(plain_walks::proofs::Ends::next_after_holds), unfolding(ot_questions::specs::Obligation::ask_pair))]
 fn ask_pair(rules: &Rules, a: SymOp, b: SymOp, answers: &mut Answers<'_>) -> Result<(), Stop>
     requires a_near { IsNearOp 0 a }
     requires b_near { IsNearOp 0 b }
@@ -172,7 +169,7 @@ fn ask_pair(rules: &Rules, a: SymOp, b: SymOp, answers: &mut Answers<'_>) -> Res
 }
 
 // Whether two forms of one operation are equal.
-#[tactic(auto, using(crate::proofs::Ends::at_ends), unfolding(ot_questions::specs::Obligation::ask_same_form, ot_questions::specs::Obligation::ask_one_place))]
+#[tactic(auto, using(plain_walks::proofs::Ends::at_ends), unfolding(ot_questions::specs::Obligation::ask_same_form, ot_questions::specs::Obligation::ask_one_place))]
 fn ask_same_form(left: SymOp, right: SymOp, answers: &mut Answers<'_>) -> Result<(), Stop>
     requires left_near { IsNearOp 999 left }
     requires right_near { IsNearOp 999 right }
@@ -258,7 +255,7 @@ fn ask_all_allowed(
     ask_allowed(head, b, c, answers)
 }
 
-#[tactic(auto, using(crate::proofs::Ends::next_after_holds), unfolding(ot_questions::specs::Obligation::ask_triple))]
+#[tactic(auto, using(plain_walks::proofs::Ends::next_after_holds), unfolding(ot_questions::specs::Obligation::ask_triple))]
 fn ask_triple(
     rules: &Rules,
     a: SymOp,

@@ -1,17 +1,10 @@
-//! Texts of functions, certificates, documents, cases, sessions and hubs, read and written: tests alone.
+//! Texts of functions that are printed, and certificates that are read and written: tests alone. Documents, cases,
+//! sessions and hubs are rows of `checks/tables`.
 #![tactic(auto)]
 
-#[cfg(test)]
-mod cases;
-#[cfg(test)]
-mod documents;
-#[cfg(test)]
-mod hubs;
 #[cfg(test)]
 mod printing;
 #[cfg(test)]
 mod reader;
-#[cfg(test)]
-mod sessions;
 #[cfg(test)]
 mod writer;

@@ -62,45 +62,46 @@ fn with_guard(alloc: Global, guard: &str) -> Result<String, AllocError> {
     Ok(text)
 }
 
+/// Guards as they are written and as they are printed, one pair a line.
+const GUARDS: &str = "\
+    true|true\n\
+    (p1 < p2)|p1 < p2\n\
+    ((s2 = s1))|s2 = s1\n\
+    p1 <= p2 + 007|p1 <= p2 + 7\n\
+    p2 = p1 - 99|p2 = p1 - 99\n\
+    p1 < p2 - 0|p1 < p2\n\
+    not (c1 = c2)|not c1 = c2\n\
+    not (not true)|not not true\n\
+    (not true) and true|not true and true\n\
+    true and (not true)|true and not true\n\
+    not (true and true)|not ( true and true )\n\
+    not (true or true)|not ( true or true )\n\
+    (not true) or true|not true or true\n\
+    (true and true) and true|true and true and true\n\
+    true and (true and true)|true and ( true and true )\n\
+    (true or true) or true|true or true or true\n\
+    true or (true or true)|true or ( true or true )\n\
+    (true and true) or true|true and true or true\n\
+    true or (true and true)|true or true and true\n\
+    (true or true) and true|( true or true ) and true\n\
+    true and (true or true)|true and ( true or true )\n\
+    ((p1 < p2 or (s1 < s2)))|p1 < p2 or s1 < s2\n\
+    not ((true or true) and true)|not ( ( true or true ) and true )\
+";
+
 #[test]
 fn guards_are_printed_with_the_fewest_parentheses(rt: HostRuntime) -> Result<(), Fail> {
     let alloc = rt.alloc();
-    for (written, printed) in [
-        ("true", "true"),
-        ("(p1 < p2)", "p1 < p2"),
-        ("((s2 = s1))", "s2 = s1"),
-        ("p1 <= p2 + 007", "p1 <= p2 + 7"),
-        ("p2 = p1 - 99", "p2 = p1 - 99"),
-        ("p1 < p2 - 0", "p1 < p2"),
-        ("not (c1 = c2)", "not c1 = c2"),
-        ("not (not true)", "not not true"),
-        ("(not true) and true", "not true and true"),
-        ("true and (not true)", "true and not true"),
-        ("not (true and true)", "not ( true and true )"),
-        ("not (true or true)", "not ( true or true )"),
-        ("(not true) or true", "not true or true"),
-        ("(true and true) and true", "true and true and true"),
-        ("true and (true and true)", "true and ( true and true )"),
-        ("(true or true) or true", "true or true or true"),
-        ("true or (true or true)", "true or ( true or true )"),
-        ("(true and true) or true", "true and true or true"),
-        ("true or (true and true)", "true or true and true"),
-        ("(true or true) and true", "( true or true ) and true"),
-        ("true and (true or true)", "true and ( true or true )"),
-        ("((p1 < p2 or (s1 < s2)))", "p1 < p2 or s1 < s2"),
-        (
-            "not ((true or true) and true)",
-            "not ( ( true or true ) and true )",
-        ),
-    ] {
-        let text = with_guard(alloc, written)?;
-        let want = with_guard(alloc, printed)?;
-        if text.len() >= 0x7fff_ffff {
+    for row in GUARDS.split('\n') {
+        let mut sides = row.split('|');
+        let written = with_guard(alloc, sides.next().ok_or(row)?)?;
+        let printed = with_guard(alloc, sides.next().ok_or(row)?)?;
+        if written.len() >= 0x7fff_ffff {
             return Err("too long".into());
         }
-        let rules = read(alloc, text.as_bytes()).ok().ok_or(written)?;
+        let rules = read(alloc, written.as_bytes()).ok().ok_or(row)?;
         let found = print(alloc, &rules)?;
-        assert_eq!(rt; found.as_slice(), want.as_bytes(), "{written}");
+        assert!(rt; found.as_slice() == printed.as_bytes(), "{row}");
     }
     Ok(())
 }

@@ -1,4 +1,4 @@
-//! The parts of certificates, and where bytes are refused.
+//! The parts of certificates, read byte by byte and in pieces.
 ghost use Rattle.std.specs.Prelude.{◌≡◌, ◌+◌, ◌<◌, ◌≤◌, IfOk, length};
 ghost use Rattle.cert_text.specs.Reading.{fed_to};
 
@@ -8,63 +8,13 @@ use ot_model::Kind;
 use std::alloc::{AllocError, Global};
 use std::test::Fail;
 
-// A reader of the certificates of functions for one kind alone.
+// A reader of the certificates of functions for one kind alone. Where it refuses bytes are rows of `checks/tables`.
 fn reader(alloc: Global, kind: Kind) -> Result<Reader, AllocError>
     ensures { IfOk result (λ r. fed_to r ≡ 0) }
 {
     let tp1 = vec![in alloc; ObName::Pair(kind, kind)]?;
     let tp2 = vec![in alloc; ObName::Triple(kind, kind, kind)]?;
     Ok(Reader::new(alloc, tp1, tp2))
-}
-
-fn end_of(reader: &mut Reader, bytes: &[u8]) -> Result<(), CertError>
-    requires { fed_to reader.old ≡ 0 }
-{
-    for byte in bytes {
-        reader.feed(*byte)?;
-    }
-    reader.finish()
-}
-
-#[test]
-fn a_certificate_ends_as_its_spelling_says(rt: HostRuntime) -> Result<(), Fail> {
-    for (text, want) in [
-        ("otcert 1 tp1\nob ins ins\n.\nend\n", Ok(())),
-        ("otcert 1 tp2\nob ins ins ins\n?x0,7;.\nend\n", Ok(())),
-        ("", Err(CertError::Truncated(0))),
-        ("otcert 1 tp", Err(CertError::Truncated(11))),
-        ("otcert 2 tp1\n", Err(CertError::BadToken(0))),
-        ("otcert 1 tp1\nob ins del\n", Err(CertError::BadToken(13))),
-        (
-            "otcert 1 tp1\nob ins ins\n?\n",
-            Err(CertError::BadToken(25)),
-        ),
-        ("otcert 1 tp1\nob ins ins\n..", Err(CertError::BadToken(25))),
-        (
-            "otcert 1 tp1\nob ins ins\nx00;",
-            Err(CertError::BadToken(24)),
-        ),
-        (
-            "otcert 1 tp1\nob ins ins\nx100000;",
-            Err(CertError::BadToken(24)),
-        ),
-        (
-            "otcert 1 tp1\nob ins ins\nx0,1,2,3,4,5,6,7,8,9,10,11,12;",
-            Err(CertError::BadToken(24)),
-        ),
-        (
-            "otcert 1 tp1\nob ins ins\nx1,2",
-            Err(CertError::Truncated(28)),
-        ),
-        (
-            "otcert 1 tp1\nob ins ins\n.\nend\n\n",
-            Err(CertError::Trailing(30)),
-        ),
-    ] {
-        let mut reader = reader(rt.alloc(), Kind::Ins)?;
-        assert_eq!(rt; end_of(&mut reader, text.as_bytes()), want, "{text}");
-    }
-    Ok(())
 }
 
 // The certificate of deletions that leave tombstones.

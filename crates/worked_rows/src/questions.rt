@@ -2,7 +2,7 @@
 ghost use Rattle.std.specs.Prelude.{◌≡◌};
 ghost use Rattle.fn_rules.specs.Obligations.{is_obligation};
 
-use crate::samples::{FAR_OT, INS_OT, MARKS_OT};
+use crate::samples::{FAR_OT, INS_OT, LAST_OT, MARKS_OT};
 use diff_graph::Lit;
 use fn_rules::{Head, ObName};
 use fn_text::read;
@@ -16,6 +16,10 @@ use std::test::Fail;
 const INSERTIONS: ObName = ObName::Pair(Kind::Ins, Kind::Ins);
 
 const DELETIONS: ObName = ObName::Pair(Kind::Del, Kind::Del);
+
+const UPDATES: ObName = ObName::Pair(Kind::Upd, Kind::Upd);
+
+const DELETION_AND_UPDATE: ObName = ObName::Pair(Kind::Del, Kind::Upd);
 
 const THREE_DELETIONS: ObName = ObName::Triple(Kind::Del, Kind::Del, Kind::Del);
 
@@ -69,18 +73,44 @@ const OF_INS: Rows = &[
     ("yyyyynn", Some((6, 3, 0))),
 ];
 
-const OF_FAR: Rows = &[("yyyyy", Some((6, 3, 99))), ("yyyyyy", Some((3, 6, 99)))];
-
-// Deletions that leave tombstones stay where they are, so the documents are read at once.
-const OF_MARKS: Rows = &[
-    ("yy", Some((3, 1, -1))),
-    ("yyyyyyyyy", Some((0, 2, 0))),
-    ("yyyyyyyyyy", Some((2, 1, -1))),
-    ("yyyyyyyyyyy", Some((2, 6, -1))),
-    ("yyyyyyyyyyyyyyy", None),
+const OF_FAR: Rows = &[
+    ("yyyyy", Some((6, 3, 99))),
+    ("yyyyyy", Some((3, 6, 99))),
+    ("yyyyyyyy", Some((6, 1, 1))),
 ];
 
+// Deletions that leave tombstones stay where they are. What two of them ask is a table of `terms`.
 const OF_THREE_MARKS: Rows = &[("yyyyyy", Some((9, 1, -1))), ("yyyyyyy", None)];
+
+// Two updates of one cell: each final document has the other's character over the flag of the cell.
+const OF_LAST: Rows = &[
+    ("yyyyyyyyyyynynynyny", Some((8, 5, 0))),
+    ("yyyyyyyyyyynynynynyy", Some((5, 8, 0))),
+    ("yyyyyyyyyyynynynynyyy", None),
+];
+
+/// Deletions that leave tombstones and updates, which stay as and where they are.
+const STAYING_OT: &str =
+    "otfn 2\ntext tomb\nkinds del upd\nblock del del\ncase true : del p1\nblock del upd\ncase true : del p1\nblock upd del\ncase true : upd p1\nblock upd upd\ncase true : upd p1\nend\n";
+
+// A deletion and an update of one cell: both final documents have the update's character in a tombstone.
+const OF_STAYING: Rows = &[
+    ("yyyyyyyyyyy", Some((2, 6, -1))),
+    ("yyyyyyyyyyynynynyny", None),
+];
+
+// The character of the cell that is read differs.
+const CELLS: Why = Why::Cells {
+    left: Some(0),
+    dead: None,
+};
+
+// Answers that lead to a failing end, and its cause.
+const FAILING: &[(&str, ObName, &str, Why)] = &[
+    (FAR_OT, INSERTIONS, "yyyyyn", Why::Undefined),
+    (MARKS_OT, DELETIONS, "yyyyyyyyyyyyynyy", CELLS),
+    (LAST_OT, UPDATES, "yyyyyyyyyyynynynynyn", CELLS),
+];
 
 fn expect_rows(
     rt: &impl Abort,
@@ -106,10 +136,18 @@ fn answers_lead_to_the_next_question(rt: HostRuntime) -> Result<(), Fail> {
     let alloc = rt.alloc();
     expect_rows(&rt, alloc, INS_OT, INSERTIONS, OF_INS)?;
     expect_rows(&rt, alloc, FAR_OT, INSERTIONS, OF_FAR)?;
-    expect_rows(&rt, alloc, MARKS_OT, DELETIONS, OF_MARKS)?;
     expect_rows(&rt, alloc, MARKS_OT, THREE_DELETIONS, OF_THREE_MARKS)?;
-    let answers = answers_in(alloc, "yyyyyn")?;
-    let found = next_in(&rt, alloc, FAR_OT, INSERTIONS, &answers)?;
-    assert_eq!(rt; found, Next::Fails(Why::Undefined));
+    expect_rows(&rt, alloc, LAST_OT, UPDATES, OF_LAST)?;
+    expect_rows(&rt, alloc, STAYING_OT, DELETION_AND_UPDATE, OF_STAYING)
+}
+
+#[test]
+fn answers_lead_to_a_failing_end(rt: HostRuntime) -> Result<(), Fail> {
+    let alloc = rt.alloc();
+    for (text, ob, word, why) in FAILING {
+        let answers = answers_in(alloc, word)?;
+        let found = next_in(&rt, alloc, text, *ob, &answers)?;
+        assert_eq!(rt; found, Next::Fails(*why), "{ob:?} after {word} of {text}");
+    }
     Ok(())
 }

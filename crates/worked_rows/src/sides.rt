@@ -6,7 +6,7 @@ ghost use Rattle.fn_rules.specs.Functions.{IsForKind};
 ghost use Rattle.fn_rules.specs.Rules.{function_of};
 
 use crate::questions::is_meant;
-use crate::samples::{CHARS_OT, LAST_OT, SITES_OT, TTFU_OT, UPDATES_OT};
+use crate::samples::{CHARS_OT, LAST_OT, TTFU_OT, UPDATES_OT};
 use diff_graph::Lit;
 use fn_rules::{ObName, Rules, allowed, transform};
 use fn_text::read;
@@ -314,26 +314,5 @@ fn questions_and_interpreter_agree(rt: HostRuntime) -> Result<(), Fail> {
             }
         }
     }
-    Ok(())
-}
-
-// The operations with which `SITES_OT` lacks the second property, and the two sides, as `prove` prints them.
-#[test]
-fn the_interpreter_gives_both_sides_of_a_counterexample(rt: HostRuntime) -> Result<(), Fail> {
-    let bytes = SITES_OT.as_bytes();
-    assert!(rt; bytes.len() < 1_048_576);
-    let rules = read(rt.alloc(), bytes).ok().ok_or("a function")?;
-    let (ch, site) = ('c', 3);
-    let a = Op::Ins {
-        at: 1,
-        ch: 'a',
-        site: 1,
-    };
-    let b = Op::Del { at: 0, site: 2 };
-    let c = Op::Ins { at: 0, ch, site };
-    let left = Some(Op::Ins { at: 0, ch, site });
-    let right = Some(Op::Ins { at: 1, ch, site });
-    assert_eq!(rt; behind_both(&rules, &a, &b, &c), left);
-    assert_eq!(rt; behind_both(&rules, &b, &a, &c), right);
     Ok(())
 }

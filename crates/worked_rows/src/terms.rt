@@ -152,11 +152,13 @@ const OF_NOT: Rows = &[
     ("yyyyynn", Some((0, 6, 0))),
 ];
 
-// All that `MARKS_OT` asks where each answer is yes.
+// All that `MARKS_OT` asks where each answer is yes, and where the length or the first deletion is none.
 const OF_MARKS: Rows = &[
     ("", Some((0, 1, 0))),
+    ("n", None),
     ("y", Some((0, 3, 0))),
     ("yy", Some((3, 1, -1))),
+    ("yyn", None),
     ("yyy", Some((0, 6, 0))),
     ("yyyy", Some((6, 1, -1))),
     ("yyyyy", Some((0, 6, 0))),

@@ -11,8 +11,8 @@ use Rattle.fn_tokens.specs.declared.token.Token.TheVariants as tokens
 use Rattle.fn_tokens.specs.declared.token.Token.TheVariants.{Number, Open, Close, Colon, LineEnd, FileEnd}
 use Rattle.fn_tokens.specs.declared.token.Word.TheVariants as words
 use Rattle.fn_tokens.specs.declared.token.Sign.TheVariants as signs
-use Rattle.fn_text.specs.declared.fault.FaultKind.{FaultKind}
-use Rattle.fn_text.specs.declared.fault.FaultKind.TheVariants as faults
+use Rattle.fn_moves.specs.declared.fault.FaultKind.{FaultKind}
+use Rattle.fn_moves.specs.declared.fault.FaultKind.TheVariants as faults
 use Rattle.fn_text.specs.Causes.{cause_of}
 
 abbrev word_true : Token

@@ -8,19 +8,19 @@ use Rattle.fn_rules.specs.declared.guard.Tightness.{Tightness}
 use Rattle.fn_tokens.specs.declared.token.Token.{Token}
 use Rattle.fn_tokens.specs.declared.token.Placed.{Placed}
 use Rattle.fn_tokens.specs.Tokens.{bare}
-use Rattle.fn_text.specs.declared.fault.TextFault.{TextFault}
-use Rattle.fn_text.specs.declared.fault.FaultKind.{FaultKind}
-use Rattle.fn_text.specs.declared.fault.FaultKind.TheVariants as faults
-use Rattle.fn_text.specs.declared.control.Want.{Want}
-use Rattle.fn_text.specs.declared.control.Want.TheVariants as wants
-use Rattle.fn_text.specs.declared.control.Control.{Control}
-use Rattle.fn_text.specs.declared.control.Move.{Move}
-use Rattle.fn_text.specs.Controls.{lacks_with, lacks_block}
-use Rattle.fn_text.specs.Kinds.{has_seen}
+use Rattle.fn_moves.specs.declared.fault.TextFault.{TextFault}
+use Rattle.fn_moves.specs.declared.fault.FaultKind.{FaultKind}
+use Rattle.fn_moves.specs.declared.fault.FaultKind.TheVariants as faults
+use Rattle.fn_moves.specs.declared.control.Want.{Want}
+use Rattle.fn_moves.specs.declared.control.Want.TheVariants as wants
+use Rattle.fn_moves.specs.declared.control.Control.{Control}
+use Rattle.fn_moves.specs.declared.control.Move.{Move}
+use Rattle.fn_moves.specs.Controls.{lacks_with, lacks_block}
+use Rattle.fn_moves.specs.Kinds.{has_seen}
 use Rattle.fn_rules.specs.Functions.{is_declared}
-use Rattle.fn_text.specs.Moves.{move_for}
-use Rattle.fn_text.specs.Faults.{placed_fault, fault_of, cause_in, region_of}
-use Rattle.fn_text.specs.Meaning.{Maker}
+use Rattle.fn_moves.specs.Moves.{move_for}
+use Rattle.fn_moves.specs.Faults.{placed_fault, fault_of, cause_in, region_of}
+use Rattle.fn_moves.specs.Meaning.{Maker}
 use Rattle.fn_text.specs.Reader.{no_pairs, State, moved, after_move, turn, first_control, first_state}
 use Rattle.fn_text.specs.Theorems.{state_behind}
 use Rattle.fn_text.specs.Continuing.{wants_atom_more, repeats_block}

@@ -13,20 +13,20 @@ use Rattle.fn_tokens.specs.declared.token.Token.{Token}
 use Rattle.fn_tokens.specs.declared.token.Token.TheVariants.{Known, Number}
 use Rattle.fn_tokens.specs.declared.token.Word.TheVariants as words
 use Rattle.fn_tokens.specs.declared.token.Placed.{Placed}
-use Rattle.fn_text.specs.declared.fault.FaultKind.{FaultKind}
-use Rattle.fn_text.specs.declared.fault.FaultKind.TheVariants as faults
-use Rattle.fn_text.specs.declared.control.Want.{Want}
-use Rattle.fn_text.specs.declared.control.Want.TheVariants as wants
-use Rattle.fn_text.specs.declared.control.Control.{Control}
-use Rattle.fn_text.specs.declared.control.Move.{Move}
-use Rattle.fn_text.specs.declared.control.Move.TheVariants as moves
-use Rattle.fn_text.specs.Languages.{language_numbered}
-use Rattle.fn_text.specs.Kinds.{has_seen}
-use Rattle.fn_text.specs.Meaning.{is_offset_number, may_compare}
-use Rattle.fn_text.specs.Controls.{allowed, has_chars, lacks, lacks_block, depth_of}
-use Rattle.fn_text.specs.Moves.{move_for}
-use Rattle.fn_text.specs.Meaning.{is_same_side, is_same_sort}
-use Rattle.fn_text.specs.Faults.{region_of, number_fault, operand_fault, thing_fault, kind_fault, end_fault, case_fault, nesting_fault}
+use Rattle.fn_moves.specs.declared.fault.FaultKind.{FaultKind}
+use Rattle.fn_moves.specs.declared.fault.FaultKind.TheVariants as faults
+use Rattle.fn_moves.specs.declared.control.Want.{Want}
+use Rattle.fn_moves.specs.declared.control.Want.TheVariants as wants
+use Rattle.fn_moves.specs.declared.control.Control.{Control}
+use Rattle.fn_moves.specs.declared.control.Move.{Move}
+use Rattle.fn_moves.specs.declared.control.Move.TheVariants as moves
+use Rattle.fn_moves.specs.Languages.{language_numbered}
+use Rattle.fn_moves.specs.Kinds.{has_seen}
+use Rattle.fn_moves.specs.Meaning.{is_offset_number, may_compare}
+use Rattle.fn_moves.specs.Controls.{allowed, has_chars, lacks, lacks_block, depth_of}
+use Rattle.fn_moves.specs.Moves.{move_for}
+use Rattle.fn_moves.specs.Meaning.{is_same_side, is_same_sort}
+use Rattle.fn_moves.specs.Faults.{region_of, number_fault, operand_fault, thing_fault, kind_fault, end_fault, case_fault, nesting_fault}
 use Rattle.fn_text.specs.Counting.{declares}
 use Rattle.fn_text.specs.Counting.{has_block}
 use Rattle.fn_text.specs.Causes.{differs_from, is_repeated}

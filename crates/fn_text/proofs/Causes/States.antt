@@ -8,12 +8,12 @@ use Rattle.fn_rules.specs.declared.guard.Tightness.{Tightness}
 use Rattle.fn_tokens.specs.declared.token.Token.{Token}
 use Rattle.fn_tokens.specs.declared.token.Token.TheVariants.{Known, Open}
 use Rattle.fn_tokens.specs.declared.token.Word.TheVariants as words
-use Rattle.fn_text.specs.declared.control.Next.TheVariants as nexts
-use Rattle.fn_text.specs.declared.control.Want.{Want}
-use Rattle.fn_text.specs.declared.control.Want.TheVariants as wants
-use Rattle.fn_text.specs.declared.control.Control.{Control}
-use Rattle.fn_text.specs.Controls.{lacks_block}
-use Rattle.fn_text.specs.Kinds.{has_seen}
+use Rattle.fn_moves.specs.declared.control.Next.TheVariants as nexts
+use Rattle.fn_moves.specs.declared.control.Want.{Want}
+use Rattle.fn_moves.specs.declared.control.Want.TheVariants as wants
+use Rattle.fn_moves.specs.declared.control.Control.{Control}
+use Rattle.fn_moves.specs.Controls.{lacks_block}
+use Rattle.fn_moves.specs.Kinds.{has_seen}
 use Rattle.fn_text.specs.Reader.{Level}
 use Rattle.fn_text.specs.Counting.{language_before, is_behind_line_end, is_behind_sign, is_behind_otfn, is_behind_block, is_in_kinds}
 use Rattle.fn_text.specs.Counting.{is_in_block_line}

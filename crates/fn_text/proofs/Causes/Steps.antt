@@ -17,25 +17,25 @@ use Rattle.fn_rules.specs.declared.guard.Side.{Side}
 use Rattle.fn_rules.specs.declared.guard.Cmp.{Cmp}
 use Rattle.fn_rules.specs.declared.guard.Tightness.{Tightness}
 use Rattle.fn_tokens.specs.declared.token.Sign.{Sign}
-use Rattle.fn_text.specs.declared.control.Written.{Written}
+use Rattle.fn_moves.specs.declared.control.Written.{Written}
 use Rattle.fn_tokens.specs.declared.token.Token.{Token}
 use Rattle.fn_tokens.specs.declared.token.Token.TheVariants.{Known, Number, Open, Close}
 use Rattle.fn_tokens.specs.declared.token.Word.TheVariants as words
 use Rattle.fn_tokens.specs.declared.token.Placed.{Placed}
-use Rattle.fn_text.specs.declared.control.Next.{Next}
-use Rattle.fn_text.specs.declared.control.Next.TheVariants as nexts
-use Rattle.fn_text.specs.declared.control.Want.{Want}
-use Rattle.fn_text.specs.declared.control.Want.TheVariants as wants
-use Rattle.fn_text.specs.declared.control.Move.{Move}
-use Rattle.fn_text.specs.declared.control.Move.TheVariants as moves
-use Rattle.fn_text.specs.declared.language.Language.{Language}
-use Rattle.fn_text.specs.declared.language.Language.TheVariants.{One, Two}
-use Rattle.fn_text.specs.Languages.{language_numbered, number_of}
-use Rattle.fn_text.specs.Meaning.{Maker}
+use Rattle.fn_moves.specs.declared.control.Next.{Next}
+use Rattle.fn_moves.specs.declared.control.Next.TheVariants as nexts
+use Rattle.fn_moves.specs.declared.control.Want.{Want}
+use Rattle.fn_moves.specs.declared.control.Want.TheVariants as wants
+use Rattle.fn_moves.specs.declared.control.Move.{Move}
+use Rattle.fn_moves.specs.declared.control.Move.TheVariants as moves
+use Rattle.fn_moves.specs.declared.language.Language.{Language}
+use Rattle.fn_moves.specs.declared.language.Language.TheVariants.{One, Two}
+use Rattle.fn_moves.specs.Languages.{language_numbered, number_of}
+use Rattle.fn_moves.specs.Meaning.{Maker}
 use Rattle.fn_text.specs.Reader.{State, Level, disjunction, left_for, closed, moved}
-use Rattle.fn_text.specs.Controls.{lacks_block}
-use Rattle.fn_text.specs.Kinds.{with_kind, with_pair, has_seen}
-use Rattle.fn_text.specs.Moves.{move_for}
+use Rattle.fn_moves.specs.Controls.{lacks_block}
+use Rattle.fn_moves.specs.Kinds.{with_kind, with_pair, has_seen}
+use Rattle.fn_moves.specs.Moves.{move_for}
 use Rattle.fn_text.specs.Counting.{language_before, is_behind_otfn, is_behind_block, is_in_kinds, kinds_before, declares}
 use Rattle.fn_text.specs.Counting.{first_of_block, is_behind_pair, blocks_before}
 use Rattle.fn_text.specs.Counting.{has_block, this_block, cases_before, atoms_before, thing_compared, is_behind_operand, without_nots}

@@ -14,18 +14,18 @@ use Rattle.fn_tokens.specs.declared.token.Token.TheVariants.{Known, Number, Open
 use Rattle.fn_tokens.specs.declared.token.Word.{Word}
 use Rattle.fn_tokens.specs.declared.token.Word.TheVariants as words
 use Rattle.fn_tokens.specs.declared.token.Placed.{Placed}
-use Rattle.fn_text.specs.declared.fault.FaultKind.{FaultKind}
-use Rattle.fn_text.specs.declared.fault.FaultKind.TheVariants as faults
-use Rattle.fn_text.specs.declared.control.Want.{Want}
-use Rattle.fn_text.specs.declared.control.Want.TheVariants as wants
-use Rattle.fn_text.specs.declared.control.Control.{Control}
-use Rattle.fn_text.specs.Languages.{has_word}
-use Rattle.fn_text.specs.Kinds.{has_seen}
-use Rattle.fn_text.specs.Meaning.{may_compare}
-use Rattle.fn_text.specs.Controls.{has_chars, lacks, lacks_with, lacks_block, depth_of}
-use Rattle.fn_text.specs.Moves.{move_for}
-use Rattle.fn_text.specs.Faults.{region_of, number_fault, operand_fault, thing_fault, kind_fault, end_fault, case_fault, nesting_fault}
-use Rattle.fn_text.specs.Faults.{word_fault, cause_in}
+use Rattle.fn_moves.specs.declared.fault.FaultKind.{FaultKind}
+use Rattle.fn_moves.specs.declared.fault.FaultKind.TheVariants as faults
+use Rattle.fn_moves.specs.declared.control.Want.{Want}
+use Rattle.fn_moves.specs.declared.control.Want.TheVariants as wants
+use Rattle.fn_moves.specs.declared.control.Control.{Control}
+use Rattle.fn_moves.specs.Languages.{has_word}
+use Rattle.fn_moves.specs.Kinds.{has_seen}
+use Rattle.fn_moves.specs.Meaning.{may_compare}
+use Rattle.fn_moves.specs.Controls.{has_chars, lacks, lacks_with, lacks_block, depth_of}
+use Rattle.fn_moves.specs.Moves.{move_for}
+use Rattle.fn_moves.specs.Faults.{region_of, number_fault, operand_fault, thing_fault, kind_fault, end_fault, case_fault, nesting_fault}
+use Rattle.fn_moves.specs.Faults.{word_fault, cause_in}
 use Rattle.fn_text.specs.Reader.{Level}
 use Rattle.fn_text.specs.Counting.{is_behind_otfn, is_in_block_line, is_in_guard, declares, blocks_before}
 use Rattle.fn_text.specs.Counting.{has_block, lacks_pair, lacks_pair_with, lacks_some_pair, this_block, may_name_chars, transforms}

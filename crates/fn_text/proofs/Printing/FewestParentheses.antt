@@ -10,7 +10,7 @@ use Rattle.fn_rules.specs.Formulas as formulas
 use Rattle.fn_tokens.specs.declared.token.Token.{Token}
 use Rattle.fn_tokens.specs.declared.token.Token.TheVariants.{Known, Open, Close}
 use Rattle.fn_tokens.specs.declared.token.Word.TheVariants as words
-use Rattle.fn_text.specs.Meaning.{signed, to_formulas}
+use Rattle.fn_moves.specs.Meaning.{signed, to_formulas}
 use Rattle.fn_text.specs.Print.{offset_tokens, atom_tokens, enclosed, and_is_enclosed, or_is_enclosed, guard_tokens}
 use Rattle.fn_text.specs.Grammar.{Phrase, Always, Compare, Shifted, Negated, Round, One, Both, Single, Either, written_as, made}
 use Rattle.fn_text.specs.Theorems.{parentheses_in}

@@ -11,8 +11,8 @@ use Rattle.ot_model.specs.declared.op.TheConstants.{KINDS}
 use Rattle.ot_model.specs.Kinds.{is_same_kind}
 use Rattle.std.proofs.Math.Path.{fun_ext}
 use Rattle.std.proofs.lemmas.Bool.{and_parts, and_from, cases_Bool}
-use Rattle.fn_text.specs.Kinds.{declares_some}
-use Rattle.fn_text.specs.Languages.{language_for}
+use Rattle.fn_moves.specs.Kinds.{declares_some}
+use Rattle.fn_moves.specs.Languages.{language_for}
 use Rattle.fn_rules.specs.declared.guard.Tightness.TheVariants.{Loose}
 use Rattle.fn_rules.specs.declared.function.Res.{Res}
 use Rattle.fn_rules.specs.declared.function.Res.TheVariants as results
@@ -24,9 +24,9 @@ use Rattle.fn_tokens.specs.declared.token.Token.{Token}
 use Rattle.fn_tokens.specs.declared.token.Token.TheVariants.{Known, Colon, LineEnd, FileEnd}
 use Rattle.fn_tokens.specs.declared.token.Word.TheVariants as words
 use Rattle.fn_tokens.specs.declared.token.Sign.TheVariants as signs
-use Rattle.fn_text.specs.declared.control.Written.{Written}
-use Rattle.fn_text.specs.declared.control.Written.TheVariants as written
-use Rattle.fn_text.specs.Meaning.{res_of, to_formulas}
+use Rattle.fn_moves.specs.declared.control.Written.{Written}
+use Rattle.fn_moves.specs.declared.control.Written.TheVariants as written
+use Rattle.fn_moves.specs.Meaning.{res_of, to_formulas}
 use Rattle.fn_text.specs.Reading.{function_in}
 use Rattle.fn_text.specs.Print.{guard_tokens, result_tokens, case_tokens, block_tokens, present, head_tokens, declared_block}
 use Rattle.fn_text.specs.Print.{blocks_with, function_tokens, printed}

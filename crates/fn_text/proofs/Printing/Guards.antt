@@ -15,7 +15,7 @@ use Rattle.fn_rules.specs.Validity.{is_offset, is_offset_for, has_valid_atoms, a
 use Rattle.fn_tokens.specs.declared.token.Token.TheVariants.{Known}
 use Rattle.fn_tokens.specs.declared.token.Word.TheVariants as words
 use Rattle.fn_tokens.specs.declared.token.Sign.TheVariants as signs
-use Rattle.fn_text.specs.Meaning.{to_formulas}
+use Rattle.fn_moves.specs.Meaning.{to_formulas}
 use Rattle.fn_text.specs.Print.{atom_tokens, enclosed, and_is_enclosed, or_is_enclosed, guard_tokens}
 use Rattle.fn_text.specs.Grammar.{Phrase, Always, Compare, Shifted, Negated, Round, One, Both, Single, Either, written_as, made}
 use Rattle.fn_text.specs.Grammar.{atoms_in, nesting_in, is_allowed}

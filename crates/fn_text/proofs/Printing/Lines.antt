@@ -21,9 +21,9 @@ use Rattle.fn_tokens.specs.declared.token.Token.{Token}
 use Rattle.fn_tokens.specs.declared.token.Token.TheVariants.{Known, Close, Colon, LineEnd}
 use Rattle.fn_tokens.specs.declared.token.Word.{Word}
 use Rattle.fn_tokens.specs.declared.token.Word.TheVariants as words
-use Rattle.fn_text.specs.declared.language.Language.{Language}
-use Rattle.fn_text.specs.declared.language.Language.TheVariants.{One, Two}
-use Rattle.fn_text.specs.Languages.{number_of, language_for}
+use Rattle.fn_moves.specs.declared.language.Language.{Language}
+use Rattle.fn_moves.specs.declared.language.Language.TheVariants.{One, Two}
+use Rattle.fn_moves.specs.Languages.{number_of, language_for}
 use Rattle.fn_text.specs.Offsets.{HasOffset, HasOffsets, HasResultOffset, HasCaseOffsets}
 use Rattle.fn_text.specs.Print.{offset_tokens, atom_tokens, enclosed, and_is_enclosed, or_is_enclosed, guard_tokens, result_tokens}
 use Rattle.fn_text.specs.Print.{case_tokens, block_tokens, present, assumption_tokens, first_lines, kind_tokens, head_tokens}

@@ -21,8 +21,8 @@ use Rattle.fn_tokens.specs.declared.token.Token.TheVariants.{Known, Close, Colon
 use Rattle.fn_tokens.specs.declared.token.Word.{Word}
 use Rattle.fn_tokens.specs.declared.token.Word.TheVariants as words
 use Rattle.fn_tokens.proofs.Size.{spelled_size}
-use Rattle.fn_text.specs.declared.language.Language.{Language}
-use Rattle.fn_text.specs.Languages.{language_for}
+use Rattle.fn_moves.specs.declared.language.Language.{Language}
+use Rattle.fn_moves.specs.Languages.{language_for}
 use Rattle.fn_text.specs.Print.{offset_tokens, enclosed, and_is_enclosed, or_is_enclosed, guard_tokens, result_tokens, case_tokens}
 use Rattle.fn_text.specs.Print.{block_tokens, present, assumption_tokens, first_lines, kind_tokens, head_tokens, declared_block}
 use Rattle.fn_text.specs.Print.{blocks_with, function_tokens, printed}

@@ -24,19 +24,19 @@ use Rattle.fn_tokens.specs.declared.token.Token.TheVariants.{Known, Number, Colo
 use Rattle.fn_tokens.specs.declared.token.Word.TheVariants as words
 use Rattle.fn_tokens.specs.declared.token.Placed.{Placed}
 use Rattle.fn_tokens.specs.declared.token.Sign.{Sign}
-use Rattle.fn_text.specs.declared.control.Written.{Written}
-use Rattle.fn_text.specs.declared.control.Written.TheVariants as written
-use Rattle.fn_text.specs.declared.control.Want.TheVariants as wants
-use Rattle.fn_text.specs.declared.control.Pairs.{Pairs}
-use Rattle.fn_text.specs.declared.control.Move.{Move}
-use Rattle.fn_text.specs.declared.control.Move.TheVariants as moves
-use Rattle.fn_text.specs.declared.language.Language.{Language}
-use Rattle.fn_text.specs.Kinds.{has_seen, with_pair}
-use Rattle.fn_text.specs.Meaning.{to_formulas}
-use Rattle.fn_text.specs.Controls.{has_chars, lacks, lacks_with, lacks_block}
-use Rattle.fn_text.specs.FixedMoves.{at_fixed}
-use Rattle.fn_text.specs.LineMoves.{at_line, at_block_first, at_block_second}
-use Rattle.fn_text.specs.GuardMoves.{at_result}
+use Rattle.fn_moves.specs.declared.control.Written.{Written}
+use Rattle.fn_moves.specs.declared.control.Written.TheVariants as written
+use Rattle.fn_moves.specs.declared.control.Want.TheVariants as wants
+use Rattle.fn_moves.specs.declared.control.Pairs.{Pairs}
+use Rattle.fn_moves.specs.declared.control.Move.{Move}
+use Rattle.fn_moves.specs.declared.control.Move.TheVariants as moves
+use Rattle.fn_moves.specs.declared.language.Language.{Language}
+use Rattle.fn_moves.specs.Kinds.{has_seen, with_pair}
+use Rattle.fn_moves.specs.Meaning.{to_formulas}
+use Rattle.fn_moves.specs.Controls.{has_chars, lacks, lacks_with, lacks_block}
+use Rattle.fn_moves.specs.FixedMoves.{at_fixed}
+use Rattle.fn_moves.specs.LineMoves.{at_line, at_block_first, at_block_second}
+use Rattle.fn_moves.specs.GuardMoves.{at_result}
 use Rattle.fn_text.specs.Print.{head_tokens}
 use Rattle.fn_text.specs.Reader.{Level, blocks_of}
 use Rattle.fn_text.specs.Grammar.{written_as, WrittenCase, WrittenBlock, result_written_as, case_written_as, block_written_as}

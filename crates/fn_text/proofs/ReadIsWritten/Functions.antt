@@ -5,10 +5,10 @@ use Rattle.fn_rules.specs.declared.function.Head.{Head}
 use Rattle.fn_rules.specs.Functions.{Function}
 use Rattle.fn_rules.specs.Building.{PairCases, function_from, is_buildable}
 use Rattle.fn_rules.specs.Validity.{is_valid}
-use Rattle.fn_text.specs.declared.fault.TextFault.{TextFault}
+use Rattle.fn_moves.specs.declared.fault.TextFault.{TextFault}
 use Rattle.fn_text.specs.declared.stop.TextError.{TextError}
 use Rattle.fn_tokens.specs.Tokens.{tokens_in}
-use Rattle.fn_text.specs.Meaning.{to_formulas}
+use Rattle.fn_moves.specs.Meaning.{to_formulas}
 use Rattle.fn_text.specs.Made.{Gives}
 use Rattle.fn_text.specs.Reader.{read_from, first_state}
 use Rattle.fn_text.specs.Reading.{built_from, function_in}

@@ -14,12 +14,12 @@ use Rattle.fn_tokens.specs.declared.token.Token.{Token}
 use Rattle.fn_tokens.specs.declared.token.Token.TheVariants.{Known, Number, Open, Close, Colon}
 use Rattle.fn_tokens.specs.declared.token.Word.TheVariants as words
 use Rattle.fn_tokens.specs.declared.token.Sign.{Sign}
-use Rattle.fn_text.specs.declared.control.Want.TheVariants as wants
-use Rattle.fn_text.specs.declared.control.Move.{Move}
-use Rattle.fn_text.specs.declared.control.Move.TheVariants as moves
-use Rattle.fn_text.specs.Controls.{has_chars}
-use Rattle.fn_text.specs.FixedMoves.{at_fixed}
-use Rattle.fn_text.specs.GuardMoves.{at_operand, at_operator, at_offset}
+use Rattle.fn_moves.specs.declared.control.Want.TheVariants as wants
+use Rattle.fn_moves.specs.declared.control.Move.{Move}
+use Rattle.fn_moves.specs.declared.control.Move.TheVariants as moves
+use Rattle.fn_moves.specs.Controls.{has_chars}
+use Rattle.fn_moves.specs.FixedMoves.{at_fixed}
+use Rattle.fn_moves.specs.GuardMoves.{at_operand, at_operator, at_offset}
 use Rattle.fn_text.specs.Reader.{Level, negate, join, choose, disjunction, closed, moved}
 use Rattle.fn_text.specs.Grammar.{Phrase, Compare, Shifted, written_as, atoms_in, nesting_in, is_allowed}
 use Rattle.fn_text.proofs.ReadIsWritten.Moves.{by_operand, by_comparison, by_right, by_operator, by_offset, by_number}

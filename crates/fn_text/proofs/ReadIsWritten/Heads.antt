@@ -13,18 +13,18 @@ use Rattle.fn_rules.specs.Building.{is_for}
 use Rattle.fn_tokens.specs.declared.token.Token.{Token}
 use Rattle.fn_tokens.specs.declared.token.Token.TheVariants.{Known, Number, LineEnd, FileEnd}
 use Rattle.fn_tokens.specs.declared.token.Word.TheVariants as words
-use Rattle.fn_text.specs.declared.control.Next.{Next}
-use Rattle.fn_text.specs.declared.control.Next.TheVariants as nexts
-use Rattle.fn_text.specs.declared.control.Want.TheVariants as wants
-use Rattle.fn_text.specs.declared.control.Pairs.{Pairs}
-use Rattle.fn_text.specs.declared.language.Language.{Language}
-use Rattle.fn_text.specs.declared.control.Move.{Move}
-use Rattle.fn_text.specs.declared.control.Move.TheVariants as moves
-use Rattle.fn_text.specs.Kinds.{with_kind, has_seen, declares_some, comes_next}
-use Rattle.fn_text.specs.Languages.{number_of, has_word, has_words}
-use Rattle.fn_text.specs.Meaning.{to_formulas}
-use Rattle.fn_text.specs.FixedMoves.{at_fixed}
-use Rattle.fn_text.specs.LineMoves.{at_next_kind, at_assumed}
+use Rattle.fn_moves.specs.declared.control.Next.{Next}
+use Rattle.fn_moves.specs.declared.control.Next.TheVariants as nexts
+use Rattle.fn_moves.specs.declared.control.Want.TheVariants as wants
+use Rattle.fn_moves.specs.declared.control.Pairs.{Pairs}
+use Rattle.fn_moves.specs.declared.language.Language.{Language}
+use Rattle.fn_moves.specs.declared.control.Move.{Move}
+use Rattle.fn_moves.specs.declared.control.Move.TheVariants as moves
+use Rattle.fn_moves.specs.Kinds.{with_kind, has_seen, declares_some, comes_next}
+use Rattle.fn_moves.specs.Languages.{number_of, has_word, has_words}
+use Rattle.fn_moves.specs.Meaning.{to_formulas}
+use Rattle.fn_moves.specs.FixedMoves.{at_fixed}
+use Rattle.fn_moves.specs.LineMoves.{at_next_kind, at_assumed}
 use Rattle.fn_text.specs.Print.{kind_tokens, assumption_tokens, head_tokens, first_lines}
 use Rattle.fn_text.specs.Reader.{blocks_of}
 use Rattle.fn_text.specs.Grammar.{WrittenBlock, block_written_as, block_made, is_allowed_block}

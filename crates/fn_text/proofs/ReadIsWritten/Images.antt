@@ -6,14 +6,14 @@ use Rattle.std.proofs.lemmas.List.{map-append}
 use Rattle.fn_rules.specs.declared.guard.Tightness.{Tightness}
 use Rattle.fn_rules.specs.declared.guard.Tightness.TheVariants.{Loose, Joined, Tight}
 use Rattle.fn_rules.specs.declared.function.Head.{Head}
-use Rattle.fn_text.specs.declared.fault.TextFault.{TextFault}
+use Rattle.fn_moves.specs.declared.fault.TextFault.{TextFault}
 use Rattle.fn_tokens.specs.declared.token.Placed.{Placed}
-use Rattle.fn_text.specs.declared.control.Want.{Want}
-use Rattle.fn_text.specs.declared.control.Want.TheVariants as wants
-use Rattle.fn_text.specs.declared.control.Move.{Move}
-use Rattle.fn_text.specs.declared.control.Move.TheVariants as moves
-use Rattle.fn_text.specs.Moves.{move_for}
-use Rattle.fn_text.specs.Meaning.{Maker}
+use Rattle.fn_moves.specs.declared.control.Want.{Want}
+use Rattle.fn_moves.specs.declared.control.Want.TheVariants as wants
+use Rattle.fn_moves.specs.declared.control.Move.{Move}
+use Rattle.fn_moves.specs.declared.control.Move.TheVariants as moves
+use Rattle.fn_moves.specs.Moves.{move_for}
+use Rattle.fn_moves.specs.Meaning.{Maker}
 use Rattle.fn_text.specs.Reader.{Level, State, negate, join, choose, conjunction, disjunction, blocks_of, closed, moved, after_move}
 use Rattle.fn_text.specs.Reader.{ended, read_from}
 use Rattle.fn_text.specs.Grammar.{Phrase, made, WrittenBlock, case_made, block_made}

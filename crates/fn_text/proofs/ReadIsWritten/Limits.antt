@@ -22,10 +22,10 @@ use Rattle.fn_rules.specs.Validity.{compares_chars, is_valid_block}
 use Rattle.fn_rules.specs.Building.{PairCases, is_for, cases_in, function_from, has_own_block, is_buildable}
 use Rattle.fn_tokens.specs.declared.token.Sign.{Sign}
 use Rattle.fn_tokens.specs.declared.token.Sign.TheVariants as signs
-use Rattle.fn_text.specs.declared.language.Language.{Language}
-use Rattle.fn_text.specs.declared.control.Written.{Written}
-use Rattle.fn_text.specs.declared.control.Written.TheVariants as written
-use Rattle.fn_text.specs.Meaning.{res_of, signed, to_formulas}
+use Rattle.fn_moves.specs.declared.language.Language.{Language}
+use Rattle.fn_moves.specs.declared.control.Written.{Written}
+use Rattle.fn_moves.specs.declared.control.Written.TheVariants as written
+use Rattle.fn_moves.specs.Meaning.{res_of, signed, to_formulas}
 use Rattle.fn_text.specs.Grammar.{Phrase, Always, Compare, Shifted, Negated, Round, One, Both, Single, Either, made, atoms_in}
 use Rattle.fn_text.specs.Grammar.{nesting_in, is_allowed, WrittenCase, WrittenBlock, case_made, block_made, is_allowed_result}
 use Rattle.fn_text.specs.Grammar.{is_allowed_case, is_allowed_block, is_allowed_file}

@@ -17,25 +17,25 @@ use Rattle.fn_tokens.specs.declared.token.Token.TheVariants as tokens
 use Rattle.fn_tokens.specs.declared.token.Word.TheVariants as words
 use Rattle.fn_tokens.specs.declared.token.Placed.{Placed}
 use Rattle.fn_tokens.specs.declared.token.Sign.{Sign}
-use Rattle.fn_text.specs.declared.control.Written.{Written}
-use Rattle.fn_text.specs.declared.control.Written.TheVariants as written
-use Rattle.fn_text.specs.declared.control.Next.{Next}
-use Rattle.fn_text.specs.declared.control.Next.TheVariants as nexts
-use Rattle.fn_text.specs.declared.control.Want.TheVariants as wants
-use Rattle.fn_text.specs.declared.control.Control.{Control}
-use Rattle.fn_text.specs.declared.control.Move.{Move}
-use Rattle.fn_text.specs.declared.control.Move.TheVariants as moves
-use Rattle.fn_text.specs.declared.language.Language.{Language}
-use Rattle.fn_text.specs.Languages.{language_numbered, number_of, has_word}
-use Rattle.fn_text.specs.Kinds.{has_seen, declares_some, comes_next}
-use Rattle.fn_text.specs.Meaning.{may_compare}
-use Rattle.fn_text.specs.Controls.{has_chars, depth_of, lacks_block, allowed}
-use Rattle.fn_text.specs.Meaning.{is_same_side, is_same_sort}
-use Rattle.fn_text.specs.FixedMoves.{at_fixed, want_next}
-use Rattle.fn_text.specs.LineMoves.{at_next_kind, at_line, at_assumed, at_block_first}
-use Rattle.fn_text.specs.LineMoves.{at_block_second}
-use Rattle.fn_text.specs.GuardMoves.{at_operand, at_operator, at_offset}
-use Rattle.fn_text.specs.GuardMoves.{at_result}
+use Rattle.fn_moves.specs.declared.control.Written.{Written}
+use Rattle.fn_moves.specs.declared.control.Written.TheVariants as written
+use Rattle.fn_moves.specs.declared.control.Next.{Next}
+use Rattle.fn_moves.specs.declared.control.Next.TheVariants as nexts
+use Rattle.fn_moves.specs.declared.control.Want.TheVariants as wants
+use Rattle.fn_moves.specs.declared.control.Control.{Control}
+use Rattle.fn_moves.specs.declared.control.Move.{Move}
+use Rattle.fn_moves.specs.declared.control.Move.TheVariants as moves
+use Rattle.fn_moves.specs.declared.language.Language.{Language}
+use Rattle.fn_moves.specs.Languages.{language_numbered, number_of, has_word}
+use Rattle.fn_moves.specs.Kinds.{has_seen, declares_some, comes_next}
+use Rattle.fn_moves.specs.Meaning.{may_compare}
+use Rattle.fn_moves.specs.Controls.{has_chars, depth_of, lacks_block, allowed}
+use Rattle.fn_moves.specs.Meaning.{is_same_side, is_same_sort}
+use Rattle.fn_moves.specs.FixedMoves.{at_fixed, want_next}
+use Rattle.fn_moves.specs.LineMoves.{at_next_kind, at_line, at_assumed, at_block_first}
+use Rattle.fn_moves.specs.LineMoves.{at_block_second}
+use Rattle.fn_moves.specs.GuardMoves.{at_operand, at_operator, at_offset}
+use Rattle.fn_moves.specs.GuardMoves.{at_result}
 use Rattle.fn_text.proofs.KindLists.{same_kind}
 use Rattle.fn_text.proofs.Languages.{numbered_is}
 

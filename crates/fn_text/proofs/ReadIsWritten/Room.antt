@@ -3,12 +3,12 @@ use Rattle.std.proofs.Common.{◌≡◌, Some}
 use Rattle.std.proofs.lemmas.Bool.{and_parts, ltb-true}
 use Rattle.fn_tokens.specs.declared.token.Token.{Token}
 use Rattle.fn_tokens.specs.declared.token.Placed.{Placed}
-use Rattle.fn_text.specs.declared.control.Want.{Want}
-use Rattle.fn_text.specs.declared.control.Want.TheVariants as wants
-use Rattle.fn_text.specs.declared.control.Control.{Control}
-use Rattle.fn_text.specs.declared.control.Move.{Move}
-use Rattle.fn_text.specs.GuardMoves.{at_operator}
-use Rattle.fn_text.specs.Moves.{HasRoom, move_for}
+use Rattle.fn_moves.specs.declared.control.Want.{Want}
+use Rattle.fn_moves.specs.declared.control.Want.TheVariants as wants
+use Rattle.fn_moves.specs.declared.control.Control.{Control}
+use Rattle.fn_moves.specs.declared.control.Move.{Move}
+use Rattle.fn_moves.specs.GuardMoves.{at_operator}
+use Rattle.fn_moves.specs.Moves.{HasRoom, move_for}
 use Rattle.fn_text.proofs.ReadIsWritten.Moves.{by_otfn, by_text, by_kinds, by_differ, by_line_end, by_block_end, by_result_end}
 use Rattle.fn_text.proofs.ReadIsWritten.Moves.{by_file_end, by_version, by_mode}
 use Rattle.fn_text.proofs.ReadIsWritten.Moves.{by_next_kind, by_line, by_assumed, by_block_first, by_block_second}

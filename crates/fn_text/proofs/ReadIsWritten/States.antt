@@ -17,16 +17,16 @@ use Rattle.fn_rules.specs.Building.{is_for}
 use Rattle.fn_tokens.specs.declared.token.Token.{Token}
 use Rattle.fn_tokens.specs.declared.token.Token.TheVariants.{Known, Number, Open, Colon, LineEnd, FileEnd}
 use Rattle.fn_tokens.specs.declared.token.Word.TheVariants as words
-use Rattle.fn_text.specs.declared.control.Written.TheVariants as written
-use Rattle.fn_text.specs.declared.control.Next.TheVariants as nexts
-use Rattle.fn_text.specs.declared.control.Want.{Want}
-use Rattle.fn_text.specs.declared.control.Want.TheVariants as wants
-use Rattle.fn_text.specs.declared.control.Pairs.{Pairs}
-use Rattle.fn_text.specs.declared.language.Language.{Language}
-use Rattle.fn_text.specs.Kinds.{has_seen, declares_some}
-use Rattle.fn_text.specs.Languages.{number_of, has_words}
-use Rattle.fn_text.specs.Meaning.{Maker, may_compare, to_formulas}
-use Rattle.fn_text.specs.Controls.{has_chars}
+use Rattle.fn_moves.specs.declared.control.Written.TheVariants as written
+use Rattle.fn_moves.specs.declared.control.Next.TheVariants as nexts
+use Rattle.fn_moves.specs.declared.control.Want.{Want}
+use Rattle.fn_moves.specs.declared.control.Want.TheVariants as wants
+use Rattle.fn_moves.specs.declared.control.Pairs.{Pairs}
+use Rattle.fn_moves.specs.declared.language.Language.{Language}
+use Rattle.fn_moves.specs.Kinds.{has_seen, declares_some}
+use Rattle.fn_moves.specs.Languages.{number_of, has_words}
+use Rattle.fn_moves.specs.Meaning.{Maker, may_compare, to_formulas}
+use Rattle.fn_moves.specs.Controls.{has_chars}
 use Rattle.fn_text.specs.Print.{kind_tokens, head_tokens, first_lines}
 use Rattle.fn_text.specs.Reader.{Level, State, blocks_of}
 use Rattle.fn_text.specs.Grammar.{Phrase, Always, Compare, Shifted, Negated, Round, One, Both, Single, Either, written_as, atoms_in}

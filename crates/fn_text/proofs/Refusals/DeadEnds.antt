@@ -6,18 +6,18 @@ use Rattle.ot_model.specs.declared.op.Kind.{Kind}
 use Rattle.fn_rules.specs.declared.function.Head.{Head}
 use Rattle.fn_rules.specs.Functions.{is_declared, GuardedCase}
 use Rattle.fn_rules.specs.Building.{PairCases}
-use Rattle.fn_text.specs.declared.fault.TextFault.{TextFault}
+use Rattle.fn_moves.specs.declared.fault.TextFault.{TextFault}
 use Rattle.fn_tokens.specs.declared.token.Token.{Token}
 use Rattle.fn_tokens.specs.declared.token.Placed.{Placed}
-use Rattle.fn_text.specs.declared.control.Want.{Want}
-use Rattle.fn_text.specs.declared.control.Want.TheVariants as wants
-use Rattle.fn_text.specs.declared.control.Move.{Move}
-use Rattle.fn_text.specs.declared.control.Move.TheVariants as moves
-use Rattle.fn_text.specs.Meaning.{Formulas, to_formulas}
-use Rattle.fn_text.specs.Controls.{lacks, lacks_with, lacks_block}
-use Rattle.fn_text.specs.Moves.{move_for}
-use Rattle.fn_text.specs.GuardMoves.{at_operand}
-use Rattle.fn_text.specs.LineMoves.{at_block_first, at_block_second}
+use Rattle.fn_moves.specs.declared.control.Want.{Want}
+use Rattle.fn_moves.specs.declared.control.Want.TheVariants as wants
+use Rattle.fn_moves.specs.declared.control.Move.{Move}
+use Rattle.fn_moves.specs.declared.control.Move.TheVariants as moves
+use Rattle.fn_moves.specs.Meaning.{Formulas, to_formulas}
+use Rattle.fn_moves.specs.Controls.{lacks, lacks_with, lacks_block}
+use Rattle.fn_moves.specs.Moves.{move_for}
+use Rattle.fn_moves.specs.GuardMoves.{at_operand}
+use Rattle.fn_moves.specs.LineMoves.{at_block_first, at_block_second}
 use Rattle.fn_text.specs.Reader.{State, moved, after_move, ended, read_from, first_state}
 use Rattle.fn_text.specs.Grammar.{WrittenBlock, file_written_as}
 use Rattle.fn_text.specs.Theorems.{state_behind}

@@ -7,7 +7,7 @@ use Rattle.ot_model.specs.declared.op.Kind.{Kind}
 use Rattle.ot_model.specs.declared.op.Kind.TheVariants as kinds
 use Rattle.ot_model.specs.declared.op.TheConstants.{KINDS}
 use Rattle.std.proofs.lemmas.Bool.{not-true, not-false, and_parts}
-use Rattle.fn_text.specs.Kinds.{with_kind, declares_some}
+use Rattle.fn_moves.specs.Kinds.{with_kind, declares_some}
 use Rattle.ot_model.specs.declared.op.Mode.{Mode}
 use Rattle.ot_model.specs.declared.op.Mode.TheVariants as modes
 use Rattle.fn_rules.specs.declared.guard.Sort.{Sort}
@@ -21,24 +21,24 @@ use Rattle.fn_rules.specs.Formulas.{other_side}
 use Rattle.fn_rules.specs.Functions.{is_declared, GuardedCase}
 use Rattle.fn_rules.specs.Functions.{is_declared_pair}
 use Rattle.fn_rules.specs.Building.{PairCases, has_own_blocks}
-use Rattle.fn_text.specs.declared.fault.TextFault.{TextFault}
+use Rattle.fn_moves.specs.declared.fault.TextFault.{TextFault}
 use Rattle.fn_tokens.specs.declared.token.Token.{Token}
 use Rattle.fn_tokens.specs.declared.token.Token.TheVariants.{Known, Number, LineEnd, FileEnd}
 use Rattle.fn_tokens.specs.declared.token.Word.TheVariants as words
 use Rattle.fn_tokens.specs.declared.token.Placed.{Placed}
 use Rattle.fn_tokens.specs.declared.token.Sign.{Sign}
-use Rattle.fn_text.specs.declared.control.Written.{Written}
-use Rattle.fn_text.specs.declared.control.Written.TheVariants as written
-use Rattle.fn_text.specs.declared.control.Next.TheVariants as nexts
-use Rattle.fn_text.specs.declared.control.Want.{Want}
-use Rattle.fn_text.specs.declared.control.Want.TheVariants as wants
-use Rattle.fn_text.specs.declared.control.Move.{Move}
-use Rattle.fn_text.specs.declared.control.Move.TheVariants as moves
-use Rattle.fn_text.specs.declared.language.Language.{Language}
-use Rattle.fn_text.specs.declared.language.Language.TheVariants as languages
-use Rattle.fn_text.specs.Meaning.{Formulas, Maker, to_formulas}
-use Rattle.fn_text.specs.Controls.{lacks, lacks_with, lacks_block}
-use Rattle.fn_text.specs.Moves.{move_for}
+use Rattle.fn_moves.specs.declared.control.Written.{Written}
+use Rattle.fn_moves.specs.declared.control.Written.TheVariants as written
+use Rattle.fn_moves.specs.declared.control.Next.TheVariants as nexts
+use Rattle.fn_moves.specs.declared.control.Want.{Want}
+use Rattle.fn_moves.specs.declared.control.Want.TheVariants as wants
+use Rattle.fn_moves.specs.declared.control.Move.{Move}
+use Rattle.fn_moves.specs.declared.control.Move.TheVariants as moves
+use Rattle.fn_moves.specs.declared.language.Language.{Language}
+use Rattle.fn_moves.specs.declared.language.Language.TheVariants as languages
+use Rattle.fn_moves.specs.Meaning.{Formulas, Maker, to_formulas}
+use Rattle.fn_moves.specs.Controls.{lacks, lacks_with, lacks_block}
+use Rattle.fn_moves.specs.Moves.{move_for}
 use Rattle.fn_text.specs.Print.{head_tokens, first_lines}
 use Rattle.fn_text.specs.Reader.{State, blocks_of, moved, after_move, first_control, first_state}
 use Rattle.fn_text.specs.Grammar.{Always, Compare, Shifted, written_as, atoms_in, is_allowed_result, result_written_as, block_made}

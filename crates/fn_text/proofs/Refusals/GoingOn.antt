@@ -13,16 +13,16 @@ use Rattle.fn_tokens.specs.declared.token.Token.TheVariants.{Known, Open, Close,
 use Rattle.fn_tokens.specs.declared.token.Word.TheVariants as words
 use Rattle.fn_tokens.specs.declared.token.Placed.{Placed}
 use Rattle.fn_tokens.specs.Tokens.{bare}
-use Rattle.fn_text.specs.declared.fault.TextFault.{TextFault}
-use Rattle.fn_text.specs.declared.control.Next.TheVariants as nexts
-use Rattle.fn_text.specs.declared.control.Want.{Want}
-use Rattle.fn_text.specs.declared.control.Want.TheVariants as wants
-use Rattle.fn_text.specs.declared.control.Control.{Control}
-use Rattle.fn_text.specs.declared.control.Move.{Move}
-use Rattle.fn_text.specs.declared.control.Move.TheVariants as moves
-use Rattle.fn_text.specs.Meaning.{Formulas, to_formulas}
-use Rattle.fn_text.specs.Controls.{depth_of, lacks_block, allowed}
-use Rattle.fn_text.specs.Moves.{move_for}
+use Rattle.fn_moves.specs.declared.fault.TextFault.{TextFault}
+use Rattle.fn_moves.specs.declared.control.Next.TheVariants as nexts
+use Rattle.fn_moves.specs.declared.control.Want.{Want}
+use Rattle.fn_moves.specs.declared.control.Want.TheVariants as wants
+use Rattle.fn_moves.specs.declared.control.Control.{Control}
+use Rattle.fn_moves.specs.declared.control.Move.{Move}
+use Rattle.fn_moves.specs.declared.control.Move.TheVariants as moves
+use Rattle.fn_moves.specs.Meaning.{Formulas, to_formulas}
+use Rattle.fn_moves.specs.Controls.{depth_of, lacks_block, allowed}
+use Rattle.fn_moves.specs.Moves.{move_for}
 use Rattle.fn_text.specs.Reader.{State, Level, moved, closed, after_move, turn, read_from, first_state}
 use Rattle.fn_text.specs.Grammar.{file_written_as}
 use Rattle.fn_text.specs.Theorems.{state_behind}

@@ -8,9 +8,9 @@ use Rattle.std.proofs.lemmas.Grind.{flat_map-append}
 use Rattle.ot_model.specs.declared.op.Kind.{Kind}
 use Rattle.std.proofs.lemmas.Bool.{not-true, and_parts, and_from, leb-true, le-leb}
 use Rattle.ot_model.specs.Kinds.{kind_pairs}
-use Rattle.fn_text.specs.declared.language.Language.{Language}
-use Rattle.fn_text.specs.Languages.{has_words}
-use Rattle.fn_text.specs.Kinds.{declares_some}
+use Rattle.fn_moves.specs.declared.language.Language.{Language}
+use Rattle.fn_moves.specs.Languages.{has_words}
+use Rattle.fn_moves.specs.Kinds.{declares_some}
 use Rattle.fn_rules.specs.declared.function.Head.{Head}
 use Rattle.fn_rules.specs.Functions.{is_declared}
 use Rattle.fn_rules.specs.Functions.{is_declared_pair}
@@ -20,9 +20,9 @@ use Rattle.fn_rules.specs.Building.{is_for, has_own_block}
 use Rattle.fn_tokens.specs.declared.token.Token.{Token}
 use Rattle.fn_tokens.specs.declared.token.Token.TheVariants.{Known, LineEnd, FileEnd}
 use Rattle.fn_tokens.specs.declared.token.Word.TheVariants as words
-use Rattle.fn_text.specs.declared.control.Pairs.{Pairs}
-use Rattle.fn_text.specs.Kinds.{has_seen, with_pair}
-use Rattle.fn_text.specs.Meaning.{to_formulas}
+use Rattle.fn_moves.specs.declared.control.Pairs.{Pairs}
+use Rattle.fn_moves.specs.Kinds.{has_seen, with_pair}
+use Rattle.fn_moves.specs.Meaning.{to_formulas}
 use Rattle.fn_text.specs.Print.{head_tokens}
 use Rattle.fn_text.specs.Grammar.{WrittenCase, WrittenBlock, block_written_as, block_made, atoms_in}
 use Rattle.fn_text.specs.Continuing.{cases_above, is_allowed_case_with, is_allowed_block_with, is_allowed_file_with, Begins}

@@ -6,15 +6,15 @@ use Rattle.fn_rules.specs.Building.{PairCases}
 use Rattle.fn_tokens.specs.declared.token.Token.{Token}
 use Rattle.fn_tokens.specs.declared.token.Token.TheVariants.{FileEnd}
 use Rattle.fn_tokens.specs.declared.token.Placed.{Placed}
-use Rattle.fn_text.specs.declared.control.Want.{Want}
-use Rattle.fn_text.specs.declared.control.Want.TheVariants as wants
-use Rattle.fn_text.specs.declared.control.Control.{Control}
-use Rattle.fn_text.specs.declared.control.Move.{Move}
-use Rattle.fn_text.specs.declared.control.Move.TheVariants as moves
-use Rattle.fn_text.specs.declared.fault.TextFault.{TextFault}
-use Rattle.fn_text.specs.Moves.{move_for}
-use Rattle.fn_text.specs.Faults.{fault_of}
-use Rattle.fn_text.specs.Meaning.{Maker}
+use Rattle.fn_moves.specs.declared.control.Want.{Want}
+use Rattle.fn_moves.specs.declared.control.Want.TheVariants as wants
+use Rattle.fn_moves.specs.declared.control.Control.{Control}
+use Rattle.fn_moves.specs.declared.control.Move.{Move}
+use Rattle.fn_moves.specs.declared.control.Move.TheVariants as moves
+use Rattle.fn_moves.specs.declared.fault.TextFault.{TextFault}
+use Rattle.fn_moves.specs.Moves.{move_for}
+use Rattle.fn_moves.specs.Faults.{fault_of}
+use Rattle.fn_moves.specs.Meaning.{Maker}
 use Rattle.fn_text.specs.Reader.{State, moved, after_move, turn, read_from}
 use Rattle.fn_text.specs.Reading.{built_from}
 use Rattle.fn_text.specs.Theorems.{state_behind}

@@ -7,8 +7,8 @@ use Rattle.fn_rules.specs.Validity.{compares_chars}
 use Rattle.fn_tokens.specs.declared.token.Token.{Token}
 use Rattle.fn_tokens.specs.declared.token.Token.TheVariants.{Known, Open, Close, Colon, LineEnd}
 use Rattle.fn_tokens.specs.declared.token.Word.TheVariants as words
-use Rattle.fn_text.specs.declared.control.Written.TheVariants as written
-use Rattle.fn_text.specs.Controls.{has_chars}
+use Rattle.fn_moves.specs.declared.control.Written.TheVariants as written
+use Rattle.fn_moves.specs.Controls.{has_chars}
 use Rattle.fn_text.specs.Print.{head_tokens}
 use Rattle.fn_text.specs.Reader.{Level, blocks_of}
 use Rattle.fn_text.specs.Grammar.{Phrase, Round, written_as, atoms_in, nesting_in, WrittenCase}

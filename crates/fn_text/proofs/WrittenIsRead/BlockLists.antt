@@ -14,11 +14,11 @@ use Rattle.ot_model.specs.Kinds.{is_same_kind}
 use Rattle.fn_rules.specs.Building.{PairCases, is_for, has_own_block, has_own_blocks}
 use Rattle.fn_tokens.specs.declared.token.Token.{Token}
 use Rattle.fn_tokens.specs.declared.token.Placed.{Placed}
-use Rattle.fn_text.specs.declared.control.Pairs.{Pairs}
-use Rattle.fn_text.specs.declared.control.Control.{Control}
-use Rattle.fn_text.specs.Kinds.{has_seen, with_pair}
-use Rattle.fn_text.specs.Meaning.{Maker, to_formulas}
-use Rattle.fn_text.specs.Controls.{lacks, lacks_with, lacks_block}
+use Rattle.fn_moves.specs.declared.control.Pairs.{Pairs}
+use Rattle.fn_moves.specs.declared.control.Control.{Control}
+use Rattle.fn_moves.specs.Kinds.{has_seen, with_pair}
+use Rattle.fn_moves.specs.Meaning.{Maker, to_formulas}
+use Rattle.fn_moves.specs.Controls.{lacks, lacks_with, lacks_block}
 use Rattle.fn_text.specs.Reader.{State, blocks_of}
 use Rattle.fn_text.specs.Grammar.{WrittenBlock, block_written_as, block_made, is_allowed_block}
 use Rattle.fn_tokens.specs.Tokens.{bare}

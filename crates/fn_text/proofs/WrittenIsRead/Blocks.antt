@@ -9,12 +9,12 @@ use Rattle.fn_tokens.specs.declared.token.Token.{Token}
 use Rattle.fn_tokens.specs.declared.token.Token.TheVariants.{Known, LineEnd}
 use Rattle.fn_tokens.specs.declared.token.Word.TheVariants as words
 use Rattle.fn_tokens.specs.declared.token.Placed.{Placed}
-use Rattle.fn_text.specs.declared.control.Want.TheVariants as wants
-use Rattle.fn_text.specs.declared.control.Move.TheVariants as moves
-use Rattle.fn_text.specs.Kinds.{has_seen, with_pair}
-use Rattle.fn_text.specs.Meaning.{Maker}
-use Rattle.fn_text.specs.Controls.{has_chars}
-use Rattle.fn_text.specs.Moves.{move_for}
+use Rattle.fn_moves.specs.declared.control.Want.TheVariants as wants
+use Rattle.fn_moves.specs.declared.control.Move.TheVariants as moves
+use Rattle.fn_moves.specs.Kinds.{has_seen, with_pair}
+use Rattle.fn_moves.specs.Meaning.{Maker}
+use Rattle.fn_moves.specs.Controls.{has_chars}
+use Rattle.fn_moves.specs.Moves.{move_for}
 use Rattle.fn_text.specs.Reader.{State, moved, blocks_of, after_move}
 use Rattle.fn_text.specs.Grammar.{WrittenCase, WrittenBlock, case_written_as, block_written_as, case_made, block_made, is_allowed_case}
 use Rattle.fn_text.specs.Grammar.{is_allowed_block}

@@ -10,12 +10,12 @@ use Rattle.fn_tokens.specs.declared.token.Token.{Token}
 use Rattle.fn_tokens.specs.declared.token.Token.TheVariants.{Known, Number, Colon, LineEnd}
 use Rattle.fn_tokens.specs.declared.token.Word.TheVariants as words
 use Rattle.fn_tokens.specs.declared.token.Placed.{Placed}
-use Rattle.fn_text.specs.declared.control.Written.{Written}
-use Rattle.fn_text.specs.declared.control.Written.TheVariants as written
-use Rattle.fn_text.specs.declared.control.Want.TheVariants as wants
-use Rattle.fn_text.specs.declared.control.Move.TheVariants as moves
-use Rattle.fn_text.specs.Meaning.{Maker}
-use Rattle.fn_text.specs.Controls.{has_chars}
+use Rattle.fn_moves.specs.declared.control.Written.{Written}
+use Rattle.fn_moves.specs.declared.control.Written.TheVariants as written
+use Rattle.fn_moves.specs.declared.control.Want.TheVariants as wants
+use Rattle.fn_moves.specs.declared.control.Move.TheVariants as moves
+use Rattle.fn_moves.specs.Meaning.{Maker}
+use Rattle.fn_moves.specs.Controls.{has_chars}
 use Rattle.fn_text.specs.Reader.{State, disjunction, moved}
 use Rattle.fn_text.specs.Grammar.{written_as, made, atoms_in, nesting_in, is_allowed, WrittenCase, result_written_as, case_written_as}
 use Rattle.fn_text.specs.Grammar.{case_made, is_allowed_result, is_allowed_case}

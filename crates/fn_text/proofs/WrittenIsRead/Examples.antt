@@ -18,13 +18,13 @@ use Rattle.fn_rules.specs.Formulas as formulas
 use Rattle.fn_rules.specs.Functions.{Function}
 use Rattle.fn_rules.specs.Building.{function_from}
 use Rattle.fn_tokens.specs.declared.token.Sign.TheVariants as signs
-use Rattle.fn_text.specs.declared.control.Written.TheVariants as written
+use Rattle.fn_moves.specs.declared.control.Written.TheVariants as written
 use Rattle.fn_tokens.specs.Words.{word_token}
 use Rattle.fn_tokens.specs.Tokens.{front_of}
 use Rattle.fn_tokens.specs.Spelling.{spelled_from}
-use Rattle.fn_text.specs.declared.language.Language.TheVariants as languages
+use Rattle.fn_moves.specs.declared.language.Language.TheVariants as languages
 use Rattle.fn_text.specs.Print.{head_tokens}
-use Rattle.fn_text.specs.Meaning.{to_formulas}
+use Rattle.fn_moves.specs.Meaning.{to_formulas}
 use Rattle.fn_text.specs.Grammar.{Phrase, Always, Compare, Shifted, Negated, Round, One, Both, Single, Either, written_as, made}
 use Rattle.fn_text.specs.Grammar.{WrittenBlock, IsTextOf}
 

@@ -11,12 +11,12 @@ use Rattle.fn_rules.specs.Building.{has_own_blocks}
 use Rattle.fn_tokens.specs.declared.token.Token.TheVariants.{Known, LineEnd, FileEnd}
 use Rattle.fn_tokens.specs.declared.token.Word.TheVariants as words
 use Rattle.fn_tokens.specs.declared.token.Placed.{Placed}
-use Rattle.fn_text.specs.declared.control.Want.TheVariants as wants
-use Rattle.fn_text.specs.declared.control.Move.TheVariants as moves
-use Rattle.fn_text.specs.declared.fault.TextFault.{TextFault}
-use Rattle.fn_text.specs.declared.language.Language.{Language}
-use Rattle.fn_text.specs.Kinds.{declares_some}
-use Rattle.fn_text.specs.Meaning.{Maker, to_formulas}
+use Rattle.fn_moves.specs.declared.control.Want.TheVariants as wants
+use Rattle.fn_moves.specs.declared.control.Move.TheVariants as moves
+use Rattle.fn_moves.specs.declared.fault.TextFault.{TextFault}
+use Rattle.fn_moves.specs.declared.language.Language.{Language}
+use Rattle.fn_moves.specs.Kinds.{declares_some}
+use Rattle.fn_moves.specs.Meaning.{Maker, to_formulas}
 use Rattle.fn_text.specs.Print.{head_tokens}
 use Rattle.fn_tokens.specs.Tokens.{tokens_in}
 use Rattle.fn_text.specs.Reader.{State, moved, blocks_of, read_from, first_state, no_pairs}

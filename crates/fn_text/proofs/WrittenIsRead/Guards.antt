@@ -12,22 +12,22 @@ use Rattle.fn_rules.specs.declared.guard.Tightness.{Tightness}
 use Rattle.fn_rules.specs.declared.guard.Tightness.TheVariants.{Loose, Joined, Tight}
 use Rattle.fn_rules.specs.declared.function.Head.{Head}
 use Rattle.fn_rules.specs.Formulas.{other_side}
-use Rattle.fn_text.specs.declared.fault.TextFault.{TextFault}
+use Rattle.fn_moves.specs.declared.fault.TextFault.{TextFault}
 use Rattle.fn_tokens.specs.declared.token.Token.{Token}
 use Rattle.fn_tokens.specs.declared.token.Token.TheVariants.{Known, Number, Open, Close}
 use Rattle.fn_tokens.specs.declared.token.Word.TheVariants as words
 use Rattle.fn_tokens.specs.declared.token.Placed.{Placed}
 use Rattle.fn_tokens.specs.Tokens.{bare}
-use Rattle.fn_text.specs.declared.control.Want.{Want}
-use Rattle.fn_text.specs.declared.control.Want.TheVariants as wants
-use Rattle.fn_text.specs.declared.control.Control.{Control}
-use Rattle.fn_text.specs.declared.control.Move.{Move}
-use Rattle.fn_text.specs.declared.control.Move.TheVariants as moves
-use Rattle.fn_text.specs.Moves.{move_for}
-use Rattle.fn_text.specs.Meaning.{Maker, may_compare}
-use Rattle.fn_text.specs.Controls.{allowed, has_chars, depth_of}
-use Rattle.fn_text.specs.FixedMoves.{at_fixed}
-use Rattle.fn_text.specs.GuardMoves.{at_operator, at_offset}
+use Rattle.fn_moves.specs.declared.control.Want.{Want}
+use Rattle.fn_moves.specs.declared.control.Want.TheVariants as wants
+use Rattle.fn_moves.specs.declared.control.Control.{Control}
+use Rattle.fn_moves.specs.declared.control.Move.{Move}
+use Rattle.fn_moves.specs.declared.control.Move.TheVariants as moves
+use Rattle.fn_moves.specs.Moves.{move_for}
+use Rattle.fn_moves.specs.Meaning.{Maker, may_compare}
+use Rattle.fn_moves.specs.Controls.{allowed, has_chars, depth_of}
+use Rattle.fn_moves.specs.FixedMoves.{at_fixed}
+use Rattle.fn_moves.specs.GuardMoves.{at_operator, at_offset}
 use Rattle.fn_text.specs.Reader.{Level, State, negate, join, choose, conjunction, disjunction, moved, closed, read_from, after_move}
 use Rattle.fn_text.specs.Reader.{want_behind}
 use Rattle.fn_text.specs.Grammar.{Phrase, Always, Compare, Shifted, Negated, Round, One, Both, Single, Either, written_as, made}

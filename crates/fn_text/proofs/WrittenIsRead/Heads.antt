@@ -14,16 +14,16 @@ use Rattle.fn_tokens.specs.declared.token.Token.{Token}
 use Rattle.fn_tokens.specs.declared.token.Token.TheVariants.{Known, Number, LineEnd}
 use Rattle.fn_tokens.specs.declared.token.Word.TheVariants as words
 use Rattle.fn_tokens.specs.declared.token.Placed.{Placed}
-use Rattle.fn_text.specs.declared.control.Next.TheVariants as nexts
-use Rattle.fn_text.specs.declared.control.Want.{Want}
-use Rattle.fn_text.specs.declared.control.Want.TheVariants as wants
-use Rattle.fn_text.specs.declared.control.Move.TheVariants as moves
-use Rattle.fn_text.specs.declared.language.Language.{Language}
-use Rattle.fn_text.specs.declared.language.Language.TheVariants as languages
-use Rattle.fn_text.specs.Kinds.{with_kind, declares_some, comes_next}
-use Rattle.fn_text.specs.Languages.{number_of, has_word, has_words}
+use Rattle.fn_moves.specs.declared.control.Next.TheVariants as nexts
+use Rattle.fn_moves.specs.declared.control.Want.{Want}
+use Rattle.fn_moves.specs.declared.control.Want.TheVariants as wants
+use Rattle.fn_moves.specs.declared.control.Move.TheVariants as moves
+use Rattle.fn_moves.specs.declared.language.Language.{Language}
+use Rattle.fn_moves.specs.declared.language.Language.TheVariants as languages
+use Rattle.fn_moves.specs.Kinds.{with_kind, declares_some, comes_next}
+use Rattle.fn_moves.specs.Languages.{number_of, has_word, has_words}
 use Rattle.fn_text.specs.Print.{present, kind_tokens, assumption_tokens, first_lines, head_tokens}
-use Rattle.fn_text.specs.Meaning.{Maker}
+use Rattle.fn_moves.specs.Meaning.{Maker}
 use Rattle.fn_text.specs.Reader.{State, first_state, first_control}
 use Rattle.fn_tokens.specs.Tokens.{bare}
 use Rattle.fn_text.proofs.Languages.{numbered, word_of_declared}

@@ -1,6 +1,6 @@
 use Rattle.std.proofs.Common.{rules, refl}
 use Rattle.fn_rules.specs.Validity.{compares_chars}
-use Rattle.ot_rewrite.proofs.CasesLeft.{left_near, left_cases}
+use Rattle.goal_rules.proofs.CasesLeft.{left_near, left_cases}
 use Rattle.ot_rewrite.proofs.guarding.choose_on.Goals as goal
 
 pub choose_case_on-requires-clause-cases_near : goal.choose_case_on-requires-clause-cases_near

@@ -2,7 +2,7 @@ use Rattle.std.proofs.Common.{arith}
 use Rattle.fn_rules.specs.Rules.{function_of}
 use Rattle.ot_terms.specs.Goals.{goal_tree}
 use Rattle.ot_terms.proofs.GoalTruth.{goal_holds_alike}
-use Rattle.ot_rewrite.specs.Steps.{front_tree}
+use Rattle.goal_rules.specs.Steps.{front_tree}
 use Rattle.ot_rewrite.proofs.Fronted.{next_given, none_given}
 use Rattle.ot_rewrite.proofs.FrontLaws.{goal_stops}
 use Rattle.ot_rewrite.proofs.Reached.{reached_kept, advance_lighter, advances_on}

@@ -12,7 +12,7 @@ use Rattle.ot_questions.specs.declared.why.Why.TheVariants.{Lengths}
 use Rattle.ot_questions.specs.Nexts.{next_after}
 use Rattle.ot_questions.specs.Obligation.{ask_lengths}
 use Rattle.ot_questions.specs.Places.{growth}
-use Rattle.plain_questions.proofs.Ends.{next_after_fails}
+use Rattle.plain_walks.proofs.Ends.{next_after_fails}
 use Rattle.plain_questions.proofs.obligation.ask_lengths.Goals as goal
 
 lengths_differ :

@@ -1,0 +1,3 @@
+mod OperationRows
+mod FunctionRows
+mod JudgingRows

@@ -1,0 +1,3 @@
+pub mod CasesLeft
+mod CellExamples
+mod MoveExamples

@@ -1,0 +1,16 @@
+use Rattle.std.proofs.Common.{rules, refl}
+use Rattle.fn_rules.specs.Validity.{compares_chars}
+use Rattle.goal_rules.proofs.CasesLeft.{left_near, left_cases}
+use Rattle.goal_rules.proofs.choosing.choose.Goals as goal
+
+pub choose_case-requires-clause-cases_near : goal.choose_case-requires-clause-cases_near
+choose_case-requires-clause-cases_near c =
+    left_near (compares_chars c.in-Some.first c.in-Some-kind.second) c.cases-cases.result.now c.args.case c.cases-cases.ensures.valid
+
+pub returns : goal.returns
+returns c =
+    let left = left_cases c.cases-cases.result.now c.args.case _ c.cases-cases.ensures.cases in
+    let first = c.in-Some.ensures in
+    let second = c.in-Some-kind.ensures in
+    let given = c.in_ok-choose_case.ensures in
+    rw (← first, ← second, ← left) given

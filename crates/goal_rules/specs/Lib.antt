@@ -1,0 +1,4 @@
+pub mod Ends
+pub mod Cells
+pub mod Table
+pub mod Steps

@@ -1,0 +1,59 @@
+-- Goals that are held at their front, and what a rule needs of one.
+use Rattle.std.specs.Prelude.{ℕ, ◌<◌, ◌≤◌, length}
+use Rattle.fn_rules.specs.Functions.{Function}
+use Rattle.ot_questions.specs.declared.place.SymOp.{SymOp}
+use Rattle.ot_questions.specs.Nears.{IsNear, IsNearOp, IsDeclaredOp}
+use Rattle.ot_questions.specs.Places.{sym_kind}
+use Rattle.ot_terms.specs.Forms as forms
+use Rattle.ot_terms.specs.Forms.{FormTree, form_tree}
+use Rattle.ot_terms.specs.Cells as cells
+use Rattle.ot_terms.specs.Cells.{CellTree, cell_tree}
+use Rattle.ot_terms.specs.Goals as goals
+use Rattle.ot_terms.specs.Goals.{GoalTree, goal_tree}
+use Rattle.ot_terms.specs.Weights.{cases_of_kinds}
+use Rattle.goal_rules.specs.declared.front.Front.{Front}
+use Rattle.goal_rules.specs.declared.front.Front.TheVariants as rust
+
+-- the goal that a front stands for
+abbrev pub front_tree : Front → GoalTree
+front_tree rust.Holds = goals.Holds
+front_tree (rust.Fails why) = goals.Fails why
+front_tree (rust.If g on_yes on_no) = goals.If (form_tree g) (goal_tree on_yes.now) (goal_tree on_no.now)
+front_tree (rust.Choose case a b plan) = goals.Choose case a b plan.now
+front_tree (rust.Deliver o plan) = goals.Deliver o plan.now
+front_tree (rust.Same left right) = goals.Same (cell_tree left) (cell_tree right)
+
+-- the offset that is lowered by one is small
+abbrev pub IsLowered : FormTree → Type 0
+IsLowered forms.True = Unit {0}
+IsLowered (forms.Le x y) = Unit {0}
+IsLowered (forms.Lt x y) = IsNear 999 y.off
+IsLowered (forms.Eq x y) = Unit {0}
+IsLowered (forms.And g h) = Unit {0}
+IsLowered (forms.Or g h) = Unit {0}
+IsLowered (forms.Not g) = Unit {0}
+
+-- the place at which the cell is read is near the index
+abbrev pub IsReadable : CellTree → Type 0
+IsReadable (cells.At d at) = IsNear 999 at.off
+IsReadable (cells.Char ch) = Unit {0}
+IsReadable (cells.Dead cell) = IsReadable cell
+IsReadable (cells.Over ch cell) = IsReadable cell
+IsReadable (cells.If g on_yes on_no) = Unit {0}
+
+-- one of the cases for the two operations is next, or none is left
+pub record IsChoosable (f : Function) (case : ℕ) (a b : SymOp) : Type 0 where
+  pub a_declared : IsDeclaredOp f.head a
+  pub b_declared : IsDeclaredOp f.head b
+  pub a_near : IsNearOp 99 a
+  pub b_near : IsNearOp 99 b
+  pub cases : case ≤ length (cases_of_kinds f (sym_kind a) (sym_kind b))
+
+-- what a rule needs of the goal that it rewrites
+abbrev pub IsReady : Function → GoalTree → Type 0
+IsReady f goals.Holds = Unit {0}
+IsReady f (goals.Fails why) = Unit {0}
+IsReady f (goals.If g on_yes on_no) = IsLowered g
+IsReady f (goals.Choose case a b plan) = IsChoosable f case a b
+IsReady f (goals.Deliver o plan) = plan.count < 6
+IsReady f (goals.Same left right) = IsReadable left × IsReadable right

@@ -1,0 +1,67 @@
+//! The rules for the cases of a transformation.
+ghost use Rattle.std.specs.Prelude.{◌≡◌, ◌≤◌, IfOk, map, length, drop};
+ghost use Rattle.fn_rules.specs.Functions.{case_of};
+ghost use Rattle.fn_rules.specs.Formulas.{formula_of};
+ghost use Rattle.fn_rules.specs.Rules.{function_of};
+ghost use Rattle.ot_questions.specs.Nears.{IsNearOp, IsNearCase};
+ghost use Rattle.std.specs.List.{AllByRecursion};
+ghost use Rattle.goal_rules.specs.Steps.{front_tree, IsChoosable};
+ghost use Rattle.goal_rules.specs.Table as table;
+
+use crate::front::Front;
+use ask_core::NoMemory;
+use bumpalo::Bump;
+use fn_rules::{Case, Rules};
+use ot_terms::{Goal, Progress, SymOp, Why, place_form};
+
+// The first of the cases that are left, of the case number on.
+#[inline]
+fn choose_case<'a>(
+    bump: &'a Bump,
+    cases: &[Case],
+    case: u32,
+    a: SymOp,
+    b: SymOp,
+    plan: &'a Progress,
+) -> Result<Front<'a>, NoMemory>
+    requires a_near { IsNearOp 99 a }
+    requires b_near { IsNearOp 99 b }
+    requires cases_near { AllByRecursion IsNearCase (map case_of cases.now) }
+    requires few { case ≤ 64 }
+    ensures { IfOk result (λ r. front_tree r ≡ table.choose_case (map case_of cases.now) case a b plan.now) }
+{
+    match cases {
+        [] => Ok(Front::Fails(Why::Undefined)),
+        [first, ..] => Ok(Front::If {
+            form: *place_form(bump, &first.guard, a, b)?,
+            yes: Goal::deliver(bump, a.result(first.res, b), plan)?,
+            no: Goal::choose(bump, case + 1, a, b, plan)?,
+        }),
+    }
+}
+
+/// What the first operation becomes behind the second: both are there and a case is tried, or one is nop.
+#[inline]
+pub(crate) fn choose<'a>(
+    bump: &'a Bump,
+    rules: &Rules,
+    case: u32,
+    a: SymOp,
+    b: SymOp,
+    plan: &'a Progress,
+) -> Result<Front<'a>, NoMemory>
+    requires { IsChoosable (function_of rules.now) case a b }
+    ensures { IfOk result (λ r. front_tree r ≡ table.rewrite_choose (function_of rules.now) case a b plan.now) }
+{
+    let Some(first) = a.kind() else {
+        return Ok(Front::Deliver {
+            op: SymOp::Nop,
+            plan,
+        });
+    };
+    let Some(second) = b.kind() else {
+        return Ok(Front::Deliver { op: a, plan });
+    };
+    let cases = rules.cases(first, second);
+    Ok(choose_case(bump, &cases[case as usize..], case, a, b, plan)?)
+}

@@ -1,0 +1,101 @@
+//! Goals that are held by value at their front.
+ghost use Rattle.std.specs.Prelude.{◌≡◌, IfOk};
+ghost use Rattle.ot_terms.specs.Goals.{goal_tree};
+ghost use Rattle.goal_rules.specs.Steps.{front_tree};
+
+use ask_core::NoMemory;
+use bumpalo::Bump;
+use ot_terms::{CellT, Form, Goal, Progress, SymOp, Why};
+
+/// A goal whose first parts are values: what is rewritten next is not in an arena.
+#[derive(Clone, Copy)]
+pub enum Front<'a> {
+    Holds,
+    Fails(Why),
+
+    /// One of two goals, by a form.
+    If {
+        form: Form<'a>,
+        yes: &'a Goal<'a>,
+        no: &'a Goal<'a>,
+    },
+
+    /// What `a` becomes behind `b`, by the cases from `case` on, is the next result.
+    Choose {
+        case: u32,
+        a: SymOp,
+        b: SymOp,
+        plan: &'a Progress,
+    },
+
+    /// The operation is the next result.
+    Deliver {
+        op: SymOp,
+        plan: &'a Progress,
+    },
+
+    /// The two cells are the same for every document that both ways may come from.
+    Same {
+        left: CellT<'a>,
+        right: CellT<'a>,
+    },
+}
+
+fn placed_form<'a>(bump: &'a Bump, form: Form<'a>) -> Result<&'a Form<'a>, NoMemory>
+    ensures { IfOk result (λ r. r.now ≡ form.entry) }
+{
+    Ok(bump.try_alloc(form)?)
+}
+
+fn placed_cell<'a>(bump: &'a Bump, cell: CellT<'a>) -> Result<&'a CellT<'a>, NoMemory>
+    ensures { IfOk result (λ r. r.now ≡ cell.entry) }
+{
+    Ok(bump.try_alloc(cell)?)
+}
+
+impl<'a> Front<'a> {
+    /// The goal, held at its front.
+    #[inline]
+    pub fn of(goal: &'a Goal<'a>) -> Front<'a>
+        ensures { front_tree result ≡ goal_tree goal.now }
+    {
+        match *goal {
+            Goal::Holds => Front::Holds,
+            Goal::Fails(why) => Front::Fails(why),
+            Goal::If { form, yes, no } => Front::If {
+                form: *form,
+                yes,
+                no,
+            },
+            Goal::Choose { case, a, b, plan } => Front::Choose { case, a, b, plan },
+            Goal::Deliver { op, plan } => Front::Deliver { op, plan },
+            Goal::Same { left, right } => Front::Same {
+                left: *left,
+                right: *right,
+            },
+        }
+    }
+
+    /// The goal, in the arena.
+    pub fn placed(self, bump: &'a Bump) -> Result<&'a Goal<'a>, NoMemory>
+        ensures { IfOk result (λ r. goal_tree r.now ≡ front_tree self.entry) }
+    {
+        match self {
+            Front::Holds => Ok(Goal::holds(bump)?),
+            Front::Fails(why) => Ok(Goal::fails(bump, why)?),
+            Front::If { form, yes, no } => Ok(Goal::either(
+                bump,
+                placed_form(bump, form)?,
+                yes,
+                no,
+            )?),
+            Front::Choose { case, a, b, plan } => Ok(Goal::choose(bump, case, a, b, plan)?),
+            Front::Deliver { op, plan } => Ok(Goal::deliver(bump, op, plan)?),
+            Front::Same { left, right } => Ok(Goal::same(
+                bump,
+                placed_cell(bump, left)?,
+                placed_cell(bump, right)?,
+            )?),
+        }
+    }
+}

@@ -1,0 +1,2 @@
+pub mod LaidForms
+mod LaidGoals

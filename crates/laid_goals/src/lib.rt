@@ -1,0 +1,9 @@
+//! Goals whose questions are laid out in the arena, so that a turn of their asker has nothing to work out.
+#![tactic(auto)]
+
+mod behind;
+mod kept;
+mod laying;
+
+pub use kept::Behind;
+pub use laying::laid_out;
