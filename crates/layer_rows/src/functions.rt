@@ -39,3 +39,13 @@ pub(crate) fn staying(rt: &impl Abort, alloc: Global, head: Head) -> Result<Rule
     assert!(rt; is_within_limits(&head, &blocks));
     Ok(Rules::build(head, blocks))
 }
+
+/// A function on deletions that has no case.
+pub(crate) fn without_cases(rt: &impl Abort, alloc: Global) -> Result<Rules, Fail> {
+    let block = Block {
+        first: Kind::Del,
+        second: Kind::Del,
+        cases: Vec::new(alloc),
+    };
+    Ok(built(rt, MARKS, vec![in alloc; block]?))
+}

@@ -4,6 +4,8 @@
 #[cfg(test)]
 mod askers;
 #[cfg(test)]
+mod audits;
+#[cfg(test)]
 mod blocks;
 #[cfg(test)]
 mod checks;

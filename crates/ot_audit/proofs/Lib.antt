@@ -6,4 +6,10 @@ pub mod Names
 pub mod Kept
 pub mod Chosen
 pub mod Searchable
+pub mod Telling
+pub mod CasesSoFar
+pub mod Near
+pub mod Wanted
+pub mod One
+pub mod Everywhere
 mod Examples

@@ -2,6 +2,9 @@ pub mod Reached
 pub mod Goals
 pub mod Searches
 pub mod Searchable
+pub mod Findings
+pub mod Answers
+pub mod Audits
 pub use Rattle.fn_rules.specs.Functions
 pub use Rattle.fn_rules.specs.Transformation
 pub use Rattle.fn_rules.specs.Properties

@@ -11,7 +11,16 @@ ghost use Rattle.ask_core.specs.Plans.{end_of};
 ghost use Rattle.ot_questions.specs.declared.why.Why.{Why};
 ghost use Rattle.ot_questions.specs.declared.why.Why.TheVariants.{Operations};
 ghost use Rattle.ot_terms.specs.Standing.{ask_goal};
+ghost use Rattle.ot_audit.specs.declared.audits.Audit.{Audit};
+ghost use Rattle.ot_audit.specs.declared.audits.Same.{Same};
+ghost use Rattle.ot_audit.specs.declared.audits.Same.TheVariants.{Everywhere};
+ghost use Rattle.ot_audit.specs.declared.found.Agree.{Agree as AgreeAnswer};
+ghost use Rattle.ot_audit.specs.declared.found.Found.{Found};
+ghost use Rattle.ot_audit.specs.declared.found.Found.TheVariants.{Never, Pair};
 ghost use Rattle.ot_audit.specs.declared.target.Target.{Target};
+ghost use Rattle.ot_audit.specs.Answers.{IsAgreedAs, IsReachedAs, TellsTarget};
+ghost use Rattle.ot_audit.specs.Audits.{IsAuditedAs, IsComparedAs};
+ghost use Rattle.ot_audit.specs.Findings.{IsFoundIn};
 ghost use Rattle.ot_audit.specs.Goals.{target_goal, difference_goal};
 ghost use Rattle.ot_audit.specs.Reached.{Agree, AreMeant};
 ghost use Rattle.ot_audit.specs.Searchable.{IsSearchable};
@@ -19,7 +28,12 @@ ghost use Rattle.ot_audit.specs.Searches.{Differs, NamesTwo, Reaches};
 
 use ask_core::answers_lead_to_ends;
 use fn_rules::{cases_are_valid, tests_decide_their_facts, transform_keeps_all_but_the_position};
-use ot_questions::{Why, questions_keep_limits, questions_mean_the_interpreter};
+use ot_model::every_kind_is_listed;
+use ot_prove::{plans_have_one_question_list, question_lists_tell_where_plans_fail};
+use ot_questions::{
+    Why, any_operations_have_names, names_stand_for_operations, questions_keep_limits,
+    questions_mean_the_interpreter,
+};
 
 /// Operations are meant exactly where they are of the kinds, may be with each other, and no position is negative: then
 /// a document with cells enough is there.
@@ -66,4 +80,43 @@ pub fn goals_are_searchable()
     questions_keep_limits();
     questions_mean_the_interpreter();
     answers_lead_to_ends::<Why>();
+}
+
+/// What a search finds tells of all operations. Where it finds none, a target is reached at no operations that are meant,
+/// and two functions agree at all of them; and where it finds two, these are such operations.
+pub fn findings_tell_of_all_operations()
+    ensures target { (f : Function) (k l : Kind) (target : Target) (budget : ℕ) (found : Found) → IsTrue (is_declared_pair f.head k l)
+        → IsFoundIn f k l (target_goal f k l target) budget found → TellsTarget f k l target found }
+    ensures same { (f g : Function) (k l : Kind) (budget : ℕ) → IsTrue (is_declared_pair f.head k l)
+        → IsFoundIn f k l (difference_goal f g k l) budget Never → (a b : Op) → AreMeant f k l a b → Agree f g a b }
+    ensures differ { (f g : Function) (k l : Kind) (budget : ℕ) (a b : Op) → IsTrue (is_declared_pair f.head k l)
+        → IsFoundIn f k l (difference_goal f g k l) budget (Pair a b) → Differs f g k l a b }
+{
+    goals_fail_where_it_is_sought();
+    question_lists_tell_where_plans_fail::<Why>();
+    names_stand_for_operations();
+    any_operations_have_names();
+}
+
+/// What is answered is one: of a target of a block, of two functions on a block, of a whole function, and of two.
+pub fn findings_are_one()
+    ensures reached { (f : Function) (k l : Kind) (target : Target) (budget : ℕ) (one other : Found)
+        → IsReachedAs f k l target budget one → IsReachedAs f k l target budget other → one ≡ other }
+    ensures agreed { (f g : Function) (k l : Kind) (budget : ℕ) (one other : AgreeAnswer)
+        → IsAgreedAs f g k l budget one → IsAgreedAs f g k l budget other → one ≡ other }
+    ensures audited { (f : Function) (budget : ℕ) (one other : Audit) → IsAuditedAs f budget one → IsAuditedAs f budget other → one ≡ other }
+    ensures compared { (f g : Function) (budget : ℕ) (one other : Same) → IsComparedAs f g budget one → IsComparedAs f g budget other
+        → one ≡ other }
+{
+    plans_have_one_question_list::<Why>();
+}
+
+/// Functions that are found to be the same have one head, and what they make of two operations is the same wherever
+/// these are concurrent on a document.
+pub fn functions_that_are_same_agree_everywhere()
+    ensures head { (f g : Function) (budget : ℕ) → IsComparedAs f g budget Everywhere → f.head ≡ g.head }
+    ensures agree { (f g : Function) (budget : ℕ) (k l : Kind) (a b : Op) → IsComparedAs f g budget Everywhere
+        → IsTrue (is_declared_pair f.head k l) → AreMeant f k l a b → Agree f g a b }
+{
+    every_kind_is_listed();
 }

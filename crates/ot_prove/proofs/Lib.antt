@@ -10,4 +10,5 @@ pub mod OneList
 pub mod ShortCycles
 pub mod AllPossible
 pub mod Telling
+pub mod Leads
 mod Examples

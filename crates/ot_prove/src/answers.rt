@@ -8,7 +8,7 @@ ghost use Rattle.ot_prove.specs.Searching.{LeadsTo};
 use crate::NoMemory;
 use crate::outcome::Answer;
 use ask_core::{Asker, Turn};
-use diff_graph::Lit;
+use diff_graph::{Lit, answered};
 use std::alloc::Global;
 
 /// The side of a question that an answer leads to.
@@ -48,4 +48,15 @@ pub fn answers_along<A: Asker>(
         }
     }
     Ok(answers)
+}
+
+/// The literals that answers stand for. The error is want of memory.
+pub fn literals_of(alloc: Global, answers: &[Answer]) -> Result<Vec<Lit>, NoMemory>
+    ensures { IfOk result (λ literals. literals.items ≡ answered_by answers.now) }
+{
+    let mut literals = Vec::new(alloc);
+    for answer in answers {
+        literals.push(answered(answer.lit, answer.yes))?;
+    }
+    Ok(literals)
 }

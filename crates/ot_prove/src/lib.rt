@@ -16,6 +16,7 @@ mod proving;
 mod search;
 mod split;
 
+pub use answers::literals_of;
 pub use ask_core::NoMemory;
 pub use laws::{
     impossible_places_have_short_cycles, plans_have_one_question_list, question_lists_are_possible,

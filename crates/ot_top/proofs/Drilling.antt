@@ -33,7 +33,7 @@ use Rattle.ot_replies.specs.declared.reply.Reply.TheVariants.{Proved, Spent}
 use Rattle.ot_replies.specs.Limits.{limit_of}
 use Rattle.ot_top.specs.Verdicts.{IsReplyToProof, TellsVerdict}
 use Rattle.ot_words.specs.Words.{most_questions}
-use Rattle.ot_top.proofs.Leads.{literals_lead}
+use Rattle.ot_prove.proofs.Leads.{literals_lead}
 
 -- an answer that is a level, where it is no want and only one level comes
 pub level_is : (level : Level) → IsWant (Ok level) ⊎ (◌≡◌ {A = Result Level JudgeError} (Ok level) (Ok Tp2)) → level ≡ Tp2

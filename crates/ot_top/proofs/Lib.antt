@@ -10,7 +10,6 @@ mod HubEnding
 mod HubRunning
 mod HubStatus
 mod Judged
-mod Leads
 mod OneDrill
 mod OneFile
 mod OneHub

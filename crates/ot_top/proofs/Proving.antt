@@ -50,7 +50,7 @@ use Rattle.ot_top.specs.Verdicts.{IsReplyToProof, TellsVerdict}
 use Rattle.ot_words.specs.Words.{asked_by, most_questions}
 use Rattle.ot_top.proofs.Asking.{asked_at, asked_once}
 use Rattle.ot_words.proofs.Bounds.{within_bounds}
-use Rattle.ot_top.proofs.Leads.{literals_lead}
+use Rattle.ot_prove.proofs.Leads.{literals_lead}
 
 -- the reply to words that ask for a command
 pub reply_to_asked :

@@ -15,28 +15,16 @@ ghost use Rattle.ot_top.specs.Replies.{IsReplyTo};
 ghost use Rattle.ot_top.specs.Verdicts.{IsReplyToProof};
 
 use crate::load::{Stop, load_function};
-use diff_graph::{Lit, answered};
 use fn_rules::{Level, ObName, Rules};
 use ot_counter::{Counter, build};
 use ot_decide::{Verdict, prove_all};
 use ot_model::NoMemory;
 use ot_outside::Shelf;
-use ot_prove::Answer;
+use ot_prove::{Answer, literals_of};
 use ot_questions::Why;
 use ot_replies::Reply;
 use plain_list::List;
 use std::alloc::Global;
-
-// The literals that answers stand for.
-fn literals_of(alloc: Global, answers: &[Answer]) -> Result<Vec<Lit>, NoMemory>
-    ensures { IfOk result (λ literals. literals.items ≡ answered_by answers.now) }
-{
-    let mut literals = Vec::new(alloc);
-    for answer in answers {
-        literals.push(answered(answer.lit, answer.yes))?;
-    }
-    Ok(literals)
-}
 
 // The counterexample of answers that lead to a failing end.
 fn counter_of(

@@ -4,7 +4,7 @@ use Rattle.diff_graph.specs.declared.lit.Lit.{Lit}
 use Rattle.fn_rules.specs.Rules.{function_of}
 use Rattle.ask_core.specs.Leading.{LeadTo}
 use Rattle.ot_questions.specs.Obligation.{plan_of}
-use Rattle.ot_top.proofs.Leads.{literals_lead}
+use Rattle.ot_prove.proofs.Leads.{literals_lead}
 use Rattle.ot_top.proofs.prove.counter_of.Goals as goal
 
 pub build-requires-clause-leads : goal.build-requires-clause-leads

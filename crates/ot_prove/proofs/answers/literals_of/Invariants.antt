@@ -1,6 +1,6 @@
 use Rattle.std.proofs.Common.{◌≡◌, take}
 use Rattle.ot_prove.specs.Outcomes.{answered_by}
-use Rattle.ot_top.proofs.prove.literals_of.Given as goal
+use Rattle.ot_prove.proofs.answers.literals_of.Given as goal
 
 -- the literals of the answers so far
 abbrev pub invariant-loop-answer : goal.invariant-loop-answer

@@ -1,0 +1,72 @@
+//! Whether two functions agree on a block.
+ghost use Rattle.std.specs.Prelude.{◌≡◌, IfOk, IsTrue};
+ghost use Rattle.fn_rules.specs.Functions.{is_declared_pair};
+ghost use Rattle.fn_rules.specs.Rules.{function_of};
+ghost use Rattle.ot_audit.specs.Answers.{IsAgreedAs};
+ghost use Rattle.ot_audit.specs.Findings.{IsFoundIn, IsNearFound};
+ghost use Rattle.ot_audit.specs.Goals as goals;
+
+use crate::finding::find;
+use crate::found::{Agree, Found};
+use crate::goals::difference_goal;
+use crate::laws::{findings_tell_of_all_operations, goals_are_searchable};
+use ask_core::NoMemory;
+use bumpalo::Bump;
+use fn_rules::{Rules, transform};
+use ot_model::Kind;
+use std::alloc::Global;
+
+// Where the functions do not agree, sought with goals in the arena.
+fn differ_in<'a>(
+    alloc: Global,
+    bump: &'a Bump,
+    rules: &'a Rules,
+    others: &'a Rules,
+    first: Kind,
+    second: Kind,
+    budget: u64,
+) -> Result<Found, NoMemory>
+    requires declared { IsTrue (is_declared_pair (function_of rules.now).head first second) }
+    requires heads { (function_of others.now).head ≡ (function_of rules.now).head }
+    ensures found { IfOk result (IsFoundIn (function_of rules.now) first second
+        (goals.difference_goal (function_of rules.now) (function_of others.now) first second) budget) }
+    ensures near { IfOk result IsNearFound }
+{
+    // The contract of `head` tells that each function keeps the limits, which the law below wants.
+    let _head = rules.head();
+    let _other_head = others.head();
+    goals_are_searchable();
+    let goal = difference_goal(bump, rules, others, first, second)?;
+    Ok(find(alloc, bump, rules, first, second, goal, budget)?)
+}
+
+/// Whether two functions of one head agree on the block of two kinds, decided by at most `budget` questions.
+///
+/// `Same` comes exactly where they agree at all operations that are meant, `Pair` exactly where they do not, and then with
+/// two at which they do not, both where there are no more questions; and `Spent` exactly where there are more. The two
+/// operations are the least ones of the first failing end. The error is want of memory.
+pub fn agree(
+    alloc: Global,
+    rules: &Rules,
+    others: &Rules,
+    first: Kind,
+    second: Kind,
+    budget: u64,
+) -> Result<Agree, NoMemory>
+    requires declared { IsTrue (is_declared_pair (function_of rules.now).head first second) }
+    requires heads { (function_of others.now).head ≡ (function_of rules.now).head }
+    ensures { IfOk result (IsAgreedAs (function_of rules.now) (function_of others.now) first second budget) }
+{
+    findings_tell_of_all_operations();
+    let bump = Bump::new(alloc);
+    match differ_in(alloc, &bump, rules, others, first, second, budget)? {
+        Found::Never => Ok(Agree::Same),
+        Found::Pair(a, b) => Ok(Agree::Pair {
+            a,
+            b,
+            left: transform(rules, &a, &b),
+            right: transform(others, &a, &b),
+        }),
+        Found::Spent => Ok(Agree::Spent),
+    }
+}
