@@ -45,22 +45,22 @@ class Comparison:
             file.write(content)
         return path
 
-    def compare(self, function, content):
+    def compare(self, function, *contents):
         """The status that the second program gives."""
-        names = self.file("function", function), self.file("events", content)
+        names = [self.file("function", function), *(self.file("other", content) for content in contents)]
         ran = subprocess.run([PROGRAM, self.command, *names], stdout=subprocess.PIPE, check=False)
-        status, text = self.answer(function, content.encode("utf-8"))
+        status, text = self.answer(function, *(content.encode("utf-8") for content in contents))
         self.count += 1
         self.statuses[status] = self.statuses.get(status, 0) + 1
         if (ran.returncode, ran.stdout) != (status, text.encode("utf-8")):
             self.wrong += 1
-            print(f"{self.command}: wanted {status} {text[:200]!r}, got {ran.returncode} {ran.stdout[:200]!r}, for\n{function}{content[:1000]}")
+            print(f"{self.command}: wanted {status} {text[:200]!r}, got {ran.returncode} {ran.stdout[:200]!r}, for\n{function}{''.join(contents)[:1000]}")
         return status
 
     def end(self):
         told = ", ".join(f"{times} of status {status}" for status, times in sorted(self.statuses.items()))
         print(f"{self.command}: {self.count} compared, {told}; {self.wrong} differ")
-        sys.exit(1 if self.wrong else 0)
+        return self.wrong
 
 
 def compared(command, answer, compare_all):
@@ -68,4 +68,4 @@ def compared(command, answer, compare_all):
     with tempfile.TemporaryDirectory() as folder:
         comparison = Comparison(command, answer, folder)
         compare_all(comparison)
-    comparison.end()
+    sys.exit(1 if comparison.end() else 0)

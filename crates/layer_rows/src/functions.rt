@@ -1,6 +1,6 @@
 //! Functions that several rows speak of.
 use fn_rules::{Block, Case, Guard, Head, Res, Rules, Side, is_within_limits};
-use ot_model::{KINDS, Mode};
+use ot_model::{KINDS, Kind, Mode};
 use std::alloc::Global;
 use std::process::Abort;
 use std::test::Fail;
@@ -14,6 +14,12 @@ pub(crate) const MARKS: Head = Head {
     sites_differ: false,
     chars_differ: false,
 };
+
+// The function of a head and its blocks.
+fn built(rt: &impl Abort, head: Head, blocks: Vec<Block>) -> Rules {
+    assert!(rt; is_within_limits(&head, &blocks));
+    Rules::build(head, blocks)
+}
 
 /// The function whose operations stay as and where they are, behind all others.
 pub(crate) fn staying(rt: &impl Abort, alloc: Global, head: Head) -> Result<Rules, Fail> {
@@ -36,8 +42,17 @@ pub(crate) fn staying(rt: &impl Abort, alloc: Global, head: Head) -> Result<Rule
             }
         }
     }
-    assert!(rt; is_within_limits(&head, &blocks));
-    Ok(Rules::build(head, blocks))
+    Ok(built(rt, head, blocks))
+}
+
+/// A function on deletions that has no case.
+pub(crate) fn without_cases(rt: &impl Abort, alloc: Global) -> Result<Rules, Fail> {
+    let block = Block {
+        first: Kind::Del,
+        second: Kind::Del,
+        cases: Vec::new(alloc),
+    };
+    Ok(built(rt, MARKS, vec![in alloc; block]?))
 }
 
 /// A function on deletions that has no case.

@@ -10,6 +10,8 @@ use Rattle.case_json.specs.declared.fault.CaseFault.{CaseFault}
 use Rattle.case_json.specs.declared.fault.CaseFault.TheVariants as faults
 use Rattle.case_json.specs.declared.fault.Name.{Name}
 use Rattle.case_json.specs.declared.fault.Name.TheVariants as names
+use Rattle.ot_replies.specs.declared.reply.Subject.{Subject}
+use Rattle.ot_replies.specs.declared.reply.Subject.TheVariants as subjects
 
 abbrev pub kind_word : FaultKind → List ℕ
 kind_word kinds.Byte = codes "byte"
@@ -34,10 +36,14 @@ name_word names.Sites = codes "sites"
 name_word names.Events = codes "events"
 name_word names.Cells = codes "cells"
 
--- the place and the cause of a fault
-abbrev pub text_fault_text : TextFault → List ℕ
-text_fault_text fault =
-    codes "function " ++ decimal fault.line ++ codes ":" ++ decimal fault.column ++ codes " " ++ kind_word fault.kind ++ 10 ∷ []
+abbrev pub subject_word : Subject → List ℕ
+subject_word subjects.First = codes "function"
+subject_word subjects.Second = codes "second"
+
+-- which function's text has a fault, the place and the cause
+abbrev pub text_fault_text : Subject → TextFault → List ℕ
+text_fault_text subject fault =
+    subject_word subject ++ codes " " ++ decimal fault.line ++ codes ":" ++ decimal fault.column ++ codes " " ++ kind_word fault.kind ++ 10 ∷ []
 
 abbrev pub refusal_word : Refusal → List ℕ
 refusal_word why.Token = codes "token"

@@ -7,4 +7,5 @@ pub mod SessionTexts
 pub mod HubTexts
 pub mod LevelTexts
 pub mod DrillTexts
+pub mod AuditTexts
 pub mod Texts

@@ -7,7 +7,8 @@ use Rattle.ot_replies.specs.declared.reply.FileKind.{FileKind}
 use Rattle.ot_replies.specs.declared.reply.FileKind.TheVariants as files
 use Rattle.ot_replies.specs.declared.reply.Reply.{Reply}
 use Rattle.ot_replies.specs.declared.reply.Reply.TheVariants.{Proved, Broken, Spent, Accepted, Refused, FunctionRefused}
-use Rattle.ot_replies.specs.declared.reply.Reply.TheVariants.{CaseRefused, Integrated, Usage, TooLong, EventRefused, StuckAt, Replayed, Served, Drilled}
+use Rattle.ot_replies.specs.declared.reply.Reply.TheVariants.{CaseRefused, Integrated, Usage, TooLong, EventRefused, StuckAt, Replayed, Served, Audited, Compared, Drilled}
+use Rattle.ot_replies.specs.AuditTexts.{audit_status, audit_text, same_status, same_text, spent_text}
 use Rattle.ot_replies.specs.FaultTexts.{text_fault_text, case_fault_text, refusal_text}
 use Rattle.ot_replies.specs.OrderTexts.{orders_text}
 use Rattle.ot_replies.specs.CounterTexts.{counter_text}
@@ -34,11 +35,13 @@ status_of (Accepted level) = 0
 status_of (Integrated ends same) = if same then 0 else 1
 status_of (Replayed ends differ) = differ_status differ
 status_of (Served end) = differ_status end.differ
+status_of (Audited audit) = audit_status audit
+status_of (Compared same) = same_status same
 status_of (StuckAt i) = 1
 status_of (Drilled d) = differ_status d.differ
 status_of (EventRefused i fault) = 4
 status_of (Refused offset why) = 2
-status_of (FunctionRefused fault) = 3
+status_of (FunctionRefused subject fault) = 3
 status_of (CaseRefused fault) = case_status fault
 status_of Usage = 5
 status_of (TooLong kind) = 9
@@ -54,16 +57,18 @@ limit_text kind = codes "limit " ++ limit_word kind ++ 10 ∷ []
 abbrev pub text_of : Reply → List ℕ
 text_of (Proved bytes) = bytes
 text_of (Broken counter) = counter_text counter
-text_of Spent = codes "spent" ++ 10 ∷ []
+text_of Spent = spent_text
 text_of (Accepted level) = accepted_text level
 text_of (Integrated ends same) = orders_text (map outcome_of ends) same
 text_of (Replayed ends differ) = sites_text ends differ
 text_of (Served end) = hub_text end
+text_of (Audited audit) = audit_text audit
+text_of (Compared same) = same_text same
 text_of (StuckAt i) = stuck_text i
 text_of (Drilled d) = drill_text d
 text_of (EventRefused i fault) = event_fault_text i fault
 text_of (Refused offset why) = refusal_text offset why
-text_of (FunctionRefused fault) = text_fault_text fault
+text_of (FunctionRefused subject fault) = text_fault_text subject fault
 text_of (CaseRefused fault) = case_fault_text fault
 text_of Usage = codes "usage: otp COMMAND ARGUMENTS" ++ 10 ∷ []
 text_of (TooLong kind) = limit_text kind

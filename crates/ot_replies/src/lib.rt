@@ -4,5 +4,5 @@
 mod reply;
 mod texts;
 
-pub use reply::{ClientEnd, Drilled, EventFault, FileKind, HubEnd, Reply, SiteEnd};
+pub use reply::{ClientEnd, Drilled, EventFault, FileKind, HubEnd, Reply, SiteEnd, Subject};
 pub use texts::{status, text};

@@ -2,11 +2,12 @@
 use case_json::CaseFault;
 use fn_rules::Level;
 use fn_text::TextFault;
+use ot_audit::{Audit, Same};
 use ot_counter::Counter;
 use ot_drill::Tally;
 use ot_integrate::End;
-use ot_judge::Refusal;
 use ot_model::Doc;
+use ot_sections::Refusal;
 use plain_list::List;
 
 /// What a file holds.
@@ -20,6 +21,16 @@ pub enum FileKind {
 
     /// A case, a session or a hub.
     Case,
+}
+
+/// Which of the functions' files of a command is meant.
+#[derive(Clone, Copy, Debug, PartialEq, Eq)]
+pub enum Subject {
+    /// The first one, which most commands have alone.
+    First,
+
+    /// The one that is compared with the first.
+    Second,
 }
 
 /// What a site of a session has integrated, and the document that it holds.
@@ -127,8 +138,8 @@ pub enum Reply {
         why: Refusal,
     },
 
-    /// The function's file is refused for its first fault.
-    FunctionRefused(TextFault),
+    /// A function's file is refused for its first fault.
+    FunctionRefused(Subject, TextFault),
 
     /// The case, the session or the hub is refused for its first fault.
     CaseRefused(CaseFault),
@@ -148,6 +159,12 @@ pub enum Reply {
 
     /// What the server of a hub and its clients hold.
     Served(HubEnd),
+
+    /// What the guards of a function reach.
+    Audited(Audit),
+
+    /// Whether two functions are the same.
+    Compared(Same),
 
     /// What came of a workload.
     Drilled(Drilled),

@@ -4,6 +4,7 @@ ghost use Rattle.cert_text.specs.Spelling.{level_text};
 ghost use Rattle.ot_replies.specs.LevelTexts.{accepted_text};
 ghost use Rattle.ot_replies.specs.Texts.{case_status, differ_status, status_of, text_of, limit_text, limit_word};
 
+mod audits;
 mod counters;
 mod documents;
 mod drills;
@@ -13,6 +14,7 @@ mod orders;
 mod sessions;
 
 use crate::reply::{FileKind, Reply};
+use audits::{audit_status, same_status, write_audit, write_same, write_spent};
 use case_json::CaseFault;
 use counters::write_counter;
 use drills::write_drilled;
@@ -57,10 +59,12 @@ pub fn status(reply: &Reply) -> u8
         Reply::Replayed(_, differ) => differ_status(*differ),
         Reply::Served(end) => differ_status(end.differ),
         Reply::Drilled(drilled) => differ_status(drilled.differ),
+        Reply::Audited(audit) => audit_status(audit),
+        Reply::Compared(same) => same_status(same),
         Reply::StuckAt(_) => 1,
         Reply::EventRefused(..) => 4,
         Reply::Refused { .. } => 2,
-        Reply::FunctionRefused(_) => 3,
+        Reply::FunctionRefused(..) => 3,
         Reply::CaseRefused(fault) => case_status(fault),
         Reply::Usage => 5,
         Reply::TooLong(_) => 9,
@@ -115,16 +119,20 @@ fn written(alloc: Global, reply: &Reply) -> Result<Vec<u8>, NoMemory>
     match reply {
         Reply::Proved(bytes) => text.extend_from_slice(bytes.as_slice())?,
         Reply::Broken(counter) => write_counter(alloc, counter, &mut text)?,
-        Reply::Spent => text.extend_from_slice(b"spent\n")?,
+        Reply::Spent => write_spent(&mut text)?,
         Reply::Accepted(level) => write_accepted(alloc, *level, &mut text)?,
         Reply::Refused { offset, why } => write_refusal(alloc, *offset, *why, &mut text)?,
-        Reply::FunctionRefused(fault) => write_text_fault(alloc, fault, &mut text)?,
+        Reply::FunctionRefused(subject, fault) => {
+            write_text_fault(alloc, *subject, fault, &mut text)?;
+        }
         Reply::CaseRefused(fault) => write_case_fault(alloc, fault, &mut text)?,
         Reply::Integrated(ends, same) => write_ends(alloc, ends.as_slice(), *same, &mut text)?,
         Reply::EventRefused(number, fault) => write_event_fault(alloc, *number, *fault, &mut text)?,
         Reply::StuckAt(number) => write_stuck(alloc, *number, &mut text)?,
         Reply::Replayed(ends, differ) => write_sites(alloc, ends.as_slice(), *differ, &mut text)?,
         Reply::Served(end) => write_hub(alloc, end, &mut text)?,
+        Reply::Audited(audit) => write_audit(alloc, audit, &mut text)?,
+        Reply::Compared(same) => write_same(alloc, same, &mut text)?,
         Reply::Drilled(drilled) => write_drilled(alloc, drilled, &mut text)?,
         Reply::Usage => text.extend_from_slice(b"usage: otp COMMAND ARGUMENTS\n")?,
         Reply::TooLong(kind) => write_limit(alloc, *kind, &mut text)?,

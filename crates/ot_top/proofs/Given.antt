@@ -7,10 +7,12 @@ use Rattle.ot_outside.specs.Reads.{Reads, after_reading, IsSameReading}
 use Rattle.ot_replies.specs.declared.reply.FileKind.{FileKind}
 use Rattle.ot_replies.specs.declared.reply.FileKind.TheVariants as files
 use Rattle.ot_replies.specs.declared.reply.Reply.{Reply}
+use Rattle.ot_replies.specs.declared.reply.Subject.{Subject}
+use Rattle.ot_replies.specs.declared.reply.Subject.TheVariants.{Second}
 use Rattle.ot_replies.specs.Limits.{IsTooLong}
 use Rattle.ot_top.specs.Given.{IsReadFirst, IsReadSecond, HaveRead}
 use Rattle.ot_top.specs.Judgements.{IsReplyToCertificate}
-use Rattle.ot_top.specs.Replies.{Holds, IsFunctionRefusal, IsReadAs, IsReplyToFile, IsReplyToFunction}
+use Rattle.ot_top.specs.Replies.{Holds, IsFunctionRefusal, IsReadAs, IsReplyToFile, IsReplyToFunction, IsReplyToSecond}
 
 -- two openings are no single one
 twice_is_not_once :
@@ -78,9 +80,9 @@ module _ (told : Option (List ℕ)) (given : List ℕ) (agrees : ForSome told (�
   pub long_told : (kind : FileKind) (r : Reply) → IsTooLong kind (Some given) r → IsTooLong kind told r
   long_told kind r is = (λ bytes known. rw (agrees bytes known) (is.0 given refl), is.1)
 
-  pub refusal_told : (r : Reply) → IsFunctionRefusal (Some given) r → IsFunctionRefusal told r
-  refusal_told r (inl long) = inl (long_told files.Function r long)
-  refusal_told r (inr (fault, read, is)) = inr (fault, read_told (Err fault) read, is)
+  pub refusal_told : (subject : Subject) (r : Reply) → IsFunctionRefusal subject (Some given) r → IsFunctionRefusal subject told r
+  refusal_told subject r (inl long) = inl (long_told files.Function r long)
+  refusal_told subject r (inr (fault, read, is)) = inr (fault, read_told (Err fault) read, is)
 
   pub bytes_told : (kind : FileKind) (bytes : List ℕ) → Holds kind bytes (Some given) → Holds kind bytes told
   bytes_told kind bytes (few, are) = (few, λ contents known. are given refl ∙ sym (agrees contents known))
@@ -103,11 +105,11 @@ certificate_told f told given agrees r (contents, are, (judgement, judged, inr t
 -- what is answered behind the first file
 module _ (old new : Reads) (name given : List ℕ) (first : IsReadFirst old new name given) (told : Option (List ℕ))
     (tells : ForSome told (IsReadFirst old new name)) (r : Reply) (Gets : Function → Type 0) where
-  pub refused_first : IsFunctionRefusal (Some given) r → IsReplyToFunction told Gets r
-  refused_first refused = inl (refusal_told told given (known_first old new name given told first tells) r refused)
+  pub refused_first : (subject : Subject) → IsFunctionRefusal subject (Some given) r → IsReplyToFunction subject told Gets r
+  refused_first subject refused = inl (refusal_told told given (known_first old new name given told first tells) subject r refused)
 
-  pub gets_behind : (f : Function) → IsReadAs (Ok f) (Some given) → Gets f → IsReplyToFunction told Gets r
-  gets_behind f read gets = inr (f, read_told told given (known_first old new name given told first tells) (Ok f) read, gets)
+  pub gets_behind : (subject : Subject) (f : Function) → IsReadAs (Ok f) (Some given) → Gets f → IsReplyToFunction subject told Gets r
+  gets_behind subject f read gets = inr (f, read_told told given (known_first old new name given told first tells) (Ok f) read, gets)
 
 pub have_read_both :
     (old mid new : Reads) (first second : List ℕ) → mid ≡ after_reading first mid.bytes old → new ≡ after_reading second new.bytes mid
@@ -123,6 +125,13 @@ file_told kind Gets told given agrees r (inl long) = inl (long_told told given a
 file_told kind Gets told given agrees r (inr (bytes, holds, gets)) =
     inr (bytes, bytes_told told given agrees kind bytes holds, gets)
 
+-- the reply to the bytes that were given of a second function is that to those that are told
+pub second_told :
+    (f : Function) (told : Option (List ℕ)) (given : List ℕ) → ForSome told (λ bytes. bytes ≡ given) → (r : Reply)
+    → IsReplyToSecond f (Some given) r → IsReplyToSecond f told r
+second_told f told given agrees r (inl refused) = inl (refusal_told told given agrees Second r refused)
+second_told f told given agrees r (inr (g, read, gets)) = inr (g, read_told told given agrees (Ok g) read, gets)
+
 -- what is answered behind both files of a command
 module _ (old mid new : Reads) (first second : List ℕ) (opened : mid ≡ after_reading first mid.bytes old)
     (behind : new ≡ after_reading second new.bytes mid) (told : Option (List ℕ)) (tells : ForSome told (IsReadFirst old new first))
@@ -133,8 +142,8 @@ module _ (old mid new : Reads) (first second : List ℕ) (opened : mid ≡ after
       (known_first old new first mid.bytes told (first_behind old mid new first mid.bytes second new.bytes opened behind) tells) (Ok f) read
 
   pub then_given :
-      (other : Option (List ℕ)) → ForSome other (IsReadSecond old new second) → (Gets : Option (List ℕ) → Function → Type 0) (r : Reply)
+      (subject : Subject) (other : Option (List ℕ)) → ForSome other (IsReadSecond old new second) → (Gets : Option (List ℕ) → Function → Type 0) (r : Reply)
       → (ForSome other (λ bytes. bytes ≡ new.bytes) → Gets (Some new.bytes) f → Gets other f) → Gets (Some new.bytes) f
-      → IsReplyToFunction told (Gets other) r
-  then_given other tells_other Gets r told_too gets =
+      → IsReplyToFunction subject told (Gets other) r
+  then_given subject other tells_other Gets r told_too gets =
       inr (f, known_function, told_too (known_second old mid new first mid.bytes second new.bytes other opened behind tells_other) gets)

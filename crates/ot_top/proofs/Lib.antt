@@ -1,5 +1,6 @@
 mod Agreeing
 mod Asking
+mod Audited
 mod Behind
 mod Drilling
 mod Ending
@@ -10,6 +11,7 @@ mod HubEnding
 mod HubRunning
 mod HubStatus
 mod Judged
+mod OneAudit
 mod OneDrill
 mod OneFile
 mod OneHub

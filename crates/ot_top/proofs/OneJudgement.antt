@@ -10,6 +10,7 @@ use Rattle.ot_sections.specs.declared.refusal.JudgeError.TheVariants as judge
 use Rattle.ot_judge.specs.Refusals.{IsJudgement}
 use Rattle.ot_replies.specs.declared.reply.FileKind.TheVariants as files
 use Rattle.ot_replies.specs.declared.reply.Reply.{Reply}
+use Rattle.ot_replies.specs.declared.reply.Subject.TheVariants.{First}
 use Rattle.ot_words.specs.Commands.{Check}
 use Rattle.ot_top.specs.Judgements.{IsReplyToCertificate, IsReplyToJudgement, Tells, rests_on_the_end}
 use Rattle.ot_replies.specs.Limits.{limit_of, IsTooLong}
@@ -70,7 +71,7 @@ module _ (one_judgement :
       → holds certificate_name ≡ Some certificate → IsReplyTo holds (Check name certificate_name) r
       → IsReplyTo holds (Check name certificate_name) s → r ≡ s
   check_replied_once is_text is_within holds name certificate_name bytes certificate r s told certificate_told first second =
-      function_once (holds name) bytes told (λ f. IsReplyToCertificate f (holds certificate_name) r)
+      function_once (holds name) bytes told First (λ f. IsReplyToCertificate f (holds certificate_name) r)
       (λ f. IsReplyToCertificate f (holds certificate_name) s) r s (r ≡ s) first second (λ same. same)
       (λ f read gets others.
       certificate_replied_once f (holds certificate_name) certificate r s (is_within bytes f (is_text bytes f read)) certificate_told gets others)

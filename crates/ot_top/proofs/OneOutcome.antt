@@ -10,6 +10,7 @@ use Rattle.ot_integrate.specs.declared.end.End.TheVariants as ends
 use Rattle.ot_integrate.specs.Ends.{outcome_of}
 use Rattle.ot_replies.specs.declared.reply.FileKind.TheVariants as files
 use Rattle.ot_replies.specs.declared.reply.Reply.{Reply}
+use Rattle.ot_replies.specs.declared.reply.Subject.TheVariants.{First}
 use Rattle.ot_replies.specs.declared.reply.Reply.TheVariants.{Integrated}
 use Rattle.ot_words.specs.Commands.{Integrate}
 use Rattle.ot_top.specs.Replies.{HaveOneEnd, IsReplyTo, IsReplyToCase, IsReplyToFile, IsReplyToFunction, IsReplyToTrial, TellsOutcomes, outcomes_of}
@@ -71,10 +72,10 @@ module _ (holds : List ℕ → Option (List ℕ)) (name other_name bytes content
   -- the reply to a function's file and then to another one is one, where each function gets one reply to given bytes
   pub file_replied_once :
       (Replies : Function → List ℕ → Reply → Type 0) → ((f : Function) (b : List ℕ) (one other : Reply) → Replies f b one → Replies f b other → one ≡ other)
-      → IsReplyToFunction (holds name) (λ f. IsReplyToFile files.Case (holds other_name) (λ b. Replies f b r) r) r
-      → IsReplyToFunction (holds name) (λ f. IsReplyToFile files.Case (holds other_name) (λ b. Replies f b s) s) s → r ≡ s
+      → IsReplyToFunction First (holds name) (λ f. IsReplyToFile files.Case (holds other_name) (λ b. Replies f b r) r) r
+      → IsReplyToFunction First (holds name) (λ f. IsReplyToFile files.Case (holds other_name) (λ b. Replies f b s) s) s → r ≡ s
   file_replied_once Replies one_reply first second =
-      function_once (holds name) bytes told (λ f. IsReplyToFile files.Case (holds other_name) (λ b. Replies f b r) r)
+      function_once (holds name) bytes told First (λ f. IsReplyToFile files.Case (holds other_name) (λ b. Replies f b r) r)
       (λ f. IsReplyToFile files.Case (holds other_name) (λ b. Replies f b s) s) r s (r ≡ s) first second (λ same. same)
       (λ f read gets others.
       file_once (holds other_name) contents other_told files.Case (λ b. Replies f b r) (λ b. Replies f b s) r s (r ≡ s)

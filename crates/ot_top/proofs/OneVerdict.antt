@@ -18,6 +18,7 @@ use Rattle.ot_counter.specs.declared.counter.Counter.{Counter}
 use Rattle.ot_counter.specs.Counters.{IsCounter, IsReadOff}
 use Rattle.ot_values.specs.Values.{floors_of}
 use Rattle.ot_replies.specs.declared.reply.Reply.{Reply}
+use Rattle.ot_replies.specs.declared.reply.Subject.TheVariants.{First}
 use Rattle.ot_replies.specs.declared.reply.Reply.TheVariants.{Broken}
 use Rattle.ot_words.specs.Commands.{Prove}
 use Rattle.ot_top.specs.Replies.{IsReplyTo}
@@ -132,5 +133,5 @@ module _ (one_list :
       → IsReplyTo holds (Prove level budget name) r → IsReplyTo holds (Prove level budget name) s
       → (status_of r ≡ status_of s) × (status_of r ≢ 0 → r ≡ s)
   prove_replied_once holds level budget name bytes r s told first second =
-      function_once (holds name) bytes told (λ f. IsReplyToProof f level budget r) (λ f. IsReplyToProof f level budget s) r s (AreAlike r s)
+      function_once (holds name) bytes told First (λ f. IsReplyToProof f level budget r) (λ f. IsReplyToProof f level budget s) r s (AreAlike r s)
       first second (alike r s) (λ f read gets others. proof_replied_once f level budget r s gets others)

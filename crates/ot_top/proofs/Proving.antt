@@ -39,6 +39,8 @@ use Rattle.ot_values.specs.Values.{floors_of, ops_at}
 use Rattle.ot_counter.specs.Documents.{document_at}
 use Rattle.ot_replies.specs.declared.reply.FileKind.TheVariants as files
 use Rattle.ot_replies.specs.declared.reply.Reply.{Reply}
+use Rattle.ot_replies.specs.declared.reply.Subject.{Subject}
+use Rattle.ot_replies.specs.declared.reply.Subject.TheVariants.{First}
 use Rattle.ot_replies.specs.declared.reply.Reply.TheVariants.{Proved, Broken, Accepted, Usage}
 use Rattle.ot_words.specs.Commands.{Asked, Prove}
 use Rattle.ot_top.specs.Judgements.{IsReplyToCertificate, IsReplyToJudgement}
@@ -61,19 +63,19 @@ reply_to_asked words holds r asked named is =
 
 -- a reply of another status than 9 and 3 comes of a function that was read
 read_behind :
-    (r : Reply) (status : ℕ) → status ≡ status_of r → status ≢ 9 → status ≢ 3 → (told : Option (List ℕ)) (Gets : Function → Type 0)
-    → IsReplyToFunction told Gets r → (f : Function) × IsReadAs (Ok f) told × Gets f
-read_behind r status is no_limit no_fault told Gets (inl (inl h)) = absurd (no_limit (is ∙ ap (λ x. status_of x) h.1))
-read_behind r status is no_limit no_fault told Gets (inl (inr h)) = absurd (no_fault (is ∙ ap (λ x. status_of x) h.2))
-read_behind r status is no_limit no_fault told Gets (inr h) = h
+    (r : Reply) (status : ℕ) → status ≡ status_of r → status ≢ 9 → status ≢ 3 → (subject : Subject) (told : Option (List ℕ))
+    (Gets : Function → Type 0) → IsReplyToFunction subject told Gets r → (f : Function) × IsReadAs (Ok f) told × Gets f
+read_behind r status is no_limit no_fault subject told Gets (inl (inl h)) = absurd (no_limit (is ∙ ap (λ x. status_of x) h.1))
+read_behind r status is no_limit no_fault subject told Gets (inl (inr h)) = absurd (no_fault (is ∙ ap (λ x. status_of x) h.2))
+read_behind r status is no_limit no_fault subject told Gets (inr h) = h
 
 -- the reply to the text of a function within the limit is the one that the function gets
 module _ (told : Option (List ℕ)) (bytes : List ℕ) (f : Function) (is_told : told ≡ Some bytes)
     (within : length bytes ≤ limit_of files.Function) (read : function_in bytes ≡ Ok f) where
-  pub gets : (Gets : Function → Type 0) (r : Reply) → IsReplyToFunction told Gets r → Gets f
-  gets Gets r (inl (inl h)) = absurd (let longer = h.0 bytes is_told in omega (arith, longer, within))
-  gets Gets r (inl (inr h)) = absurd (let refused : function_in bytes ≡ Err h.0 = (h.1 bytes is_told).1 in cc)
-  gets Gets r (inr h) =
+  pub gets : (subject : Subject) (Gets : Function → Type 0) (r : Reply) → IsReplyToFunction subject told Gets r → Gets f
+  gets subject Gets r (inl (inl h)) = absurd (let longer = h.0 bytes is_told in omega (arith, longer, within))
+  gets subject Gets r (inl (inr h)) = absurd (let refused : function_in bytes ≡ Err h.0 = (h.1 bytes is_told).1 in cc)
+  gets subject Gets r (inr h) =
       let other : function_in bytes ≡ Ok h.0 = (h.1 bytes is_told).1 in
       let same : h.0 ≡ f = cc in
       subst Gets same h.2
@@ -105,7 +107,7 @@ module _ (one_judgement :
       (bytes : List ℕ) → length bytes ≤ limit_of files.Function → function_in bytes ≡ Ok f → IsAcceptedAt bytes certificate level
   accepted_at bytes small read holds name certificate_name r told certificate_told reply =
       accepted_file (holds certificate_name) r certificate_told
-      (gets (holds name) bytes f told small read (λ g. IsReplyToCertificate g (holds certificate_name) r) r reply)
+      (gets (holds name) bytes f told small read First (λ g. IsReplyToCertificate g (holds certificate_name) r) r reply)
 
 -- status 0: the verdict is yes
 proved_verdict :
@@ -131,7 +133,7 @@ module _ (is_text : (bytes : List ℕ) (f : Function) → function_in bytes ≡ 
       → IsReply words holds r → IsWritten (text_of r) → IsProved words holds IsWritten
   proved has_level one_judgement words holds r IsWritten is_zero is_reply written level budget name bytes named told =
       let reply : IsReplyTo holds (Prove level budget name) r = reply_to_asked words holds r (Prove level budget name) named is_reply in
-      let got = read_behind r 0 is_zero (λ e. omega (arith, e)) (λ e. omega (arith, e)) (holds name)
+      let got = read_behind r 0 is_zero (λ e. omega (arith, e)) (λ e. omega (arith, e)) First (holds name)
       (λ f. IsReplyToProof f level budget r) reply in
       let f : Function = got.0 in
       let file = got.1 bytes told in
@@ -226,7 +228,7 @@ module _ (is_text : (bytes : List ℕ) (f : Function) → function_in bytes ≡ 
         → IsReply words holds r → IsWritten (text_of r) → IsBroken words holds IsWritten
     broken words holds r IsWritten is_one is_reply written level budget name bytes named told =
         let reply : IsReplyTo holds (Prove level budget name) r = reply_to_asked words holds r (Prove level budget name) named is_reply in
-        let got = read_behind r 1 is_one (λ e. omega (arith, e)) (λ e. omega (arith, e)) (holds name)
+        let got = read_behind r 1 is_one (λ e. omega (arith, e)) (λ e. omega (arith, e)) First (holds name)
         (λ f. IsReplyToProof f level budget r) reply in
         let f : Function = got.0 in
         let text = is_text bytes f (got.1 bytes told).1 in
@@ -271,7 +273,7 @@ pub complete :
     → IsComplete words holds (status_of r)
 complete texts_are_read one_list words holds r is_reply level budget name bytes f lists named told small text asked =
     let reply : IsReplyTo holds (Prove level budget name) r = reply_to_asked words holds r (Prove level budget name) named is_reply in
-    let got = gets (holds name) bytes f told small (texts_are_read bytes f text) (λ g. IsReplyToProof g level budget r) r reply in
+    let got = gets (holds name) bytes f told small (texts_are_read bytes f text) First (λ g. IsReplyToProof g level budget r) r reply in
     let same : got.1.0 ≡ lists = asked_once (plan_of f) one_list (obligations_of f.head level) got.1.0 lists got.1.1 asked in
     status_of_verdict f level budget r got.0 lists
     (subst (λ (l : List (ObQuestions Why)). IsVerdict f level budget l got.0) same got.1.2) got.3

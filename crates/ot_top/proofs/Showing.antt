@@ -17,6 +17,8 @@ use Rattle.ot_judge.specs.Refusals.{IsJudgement}
 use Rattle.ot_replies.specs.declared.reply.FileKind.{FileKind}
 use Rattle.ot_replies.specs.declared.reply.FileKind.TheVariants as files
 use Rattle.ot_replies.specs.declared.reply.Reply.{Reply}
+use Rattle.ot_replies.specs.declared.reply.Subject.{Subject}
+use Rattle.ot_replies.specs.declared.reply.Subject.TheVariants.{First}
 use Rattle.ot_replies.specs.declared.reply.Reply.TheVariants.{Accepted, Refused, FunctionRefused, Usage, TooLong}
 use Rattle.ot_words.specs.Commands.{Asked, Check}
 use Rattle.ot_top.specs.Judgements.{IsReplyToCertificate, IsReplyToContents, Tells, rests_on_the_end}
@@ -34,9 +36,9 @@ module _ (r : Reply) (is_zero : 0 ≡ status_of r) where
   not_too_long : (kind : FileKind) (told : Option (List ℕ)) → IsTooLong kind told r → ⊥
   not_too_long kind told h = other_status r (TooLong kind) 9 is_zero h.1 refl (omega arith)
 
-  not_refused : (told : Option (List ℕ)) → IsFunctionRefusal told r → ⊥
-  not_refused told (inl h) = not_too_long files.Function told h
-  not_refused told (inr h) = other_status r (FunctionRefused h.0) 3 is_zero h.2 refl (omega arith)
+  not_refused : (subject : Subject) (told : Option (List ℕ)) → IsFunctionRefusal subject told r → ⊥
+  not_refused subject told (inl h) = not_too_long files.Function told h
+  not_refused subject told (inr h) = other_status r (FunctionRefused subject h.0) 3 is_zero h.2 refl (omega arith)
 
   -- status 0 of a judgement's reply is that of an accepted certificate, all of whose bytes were judged
   accepted_bytes :
@@ -68,7 +70,7 @@ module _ (r : Reply) (is_zero : 0 ≡ status_of r) where
       (holds : List ℕ → Option (List ℕ)) (name certificate : List ℕ) → IsReplyTo holds (Check name certificate) r
       → (f : Function) × IsReadAs (Ok f) (holds name)
       × ((level : Level) × (contents : List ℕ) × ForSome (holds certificate) (λ known. contents ≡ known) × IsCertificate contents f level × (r ≡ Accepted level))
-  accepted holds name certificate (inl h) = absurd (not_refused (holds name) h)
+  accepted holds name certificate (inl h) = absurd (not_refused First (holds name) h)
   accepted holds name certificate (inr (f, read, h)) = (f, read, file_accepted f (holds certificate) h)
 
 module _ (tp1 : (bytes : List ℕ) (f : Function) → IsCertificate bytes f Tp1 → HasTp1 f)

@@ -20,6 +20,7 @@ use Rattle.ot_top.specs.Shown.{HasLevel, IsBroken, IsComplete}
 use Rattle.ot_top.specs.Shows.{AreKnown, IsOfReply, Shows}
 use Rattle.ot_top.specs.Steady.{AreSteady}
 use Rattle.ot_replies.specs.Texts.{status_of, text_of}
+use Rattle.ot_top.proofs.Audited.{audited, compared}
 use Rattle.ot_top.proofs.Proving.{complete, proved}
 use Rattle.ot_top.proofs.Showing.{shown}
 use Rattle.ot_top.proofs.Steady.{served, steady}
@@ -76,6 +77,8 @@ module _ (words : List (List ℕ)) (holds : List ℕ → Option (List ℕ)) (IsW
             λ of_a_reply.
             judged is_read one_judgement is_within_limits some_judgement words holds status IsWritten (answered of_a_reply);
         unread = λ of_a_reply. unread is_read is_text words holds status IsWritten (answered of_a_reply);
+        audited = λ of_a_reply. audited is_read words holds status IsWritten (answered of_a_reply);
+        compared = λ of_a_reply. compared is_read words holds status IsWritten (answered of_a_reply);
         gone_through = λ of_a_reply. gone_through words holds status IsWritten (answered of_a_reply);
         steady =
             λ name session bytes f named known text agree one.

@@ -9,6 +9,7 @@ use Rattle.ot_replies.specs.declared.reply.FileKind.{FileKind}
 use Rattle.ot_replies.specs.declared.reply.FileKind.TheVariants as files
 use Rattle.ot_replies.specs.declared.reply.Reply.{Reply}
 use Rattle.ot_replies.specs.declared.reply.Reply.TheVariants.{FunctionRefused, TooLong}
+use Rattle.ot_replies.specs.declared.reply.Subject.{Subject}
 use Rattle.ot_words.specs.Words.{asked_by}
 use Rattle.ot_words.specs.Commands.{Asked, Replay, Hub}
 use Rattle.ot_replies.specs.Limits.{IsTooLong}
@@ -24,9 +25,9 @@ named_so r named status same says more is =
 pub too_long-steady : (kind : FileKind) (told : Option (List ℕ)) (r : Reply) → IsTooLong kind told r → status_of r ≢ 1
 too_long-steady kind told r h = named_so r (TooLong kind) 9 h.1 refl (omega arith)
 
-pub function_refused-steady : (told : Option (List ℕ)) (r : Reply) → IsFunctionRefusal told r → status_of r ≢ 1
-function_refused-steady told r (inl h) = too_long-steady files.Function told r h
-function_refused-steady told r (inr h) = named_so r (FunctionRefused h.0) 3 h.2 refl (omega arith)
+pub function_refused-steady : (subject : Subject) (told : Option (List ℕ)) (r : Reply) → IsFunctionRefusal subject told r → status_of r ≢ 1
+function_refused-steady subject told r (inl h) = too_long-steady files.Function told r h
+function_refused-steady subject told r (inr h) = named_so r (FunctionRefused subject h.0) 3 h.2 refl (omega arith)
 
 ok_is : (f g : Function) → ◌≡◌ {A = Result Function TextFault} (Ok f) (Ok g) → f ≡ g
 ok_is f g same = cc

@@ -1,6 +1,7 @@
 -- What statuses tell, from the reply that was written.
 use Rattle.std.proofs.Common.{◌≡◌, ◌≢◌, ◌≤◌, ◌⊎◌, ℕ, true, false, Bool, List, length, take, Option, Some, None, Result, Ok, Err, refl, ap, ◌∙◌, subst, inl, inr, arith}
 use Rattle.std.specs.Prelude.{IsTrue, is_ok, if◌then◌else◌}
+use Rattle.std.specs.List.{list_all}
 use Rattle.std.proofs.lemmas.Bool.{cases_eq}
 use Rattle.std.proofs.lemmas.List.{take_all}
 use Rattle.fn_rules.specs.declared.function.Level.{Level}
@@ -17,8 +18,12 @@ use Rattle.ot_replies.specs.declared.reply.Drilled.{Drilled}
 use Rattle.ot_replies.specs.declared.reply.FileKind.TheVariants as files
 use Rattle.ot_replies.specs.declared.reply.Reply.{Reply}
 use Rattle.ot_replies.specs.declared.reply.Reply.TheVariants as replies
+use Rattle.ot_replies.specs.declared.reply.Subject.TheVariants.{First}
 use Rattle.ot_words.specs.Commands.{Check, Drill}
 use Rattle.ot_top.specs.Drills.{IsDrilled, IsReplyToQuestions}
+use Rattle.ot_audit.specs.declared.audits.Audit.TheVariants as audits
+use Rattle.ot_audit.specs.declared.audits.Same.TheVariants as sames
+use Rattle.ot_replies.specs.AuditTexts.{is_total}
 use Rattle.ot_replies.specs.DrillTexts.{drill_text}
 use Rattle.ot_top.specs.Judgements.{IsReplyToCertificate, IsReplyToJudgement, Tells}
 use Rattle.ot_replies.specs.Limits.{limit_of}
@@ -73,13 +78,19 @@ reply_named (replies.Broken counter) = omega arith
 reply_named replies.Spent = omega arith
 reply_named (replies.Accepted level) = omega arith
 reply_named (replies.Refused offset why) = omega arith
-reply_named (replies.FunctionRefused fault) = omega arith
+reply_named (replies.FunctionRefused subject fault) = omega arith
 reply_named (replies.CaseRefused fault) = case_named fault
 reply_named (replies.EventRefused i fault) = omega arith
 reply_named (replies.StuckAt i) = omega arith
 reply_named (replies.Integrated ends same) = same_named same
 reply_named (replies.Replayed ends differ) = differ_named differ
 reply_named (replies.Served end) = differ_named end.differ
+reply_named (replies.Audited (audits.Blocks blocks)) = same_named (list_all is_total blocks)
+reply_named (replies.Audited audits.Spent) = omega arith
+reply_named (replies.Compared sames.Everywhere) = omega arith
+reply_named (replies.Compared sames.Heads) = omega arith
+reply_named (replies.Compared (sames.Differ k l a b left right)) = omega arith
+reply_named (replies.Compared sames.Spent) = omega arith
 reply_named (replies.Drilled d) = differ_named d.differ
 reply_named replies.Usage = omega arith
 reply_named (replies.TooLong kind) = omega arith
@@ -162,7 +173,7 @@ module _ (texts_are_read : (bytes : List ℕ) (f : Function) → IsTextOf bytes 
       certificate_told small text within =
       let gives = reply_to_asked words holds r (Check name certificate_name) named reply in
       let got : IsReplyToCertificate f (holds certificate_name) r =
-      gets (holds name) bytes f told small (texts_are_read bytes f text) (λ g. IsReplyToCertificate g (holds certificate_name) r) r gives in
+      gets (holds name) bytes f told small (texts_are_read bytes f text) First (λ g. IsReplyToCertificate g (holds certificate_name) r) r gives in
       let found = some_judgement f certificate in (
         found.0,
         found.1,

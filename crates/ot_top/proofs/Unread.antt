@@ -1,6 +1,6 @@
--- The status 3 is that of a function's file that is the text of no function.
+-- The status 3 is that of a function's file that is reached and is the text of no function.
 use Rattle.std.proofs.Common.{◌≡◌, ◌≢◌, ◌≤◌, ◌+◌, ℕ, true, false, Bool, List, [], ◌∷◌, length, Option, Some, None, Result, Ok, Err, refl, sym, ap, ◌∙◌, subst, inl, inr, arith}
-use Rattle.std.specs.Prelude.{◌↔◌, if◌then◌else◌}
+use Rattle.std.specs.Prelude.{if◌then◌else◌}
 use Rattle.fn_rules.specs.declared.function.Level.{Level}
 use Rattle.fn_rules.specs.Functions.{Function}
 use Rattle.fn_rules.specs.Orders.{Outcome}
@@ -29,13 +29,25 @@ use Rattle.ot_session.specs.Views.{View}
 use Rattle.ot_replies.specs.declared.reply.FileKind.TheVariants as files
 use Rattle.ot_replies.specs.declared.reply.Reply.{Reply}
 use Rattle.ot_replies.specs.declared.reply.Reply.TheVariants as replies
-use Rattle.ot_words.specs.Commands.{Asked, Prove, Check, Integrate, Replay, Hub, Drill}
+use Rattle.ot_replies.specs.declared.reply.Subject.{Subject}
+use Rattle.ot_replies.specs.declared.reply.Subject.TheVariants.{First, Second}
+use Rattle.ot_words.specs.Commands.{Asked, Prove, Check, Integrate, Replay, Hub, Audit, Same, Drill}
+use Rattle.ot_questions.specs.declared.why.Why.{Why}
+use Rattle.ot_decide.specs.Verdicts.{ObQuestions}
+use Rattle.std.specs.List.{list_all}
+use Rattle.ot_audit.specs.declared.audits.Audit.{Audit as AnyAudit}
+use Rattle.ot_audit.specs.declared.audits.Audit.TheVariants as audits
+use Rattle.ot_audit.specs.declared.audits.Same.{Same as AnySame}
+use Rattle.ot_audit.specs.declared.audits.Same.TheVariants as sames
+use Rattle.ot_replies.specs.AuditTexts.{is_total}
+use Rattle.ot_top.specs.Audits.{IsReplyToTwo}
+use Rattle.ot_top.specs.Drills.{IsReplyToQuestions}
 use Rattle.ot_top.specs.Hubs.{IsDone, IsRefused, IsReplyToHub, IsReplyToHubScript, TellsHub}
 use Rattle.ot_top.specs.Judgements.{IsReplyToJudgement, Tells}
 use Rattle.ot_replies.specs.Limits.{limit_of}
-use Rattle.ot_top.specs.Replies.{IsReplyTo, IsReplyToCase, IsReplyToFile, IsReplyToFunction, IsReplyToTrial, TellsOutcomes}
+use Rattle.ot_top.specs.Replies.{IsReplyTo, IsReplyToCase, IsReplyToFile, IsReplyToFunction, IsReplyToSecond, IsReplyToTrial, TellsOutcomes}
 use Rattle.ot_top.specs.Sessions.{IsReplyToScript, IsReplyToSession, Runs, TellsNotMade, TellsNotTaken, TellsSites}
-use Rattle.ot_top.specs.Shown.{IsUnread, function_name}
+use Rattle.ot_top.specs.Shown.{IsUnread, IsUnreadFrom, function_names}
 use Rattle.ot_replies.specs.Texts.{differ_status, status_of}
 use Rattle.ot_top.specs.Verdicts.{TellsVerdict}
 use Rattle.ot_top.proofs.HubStatus.{refused_other}
@@ -148,52 +160,62 @@ file_other : (told : Option (List ℕ)) (Gets : List ℕ → Type 0) (r : Reply)
 file_other told Gets r other (inl longer) = named_so r (replies.TooLong files.Case) 9 longer.1 refl (λ e. omega (arith, e))
 file_other told Gets r other (inr gets) = other gets.0 gets.2
 
+audit_other : (audit : AnyAudit) (r : Reply) → r ≡ replies.Audited audit → status_of r ≢ 3
+audit_other (audits.Blocks blocks) r same = λ is. same_other (list_all is_total blocks) (sym (ap (λ x. status_of x) same) ∙ is)
+audit_other audits.Spent r same = named_so r _ 8 same refl (λ e. omega (arith, e))
+
+functions_other : (same : AnySame) (r : Reply) → r ≡ replies.Compared same → status_of r ≢ 3
+functions_other sames.Everywhere r same = named_so r _ 0 same refl (λ e. omega (arith, e))
+functions_other sames.Heads r same = named_so r _ 1 same refl (λ e. omega (arith, e))
+functions_other (sames.Differ k l a b left right) r same = named_so r _ 1 same refl (λ e. omega (arith, e))
+functions_other sames.Spent r same = named_so r _ 8 same refl (λ e. omega (arith, e))
+
+drilled_other : (n : ℕ) (lists : List (ObQuestions Why)) (r : Reply) → IsReplyToQuestions n lists r → status_of r ≢ 3
+drilled_other n lists r (inl spent) = named_so r replies.Spent 8 spent.1 refl (λ e. omega (arith, e))
+drilled_other n lists r (inr done) = λ is. differ_other done.1.0.differ (sym (ap (λ x. status_of x) done.1.2) ∙ is)
+
 module _ (texts_are_read : (bytes : List ℕ) (f : Function) → IsTextOf bytes f → function_in bytes ≡ Ok f)
-    (is_text : (bytes : List ℕ) (f : Function) → function_in bytes ≡ Ok f → IsTextOf bytes f) where
-  -- a file that is refused is no text of a function, and one that is read is
+    (is_text : (bytes : List ℕ) (f : Function) → function_in bytes ≡ Ok f → IsTextOf bytes f)
+    (holds : List ℕ → Option (List ℕ)) (r : Reply) where
+  -- a file that is refused is no text of a function, and one that is read is, and goes on
   read_or_not :
-      (told : Option (List ℕ)) (bytes : List ℕ) (Gets : Function → Type 0) (r : Reply) → told ≡ Some bytes
-      → length bytes ≤ limit_of files.Function → ((f : Function) → Gets f → status_of r ≢ 3) → IsReplyToFunction told Gets r
-      → (status_of r ≡ 3) ↔ ((f : Function) → ¬ IsTextOf bytes f)
-  read_or_not told bytes Gets r is small other (inl (inl longer)) =
+      (subject : Subject) (name : List ℕ) (names : List (List ℕ)) (Gets : Function → Type 0)
+      → ((f : Function) → Gets f → IsUnreadFrom holds (status_of r) names) → IsReplyToFunction subject (holds name) Gets r
+      → IsUnreadFrom holds (status_of r) (name ∷ names)
+  read_or_not subject name names Gets behind (inl (inl longer)) bytes is small =
       absurd (let more = longer.0 bytes is in omega (arith, more, small))
-  read_or_not told bytes Gets r is small other (inl (inr (fault, read, same))) = (
-    λ three f text. let refused : function_in bytes ≡ Err fault = (read bytes is).1 in let ok = texts_are_read bytes f text in cc,
+  read_or_not subject name names Gets behind (inl (inr (fault, read, same))) bytes is small = (
     λ none. ap (λ x. status_of x) same,
+    λ f text. absurd (let refused : function_in bytes ≡ Err fault = (read bytes is).1 in let ok = texts_are_read bytes f text in cc),
   )
-  read_or_not told bytes Gets r is small other (inr (f, read, gets)) = (
-    λ three g text. other f gets three,
+  read_or_not subject name names Gets behind (inr (f, read, gets)) bytes is small = (
     λ none. absurd (none f (is_text bytes f (read bytes is).1)),
+    λ g text. behind f gets,
   )
 
-  unread_reply :
-      (holds : List ℕ → Option (List ℕ)) (asked : Asked) (name bytes : List ℕ) (r : Reply) → function_name asked ≡ Some name
-      → holds name ≡ Some bytes → length bytes ≤ limit_of files.Function → IsReplyTo holds asked r
-      → (status_of r ≡ 3) ↔ ((f : Function) → ¬ IsTextOf bytes f)
-  unread_reply holds (Prove level budget function) name bytes r named told small reply =
-      let same : function ≡ name = cc in
-      read_or_not (holds function) bytes _ r (ap (λ n. holds n) same ∙ told) small (λ f gets. verdict_other f gets.0 r gets.3) reply
-  unread_reply holds (Check function certificate) name bytes r named told small reply =
-      let same : function ≡ name = cc in
-      read_or_not (holds function) bytes _ r (ap (λ n. holds n) same ∙ told) small
-      (λ f gets. certificate_other (holds certificate) gets.0 gets.2.0 r gets.2.2) reply
-  unread_reply holds (Integrate function case) name bytes r named told small reply =
-      let same : function ≡ name = cc in
-      read_or_not (holds function) bytes _ r (ap (λ n. holds n) same ∙ told) small
-      (λ f gets. file_other (holds case) (λ b. IsReplyToCase f b r) r (λ b. case_reply_other f b r) gets) reply
-  unread_reply holds (Replay function session) name bytes r named told small reply =
-      let same : function ≡ name = cc in
-      read_or_not (holds function) bytes _ r (ap (λ n. holds n) same ∙ told) small
+  unread_reply : (asked : Asked) → IsReplyTo holds asked r → IsUnreadFrom holds (status_of r) (function_names asked)
+  unread_reply (Prove level budget name) reply =
+      read_or_not First name [] _ (λ f gets. verdict_other f gets.0 r gets.3) reply
+  unread_reply (Check name certificate) reply =
+      read_or_not First name [] _ (λ f gets. certificate_other (holds certificate) gets.0 gets.2.0 r gets.2.2) reply
+  unread_reply (Integrate name case) reply =
+      read_or_not First name [] _ (λ f gets. file_other (holds case) (λ b. IsReplyToCase f b r) r (λ b. case_reply_other f b r) gets) reply
+  unread_reply (Replay name session) reply =
+      read_or_not First name [] _
       (λ f gets. file_other (holds session) (λ b. IsReplyToSession f b r) r (λ b. session_reply_other f b r) gets) reply
-  unread_reply holds (Hub function hub) name bytes r named told small reply =
-      let same : function ≡ name = cc in
-      read_or_not (holds function) bytes _ r (ap (λ n. holds n) same ∙ told) small
-      (λ f gets. file_other (holds hub) (λ b. IsReplyToHub f b r) r (λ b. hub_reply_other f b r) gets) reply
-  unread_reply holds (Drill number) name bytes r named told small reply = absurd (cc)
+  unread_reply (Hub name hub) reply =
+      read_or_not First name [] _ (λ f gets. file_other (holds hub) (λ b. IsReplyToHub f b r) r (λ b. hub_reply_other f b r) gets) reply
+  unread_reply (Audit name) reply = read_or_not First name [] _ (λ f gets. audit_other gets.0 r gets.2) reply
+  unread_reply (Same name other) reply =
+      read_or_not First name (other ∷ []) (λ f. IsReplyToSecond f (holds other) r)
+      (λ f second. read_or_not Second other [] (λ g. IsReplyToTwo f g r) (λ g gets. functions_other gets.0 r gets.2) second) reply
+  unread_reply (Drill number) reply = drilled_other number reply.0 r reply.2
 
-  pub unread :
-      (words : List (List ℕ)) (holds : List ℕ → Option (List ℕ)) (status : ℕ) (IsWritten : List ℕ → Type 0)
-      → IsAnswered words holds status IsWritten → IsUnread words holds status
-  unread words holds status IsWritten (r, reply, steady, is, written) asked name bytes named has told small =
-      subst (λ (s : ℕ). (s ≡ 3) ↔ ((f : Function) → ¬ IsTextOf bytes f)) (sym is)
-      (unread_reply holds asked name bytes r has told small (reply_to_asked words holds r asked named reply))
+pub unread :
+    ((bytes : List ℕ) (f : Function) → IsTextOf bytes f → function_in bytes ≡ Ok f)
+    → ((bytes : List ℕ) (f : Function) → function_in bytes ≡ Ok f → IsTextOf bytes f)
+    → (words : List (List ℕ)) (holds : List ℕ → Option (List ℕ)) (status : ℕ) (IsWritten : List ℕ → Type 0)
+    → IsAnswered words holds status IsWritten → IsUnread words holds status
+unread texts_are_read is_text words holds status IsWritten (r, reply, steady, is, written) asked named =
+    subst (λ (s : ℕ). IsUnreadFrom holds s (function_names asked)) (sym is)
+    (unread_reply texts_are_read is_text holds r asked (reply_to_asked words holds r asked named reply))

@@ -3,7 +3,7 @@ use Rattle.std.specs.Prelude.{◌≡◌, ◌⊎◌, ℕ, List, Option, IfSome}
 use Rattle.std.specs.Option.{ForSome}
 use Rattle.ot_outside.specs.Reads.{Reads, after_reading}
 use Rattle.ot_replies.specs.declared.reply.Reply.{Reply}
-use Rattle.ot_words.specs.Commands.{Asked, Prove, Check, Integrate, Replay, Hub, Drill}
+use Rattle.ot_words.specs.Commands.{Asked, Prove, Check, Integrate, Replay, Hub, Audit, Same, Drill}
 use Rattle.ot_words.specs.Words.{asked_by}
 use Rattle.ot_top.specs.Replies.{IsReply, IsReplyTo}
 use Rattle.ot_top.specs.Steady.{AreSteady, IsSteadyReply}
@@ -34,6 +34,8 @@ HasRead old new (Check function certificate) = HaveRead old new function certifi
 HasRead old new (Integrate function case) = HaveRead old new function case
 HasRead old new (Replay function session) = HaveRead old new function session
 HasRead old new (Hub function hub) = HaveRead old new function hub
+HasRead old new (Audit function) = new ≡ after_reading function new.bytes old
+HasRead old new (Same function other) = HaveRead old new function other
 HasRead old new (Drill number) = Unit {0}
 
 -- of the files of a command `holds` tells nothing but the bytes that were given
@@ -47,6 +49,9 @@ TellsGiven old new holds (Replay function session) =
     ForSome (holds function) (IsReadFirst old new function) × ForSome (holds session) (IsReadSecond old new session)
 TellsGiven old new holds (Hub function hub) =
     ForSome (holds function) (IsReadFirst old new function) × ForSome (holds hub) (IsReadSecond old new hub)
+TellsGiven old new holds (Audit function) = ForSome (holds function) (IsReadFirst old new function)
+TellsGiven old new holds (Same function other) =
+    ForSome (holds function) (IsReadFirst old new function) × ForSome (holds other) (IsReadSecond old new other)
 TellsGiven old new holds (Drill number) = Unit {0}
 
 -- the command has read its files, and this is the reply to it, whatever is told of what was given

@@ -4,6 +4,8 @@ pub mod Sessions
 pub mod Running
 pub mod Hubs
 pub mod Drills
+pub mod Audits
+pub mod Audited
 pub mod Replies
 pub mod Given
 pub mod Shown

@@ -16,7 +16,10 @@ use Rattle.ot_replies.specs.declared.reply.FileKind.{FileKind}
 use Rattle.ot_replies.specs.declared.reply.FileKind.TheVariants as files
 use Rattle.ot_replies.specs.declared.reply.Reply.{Reply}
 use Rattle.ot_replies.specs.declared.reply.Reply.TheVariants.{FunctionRefused, CaseRefused, Integrated, Usage}
-use Rattle.ot_words.specs.Commands.{Asked, Prove, Check, Integrate, Replay, Hub, Drill}
+use Rattle.ot_replies.specs.declared.reply.Subject.{Subject}
+use Rattle.ot_replies.specs.declared.reply.Subject.TheVariants.{First, Second}
+use Rattle.ot_words.specs.Commands.{Asked, Prove, Check, Integrate, Replay, Hub, Audit, Same, Drill}
+use Rattle.ot_top.specs.Audits.{IsReplyToAudit, IsReplyToTwo}
 use Rattle.ot_top.specs.Drills.{IsReplyToDrill}
 use Rattle.ot_top.specs.Hubs.{IsReplyToHub}
 use Rattle.ot_top.specs.Judgements.{IsReplyToCertificate}
@@ -35,14 +38,15 @@ Holds kind bytes told = (length bytes ≤ limit_of kind) × ForSome told (λ con
 abbrev pub IsReadAs : Result Function TextFault → Option (List ℕ) → Type 0
 IsReadAs read told = ForSome told (λ contents. (length contents ≤ limit_of files.Function) × (function_in contents ≡ read))
 
--- the reply to a function's file that is refused: the limit first, and then the first fault of its text
-abbrev pub IsFunctionRefusal : Option (List ℕ) → Reply → Type 0
-IsFunctionRefusal told r =
-    IsTooLong files.Function told r ⊎ ((fault : TextFault) × IsReadAs (Err fault) told × (r ≡ FunctionRefused fault))
+-- the reply to a function's file that is refused, which says which one is meant: the limit first, and then the first fault of its
+-- text
+abbrev pub IsFunctionRefusal : Subject → Option (List ℕ) → Reply → Type 0
+IsFunctionRefusal subject told r =
+    IsTooLong files.Function told r ⊎ ((fault : TextFault) × IsReadAs (Err fault) told × (r ≡ FunctionRefused subject fault))
 
 -- the reply to a function's file, and then the one that its function gets
-abbrev pub IsReplyToFunction : Option (List ℕ) → (Function → Type 0) → Reply → Type 0
-IsReplyToFunction told Gets r = IsFunctionRefusal told r ⊎ ((f : Function) × IsReadAs (Ok f) told × Gets f)
+abbrev pub IsReplyToFunction : Subject → Option (List ℕ) → (Function → Type 0) → Reply → Type 0
+IsReplyToFunction subject told Gets r = IsFunctionRefusal subject told r ⊎ ((f : Function) × IsReadAs (Ok f) told × Gets f)
 
 -- the reply to another file, and then the one that its bytes get
 abbrev pub IsReplyToFile : FileKind → Option (List ℕ) → (List ℕ → Type 0) → Reply → Type 0
@@ -79,18 +83,26 @@ IsReplyToSessionFile f told r = IsReplyToFile files.Case told (λ bytes. IsReply
 abbrev pub IsReplyToHubFile : Function → Option (List ℕ) → Reply → Type 0
 IsReplyToHubFile f told r = IsReplyToFile files.Case told (λ bytes. IsReplyToHub f bytes r) r
 
+-- the reply to the file of a second function, behind the first
+abbrev pub IsReplyToSecond : Function → Option (List ℕ) → Reply → Type 0
+IsReplyToSecond f told r = IsReplyToFunction Second told (λ g. IsReplyToTwo f g r) r
+
 -- the reply to a command, where `holds` says what each name holds
 abbrev pub IsReplyTo : (List ℕ → Option (List ℕ)) → Asked → Reply → Type 0
 IsReplyTo holds (Prove level budget function) r =
-    IsReplyToFunction (holds function) (λ f. IsReplyToProof f level budget r) r
+    IsReplyToFunction First (holds function) (λ f. IsReplyToProof f level budget r) r
 IsReplyTo holds (Check function certificate) r =
-    IsReplyToFunction (holds function) (λ f. IsReplyToCertificate f (holds certificate) r) r
+    IsReplyToFunction First (holds function) (λ f. IsReplyToCertificate f (holds certificate) r) r
 IsReplyTo holds (Integrate function case) r =
-    IsReplyToFunction (holds function) (λ f. IsReplyToCaseFile f (holds case) r) r
+    IsReplyToFunction First (holds function) (λ f. IsReplyToCaseFile f (holds case) r) r
 IsReplyTo holds (Replay function session) r =
-    IsReplyToFunction (holds function) (λ f. IsReplyToSessionFile f (holds session) r) r
+    IsReplyToFunction First (holds function) (λ f. IsReplyToSessionFile f (holds session) r) r
 IsReplyTo holds (Hub function hub) r =
-    IsReplyToFunction (holds function) (λ f. IsReplyToHubFile f (holds hub) r) r
+    IsReplyToFunction First (holds function) (λ f. IsReplyToHubFile f (holds hub) r) r
+IsReplyTo holds (Audit function) r =
+    IsReplyToFunction First (holds function) (λ f. IsReplyToAudit f r) r
+IsReplyTo holds (Same function other) r =
+    IsReplyToFunction First (holds function) (λ f. IsReplyToSecond f (holds other) r) r
 IsReplyTo holds (Drill number) r = IsReplyToDrill number r
 
 -- the reply to words
@@ -108,4 +120,6 @@ AreOffered holds Offered (Check function certificate) = Offered function × (Goe
 AreOffered holds Offered (Integrate function case) = Offered function × (GoesOn (holds function) → Offered case)
 AreOffered holds Offered (Replay function session) = Offered function × (GoesOn (holds function) → Offered session)
 AreOffered holds Offered (Hub function hub) = Offered function × (GoesOn (holds function) → Offered hub)
+AreOffered holds Offered (Audit function) = Offered function
+AreOffered holds Offered (Same function other) = Offered function × (GoesOn (holds function) → Offered other)
 AreOffered holds Offered (Drill number) = Unit {0}

@@ -1,5 +1,5 @@
 -- What the statuses show of a function whose file is told.
-use Rattle.std.specs.Prelude.{◌≡◌, ◌⊎◌, ◌↔◌, ℕ, ◌≤◌, if◌then◌else◌, nat_lt, is_some, is_ok, List, [], ◌∷◌, length, Option, Some, None, Result}
+use Rattle.std.specs.Prelude.{◌≡◌, ◌≢◌, ◌⊎◌, ℕ, ◌≤◌, if◌then◌else◌, nat_lt, is_some, is_ok, List, [], ◌∷◌, length, Option, Some, None, Result}
 use Rattle.std.specs.Option.{ForSome}
 use Rattle.ot_model.specs.declared.cell.Cell.{Cell}
 use Rattle.ot_model.specs.declared.op.Op.{Op}
@@ -25,7 +25,7 @@ use Rattle.ot_replies.specs.declared.reply.FileKind.TheVariants as files
 use Rattle.ot_replies.specs.declared.reply.Reply.{Reply}
 use Rattle.ot_replies.specs.declared.reply.Drilled.{Drilled}
 use Rattle.ot_replies.specs.declared.reply.Reply.TheVariants.{Accepted, Spent}
-use Rattle.ot_words.specs.Commands.{Asked, Prove, Check, Integrate, Replay, Hub, Drill}
+use Rattle.ot_words.specs.Commands.{Asked, Prove, Check, Integrate, Replay, Hub, Audit, Same, Drill}
 use Rattle.ot_top.specs.Drills.{IsDrilled}
 use Rattle.ot_replies.specs.DrillTexts.{drill_text}
 use Rattle.ot_replies.specs.CounterTexts.{counter_text}
@@ -124,22 +124,31 @@ IsJudgedAs words holds status =
     → length certificate ≤ limit_of files.Certificate
     → (judgement : Result Level JudgeError) × IsJudgement f certificate judgement × (status ≡ (if is_ok judgement then 0 else 2))
 
--- the name of the function's file, which every command but one has
-abbrev pub function_name : Asked → Option (List ℕ)
-function_name (Prove level budget name) = Some name
-function_name (Check name certificate_name) = Some name
-function_name (Integrate name case) = Some name
-function_name (Replay name session) = Some name
-function_name (Hub name hub) = Some name
-function_name (Drill number) = None
+-- the names of the functions' files, in the order in which they are opened
+abbrev pub function_names : Asked → List (List ℕ)
+function_names (Prove level budget name) = name ∷ []
+function_names (Check name certificate_name) = name ∷ []
+function_names (Integrate name case) = name ∷ []
+function_names (Replay name session) = name ∷ []
+function_names (Hub name hub) = name ∷ []
+function_names (Audit name) = name ∷ []
+function_names (Same name other) = name ∷ other ∷ []
+function_names (Drill number) = []
 
--- the words name a function's file; where that is told and within its limit, the status is 3 exactly where it is the text
--- of no function by the grammar
+-- of the functions' files that are still to be read, where each that is reached is told and within its limit: one that is the
+-- text of no function by the grammar ends the command with 3, a text of a function goes on to the next one, and behind the
+-- last the status is another one
+abbrev pub IsUnreadFrom : (List ℕ → Option (List ℕ)) → ℕ → List (List ℕ) → Type 0
+IsUnreadFrom holds status [] = status ≢ 3
+IsUnreadFrom holds status (name ∷ names) =
+    (bytes : List ℕ) → holds name ≡ Some bytes → length bytes ≤ limit_of files.Function
+    → (((f : Function) → ¬ IsTextOf bytes f) → status ≡ 3)
+    × ((f : Function) → IsTextOf bytes f → IsUnreadFrom holds status names)
+
+-- where the functions' files that the words name are told and within their limits, the status is 3 exactly where one of them is
+-- reached that is the text of no function by the grammar
 abbrev pub IsUnread : List (List ℕ) → (List ℕ → Option (List ℕ)) → ℕ → Type 0
-IsUnread words holds status =
-    (asked : Asked) (name bytes : List ℕ)
-    → asked_by words ≡ Some asked → function_name asked ≡ Some name → holds name ≡ Some bytes → length bytes ≤ limit_of files.Function
-    → (status ≡ 3) ↔ ((f : Function) → ¬ IsTextOf bytes f)
+IsUnread words holds status = (asked : Asked) → asked_by words ≡ Some asked → IsUnreadFrom holds status (function_names asked)
 
 -- the words ask for the workload of a number: its function has more questions than are allowed, or what came of it was
 -- written, and then no two sites differ

@@ -2,6 +2,7 @@
 use Rattle.std.specs.Prelude.{◌≡◌, ◌≢◌, ◌⊎◌, ℕ, List, Option}
 use Rattle.ot_outside.specs.Reads.{Reads}
 use Rattle.ot_top.specs.declared.program.TheConstants.{SHELF_FAULT, SINK_FAULT, NO_MEMORY}
+use Rattle.ot_top.specs.Audited.{IsAudited, IsCompared}
 use Rattle.ot_top.specs.Given.{TellsGivenOf}
 use Rattle.ot_top.specs.Shown.{IsBroken, IsComplete, IsGoneThrough, IsJudgedAs, IsProved, IsShown, IsUnread}
 use Rattle.ot_top.specs.Steady.{IsServed, IsSteady}
@@ -12,8 +13,8 @@ IsOfReply status = (status ≢ SHELF_FAULT) × (status ≢ SINK_FAULT) × (statu
 
 -- what holds of the words where `holds` tells their files: what is accepted or proved has the properties that were written
 -- or asked, what is broken fails at the instance that was written, the statuses of `prove` and `check` are those that the
--- questions and the judgement give, 3 comes where the file is the text of no function, where a function makes sites agree
--- they are not found apart, nor clients and their server, and no event of a workload is refused, no site of it is stuck, and no
+-- questions and the judgement give, 3 comes where a function's file is reached that is the text of none, where a function makes sites agree
+-- they are not found apart, nor clients and their server, `audit` and `same` write what is so of all operations, and no event of a workload is refused, no site of it is stuck, and no
 -- two sites of it differ
 pub record Shows (words : List (List ℕ)) (holds : List ℕ → Option (List ℕ)) (IsWritten : List ℕ → Type 0) (status : ℕ) : Type 0 where
   pub sound : status ≡ 0 → IsShown words holds IsWritten
@@ -24,6 +25,8 @@ pub record Shows (words : List (List ℕ)) (holds : List ℕ → Option (List �
   pub unread : IsOfReply status → IsUnread words holds status
   pub steady : IsSteady words holds status
   pub served : IsServed words holds status
+  pub audited : IsOfReply status → IsAudited words holds IsWritten status
+  pub compared : IsOfReply status → IsCompared words holds IsWritten status
   pub gone_through : IsOfReply status → IsGoneThrough words status IsWritten
 
 -- the files are known: `holds` is what the shelf tells, or it tells what the calls gave

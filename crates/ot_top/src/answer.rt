@@ -8,6 +8,7 @@ ghost use Rattle.ot_top.specs.Replies.{AreOffered, IsReply, IsReplyTo};
 ghost use Rattle.ot_top.specs.Steady.{AreSteady, IsSteadyReply};
 ghost use Rattle.ot_words.specs.Words.{IsWithinBounds, asked_by};
 
+use crate::audit::audit;
 use crate::check::check;
 use crate::drill::drill;
 use crate::hub::hub;
@@ -15,6 +16,7 @@ use crate::integrate::integrate;
 use crate::load::Stop;
 use crate::prove::prove;
 use crate::replay::replay;
+use crate::same::same;
 use ot_outside::Shelf;
 use ot_replies::Reply;
 use ot_words::{Command, read_words};
@@ -47,6 +49,8 @@ fn reply_to<H: Shelf>(alloc: Global, shelf: &mut H, command: &Command<'_>) -> Re
             function,
             hub: name,
         } => hub(alloc, shelf, function, name),
+        Command::Audit { function } => audit(alloc, shelf, function),
+        Command::Same { function, other } => same(alloc, shelf, function, other),
         Command::Drill { number } => Ok(drill(alloc, number)?),
     }
 }

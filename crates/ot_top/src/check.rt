@@ -17,7 +17,7 @@ use crate::load::{Stop, limit, load_function};
 use fn_rules::{Level, Rules};
 use ot_judge::{JudgeError, Refusal, check_all};
 use ot_outside::{Shelf, ShelfFeed};
-use ot_replies::{FileKind, Reply};
+use ot_replies::{FileKind, Reply, Subject};
 use std::alloc::Global;
 
 fn is_truncated(why: Refusal) -> bool
@@ -114,7 +114,7 @@ pub(crate) fn check<H: Shelf>(
     ensures shelf { IsErrOf result Stop.Shelf → Rose (H.faults shelf.old) (H.faults shelf.new) }
     ensures unchanged { Unchanged H.holds H.offered H.faults shelf.old shelf.new }
 {
-    match load_function(alloc, shelf, function)? {
+    match load_function(alloc, shelf, Subject::First, function)? {
         Ok(rules) => Ok(reply_to_certificate(alloc, shelf, &rules, certificate)?),
         Err(reply) => Ok(reply),
     }

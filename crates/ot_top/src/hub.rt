@@ -24,7 +24,7 @@ use fn_rules::Rules;
 use ot_hub::{Edit, Hub, Move};
 use ot_model::{Doc, NoMemory, Op};
 use ot_outside::Shelf;
-use ot_replies::{ClientEnd, EventFault, FileKind, HubEnd, Reply};
+use ot_replies::{ClientEnd, EventFault, FileKind, HubEnd, Reply, Subject};
 use plain_list::List;
 use std::alloc::Global;
 
@@ -251,7 +251,7 @@ pub(crate) fn hub<H: Shelf>(
     ensures shelf { IsErrOf result Stop.Shelf → Rose (H.faults shelf.old) (H.faults shelf.new) }
     ensures unchanged { Unchanged H.holds H.offered H.faults shelf.old shelf.new }
 {
-    match load_function(alloc, shelf, function)? {
+    match load_function(alloc, shelf, Subject::First, function)? {
         Ok(rules) => Ok(reply_to_hub_file(alloc, shelf, &rules, hub)?),
         Err(reply) => Ok(reply),
     }

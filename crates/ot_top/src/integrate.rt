@@ -19,7 +19,7 @@ use fn_rules::Rules;
 use ot_integrate::End;
 use ot_model::{Doc, NoMemory};
 use ot_outside::Shelf;
-use ot_replies::{FileKind, Reply};
+use ot_replies::{FileKind, Reply, Subject};
 use plain_list::List;
 use std::alloc::Global;
 
@@ -132,7 +132,7 @@ pub(crate) fn integrate<H: Shelf>(
     ensures shelf { IsErrOf result Stop.Shelf → Rose (H.faults shelf.old) (H.faults shelf.new) }
     ensures unchanged { Unchanged H.holds H.offered H.faults shelf.old shelf.new }
 {
-    match load_function(alloc, shelf, function)? {
+    match load_function(alloc, shelf, Subject::First, function)? {
         Ok(rules) => Ok(reply_to_case_file(alloc, shelf, &rules, case)?),
         Err(reply) => Ok(reply),
     }

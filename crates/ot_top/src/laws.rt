@@ -2,13 +2,14 @@
 ghost use Rattle.std.specs.Prelude.{◌≡◌, ◌≢◌, ℕ, List, Option, Some};
 ghost use Rattle.fn_rules.specs.declared.function.Level.{Level};
 ghost use Rattle.fn_rules.specs.Functions.{Function};
-ghost use Rattle.ot_words.specs.Commands.{Prove, Check, Integrate, Replay, Hub, Drill};
+ghost use Rattle.ot_words.specs.Commands.{Prove, Check, Integrate, Replay, Hub, Audit, Same, Drill};
 ghost use Rattle.ot_top.specs.Hubs.{IsReplyToHub};
 ghost use Rattle.ot_top.specs.Replies.{IsReplyTo};
 ghost use Rattle.ot_top.specs.Sessions.{IsReplyToSession};
 ghost use Rattle.ot_replies.specs.Texts.{status_of};
 
 use fn_text::what_is_read_is_in_the_grammar;
+use ot_audit::findings_are_one;
 use ot_decide::obligations_have_one_question_list;
 use ot_judge::bytes_have_one_judgement;
 use ot_replies::Reply;
@@ -46,6 +47,11 @@ pub fn commands_have_one_reply()
     ensures hub { (holds : List ℕ → Option (List ℕ)) (name hub_name bytes contents : List ℕ) (one other : Reply)
         → holds name ≡ Some bytes → holds hub_name ≡ Some contents
         → IsReplyTo holds (Hub name hub_name) one → IsReplyTo holds (Hub name hub_name) other → one ≡ other }
+    ensures audit { (holds : List ℕ → Option (List ℕ)) (name bytes : List ℕ) (one other : Reply)
+        → holds name ≡ Some bytes → IsReplyTo holds (Audit name) one → IsReplyTo holds (Audit name) other → one ≡ other }
+    ensures same { (holds : List ℕ → Option (List ℕ)) (name other_name bytes contents : List ℕ) (one other : Reply)
+        → holds name ≡ Some bytes → holds other_name ≡ Some contents
+        → IsReplyTo holds (Same name other_name) one → IsReplyTo holds (Same name other_name) other → one ≡ other }
     ensures prove { (holds : List ℕ → Option (List ℕ)) (level : Level) (budget : ℕ) (name bytes : List ℕ) (one other : Reply)
         → holds name ≡ Some bytes → IsReplyTo holds (Prove level budget name) one → IsReplyTo holds (Prove level budget name) other
         → (status_of one ≡ status_of other) × (status_of one ≢ 0 → one ≡ other) }
@@ -60,4 +66,5 @@ pub fn commands_have_one_reply()
     takes_have_one_answer();
     sessions_have_one_reply();
     hubs_have_one_reply();
+    findings_are_one();
 }

@@ -7,6 +7,8 @@
 //! documents.
 //! `replay FN SESSION` runs the events of a session, and compares sites that have integrated the same operations.
 //! `hub FN HUB` runs the events of a hub, and compares its clients with its server.
+//! `audit FN` tells which cases of a function are ever taken, and which of its blocks are ever open.
+//! `same F G` tells whether two functions agree, or where they do not.
 //! `drill N` generates a workload, and goes the whole way from its function to its sites.
 //!
 //! The program above relies on one clause: `run` writes the reply that `IsReply` tells, and ends with
@@ -15,6 +17,7 @@
 #![tactic(auto)]
 
 mod answer;
+mod audit;
 mod check;
 mod drill;
 mod halt;
@@ -25,7 +28,8 @@ mod load;
 mod program;
 mod prove;
 mod replay;
+mod same;
 
 pub use laws::{commands_have_one_reply, hubs_have_one_reply, sessions_have_one_reply};
-pub use ot_replies::{ClientEnd, Drilled, EventFault, FileKind, HubEnd, Reply, SiteEnd};
+pub use ot_replies::{ClientEnd, Drilled, EventFault, FileKind, HubEnd, Reply, SiteEnd, Subject};
 pub use program::{NO_MEMORY, SHELF_FAULT, SINK_FAULT, run};

@@ -11,7 +11,7 @@ use fn_rules::Rules;
 use fn_text::{TextError, read};
 use ot_model::NoMemory;
 use ot_outside::{Failed, ReadError, Shelf, read_all};
-use ot_replies::{FileKind, Reply};
+use ot_replies::{FileKind, Reply, Subject};
 use std::alloc::Global;
 
 /// Why a command gets no reply.
@@ -84,21 +84,22 @@ pub(crate) fn read_file<H: Shelf>(
     }
 }
 
-/// The function of a file, or the reply to a file that is refused.
+/// The function of a file, or the reply to a file that is refused, which says which of the functions is meant.
 pub(crate) fn load_function<H: Shelf>(
     alloc: Global,
     shelf: &mut H,
+    subject: Subject,
     name: &str,
 ) -> Result<Result<Rules, Reply>, Stop>
     requires { H.offered shelf.old name.now }
 
     ensures ok { IfOk result (λ answer. IfOk answer (λ rules. IsReadAs (Ok (function_of rules)) (H.holds shelf.old name.now))) }
-    ensures replied { IfOk result (λ answer. IfErr answer (IsFunctionRefusal (H.holds shelf.old name.now))) }
+    ensures replied { IfOk result (λ answer. IfErr answer (IsFunctionRefusal subject (H.holds shelf.old name.now))) }
 
     // Of what the calls gave, whether or not the shelf tells what the name holds.
     ensures read { H.reads shelf.new ≡ after_reading name.now (H.reads shelf.new).bytes (H.reads shelf.old) }
     ensures given { IfOk result (λ answer. IfOk answer (λ rules. IsReadAs (Ok (function_of rules)) (Some (H.reads shelf.new).bytes))) }
-    ensures given_replied { IfOk result (λ answer. IfErr answer (IsFunctionRefusal (Some (H.reads shelf.new).bytes))) }
+    ensures given_replied { IfOk result (λ answer. IfErr answer (IsFunctionRefusal subject (Some (H.reads shelf.new).bytes))) }
 
     ensures shelf { IsErrOf result Stop.Shelf → Rose (H.faults shelf.old) (H.faults shelf.new) }
     ensures unchanged { Unchanged H.holds H.offered H.faults shelf.old shelf.new }
@@ -109,7 +110,7 @@ pub(crate) fn load_function<H: Shelf>(
     };
     match read(alloc, &bytes) {
         Ok(rules) => Ok(Ok(rules)),
-        Err(TextError::Fault(fault)) => Ok(Err(Reply::FunctionRefused(fault))),
+        Err(TextError::Fault(fault)) => Ok(Err(Reply::FunctionRefused(subject, fault))),
         Err(TextError::NoMemory) => Err(Stop::NoMemory),
     }
 }

@@ -22,7 +22,7 @@ use ot_model::NoMemory;
 use ot_outside::Shelf;
 use ot_prove::{Answer, literals_of};
 use ot_questions::Why;
-use ot_replies::Reply;
+use ot_replies::{Reply, Subject};
 use plain_list::List;
 use std::alloc::Global;
 
@@ -78,7 +78,7 @@ pub(crate) fn prove<H: Shelf>(
     ensures shelf { IsErrOf result Stop.Shelf → Rose (H.faults shelf.old) (H.faults shelf.new) }
     ensures unchanged { Unchanged H.holds H.offered H.faults shelf.old shelf.new }
 {
-    match load_function(alloc, shelf, function)? {
+    match load_function(alloc, shelf, Subject::First, function)? {
         Ok(rules) => Ok(reply_to_function(alloc, &rules, level, budget)?),
         Err(reply) => Ok(reply),
     }

@@ -27,7 +27,7 @@ use fn_rules::Rules;
 use ot_causal::closed_lists_are_told_by_their_counts;
 use ot_model::{NoMemory, Op};
 use ot_outside::Shelf;
-use ot_replies::{EventFault, FileKind, Reply, SiteEnd};
+use ot_replies::{EventFault, FileKind, Reply, SiteEnd, Subject};
 use ot_session::{Make, Session, Take};
 use plain_list::List;
 use std::alloc::Global;
@@ -278,7 +278,7 @@ pub(crate) fn replay<H: Shelf>(
     ensures shelf { IsErrOf result Stop.Shelf → Rose (H.faults shelf.old) (H.faults shelf.new) }
     ensures unchanged { Unchanged H.holds H.offered H.faults shelf.old shelf.new }
 {
-    match load_function(alloc, shelf, function)? {
+    match load_function(alloc, shelf, Subject::First, function)? {
         Ok(rules) => Ok(reply_to_session_file(alloc, shelf, &rules, session)?),
         Err(reply) => Ok(reply),
     }

@@ -8,11 +8,11 @@ use Rattle.clap.specs.ValueTests.{is_unsigned_in}
 use Rattle.clap.specs.Words.{Row, first_of}
 use Rattle.clap.specs.declared.builder.value_parser.ValueParser.TheVariants.{Unsigned}
 use Rattle.fn_rules.specs.declared.function.Level.{Level}
-use Rattle.ot_words.specs.Commands.{Asked, Prove, Check, Integrate, Replay, Hub, Drill}
+use Rattle.ot_words.specs.Commands.{Asked, Prove, Check, Integrate, Replay, Hub, Audit, Same, Drill}
 use Rattle.ot_drill.specs.declared.limits.TheConstants.{MOST_ROUNDS}
 use Rattle.clap_words.specs.Found.{found_by}
-use Rattle.ot_words.specs.Words.{IsWithinBounds, asked_by, check_in, drill_app, drill_by, drill_in, hub_in, integrate_in, level_by, most_questions}
-use Rattle.ot_words.specs.Words.{names_by, number_by, prove_app, prove_by, prove_in, replay_in}
+use Rattle.ot_words.specs.Words.{IsWithinBounds, asked_by, audit_in, check_in, drill_app, drill_by, drill_in, hub_in, integrate_in, level_by, most_questions}
+use Rattle.ot_words.specs.Words.{name_by, names_by, number_by, prove_app, prove_by, prove_in, replay_in, same_in}
 
 number_within : (most : ℕ) (text : List ℕ) (n : ℕ) → number_by most text ≡ Some n → n ≤ most
 number_within most text n is = go (is_unsigned_in 1 most text) refl is
@@ -69,11 +69,11 @@ one_of true one other first second = first
 one_of false one other first second = second
 
 names_are_within :
-    (command : List ℕ → List ℕ → Asked) → ((one other : List ℕ) → IsWithinBounds (command one other))
-    → (names : Option (List ℕ × List ℕ)) → IsWithin (option_map (λ n. command n.0 n.1) names)
+    {X : Type 0} (command : X → Asked) → ((x : X) → IsWithinBounds (command x)) → (names : Option X)
+    → IsWithin (option_map command names)
 names_are_within command free None asked is = absurd (cc)
 names_are_within command free (Some n) asked is =
-    let same : command n.0 n.1 ≡ asked = cc in subst (λ (a : Asked). IsWithinBounds a) same (free n.0 n.1)
+    let same : command n ≡ asked = cc in subst (λ (a : Asked). IsWithinBounds a) same (free n)
 
 proof_is_within :
     (level : Level) (budget : Option ℕ) (file : Option (List ℕ)) → ((b : ℕ) → budget ≡ Some b → b ≤ most_questions)
@@ -114,11 +114,14 @@ within_bounds [] = none_is_within
 within_bounds (word ∷ words) =
     one_of (bytes_eq word (codes "prove")) (prove_in words) _ (proofs_are_within words)
     (one_of (bytes_eq word (codes "check")) (check_in words) _
-    (names_are_within Check (λ one other. tt) (names_by (codes "check") words))
+    (names_are_within (λ n. Check n.0 n.1) (λ n. tt) (names_by (codes "check") words))
     (one_of (bytes_eq word (codes "integrate")) (integrate_in words) _
-    (names_are_within Integrate (λ one other. tt) (names_by (codes "integrate") words))
+    (names_are_within (λ n. Integrate n.0 n.1) (λ n. tt) (names_by (codes "integrate") words))
     (one_of (bytes_eq word (codes "replay")) (replay_in words) _
-    (names_are_within Replay (λ one other. tt) (names_by (codes "replay") words))
+    (names_are_within (λ n. Replay n.0 n.1) (λ n. tt) (names_by (codes "replay") words))
     (one_of (bytes_eq word (codes "hub")) (hub_in words) _
-    (names_are_within Hub (λ one other. tt) (names_by (codes "hub") words))
-    (one_of (bytes_eq word (codes "drill")) (drill_in words) None (drills_are_within words) none_is_within)))))
+    (names_are_within (λ n. Hub n.0 n.1) (λ n. tt) (names_by (codes "hub") words))
+    (one_of (bytes_eq word (codes "audit")) (audit_in words) _ (names_are_within Audit (λ n. tt) (name_by (codes "audit") words))
+    (one_of (bytes_eq word (codes "same")) (same_in words) _
+    (names_are_within (λ n. Same n.0 n.1) (λ n. tt) (names_by (codes "same") words))
+    (one_of (bytes_eq word (codes "drill")) (drill_in words) None (drills_are_within words) none_is_within)))))))

@@ -2,9 +2,9 @@
 use Rattle.std.proofs.Common.{◌≡◌, [], ◌∷◌, Some, None, codes, refl}
 use Rattle.clap.proofs.OnLiterals.{clap_on_literals}
 use Rattle.fn_rules.specs.declared.function.Level.TheVariants.{Tp1, Tp2}
-use Rattle.ot_words.specs.Commands.{Prove, Check, Integrate}
 use Rattle.clap_words.specs.Found.{found_by}
-use Rattle.ot_words.specs.Words.{asked_by, names_by, prove_in}
+use Rattle.ot_words.specs.Commands.{Prove, Check, Integrate, Audit, Same}
+use Rattle.ot_words.specs.Words.{asked_by, name_by, names_by, prove_in}
 
 -- two file names, of which the empty word and `-` are such
 two_names : asked_by (codes "check" ∷ codes "a" ∷ codes "b" ∷ []) ≡ Some (Check (codes "a") (codes "b"))
@@ -23,6 +23,18 @@ behind_dashes = refl
 between_dashes : asked_by (codes "check" ∷ codes "a" ∷ codes "--" ∷ codes "--tp1" ∷ []) ≡ Some (Check (codes "a") (codes "--tp1"))
 unfolding clap_on_literals names_by found_by
 between_dashes = refl
+
+one_file : asked_by (codes "audit" ∷ codes "a" ∷ []) ≡ Some (Audit (codes "a"))
+unfolding clap_on_literals name_by found_by
+one_file = refl
+
+one_file_too_many : asked_by (codes "audit" ∷ codes "a" ∷ codes "b" ∷ []) ≡ None
+unfolding clap_on_literals name_by found_by
+one_file_too_many = refl
+
+one_name_twice : asked_by (codes "same" ∷ codes "a" ∷ codes "a" ∷ []) ≡ Some (Same (codes "a") (codes "a"))
+unfolding clap_on_literals names_by found_by
+one_name_twice = refl
 
 no_names : asked_by (codes "check" ∷ codes "--" ∷ []) ≡ None
 unfolding clap_on_literals names_by found_by

@@ -15,6 +15,10 @@ pub data Asked : Type 0 where
   Replay : List ℕ → List ℕ → Asked
   -- of a function's file and a hub's file: the events are run
   Hub : List ℕ → List ℕ → Asked
+  -- of a function's file: what its guards reach is looked for
+  Audit : List ℕ → Asked
+  -- of two functions' files: the functions are compared
+  Same : List ℕ → List ℕ → Asked
   -- the workload of a number is gone through
   Drill : ℕ → Asked
 
@@ -24,4 +28,6 @@ asked_of (rust.Check function certificate) = Check function.now certificate.now
 asked_of (rust.Integrate function case) = Integrate function.now case.now
 asked_of (rust.Replay function session) = Replay function.now session.now
 asked_of (rust.Hub function hub) = Hub function.now hub.now
+asked_of (rust.Audit function) = Audit function.now
+asked_of (rust.Same function other) = Same function.now other.now
 asked_of (rust.Drill number) = Drill number

@@ -10,7 +10,7 @@ use Rattle.clap_words.specs.Found.{found_by}
 use Rattle.fn_rules.specs.declared.function.Level.{Level}
 use Rattle.fn_rules.specs.declared.function.Level.TheVariants.{Tp1, Tp2}
 use Rattle.ot_drill.specs.declared.limits.TheConstants.{MOST_ROUNDS}
-use Rattle.ot_words.specs.Commands.{Asked, Prove, Check, Integrate, Replay, Hub, Drill}
+use Rattle.ot_words.specs.Commands.{Asked, Prove, Check, Integrate, Replay, Hub, Audit, Same, Drill}
 
 -- the clap command of a name, with no option for help and no arguments
 abbrev pub bare_app : List ℕ → App
@@ -20,6 +20,10 @@ bare_app name =
 -- a required argument
 abbrev pub required_rule : List ℕ → Rule
 required_rule id = record (new_rule id) { required = true }
+
+-- the clap command of a name that takes one file name
+abbrev pub one_file : List ℕ → App
+one_file name = with_rule (bare_app name) (required_rule (codes "function"))
 
 -- the clap command of a name that takes two file names
 abbrev pub two_files : List ℕ → App
@@ -57,6 +61,10 @@ drill_app = with_rule (bare_app (codes "drill")) number_rule
 -- the values of both arguments, if they are there
 abbrev pub values_in : List Row → Option (List ℕ × List ℕ)
 values_in rows = option_and_then (λ a. option_map (λ b. (a, b)) (first_of (codes "second") rows)) (first_of (codes "first") rows)
+
+-- the file name in the words behind a command's name
+unfoldable pub name_by : List ℕ → List (List ℕ) → Option (List ℕ)
+name_by name words = option_and_then (first_of (codes "function")) (found_by (one_file name) words)
 
 -- the two file names in the words behind a command's name
 unfoldable pub names_by : List ℕ → List (List ℕ) → Option (List ℕ × List ℕ)
@@ -100,6 +108,12 @@ replay_in words = option_map (λ names. Replay names.0 names.1) (names_by (codes
 abbrev pub hub_in : List (List ℕ) → Option Asked
 hub_in words = option_map (λ names. Hub names.0 names.1) (names_by (codes "hub") words)
 
+abbrev pub audit_in : List (List ℕ) → Option Asked
+audit_in words = option_map Audit (name_by (codes "audit") words)
+
+abbrev pub same_in : List (List ℕ) → Option Asked
+same_in words = option_map (λ names. Same names.0 names.1) (names_by (codes "same") words)
+
 -- the command that words name: the first word says which, and the others are its arguments
 abbrev pub asked_by : List (List ℕ) → Option Asked
 asked_by [] = None
@@ -109,8 +123,10 @@ asked_by (word ∷ words) =
     else (if bytes_eq word (codes "integrate") then integrate_in words
     else (if bytes_eq word (codes "replay") then replay_in words
     else (if bytes_eq word (codes "hub") then hub_in words
+    else (if bytes_eq word (codes "audit") then audit_in words
+    else (if bytes_eq word (codes "same") then same_in words
     else (if bytes_eq word (codes "drill") then drill_in words
-    else None)))))
+    else None)))))))
 
 -- the number that is asked for is within its bounds
 abbrev pub IsWithinBounds : Asked → Type 0

@@ -52,6 +52,21 @@ pub enum Command<'a> {
         hub: &'a str,
     },
 
+    /// What the guards of a function reach is looked for.
+    Audit {
+        /// The name of the function's file.
+        function: &'a str,
+    },
+
+    /// Two functions are compared.
+    Same {
+        /// The name of the first function's file.
+        function: &'a str,
+
+        /// The name of the second function's file.
+        other: &'a str,
+    },
+
     /// The workload that is generated from a number is gone through.
     Drill {
         /// The number.

@@ -4,8 +4,8 @@ ghost use Rattle.clap.specs.Words.{app_of, first_of, found_of, rows_of, rule_of}
 ghost use Rattle.ot_drill.specs.declared.limits.TheConstants.{MOST_ROUNDS};
 ghost use Rattle.ot_words.specs.Commands.{asked_of};
 ghost use Rattle.clap.specs.declared.builder.value_parser.ValueParser.TheVariants.{Unsigned};
-ghost use Rattle.ot_words.specs.Words.{asked_by, bare_app, budget_rule, check_in, drill_app, drill_by, drill_in, hub_in, integrate_in, level_by};
-ghost use Rattle.ot_words.specs.Words.{most_questions, names_by, number_by, number_rule, prove_app, prove_by, prove_in, replay_in, required_rule, tp1_rule, two_files, values_in};
+ghost use Rattle.ot_words.specs.Words.{asked_by, audit_in, bare_app, budget_rule, check_in, drill_app, drill_by, drill_in, hub_in, integrate_in, level_by};
+ghost use Rattle.ot_words.specs.Words.{most_questions, name_by, names_by, number_by, number_rule, one_file, prove_app, prove_by, prove_in, replay_in, required_rule, same_in, tp1_rule, two_files, values_in};
 
 use crate::command::Command;
 use clap::builder::ValueParser;
@@ -101,7 +101,18 @@ fn drill_app<'a>(alloc: Global) -> Result<clap::Command<'a>, NoMemory>
     Ok(whole)
 }
 
-// The clap command of a name, which has no options, not even for help, and takes two file names.
+// The clap command of a name, which has no options, not even for help, and takes one file name.
+fn one_file(alloc: Global, name: &str) -> Result<clap::Command<'_>, NoMemory>
+    ensures { IfOk result (λ c. app_of c ≡ one_file name.entry.now) }
+{
+    let bare = clap::Command::new(alloc, name)
+        .no_binary_name(true)
+        .disable_help_flag(true);
+    let function = Arg::new(alloc, "function").required(true);
+    bare.arg(function)
+}
+
+// The same, for two file names.
 fn two_files(alloc: Global, name: &str) -> Result<clap::Command<'_>, NoMemory>
     ensures { IfOk result (λ c. app_of c ≡ two_files name.entry.now) }
 {
@@ -125,6 +136,22 @@ fn values_in<'a>(matches: &ArgMatches<'a>) -> Option<(&'a str, &'a str)>
     ensures { option_map (λ v. (v.0.now, v.1.now)) result ≡ values_in (rows_of (found_of matches.now)) }
 {
     Some((value_of(matches, "first")?, value_of(matches, "second")?))
+}
+
+// The file name in the words behind a command's name.
+#[tactic(auto, unfolding(crate::specs::Words::name_by))]
+fn one_name<'a>(
+    alloc: Global,
+    name: &'a str,
+    words: &'a [String],
+) -> Result<Option<&'a str>, NoMemory>
+    ensures { IfOk result (λ found. option_map (λ s. s.now) found
+        ≡ name_by name.entry.now (map string_bytes words.entry.now)) }
+{
+    match matches_in(one_file(alloc, name)?, words)? {
+        Some(matches) => Ok(value_of(&matches, "function")),
+        None => Ok(None),
+    }
 }
 
 // The two file names in the words behind a command's name.
@@ -232,6 +259,26 @@ fn hub_in<'a>(alloc: Global, words: &'a [String]) -> Result<Option<Command<'a>>,
     }
 }
 
+// `audit FUNCTION`
+fn audit_in<'a>(alloc: Global, words: &'a [String]) -> Result<Option<Command<'a>>, NoMemory>
+    ensures { IfOk result (λ command. option_map asked_of command ≡ audit_in (map string_bytes words.entry.now)) }
+{
+    match one_name(alloc, "audit", words)? {
+        Some(function) => Ok(Some(Command::Audit { function })),
+        None => Ok(None),
+    }
+}
+
+// `same FUNCTION OTHER`
+fn same_in<'a>(alloc: Global, words: &'a [String]) -> Result<Option<Command<'a>>, NoMemory>
+    ensures { IfOk result (λ command. option_map asked_of command ≡ same_in (map string_bytes words.entry.now)) }
+{
+    match two_names(alloc, "same", words)? {
+        Some((function, other)) => Ok(Some(Command::Same { function, other })),
+        None => Ok(None),
+    }
+}
+
 // The number that clap finds.
 fn drill_by<'a>(matches: &ArgMatches<'a>) -> Option<Command<'a>>
     ensures { option_map asked_of result ≡ drill_by (rows_of (found_of matches.now)) }
@@ -266,6 +313,8 @@ pub fn read_words<'a>(alloc: Global, words: &'a [String]) -> Result<Option<Comma
         "integrate" => integrate_in(alloc, arguments),
         "replay" => replay_in(alloc, arguments),
         "hub" => hub_in(alloc, arguments),
+        "audit" => audit_in(alloc, arguments),
+        "same" => same_in(alloc, arguments),
         "drill" => drill_in(alloc, arguments),
         _ => Ok(None),
     }

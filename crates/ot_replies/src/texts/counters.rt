@@ -81,7 +81,8 @@ fn write_deletion(alloc: Global, at: i64, site: u32, out: &mut Vec<u8>) -> Resul
     Ok(())
 }
 
-fn write_op(alloc: Global, op: &Op, out: &mut Vec<u8>) -> Result<(), NoMemory>
+/// Writes an operation.
+pub(crate) fn write_op(alloc: Global, op: &Op, out: &mut Vec<u8>) -> Result<(), NoMemory>
     ensures { OnOk result (out.new.items ≡ out.old.items ++ op_text op.now) }
 {
     match *op {
@@ -139,8 +140,8 @@ fn write_op_line(alloc: Global, number: usize, op: &Op, out: &mut Vec<u8>) -> Re
     Ok(())
 }
 
-// A line for each operation; they are counted from 1.
-fn write_ops(alloc: Global, ops: &[Op], out: &mut Vec<u8>) -> Result<(), NoMemory>
+/// Writes a line for each operation; they are counted from 1.
+pub(crate) fn write_ops(alloc: Global, ops: &[Op], out: &mut Vec<u8>) -> Result<(), NoMemory>
     ensures { OnOk result (out.new.items ≡ out.old.items ++ op_lines 1 ops.now) }
 {
     for (place, op) in ops.iter().enumerate() {
@@ -149,8 +150,8 @@ fn write_ops(alloc: Global, ops: &[Op], out: &mut Vec<u8>) -> Result<(), NoMemor
     Ok(())
 }
 
-// The line of a side, behind its name.
-fn write_side_line(
+/// Writes the line of a side, behind its name.
+pub(crate) fn write_side_line(
     alloc: Global,
     name: &str,
     side: &Side,

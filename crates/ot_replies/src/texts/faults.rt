@@ -1,12 +1,13 @@
 //! The lines of faults.
 ghost use Rattle.std.specs.Prelude.{◌≡◌, [], string_bytes, IfOk, OnOk};
 ghost use Rattle.case_json.specs.declared.fault.CaseFault.TheVariants.{Pair};
-ghost use Rattle.ot_replies.specs.FaultTexts.{case_text, case_fault_text, kind_word, name_word, refusal_text, refusal_word, text_fault_text};
+ghost use Rattle.ot_replies.specs.FaultTexts.{case_text, case_fault_text, kind_word, name_word, refusal_text, refusal_word, subject_word, text_fault_text};
 
+use crate::reply::Subject;
 use case_json::{CaseFault, Name};
 use fn_text::{FaultKind, TextFault};
-use ot_judge::Refusal;
 use ot_model::NoMemory;
+use ot_sections::Refusal;
 use std::alloc::Global;
 
 fn kind_word(kind: FaultKind) -> &'static str
@@ -75,19 +76,30 @@ pub(crate) fn write_refusal(
     Ok(())
 }
 
+fn subject_word(subject: Subject) -> &'static str
+    ensures { result.now ≡ subject_word subject }
+{
+    match subject {
+        Subject::First => "function",
+        Subject::Second => "second",
+    }
+}
+
 /// Writes the line of a function whose text has a fault.
 pub(crate) fn write_text_fault(
     alloc: Global,
+    subject: Subject,
     fault: &TextFault,
     out: &mut Vec<u8>,
 ) -> Result<(), NoMemory>
     requires { out.old.items ≡ [] }
-    ensures { OnOk result (out.new.items ≡ text_fault_text fault.now) }
+    ensures { OnOk result (out.new.items ≡ text_fault_text subject fault.now) }
 {
+    let file = subject_word(subject);
     let word = kind_word(fault.kind);
     let line = fault.line;
     let column = fault.column;
-    let text = format!(in alloc; "function {line}:{column} {word}\n")?;
+    let text = format!(in alloc; "{file} {line}:{column} {word}\n")?;
     out.extend_from_slice(text.as_bytes())?;
     Ok(())
 }

@@ -1,6 +1,7 @@
 -- The function is read, and then the case.
 use Rattle.std.proofs.Common.{inl, rules}
 use Rattle.fn_rules.specs.Rules.{function_of}
+use Rattle.ot_replies.specs.declared.reply.Subject.TheVariants.{First}
 use Rattle.ot_replies.specs.declared.reply.FileKind.TheVariants as files
 use Rattle.ot_top.specs.Replies.{IsReplyToCase, IsReplyToCaseFile}
 use Rattle.ot_top.proofs.Behind.{then_gets}
@@ -9,7 +10,7 @@ use Rattle.ot_top.proofs.integrate.integrate.Goals as goal
 
 pub returns-in_ok-reply_to_case_file-in-Ok-clause-ok : goal.returns-in_ok-reply_to_case_file-in-Ok-clause-ok
 returns-in_ok-reply_to_case_file-in-Ok-clause-ok g c =
-    then_gets (g.H.Shelf.holds c.args.shelf.now c.args.function.now) (g.H.Shelf.holds c.args.shelf.now c.args.case.now)
+    then_gets First (g.H.Shelf.holds c.args.shelf.now c.args.function.now) (g.H.Shelf.holds c.args.shelf.now c.args.case.now)
     (g.H.Shelf.holds c.load_function.new.shelf c.args.case.now) (function_of c.in-Ok.rules)
     (λ told f. IsReplyToCaseFile f told c.in_ok-reply_to_case_file-in-Ok.field-0) c.in_ok-reply_to_case_file-in-Ok.field-0
     (c.load_function.ensures.unchanged.same_files c.args.case.now) (search rules) c.in_ok-reply_to_case_file-in-Ok.ensures.ok
@@ -20,7 +21,7 @@ returns-in-Err-clause-given g c = (
   λ holds tells. (
     refused_first (g.H.Shelf.reads c.args.shelf.now) (g.H.Shelf.reads c.load_function.new.shelf) c.args.function.now
         (g.H.Shelf.reads c.load_function.new.shelf).bytes (inl c.load_function.ensures.read) (holds c.args.function.now) tells.0 c.in-Err.reply
-        (λ f. IsReplyToCaseFile f (holds c.args.case.now) c.in-Err.reply) (search rules),
+        (λ f. IsReplyToCaseFile f (holds c.args.case.now) c.in-Err.reply) First (search rules),
     tt,
   ),
 )
@@ -34,7 +35,7 @@ returns-in_ok-reply_to_case_file-in-Ok-clause-given g c =
       have_read_both old mid new c.args.function.now c.args.case.now c.load_function.ensures.read c.reply_to_case_file.ensures.read,
       λ holds tells. (
         then_given old mid new c.args.function.now c.args.case.now c.load_function.ensures.read c.reply_to_case_file.ensures.read
-            (holds c.args.function.now) tells.0 (function_of c.in-Ok.rules) (search rules) (holds c.args.case.now) tells.1
+            (holds c.args.function.now) tells.0 (function_of c.in-Ok.rules) (search rules) First (holds c.args.case.now) tells.1
             (λ told f. IsReplyToCaseFile f told r) r
             (λ agrees. file_told files.Case (λ bytes. IsReplyToCase (function_of c.in-Ok.rules) bytes r) (holds c.args.case.now) new.bytes agrees r)
             c.in_ok-reply_to_case_file-in-Ok.ensures.given,

@@ -1,3 +1,4 @@
+use Rattle.ot_top.proofs.OneAudit.{audit_replied_once, same_replied_once}
 use Rattle.ot_top.proofs.OneDrill.{drill_replied_once}
 use Rattle.ot_top.proofs.OneJudgement.{check_replied_once}
 use Rattle.ot_top.specs.Hubs.{IsReplyToHub}
@@ -26,6 +27,16 @@ pub returns-clause-hub : goal.returns-clause-hub
 returns-clause-hub c =
     λ holds name hub_name bytes contents one other told hub_told first second.
     file_replied_once holds name hub_name bytes contents one other told hub_told IsReplyToHub c.hubs_have_one_reply.ensures first second
+
+pub returns-clause-audit : goal.returns-clause-audit
+returns-clause-audit c =
+    λ holds name bytes one other told first second.
+    audit_replied_once c.findings_are_one.ensures.audited holds name bytes one other told first second
+
+pub returns-clause-same : goal.returns-clause-same
+returns-clause-same c =
+    λ holds name other_name bytes contents one other told other_told first second.
+    same_replied_once c.findings_are_one.ensures.compared holds name other_name bytes contents one other told other_told first second
 
 pub returns-clause-prove : goal.returns-clause-prove
 returns-clause-prove c =

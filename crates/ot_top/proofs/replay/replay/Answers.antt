@@ -2,6 +2,7 @@
 use Rattle.std.proofs.Common.{inl, rules, subst, Some}
 use Rattle.fn_rules.specs.Functions.{Function}
 use Rattle.fn_rules.specs.Rules.{function_of}
+use Rattle.ot_replies.specs.declared.reply.Subject.TheVariants.{First}
 use Rattle.ot_replies.specs.declared.reply.FileKind.TheVariants as files
 use Rattle.ot_top.specs.Replies.{IsReplyToSessionFile}
 use Rattle.ot_top.specs.Sessions.{IsReplyToSession}
@@ -13,7 +14,7 @@ use Rattle.ot_top.proofs.replay.replay.Goals as goal
 
 pub returns-in_ok-reply_to_session_file-in-Ok-clause-ok : goal.returns-in_ok-reply_to_session_file-in-Ok-clause-ok
 returns-in_ok-reply_to_session_file-in-Ok-clause-ok g c =
-    then_gets (g.H.Shelf.holds c.args.shelf.now c.args.function.now) (g.H.Shelf.holds c.args.shelf.now c.args.session.now)
+    then_gets First (g.H.Shelf.holds c.args.shelf.now c.args.function.now) (g.H.Shelf.holds c.args.shelf.now c.args.session.now)
     (g.H.Shelf.holds c.load_function.new.shelf c.args.session.now) (function_of c.in-Ok.rules)
     (λ told f. IsReplyToSessionFile f told c.in_ok-reply_to_session_file-in-Ok.field-0) c.in_ok-reply_to_session_file-in-Ok.field-0
     (c.load_function.ensures.unchanged.same_files c.args.session.now) (search rules) c.in_ok-reply_to_session_file-in-Ok.ensures.ok
@@ -24,8 +25,8 @@ returns-in-Err-clause-given g c = (
   λ holds tells. (
     refused_first (g.H.Shelf.reads c.args.shelf.now) (g.H.Shelf.reads c.load_function.new.shelf) c.args.function.now
         (g.H.Shelf.reads c.load_function.new.shelf).bytes (inl c.load_function.ensures.read) (holds c.args.function.now) tells.0 c.in-Err.reply
-        (λ f. IsReplyToSessionFile f (holds c.args.session.now) c.in-Err.reply) (search rules),
-    λ bytes f told is agree. function_refused-steady (Some (g.H.Shelf.reads c.load_function.new.shelf).bytes) c.in-Err.reply (search rules),
+        (λ f. IsReplyToSessionFile f (holds c.args.session.now) c.in-Err.reply) First (search rules),
+    λ bytes f told is agree. function_refused-steady First (Some (g.H.Shelf.reads c.load_function.new.shelf).bytes) c.in-Err.reply (search rules),
   ),
 )
 
@@ -38,7 +39,7 @@ returns-in_ok-reply_to_session_file-in-Ok-clause-given g c =
       have_read_both old mid new c.args.function.now c.args.session.now c.load_function.ensures.read c.reply_to_session_file.ensures.read,
       λ holds tells. (
         then_given old mid new c.args.function.now c.args.session.now c.load_function.ensures.read c.reply_to_session_file.ensures.read
-            (holds c.args.function.now) tells.0 (function_of c.in-Ok.rules) (search rules) (holds c.args.session.now) tells.1
+            (holds c.args.function.now) tells.0 (function_of c.in-Ok.rules) (search rules) First (holds c.args.session.now) tells.1
             (λ told f. IsReplyToSessionFile f told r) r
             (λ agrees. file_told files.Case (λ bytes. IsReplyToSession (function_of c.in-Ok.rules) bytes r) (holds c.args.session.now) new.bytes agrees r)
             c.in_ok-reply_to_session_file-in-Ok.ensures.given,
@@ -54,7 +55,7 @@ returns-in_ok-reply_to_session_file-in-Ok-clause-given g c =
 pub returns-in-Err-clause-steady : goal.returns-in-Err-clause-steady
 returns-in-Err-clause-steady g c =
     λ bytes f told is agree.
-    function_refused-steady (g.H.Shelf.holds c.args.shelf.now c.args.function.now) c.in-Err.reply (search rules)
+    function_refused-steady First (g.H.Shelf.holds c.args.shelf.now c.args.function.now) c.in-Err.reply (search rules)
 
 pub returns-in_ok-reply_to_session_file-in-Ok-clause-steady : goal.returns-in_ok-reply_to_session_file-in-Ok-clause-steady
 returns-in_ok-reply_to_session_file-in-Ok-clause-steady g c =
