@@ -1,10 +1,8 @@
 -- A property of all documents of a length holds of each of its obligations, so an obligation that fails there breaks it.
-use Rattle.std.proofs.Common.{◌≡◌, ◌↔◌, ℕ, ℤ, pos, Bool, true, false, ◌&&◌, is_none, IsTrue, Option, Some, [], ◌∷◌, List, length, sym, subst, ap, ◌∙◌}
+use Rattle.std.proofs.Common.{◌≡◌, ◌↔◌, ℕ, ℤ, pos, true, false, ◌&&◌, is_none, IsTrue, Option, Some, length, sym, subst, ap, ◌∙◌}
 use Rattle.std.proofs.lemmas.List.{length-replicate}
 use Rattle.std.proofs.lemmas.Bool.{and_parts, false≢true}
-use Rattle.ot_model.specs.declared.cell.Cell.{Cell}
 use Rattle.ot_model.specs.declared.op.Kind.{Kind}
-use Rattle.ot_model.specs.declared.op.Op.{Op}
 use Rattle.ot_model.specs.Cells.{live_cell}
 use Rattle.ot_model.specs.Effect.{IsEnabled}
 use Rattle.ot_model.specs.Operations.{kind_of}
@@ -15,7 +13,7 @@ use Rattle.fn_rules.specs.Functions.{Function, HasDeclaredKind, is_declared}
 use Rattle.fn_rules.specs.Obligations.{is_obligation}
 use Rattle.fn_rules.specs.Properties.{HasTp1At, HasTp2At}
 use Rattle.fn_rules.specs.Validity.{is_valid}
-use Rattle.ask_core.specs.Plans.{Plan, end_of, value}
+use Rattle.ask_core.specs.Plans.{end_of}
 use Rattle.ot_questions.specs.declared.why.Why.{Why}
 use Rattle.ot_questions.specs.Meaning.{HasPair, HasTriple, HoldsAtLength}
 use Rattle.ot_questions.specs.Obligation.{plan_of}

@@ -1,3 +1,13 @@
-mod LowShows
 mod Breaking
+mod Descents
+mod Endings
+mod FirstBytes
+mod Fronts
+mod HeaderFits
+mod LowRun
+mod LowShows
+mod OneHeader
+mod OneLow
+mod OneShort
+mod PartsListed
 mod Shorter

@@ -46,7 +46,7 @@ speaks_of_length f (Triple k l m) why w lead =
     (ask_all_enabled (a ∷ b ∷ c ∷ [])
     (ask_allowed f.head a b (ask_allowed f.head a c (ask_allowed f.head b c (ask_commute f a b c))))) w lead
 
-has_length : (ob : ObName) → length_name < length (floors_of ob)
+pub has_length : (ob : ObName) → length_name < length (floors_of ob)
 has_length (Pair k l) = omega arith
 has_length (Triple k l m) = omega arith
 

@@ -1,1 +1,5 @@
+pub mod Endings
+pub mod Headers
+pub mod Judgements
 pub mod Lows
+pub mod Shortest

@@ -1,6 +1,6 @@
 //! What low certificates show, and what the length of a failing end is. These functions work nothing out: their contracts
 //! are the laws.
-ghost use Rattle.std.specs.Prelude.{◌≡◌, ◌<◌, ◌≤ℤ◌, ◌-ℤ◌, ◌∷◌, ℕ, ℤ, pos, IsTrue, List, Some};
+ghost use Rattle.std.specs.Prelude.{◌≡◌, ◌<◌, ◌≤ℤ◌, ◌-ℤ◌, ◌∷◌, ℕ, ℤ, pos, IsTrue, List, Ok, Result, Some};
 ghost use Rattle.diff_graph.specs.declared.lit.Lit.{Lit};
 ghost use Rattle.diff_graph.specs.Literals.{AreMet, IsPossible};
 ghost use Rattle.diff_graph.specs.Solutions.{AreLeast, valuation_of};
@@ -14,13 +14,19 @@ ghost use Rattle.ot_questions.specs.declared.why.Why.{Why};
 ghost use Rattle.ot_questions.specs.Names.{length_name, zero_name};
 ghost use Rattle.ot_questions.specs.Obligation.{plan_below, plan_of};
 ghost use Rattle.ot_values.specs.Values.{floors_of};
+ghost use Rattle.ot_sections.specs.declared.refusal.JudgeError.{JudgeError};
+ghost use Rattle.ot_least.specs.declared.short.Short.{Short};
+ghost use Rattle.ot_least.specs.Judgements.{IsJudgedLow, IsLowJudgement};
 ghost use Rattle.ot_least.specs.Lows.{HasAt, IsLow, level_of};
+ghost use Rattle.ot_least.specs.Shortest.{AreAlike, IsShort};
 
 use ask_core::{answers_lead_to_ends, fitting_trees_hold};
+use ot_decide::obligations_have_one_question_list;
 use ot_questions::{
     Why, bounded_plans_mean_shorter_documents, pair_plans_mean_tp1, plans_compare_like_with_like,
     triple_plans_mean_tp2,
 };
+use ot_sections::{bytes_are_judged_once, sections_are_parts_that_fit};
 use ot_values::answers_have_least_values;
 
 /// A function that has a low certificate at a level has the level's property on every document of fewer cells than the
@@ -58,4 +64,33 @@ pub fn failing_ends_below_a_bound_are_shorter()
 {
     plans_compare_like_with_like();
     answers_have_least_values();
+}
+
+/// Bytes are a low certificate of a function at a level and a bound exactly where they begin with the first line of these,
+/// and what stands behind it is made of parts that fit up to the end.
+pub fn low_certificates_are_sections()
+    ensures parts { (f : Function) (level : Level) (bound : ℕ) (bytes : List ℕ) → IsLow bytes f level bound
+        → IsJudgedLow f (Ok tt) bytes level bound }
+    ensures certificate { (f : Function) (level : Level) (bound : ℕ) (bytes : List ℕ) → IsJudgedLow f (Ok tt) bytes level bound
+        → IsLow bytes f level bound }
+{
+    sections_are_parts_that_fit::<Why>();
+}
+
+/// Bytes have at most one judgement: they are a low certificate of a function at one level and one bound, or are refused at
+/// one offset for one cause, and never both.
+pub fn bytes_have_one_low_judgement()
+    ensures { (f : Function) (bytes : List ℕ) (one other : Result (Level × ℕ) JudgeError) → IsLowJudgement f bytes one
+        → IsLowJudgement f bytes other → one ≡ other }
+{
+    low_certificates_are_sections();
+    bytes_are_judged_once::<Why>();
+}
+
+/// Any two answers of the search for the shortest document, of one function and one budget, are one but for their
+/// certificates.
+pub fn functions_have_one_shortest_document()
+    ensures { (f : Function) (budget : ℕ) (one other : Short) → IsShort f budget one → IsShort f budget other → AreAlike one other }
+{
+    obligations_have_one_question_list();
 }

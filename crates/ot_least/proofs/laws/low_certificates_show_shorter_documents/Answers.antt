@@ -1,9 +1,9 @@
-use Rattle.std.proofs.Common.{◌<◌, ℕ, List}
+use Rattle.std.proofs.Common.{ℕ}
 use Rattle.fn_rules.specs.declared.function.Level.{Level}
 use Rattle.fn_rules.specs.declared.function.Level.TheVariants.{Tp1, Tp2}
 use Rattle.fn_rules.specs.Functions.{Function}
 use Rattle.ot_questions.specs.Meaning.{AllHoldAtLength}
-use Rattle.ot_least.specs.Lows.{HasAt, IsLow, parts_of}
+use Rattle.ot_least.specs.Lows.{HasAt, parts_of}
 use Rattle.ot_least.proofs.LowShows.{answers_hold_below}
 use Rattle.ot_least.proofs.laws.low_certificates_show_shorter_documents.Goals as goal
 

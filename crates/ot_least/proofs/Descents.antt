@@ -1,0 +1,230 @@
+-- What a turn of the search comes to: too many questions, a low certificate, or a failing end from which it goes on.
+use Rattle.std.specs.List.{AllByRecursion}
+use Rattle.std.specs.declared.alloc.Global.{Global}
+use Rattle.std.proofs.Common.{◌≡◌, ℕ, ℤ, pos, ◌+◌, ◌<◌, ◌≤◌, true, IsTrue, List, [], ◌∷◌, ◌++◌, length, drop, Option, Some, None, MatchOption, option_map, Vec, inl, inr, refl, sym, ap, subst, ◌∙◌, arith, length-append}
+use Rattle.std.specs.Option.{option_or}
+use Rattle.std.specs.Fmt.{decimal}
+use Rattle.std.proofs.lemmas.Fmt.{length-decimal-le}
+use Rattle.diff_graph.specs.declared.lit.Lit.{Lit}
+use Rattle.diff_graph.specs.Literals.{AreMet}
+use Rattle.diff_graph.specs.Solutions.{valuation_of}
+use Rattle.ot_model.specs.declared.op.Kind.{Kind}
+use Rattle.fn_rules.specs.declared.function.Level.{Level}
+use Rattle.fn_rules.specs.declared.function.Level.TheVariants.{Tp1, Tp2}
+use Rattle.fn_rules.specs.declared.function.ObName.{ObName}
+use Rattle.fn_rules.specs.declared.function.ObName.TheVariants.{Pair, Triple}
+use Rattle.fn_rules.specs.Functions.{Function}
+use Rattle.fn_rules.specs.Obligations.{is_obligation, obligations_of}
+use Rattle.fn_rules.specs.Properties.{HasTp1}
+use Rattle.fn_rules.specs.Validity.{is_valid}
+use Rattle.ask_core.specs.Leading.{LeadTo}
+use Rattle.ask_core.specs.Plans.{Plan, value}
+use Rattle.ask_core.specs.Questions.{FailingEnd, Questions}
+use Rattle.ask_core.specs.Trees.{AnswerTree, Fits}
+use Rattle.cert_text.specs.Certificates.{sections_text}
+use Rattle.cert_text.specs.Spelling.{end_text}
+use Rattle.ot_prove.specs.declared.outcome.Answer.{Answer}
+use Rattle.ot_prove.specs.Outcomes.{answered_by}
+use Rattle.ot_prove.proofs.Leads.{literals_lead}
+use Rattle.ot_questions.specs.declared.why.Why.{Why}
+use Rattle.ot_questions.specs.Meaning.{AllHold}
+use Rattle.ot_questions.specs.Names.{length_name, zero_name}
+use Rattle.ot_questions.specs.Obligation.{plan_below, plan_of}
+use Rattle.ot_sections.specs.declared.premise.TheConstants.{MAX_BOUND}
+use Rattle.ot_sections.specs.Certificates.{AreAnswers}
+use Rattle.ot_decide.specs.declared.verdict.Search.TheVariants as search
+use Rattle.ot_decide.specs.Proving.{AreSettled}
+use Rattle.ot_decide.specs.Verdicts.{AreAsked, FailingOb, ObQuestions, failing_in}
+use Rattle.ot_least.specs.declared.ending.Ending.{Ending}
+use Rattle.ot_least.specs.declared.short.Short.{Short}
+use Rattle.ot_least.specs.declared.short.Short.TheVariants as short
+use Rattle.ot_least.specs.Endings.{IsEnding, end_of}
+use Rattle.ot_least.specs.Lows.{HasAt, IsBroken, IsLow, level_of, low_header_text, parts_of}
+use Rattle.ot_least.specs.Shortest.{EndHasCells, Falls, IsLeast, behind_first, end_by}
+
+-- a property of documents of a length that fails is broken
+pub broken_at : (f : Function) (level : Level) (n : ℕ) → (level ≡ Tp2 → HasTp1 f) → ¬ HasAt f level n → IsBroken f level
+broken_at f Tp1 n first fails = λ has. fails (λ d a b len both. has d a b both)
+broken_at f Tp2 n first fails = (first refl, λ has. fails (λ d a b c len all. has d a b c all))
+
+-- a first line is short
+pub header_few : (level : Level) (bound : ℕ) → bound ≤ MAX_BOUND → length (low_header_text level bound) ≤ 17
+header_few Tp1 bound few =
+    omega (arith, length-decimal-le 4 bound (omega arith) (omega arith) (omega arith), length-append (decimal bound) (10 ∷ []))
+header_few Tp2 bound few =
+    omega (arith, length-decimal-le 4 bound (omega arith) (omega arith) (omega arith), length-append (decimal bound) (10 ∷ []))
+
+-- the failing end is one of the obligations that were asked
+module _ (P : ObName → Type 0) (plan : ObName → Plan Why) (x : FailingOb Why) where
+  abbrev IsEnd : Option (FailingOb Why) → Type 0
+  IsEnd o = o ≡ Some x
+
+  abbrev first_of : ObName → Option (FailingEnd Why) → Option (FailingOb Why) → Option (FailingOb Why)
+  first_of ob failing later = option_or (option_map (λ e. record { ob = ob; end = e }) failing) later
+
+  here_or_later :
+      (ob : ObName) (obs : List ObName) (q : Questions Why) (failing : Option (FailingEnd Why)) (lists : List (ObQuestions Why))
+      → P ob → ((later : List (ObQuestions Why)) → AreAsked plan obs later → IsEnd (failing_in later) → P x.ob) → q.failing ≡ failing
+      → MatchOption failing
+      ((later : List (ObQuestions Why)) × AreAsked plan obs later × (lists ≡ record { ob = ob; questions = q } ∷ later))
+      (λ _. lists ≡ record { ob = ob; questions = q } ∷ [])
+      → IsEnd (failing_in lists) → P x.ob
+  here_or_later ob obs q None lists here later fails (others, asked, is) end =
+      later others asked
+      (subst (λ (o : Option (FailingEnd Why)). IsEnd (first_of ob o (failing_in others))) fails
+      (subst (λ (l : List (ObQuestions Why)). IsEnd (failing_in l)) is end))
+  here_or_later ob obs q (Some e) lists here later fails is end =
+      let first : Some (record { ob = ob; end = e }) ≡ Some x =
+      subst (λ (o : Option (FailingEnd Why)). IsEnd (first_of ob o None)) fails
+      (subst (λ (l : List (ObQuestions Why)). IsEnd (failing_in l)) is end) in
+      let same : record { ob = ob; end = e } ≡ x = cc in
+      subst (λ (y : FailingOb Why). P y.ob) same here
+
+  pub end_is_listed :
+      (obs : List ObName) (lists : List (ObQuestions Why)) → AllByRecursion P obs → AreAsked plan obs lists → IsEnd (failing_in lists)
+      → P x.ob
+  end_is_listed [] lists all asked end = let none : None ≡ Some x = subst (λ (l : List (ObQuestions Why)). IsEnd (failing_in l)) asked end in cc
+  end_is_listed (ob ∷ obs) lists all (q, listed, joins) end =
+      here_or_later ob obs q q.failing lists all.0 (λ later asked. end_is_listed obs later all.1 asked) refl joins end
+
+answers_behind : (answers : List Answer) → answered_by (drop 1 answers) ≡ drop 1 (answered_by answers)
+answers_behind [] = refl
+answers_behind (a ∷ rest) = refl
+
+end_is :
+    (ob other : ObName) (answers others : List Answer) (why cause : Why) → other ≡ ob → others ≡ drop 1 answers → cause ≡ why
+    → end_by other others cause ≡ behind_first (end_by ob answers why)
+end_is ob other answers others why cause same is are =
+    ap (λ (o : ObName). end_by o others cause) same ∙ ap (λ (l : List Answer). end_by ob l cause) is
+    ∙ ap (λ (w : Why). end_by ob (drop 1 answers) w) are
+    ∙ ap (λ (l : List Lit). record { ob = ob; end = record { answers = l; why = why } }) (answers_behind answers)
+
+module _ (f : Function) (budget : ℕ) (e : Ending) (obs : List ObName) (are : obs ≡ parts_of f.head (level_of e.ob))
+    (before after : List ℕ) where
+  abbrev plan : ObName → Plan Why
+  plan = plan_below f (Some e.cells)
+
+  abbrev pub FallsTo : Short → Type 0
+  FallsTo answer = (turns : List (List (ObQuestions Why))) × Falls f budget (end_of e) e.cells turns answer
+
+  asked_there : (lists : List (ObQuestions Why)) → AreAsked plan obs lists → AreAsked plan (parts_of f.head (level_of e.ob)) lists
+  asked_there lists asked = subst (λ (l : List ObName). AreAsked plan l lists) are asked
+
+  pub falls_spent : AreSettled f.head plan obs budget before after search.Spent → FallsTo short.Spent
+  falls_spent (lists, asked, more) = (lists ∷ [], (asked_there lists asked, inl (more, refl)))
+
+  -- all hold
+  module _ (cert : Vec ℕ Global) (begun : before ≡ low_header_text (level_of e.ob) e.cells) (ended : cert.items ≡ after ++ end_text)
+      (settled : AreSettled f.head plan obs budget before after search.AllHold) where
+    abbrev low_trees : List AnswerTree
+    low_trees = settled.2.trees
+
+    text : cert.items ≡ low_header_text (level_of e.ob) e.cells ++ sections_text (parts_of f.head (level_of e.ob)) low_trees ++ end_text
+    text =
+        ended ∙ ap (λ (x : List ℕ). x ++ end_text) (settled.2.written ∙ ap (λ (x : List ℕ). x ++ sections_text obs low_trees) begun)
+        ∙ ap (λ (l : List ObName). low_header_text (level_of e.ob) e.cells ++ sections_text l low_trees ++ end_text) are
+
+    fit : AreAnswers plan (parts_of f.head (level_of e.ob)) low_trees
+    fit = subst (λ (l : List ObName). AreAnswers plan l low_trees) are settled.2.fit
+
+    pub falls_least : FallsTo (short.Least e.ob e.answers e.why e.cells cert)
+    falls_least = (
+      settled.0 ∷ [],
+      (
+        asked_there settled.0 settled.1,
+        inr
+            (inl (
+              settled.2.within,
+              settled.2.none_fails,
+              (refl, refl, record { trees = low_trees; fit = fit; ask = settled.2.ask; text = text }),
+            )),
+      ),
+    )
+
+    pub is_low : e.cells ≤ MAX_BOUND → IsLow cert.items f (level_of e.ob) e.cells
+    is_low bounded = (bounded, (low_trees, fit, text))
+
+    pub few_bytes : e.cells ≤ MAX_BOUND → length obs ≤ 24 → budget ≤ 1000000 → length cert.items ≤ 83886080
+    few_bytes bounded few limit =
+        let header : length before ≤ 17 = subst (λ (x : List ℕ). length x ≤ 17) (sym begun) (header_few (level_of e.ob) e.cells bounded) in
+        let lines : length after ≡ length before + length (sections_text obs low_trees) =
+        ap length settled.2.written ∙ length-append before (sections_text obs low_trees) in
+        let whole : length cert.items ≡ length after + length end_text = ap length ended ∙ length-append after end_text in
+        omega (arith, settled.2.few_bytes, settled.2.within)
+
+  -- one fails: the search goes on from there
+  module _ (ob : ObName) (answers : Vec Answer Global) (why : Why)
+      (settled : AreSettled f.head plan obs budget before after (search.Fails ob answers why)) where
+    pub same_level : AllByRecursion (λ o. level_of o ≡ level_of e.ob) (parts_of f.head (level_of e.ob)) → level_of ob ≡ level_of e.ob
+    same_level all =
+        end_is_listed (λ o. level_of o ≡ level_of e.ob) plan (end_by ob answers.items why) (parts_of f.head (level_of e.ob)) settled.0 all
+        (asked_there settled.0 settled.1) settled.2.1.first
+
+    pub falls_on :
+        (next : Ending) (answer : Short) → IsEnding f next → next.ob ≡ ob → next.answers.items ≡ drop 1 answers.items → next.why ≡ why
+        → (turns : List (List (ObQuestions Why))) × Falls f budget (end_of next) next.cells turns answer → FallsTo answer
+    falls_on next answer ending same is because (turns, falls) =
+        let there : end_of next ≡ behind_first (end_by ob answers.items why) =
+        end_is ob next.ob answers.items next.answers.items why next.why same is because in (
+          settled.0 ∷ turns,
+          (
+            asked_there settled.0 settled.1,
+            inr
+                (inr (
+                  settled.2.0,
+                  (
+                    end_by ob answers.items why,
+                    next.cells,
+                    settled.2.1.first,
+                    (
+                      subst (λ (x : FailingOb Why). EndHasCells x next.cells) there ending.length,
+                      subst (λ (x : FailingOb Why). Falls f budget x next.cells turns answer) there falls,
+                    ),
+                  ),
+                )),
+          ),
+        )
+
+-- a failing end with a low certificate of as many cells is a least one
+module _ (f : Function) (valid : IsTrue (is_valid f))
+    (breaks : (ob : ObName) (why : Why) (w : List Lit) (v : ℕ → ℤ) (n : ℕ) → IsTrue (is_obligation f.head ob) → LeadTo why (plan_of f ob) w
+    → v zero_name ≡ pos 0 → v length_name ≡ pos n → AreMet v w → ¬ HasAt f (level_of ob) n) where
+  pub breaks_at : (e : Ending) → IsEnding f e → ¬ HasAt f (level_of e.ob) e.cells
+  breaks_at e ending =
+      let (values, least, is) = ending.length in
+      breaks e.ob e.why (answered_by e.answers.items) (valuation_of values) e.cells ending.listed
+      (literals_lead e.why (plan_of f e.ob) e.answers.items ending.way) least.zero_first is least.met
+
+  pub is_least :
+      ((bytes : List ℕ) (level : Level) (bound n : ℕ) → IsLow bytes f level bound → n < bound → HasAt f level n)
+      → (e : Ending) (cert : List ℕ) → IsEnding f e → IsBroken f (level_of e.ob) → IsLow cert f (level_of e.ob) e.cells
+      → IsLeast f e.ob e.answers.items e.why e.cells cert
+  is_least shows e cert ending broken low = record {
+    broken = broken;
+    breaks = breaks_at e ending;
+    holds_below = λ n few. shows cert (level_of e.ob) e.cells n low few;
+    low = low;
+    listed = ending.listed;
+    way = ending.way;
+    possible = ending.possible;
+    length = ending.length;
+  }
+
+-- where each tree fits its plan, each plan holds
+pub answers_hold :
+    ((t : AnswerTree) (p : Plan Why) (v : ℕ → ℤ) → Fits t p [] → v 0 ≡ pos 0 → value p v ≡ true)
+    → (f : Function) (obs : List ObName) (trees : List AnswerTree) → AreAnswers (plan_of f) obs trees → AllHold f obs
+answers_hold law f [] trees answers = tt
+answers_hold law f (ob ∷ obs) [] answers = absurd answers
+answers_hold law f (ob ∷ obs) (t ∷ trees) answers =
+    (λ v zero. law t (plan_of f ob) v answers.0 zero, answers_hold law f obs trees answers.2)
+
+-- where the first failing end is one of the second property, the first holds
+pub first_holds :
+    (f : Function) (lists : List (ObQuestions Why)) (ob : ObName) (end : FailingEnd Why)
+    → ((k l m : Kind) → AreAsked (plan_of f) (obligations_of f.head Tp2) lists
+    → failing_in lists ≡ Some (record { ob = Triple k l m; end = end }) → HasTp1 f)
+    → AreAsked (plan_of f) (obligations_of f.head Tp2) lists → failing_in lists ≡ Some (record { ob = ob; end = end })
+    → level_of ob ≡ Tp2 → HasTp1 f
+first_holds f lists (Pair k l) end law asked first second = absurd (let not : Tp1 ≡ Tp2 = second in cc)
+first_holds f lists (Triple k l m) end law asked first second = law k l m asked first

@@ -1,0 +1,59 @@
+use Rattle.std.proofs.Common.{◌≡◌, ℕ, List, [], ◌∷◌, ◌++◌, length, refl, sym, ap, subst, ◌∙◌, arith, append_assoc}
+use Rattle.std.proofs.lemmas.List.{append-nil}
+use Rattle.ot_sections.specs.Feeding.{Yields}
+use Rattle.ot_least.specs.declared.header.HeaderFit.{HeaderFit}
+use Rattle.ot_least.specs.declared.header.HeaderFit.TheVariants as fits_other
+use Rattle.ot_least.specs.Headers.{FitsHeader, IsFrontOfHeader}
+use Rattle.ot_least.specs.Lows.{low_header_text}
+use Rattle.ot_least.proofs.Fronts.{no_header_there, none_is_front}
+use Rattle.ot_least.proofs.leading.read_low_header.Goals as goal
+
+pub loop-line-init : goal.loop-line-init
+loop-line-init g c =
+    let none : c.new-line.result.items ≡ [] = c.new-line.ensures.items in
+    record {
+      front = subst IsFrontOfHeader (sym none) none_is_front;
+      bytes = λ all rest may. subst (λ (l : List ℕ). Yields g.F.Feed c.args.feed.now all (l ++ rest)) (sym none) may;
+      fewer = omega (arith, ap length none);
+      kept = record { more_faults = omega arith; no_more_bytes = omega arith; same_object = refl; still_keeps = λ before h. h };
+    }
+
+pub returns-in-Whole-clause-header : goal.returns-in-Whole-clause-header
+returns-in-Whole-clause-header g c =
+    let line = c.loop-line.line.items in
+    let byte = c.in-Some.byte in
+    let came : c.extend_from_slice.new.self.items ≡ line ++ byte ∷ [] = c.in_ok-extend_from_slice.ensures.items in
+    let fits = subst (λ (f : HeaderFit). FitsHeader c.deref.result.now f) c.in-Whole.is c.in_ok-level.ensures in
+    let text : low_header_text c.in-Whole.level c.in-Whole.bound ≡ line ++ byte ∷ [] = fits.1 ∙ c.deref.ensures.value ∙ came in
+    let next = rw c.in-Some.is at c.in_ok-byte.ensures.byte in
+    λ all rest may.
+    subst (λ (l : List ℕ). Yields g.F.Feed c.args.feed.now all l)
+    (sym (append_assoc line (byte ∷ []) rest) ∙ ap (λ (l : List ℕ). l ++ rest) (sym text))
+    (c.loop-line.invariant.bytes all (byte ∷ rest) (next all rest may))
+
+pub returns-in-Other-clause-refused : goal.returns-in-Other-clause-refused
+returns-in-Other-clause-refused g c =
+    let line = c.loop-line.line.items in
+    let byte = c.in-Some.byte in
+    let came : c.extend_from_slice.new.self.items ≡ line ++ byte ∷ [] = c.in_ok-extend_from_slice.ensures.items in
+    let fits = subst (λ (f : HeaderFit). FitsHeader c.deref.result.now f) c.in-Other.is c.in_ok-level.ensures in
+    let here = subst (λ (l : List ℕ). FitsHeader l fits_other.Other) (c.deref.ensures.value ∙ came) fits in
+    let next = rw c.in-Some.is at c.in_ok-byte.ensures.byte in
+    λ refused all have.
+    let rest = have.0 in (
+      (line ++ byte ∷ []) ++ rest,
+      subst (λ (l : List ℕ). Yields g.F.Feed c.args.feed.now all l) (sym (append_assoc line (byte ∷ []) rest))
+          (c.loop-line.invariant.bytes all (byte ∷ rest) (next all rest have.1)),
+      (refl, no_header_there line byte rest c.loop-line.invariant.front here),
+    )
+
+pub returns-clause-refused : goal.returns-clause-refused
+returns-clause-refused g c =
+    let line = c.loop-line.line.items in
+    let over = rw c.in_default.is at c.in_ok-byte.ensures.over in
+    λ refused all have. (
+      line,
+      subst (λ (l : List ℕ). Yields g.F.Feed c.args.feed.now all l) (append-nil line)
+          (c.loop-line.invariant.bytes all [] (over all have)),
+      (c.len-2.ensures ∙ c.loop-line.line.ok.0, c.loop-line.invariant.front),
+    )

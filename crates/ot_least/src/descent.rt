@@ -1,0 +1,112 @@
+//! The search of the shortest document, from failing end to shorter failing end.
+ghost use Rattle.std.specs.Prelude.{◌≡◌, ◌≤◌, ℕ, List, IfOk};
+ghost use Rattle.fn_rules.specs.Rules.{function_of};
+ghost use Rattle.ot_questions.specs.declared.why.Why.{Why};
+ghost use Rattle.ot_sections.specs.declared.premise.TheConstants.{MAX_BOUND};
+ghost use Rattle.ot_decide.specs.Verdicts.{ObQuestions};
+ghost use Rattle.ot_least.specs.Endings.{IsEnding, end_of};
+ghost use Rattle.ot_least.specs.Lows.{IsBroken, level_of as part_level};
+ghost use Rattle.ot_least.specs.Shortest.{Begins, Falls, IsShort, IsTrueOf, IsWithin};
+
+use crate::ending::{Ending, ending_at, shorter_ending};
+use crate::header::write_low_header;
+use crate::laws::{failing_ends_break_at_their_length, low_certificates_show_shorter_documents};
+use crate::parts::{level_of, parts, parts_are_obligations};
+use crate::short::Short;
+use ask_core::{NoMemory, fitting_trees_hold};
+use cert_text::write_end;
+use fn_rules::{Level, Rules};
+use ot_decide::{Search, Verdict, failing_triples_show_tp1, prove_all, search_all};
+use ot_questions::{Why, triple_plans_mean_tp2};
+use ot_sections::MAX_BOUND;
+use std::alloc::Global;
+
+// Goes on from a failing end: searches the documents of fewer cells, and where one breaks the property too, goes on from
+// there.
+fn descend(alloc: Global, rules: &Rules, budget: u64, end: Ending) -> Result<Short, NoMemory>
+    requires ending { IsEnding (function_of rules.now) end }
+    requires broken { IsBroken (function_of rules.now) (part_level end.ob) }
+    requires bounded { end.cells ≤ MAX_BOUND }
+    ensures falls { IfOk result (λ short. (turns : List (List (ObQuestions Why)))
+        × Falls (function_of rules.now) budget (end_of end) end.cells turns short) }
+    ensures holds { IfOk result (IsTrueOf (function_of rules.now)) }
+    ensures within { budget ≤ 1000000 → IfOk result (IsWithin 83886080) }
+{
+    parts_are_obligations();
+    low_certificates_show_shorter_documents();
+    failing_ends_break_at_their_length();
+    let head = rules.head();
+    let level = level_of(end.ob);
+    let names = parts(alloc, &head, level)?;
+    let mut cert = Vec::new(alloc);
+    write_low_header(level, end.cells, &mut cert)?;
+    match search_all(alloc, rules, Some(end.cells), &names, budget, &mut cert)? {
+        Search::AllHold => {
+            write_end(&mut cert)?;
+            let Ending {
+                ob,
+                answers,
+                why,
+                cells,
+            } = end;
+            Ok(Short::Least {
+                ob,
+                answers,
+                why,
+                cells,
+                cert,
+            })
+        }
+        Search::Fails { ob, answers, why } => {
+            let next = shorter_ending(alloc, rules, end.cells, ob, answers, why)?;
+            descend(alloc, rules, budget, next)
+        }
+        Search::Spent => Ok(Short::Spent),
+    }
+}
+
+// Begins at the first failing end.
+fn descend_from(alloc: Global, rules: &Rules, budget: u64, end: Ending) -> Result<Short, NoMemory>
+    requires ending { IsEnding (function_of rules.now) end }
+    requires broken { IsBroken (function_of rules.now) (part_level end.ob) }
+    ensures begins { IfOk result (Begins (function_of rules.now) budget (end_of end) end.cells) }
+    ensures holds { IfOk result (IsTrueOf (function_of rules.now)) }
+    ensures within { budget ≤ 1000000 → IfOk result (IsWithin 83886080) }
+{
+    if end.cells > MAX_BOUND {
+        return Ok(Short::TooLong);
+    }
+    descend(alloc, rules, budget, end)
+}
+
+/// The shortest document on which a function breaks a property, by at most `budget` questions of each search. The property is
+/// the first, or else the second.
+///
+/// All obligations are searched first. From the failing end on, whose least values give the document so many cells, the
+/// obligations of its property are searched on the documents of fewer cells, and so on from each failing end, until none fails.
+///
+/// `Spent` comes exactly where one of the searches has more questions, `Fine` exactly where the first has no failing end,
+/// `TooLong` exactly where the document there has more than 1,000 cells, and else `Least`. The error is want of memory.
+pub fn shortest(alloc: Global, rules: &Rules, budget: u64) -> Result<Short, NoMemory>
+    ensures decides { IfOk result (IsShort (function_of rules.now) budget) }
+
+    // At `Least` the property is broken on a document of so many cells and on none of fewer, as the bytes certify.
+    ensures holds { IfOk result (IsTrueOf (function_of rules.now)) }
+
+    // A certificate keeps the limit of a file.
+    ensures within { budget ≤ 1000000 → IfOk result (IsWithin 83886080) }
+{
+    failing_triples_show_tp1();
+    failing_ends_break_at_their_length();
+    fitting_trees_hold::<Why>();
+    triple_plans_mean_tp2();
+    let _head = rules.head();
+    match prove_all(alloc, rules, Level::Tp2, budget)? {
+        Verdict::Yes(_) => Ok(Short::Fine),
+        Verdict::No { ob, answers, why } => {
+            let end = ending_at(alloc, rules, ob, answers, why)?;
+            descend_from(alloc, rules, budget, end)
+        }
+        Verdict::Spent => Ok(Short::Spent),
+    }
+}
