@@ -1,8 +1,8 @@
 //! What guards reach, of deletions that leave tombstones, with a budget that is just enough and one that is not.
 
 use crate::functions::{MARKS, staying, without_cases};
-use ot_audit::{Audit, Same, audit_all, same_all};
-use ot_model::Op;
+use ot_audit::{Agree, Audit, Found, Same, Target, agree, audit_all, reach, same_all};
+use ot_model::{Kind, Op};
 use std::test::Fail;
 
 // The deletions that the least values name.
@@ -59,5 +59,18 @@ fn a_result_against_none_differs(rt: HostRuntime) -> Result<(), Fail> {
     }
     let same = same_all(rt.alloc(), &others, &others, 2)?;
     assert!(rt; matches!(same, Same::Everywhere));
+    Ok(())
+}
+
+#[test]
+fn a_block_whose_last_guard_is_true_is_nowhere_open(rt: HostRuntime) -> Result<(), Fail> {
+    let rules = staying(&rt, rt.alloc(), MARKS)?;
+    assert!(rt; rules.head().declares_pair(Kind::Del, Kind::Del));
+    let gap = reach(rt.alloc(), &rules, Kind::Del, Kind::Del, Target::Open, 2)?;
+    assert!(rt; matches!(gap, Found::Never));
+    let gap = reach(rt.alloc(), &rules, Kind::Del, Kind::Del, Target::Open, 1)?;
+    assert!(rt; matches!(gap, Found::Spent));
+    let agreed = agree(rt.alloc(), &rules, &rules, Kind::Del, Kind::Del, 2)?;
+    assert!(rt; matches!(agreed, Agree::Same));
     Ok(())
 }

@@ -54,13 +54,3 @@ pub(crate) fn without_cases(rt: &impl Abort, alloc: Global) -> Result<Rules, Fai
     };
     Ok(built(rt, MARKS, vec![in alloc; block]?))
 }
-
-/// A function on deletions that has no case.
-pub(crate) fn without_cases(rt: &impl Abort, alloc: Global) -> Result<Rules, Fail> {
-    let block = Block {
-        first: Kind::Del,
-        second: Kind::Del,
-        cases: Vec::new(alloc),
-    };
-    Ok(built(rt, MARKS, vec![in alloc; block]?))
-}

@@ -1,5 +1,5 @@
 -- The status 3 is that of a function's file that is reached and is the text of no function.
-use Rattle.std.proofs.Common.{◌≡◌, ◌≢◌, ◌≤◌, ◌+◌, ℕ, true, false, Bool, List, [], ◌∷◌, length, Option, Some, None, Result, Ok, Err, refl, sym, ap, ◌∙◌, subst, inl, inr, arith}
+use Rattle.std.proofs.Common.{◌≡◌, ◌≢◌, ◌+◌, ℕ, true, false, Bool, List, [], ◌∷◌, Option, Some, None, Result, Ok, Err, refl, sym, ap, ◌∙◌, subst, inl, inr, arith}
 use Rattle.std.specs.Prelude.{if◌then◌else◌}
 use Rattle.fn_rules.specs.declared.function.Level.{Level}
 use Rattle.fn_rules.specs.Functions.{Function}
@@ -44,7 +44,6 @@ use Rattle.ot_top.specs.Audits.{IsReplyToTwo}
 use Rattle.ot_top.specs.Drills.{IsReplyToQuestions}
 use Rattle.ot_top.specs.Hubs.{IsDone, IsRefused, IsReplyToHub, IsReplyToHubScript, TellsHub}
 use Rattle.ot_top.specs.Judgements.{IsReplyToJudgement, Tells}
-use Rattle.ot_replies.specs.Limits.{limit_of}
 use Rattle.ot_top.specs.Replies.{IsReplyTo, IsReplyToCase, IsReplyToFile, IsReplyToFunction, IsReplyToSecond, IsReplyToTrial, TellsOutcomes}
 use Rattle.ot_top.specs.Sessions.{IsReplyToScript, IsReplyToSession, Runs, TellsNotMade, TellsNotTaken, TellsSites}
 use Rattle.ot_top.specs.Shown.{IsUnread, IsUnreadFrom, function_names}
