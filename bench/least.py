@@ -3,6 +3,7 @@
 
     bench/least.py [--tp1] FUNCTION..        searches, turn by turn, and then tries all documents of fewer cells than the
                                              least length, and of as many, where these are at most 3
+    bench/least.py --lines FUNCTION          writes the counterexample, and how many cells its document has
     bench/least.py --cert FUNCTION           writes a certificate that no shorter document breaks the property
     bench/least.py --judge FUNCTION FILE     judges one
 
@@ -14,7 +15,7 @@ import sys
 from itertools import product
 
 from audit import holds
-from certificate import LENGTH, ZERO, Ask, Fails, Op, closed, obligations, plan_of, read_function
+from certificate import INDEX, LENGTH, ZERO, Ask, Fails, Op, closed, obligations, plan_of, read_function
 from judge import File, Refused, judge_tree
 import judge
 
@@ -54,25 +55,25 @@ def search(plan, names):
     return tokens, None, None
 
 
-def length_of(answers, names):
-    """The length that the least values above the floors give which meet the answers."""
+def values_of(answers, names):
+    """The least values above the floors that meet the answers."""
     values = FLOORS[:names]
     for _ in range(names + 1):
         for x, y, k in answers:  # x <= y + k
             values[y] = max(values[y], values[x] - k)
     assert values[0] == 0 and all(values[x] <= values[y] + k for x, y, k in answers)
-    return values[LENGTH]
+    return values
 
 
 def first_end(f, kinds_list, bound):
-    """The sections up to the first failing end, and there the obligation, its cause and its length."""
+    """The sections up to the first failing end, and there the obligation, its cause and its least values."""
     sections = []
     for kinds in kinds_list:
         names = 3 + 3 * len(kinds)
         tokens, answers, why = search(below(f, kinds, bound), names)
         if answers is not None:
             behind = answers if bound is None else answers[1:]
-            return sections, (kinds, why, length_of(behind, names))
+            return sections, (kinds, why, values_of(behind, names))
         sections.append("ob " + " ".join(kinds) + "\n" + "".join(tokens) + "\n")
     return sections, None
 
@@ -83,21 +84,22 @@ def parts(f, size):
 
 
 def least(f):
-    """The lengths turn by turn, the last obligation and its cause, and the certificate; or None."""
+    """The lengths turn by turn, the last obligation, its cause and its values, and the certificate; or None."""
     _, end = first_end(f, obligations(f, True), None)
     if end is None:
         return None
     lengths = []
     while True:
-        kinds, why, cells = end
+        kinds, why, values = end
+        cells = values[LENGTH]
         assert not lengths or cells < lengths[-1]
         lengths.append(cells)
         if cells > MOST:
-            return lengths, kinds, why, None
+            return lengths, kinds, why, values, None
         sections, end = first_end(f, parts(f, len(kinds)), cells)
         if end is None:
             level = "tp1" if len(kinds) == 2 else "tp2"
-            return lengths, kinds, why, f"otlow 1 {level} {cells}\n" + "".join(sections) + "end\n"
+            return lengths, kinds, why, values, f"otlow 1 {level} {cells}\n" + "".join(sections) + "end\n"
 
 
 # The judge of such a certificate: the first line here, and then the sections by the judge of certificates.
@@ -195,6 +197,50 @@ def breaks_at(f, length, size):
     return any(allowed(f, triple) and not commutes(f, *triple) for triple in product(ops, repeat=3))
 
 
+# The lines of a counterexample: what the values name, executed.
+
+def op_text(op):
+    if op is None:
+        return "nop"
+    return f"{op.kind} {op.at} " + (f"{chr(op.ch)} " if op.kind != "del" else "") + str(op.site)
+
+
+def doc_text(doc):
+    return "[" + "".join(("" if live else "~") + chr(ch) for ch, live in doc) + "]"
+
+
+def pair_side(f, doc, a, b):
+    """The document behind the first and then the second; or what goes wrong there."""
+    there = form(f, b, a)
+    if there == "undefined":
+        return there
+    behind = executed(f, a, doc)
+    return executed(f, there, behind) if enabled(there, behind) else "range"
+
+
+def side_text(side):
+    return side if isinstance(side, str) else doc_text(side) if isinstance(side, tuple) and not isinstance(side, Op) else op_text(side)
+
+
+def lines_of(f, kinds, why, values):
+    ops = [Op(kind, *(values[3 + 3 * place + part] for part in (0, 2, 1))) for place, kind in enumerate(kinds)]
+    cells = values[LENGTH]
+    doc = ((ord("y"), True),) * cells
+    if why == "cells":
+        # Which cell the left side reads at the index, for its character or its flag: each cell tells its own place by both.
+        apart = tuple((("cell", place), ("cell", place)) for place in range(cells))
+        read = [part[1] for part in pair_side(f, apart, *ops)[values[INDEX]] if isinstance(part, tuple)]
+        doc = tuple((ord("x" if place in read else "y"), True) for place in range(cells))
+    if len(kinds) == 2:
+        left, right = pair_side(f, doc, *ops), pair_side(f, doc, *reversed(ops))
+    else:
+        a, b, c = ops
+        left, right = form(f, form(f, c, a), form(f, b, a)), form(f, form(f, c, b), form(f, a, b))
+    level = "tp1" if len(kinds) == 2 else "tp2"
+    numbered = [f"op {number} {op_text(op)}" for number, op in enumerate(ops, 1)]
+    return [f"no {level} {why.split()[-1]}", f"doc {doc_text(doc)}", *numbered, f"left {side_text(left)}", f"right {side_text(right)}", f"least {cells}"]
+
+
 def main():
     words = sys.argv[1:]
     names = [word for word in words if not word.startswith("--")]
@@ -209,9 +255,12 @@ def main():
     for name, f in functions:
         found = least(f)
         if found is None:
-            print("none" if "--cert" in words else f"{name}: none")
+            print("none" if "--cert" in words or "--lines" in words else f"{name}: none")
             continue
-        lengths, kinds, why, cert = found
+        lengths, kinds, why, values, cert = found
+        if "--lines" in words:
+            print("\n".join(lines_of(f, kinds, why, values) if cert else ["limit bound"]))
+            continue
         if "--cert" in words:
             sys.stdout.write(cert or "limit bound\n")
             continue

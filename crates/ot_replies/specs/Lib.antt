@@ -8,4 +8,5 @@ pub mod HubTexts
 pub mod LevelTexts
 pub mod DrillTexts
 pub mod AuditTexts
+pub mod BoundTexts
 pub mod Texts

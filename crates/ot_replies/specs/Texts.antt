@@ -8,7 +8,9 @@ use Rattle.ot_replies.specs.declared.reply.FileKind.TheVariants as files
 use Rattle.ot_replies.specs.declared.reply.Reply.{Reply}
 use Rattle.ot_replies.specs.declared.reply.Reply.TheVariants.{Proved, Broken, Spent, Accepted, Refused, FunctionRefused}
 use Rattle.ot_replies.specs.declared.reply.Reply.TheVariants.{CaseRefused, Integrated, Usage, TooLong, EventRefused, StuckAt, Replayed, Served, Audited, Compared, Drilled}
+use Rattle.ot_replies.specs.declared.reply.Reply.TheVariants.{Unbroken, Shortest, Certified, BoundTooLong, AtLeast}
 use Rattle.ot_replies.specs.AuditTexts.{audit_status, audit_text, same_status, same_text, spent_text}
+use Rattle.ot_replies.specs.BoundTexts.{at_least_text, bound_limit_text, shortest_text, unbroken_text}
 use Rattle.ot_replies.specs.FaultTexts.{text_fault_text, case_fault_text, refusal_text}
 use Rattle.ot_replies.specs.OrderTexts.{orders_text}
 use Rattle.ot_replies.specs.CounterTexts.{counter_text}
@@ -37,6 +39,11 @@ status_of (Replayed ends differ) = differ_status differ
 status_of (Served end) = differ_status end.differ
 status_of (Audited audit) = audit_status audit
 status_of (Compared same) = same_status same
+status_of Unbroken = 0
+status_of (Shortest counter cells) = 1
+status_of (Certified bytes) = 1
+status_of BoundTooLong = 9
+status_of (AtLeast level cells) = 0
 status_of (StuckAt i) = 1
 status_of (Drilled d) = differ_status d.differ
 status_of (EventRefused i fault) = 4
@@ -64,6 +71,11 @@ text_of (Replayed ends differ) = sites_text ends differ
 text_of (Served end) = hub_text end
 text_of (Audited audit) = audit_text audit
 text_of (Compared same) = same_text same
+text_of Unbroken = unbroken_text
+text_of (Shortest counter cells) = shortest_text counter cells
+text_of (Certified bytes) = bytes
+text_of BoundTooLong = bound_limit_text
+text_of (AtLeast level cells) = at_least_text level cells
 text_of (StuckAt i) = stuck_text i
 text_of (Drilled d) = drill_text d
 text_of (EventRefused i fault) = event_fault_text i fault

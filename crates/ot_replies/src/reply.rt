@@ -166,6 +166,21 @@ pub enum Reply {
     /// Whether two functions are the same.
     Compared(Same),
 
+    /// The function has both properties, so no document breaks one.
+    Unbroken,
+
+    /// The shortest documents on which the function breaks a property: where, and how, and how many cells they have.
+    Shortest(Counter, u32),
+
+    /// The bytes of a certificate that no shorter document breaks the property.
+    Certified(List<u8>),
+
+    /// The first document that breaks a property has more cells than such a certificate can speak of.
+    BoundTooLong,
+
+    /// The file is such a certificate: the function has the level's property on every document of fewer cells.
+    AtLeast(Level, u32),
+
     /// What came of a workload.
     Drilled(Drilled),
 

@@ -5,6 +5,7 @@ ghost use Rattle.ot_replies.specs.LevelTexts.{accepted_text};
 ghost use Rattle.ot_replies.specs.Texts.{case_status, differ_status, status_of, text_of, limit_text, limit_word};
 
 mod audits;
+mod bounds;
 mod counters;
 mod documents;
 mod drills;
@@ -15,6 +16,7 @@ mod sessions;
 
 use crate::reply::{FileKind, Reply};
 use audits::{audit_status, same_status, write_audit, write_same, write_spent};
+use bounds::{write_at_least, write_shortest};
 use case_json::CaseFault;
 use counters::write_counter;
 use drills::write_drilled;
@@ -61,6 +63,11 @@ pub fn status(reply: &Reply) -> u8
         Reply::Drilled(drilled) => differ_status(drilled.differ),
         Reply::Audited(audit) => audit_status(audit),
         Reply::Compared(same) => same_status(same),
+        Reply::Unbroken => 0,
+        Reply::Shortest(..) => 1,
+        Reply::Certified(_) => 1,
+        Reply::BoundTooLong => 9,
+        Reply::AtLeast(..) => 0,
         Reply::StuckAt(_) => 1,
         Reply::EventRefused(..) => 4,
         Reply::Refused { .. } => 2,
@@ -133,6 +140,11 @@ fn written(alloc: Global, reply: &Reply) -> Result<Vec<u8>, NoMemory>
         Reply::Served(end) => write_hub(alloc, end, &mut text)?,
         Reply::Audited(audit) => write_audit(alloc, audit, &mut text)?,
         Reply::Compared(same) => write_same(alloc, same, &mut text)?,
+        Reply::Unbroken => text.extend_from_slice(b"none\n")?,
+        Reply::Shortest(counter, cells) => write_shortest(alloc, counter, *cells, &mut text)?,
+        Reply::Certified(bytes) => text.extend_from_slice(bytes.as_slice())?,
+        Reply::BoundTooLong => text.extend_from_slice(b"limit bound\n")?,
+        Reply::AtLeast(level, cells) => write_at_least(alloc, *level, *cells, &mut text)?,
         Reply::Drilled(drilled) => write_drilled(alloc, drilled, &mut text)?,
         Reply::Usage => text.extend_from_slice(b"usage: otp COMMAND ARGUMENTS\n")?,
         Reply::TooLong(kind) => write_limit(alloc, *kind, &mut text)?,
@@ -146,6 +158,7 @@ pub fn text(alloc: Global, reply: Reply) -> Result<Vec<u8>, NoMemory>
 {
     match reply {
         Reply::Proved(bytes) => Ok(bytes.into_vec()),
+        Reply::Certified(bytes) => Ok(bytes.into_vec()),
         other => written(alloc, &other),
     }
 }

@@ -4,6 +4,7 @@ use Rattle.std.specs.Option.{ForSome}
 use Rattle.fn_rules.specs.Functions.{Function}
 use Rattle.fn_moves.specs.declared.fault.TextFault.{TextFault}
 use Rattle.ot_outside.specs.Reads.{Reads, after_reading, IsSameReading}
+use Rattle.ot_sections.specs.declared.refusal.JudgeError.{JudgeError}
 use Rattle.ot_replies.specs.declared.reply.FileKind.{FileKind}
 use Rattle.ot_replies.specs.declared.reply.FileKind.TheVariants as files
 use Rattle.ot_replies.specs.declared.reply.Reply.{Reply}
@@ -89,14 +90,15 @@ module _ (told : Option (List ℕ)) (given : List ℕ) (agrees : ForSome told (�
 
 -- the reply to the bytes that were given of a certificate is that to those that are told
 pub certificate_told :
-    (f : Function) (told : Option (List ℕ)) (given : List ℕ) → ForSome told (λ bytes. bytes ≡ given) → (r : Reply)
-    → IsReplyToCertificate f (Some given) r → IsReplyToCertificate f told r
-certificate_told f told given agrees r (contents, are, (judgement, judged, inl long)) = (
+    {T : Type 0} (Judges : List ℕ → Result T JudgeError → Type 0) (accepts : T → Reply) (told : Option (List ℕ)) (given : List ℕ)
+    → ForSome told (λ bytes. bytes ≡ given) → (r : Reply) → IsReplyToCertificate Judges accepts (Some given) r
+    → IsReplyToCertificate Judges accepts told r
+certificate_told Judges accepts told given agrees r (contents, are, (judgement, judged, inl long)) = (
   contents,
   λ bytes known. are given refl ∙ sym (agrees bytes known),
   (judgement, judged, inl (long.0, long_told told given agrees files.Certificate r long.1)),
 )
-certificate_told f told given agrees r (contents, are, (judgement, judged, inr tells)) = (
+certificate_told Judges accepts told given agrees r (contents, are, (judgement, judged, inr tells)) = (
   contents,
   λ bytes known. are given refl ∙ sym (agrees bytes known),
   (judgement, judged, inr tells),

@@ -4,8 +4,6 @@ use Rattle.std.specs.Prelude.{IfErr, option_map}
 use Rattle.std.specs.Option.{ForSome, ForNone}
 use Rattle.std.proofs.lemmas.List.{take_all}
 use Rattle.std.specs.Io.KnownBytes.{IsAtEnd}
-use Rattle.fn_rules.specs.declared.function.Level.{Level}
-use Rattle.fn_rules.specs.Functions.{Function}
 use Rattle.ot_outside.specs.declared.shelf.Shelf.{Ghosts}
 use Rattle.ot_outside.specs.declared.shelf_feed.ShelfFeed.{ShelfFeed}
 use Rattle.ot_outside.specs.ShelfFeed.{feed_left, file_left, room_of}
@@ -14,7 +12,7 @@ use Rattle.ot_sections.specs.declared.refusal.JudgeError.TheVariants as judge
 use Rattle.ot_sections.specs.declared.refusal.Refusal.{Refusal}
 use Rattle.ot_sections.specs.declared.refusal.Refusal.TheVariants as why
 use Rattle.ot_sections.specs.Feeding.{IsTruncated, MayGive}
-use Rattle.ot_judge.specs.Refusals.{IsJudgement, IsWant}
+use Rattle.ot_least.specs.Judgements.{IsWant}
 use Rattle.ot_replies.specs.declared.reply.FileKind.TheVariants as files
 use Rattle.ot_replies.specs.declared.reply.Reply.{Reply}
 use Rattle.ot_replies.specs.declared.reply.Reply.TheVariants.{TooLong}
@@ -22,12 +20,12 @@ use Rattle.ot_top.specs.Judgements.{IsReplyToCertificate, Tells, is_truncated, r
 use Rattle.ot_replies.specs.Limits.{limit_of}
 
 -- a told judgement is no want
-pub not_want : (judgement : Result Level JudgeError) (r : Reply) → Tells judgement r → IsWant judgement → ⊥
-not_want judgement r tells (inl failed) = subst (λ j. Tells j r) failed tells
-not_want judgement r tells (inr wanting) = subst (λ j. Tells j r) wanting tells
+pub not_want : {T : Type 0} (accepts : T → Reply) (judgement : Result T JudgeError) (r : Reply) → Tells accepts judgement r → IsWant judgement → ⊥
+not_want accepts judgement r tells (inl failed) = subst (λ j. Tells accepts j r) failed tells
+not_want accepts judgement r tells (inr wanting) = subst (λ j. Tells accepts j r) wanting tells
 
 -- a judgement that rests on the end is no want
-pub sure : (judgement : Result Level JudgeError) → rests_on_the_end judgement ≡ true → IsWant judgement → ⊥
+pub sure : {T : Type 0} (judgement : Result T JudgeError) → rests_on_the_end judgement ≡ true → IsWant judgement → ⊥
 sure judgement rests (inl failed) = let clash : false ≡ true = sym (ap (λ j. rests_on_the_end j) failed) ∙ rests in cc
 sure judgement rests (inr wanting) = let clash : false ≡ true = sym (ap (λ j. rests_on_the_end j) wanting) ∙ rests in cc
 
@@ -44,9 +42,9 @@ truncated why.NotNegative is = cc
 
 -- where a judgement rests on the end, the feed is at its end
 pub at_its_end :
-    (judgement : Result Level JudgeError) (P : Type 0) → rests_on_the_end judgement ≡ true → IfOk judgement (λ level. P)
+    {T : Type 0} (judgement : Result T JudgeError) (P : Type 0) → rests_on_the_end judgement ≡ true → IfOk judgement (λ level. P)
     → IfErr judgement (λ e. IsTruncated e → P) → P
-at_its_end (Ok level) P rests ok err = ok
+at_its_end (Ok shown) P rests ok err = ok
 at_its_end (Err (judge.Refused offset cause)) P rests ok err = err (offset, ap (λ w. judge.Refused offset w) (truncated cause rests))
 at_its_end (Err judge.Failed) P rests ok err = cc
 at_its_end (Err judge.NoMemory) P rests ok err = cc
@@ -103,14 +101,15 @@ within_limit None room contents may shorter = may.1 refl
 within_limit (Some known) room contents may shorter =
     let not_longer = shorter known refl in omega (arith, not_longer, ap length (may.0 known refl))
 
-module _ {S : Type 0} {shelf : Ghosts S} (f : Function) (feed : ShelfFeed S shelf) (judgement : Result Level JudgeError)
+module _ {S : Type 0} {shelf : Ghosts S} {T : Type 0} (Judges : List ℕ → Result T JudgeError → Type 0) (accepts : T → Reply)
+    (feed : ShelfFeed S shelf) (judgement : Result T JudgeError)
     (whole : room_of feed ≡ limit_of files.Certificate)
-    (judged : IsWant judgement ⊎ ((bytes : List ℕ) × MayGive feed_left room_of feed bytes × IsJudgement f bytes judgement)) where
+    (judged : IsWant judgement ⊎ ((bytes : List ℕ) × MayGive feed_left room_of feed bytes × Judges bytes judgement)) where
   -- the judgement is that of the bytes within the limit
   judged_within :
       (IsWant judgement → ⊥)
       → (contents : List ℕ) × MayHold (file_left feed) (room_of feed) contents
-      × IsJudgement f (take (limit_of files.Certificate) contents) judgement
+      × Judges (take (limit_of files.Certificate) contents) judgement
   unfolding MayGive
   judged_within no_want =
       elim judged [
@@ -119,15 +118,15 @@ module _ {S : Type 0} {shelf : Ghosts S} (f : Function) (feed : ShelfFeed S shel
             let contents = held_of (file_left feed) (room_of feed) h.0 h.1.0 h.1.1 in (
               contents.0,
               contents.1,
-              subst (λ (n : ℕ). IsJudgement f (take n contents.0) judgement) whole
-                  (subst (λ (bytes : List ℕ). IsJudgement f bytes judgement) (sym contents.2) h.2),
+              subst (λ (n : ℕ). Judges (take n contents.0) judgement) whole
+                  (subst (λ (bytes : List ℕ). Judges bytes judgement) (sym contents.2) h.2),
             )
       ]
 
   -- the file goes on
   pub too_long_reply :
       rests_on_the_end judgement ≡ true → (more : Bool) → more ≡ true → ForSome (file_left feed) (λ contents. IsTrue more ↔ (room_of feed < length contents))
-      → IsReplyToCertificate f (file_left feed) (TooLong files.Certificate)
+      → IsReplyToCertificate Judges accepts (file_left feed) (TooLong files.Certificate)
   too_long_reply rests more follows goes =
       let here = judged_within (sure judgement rests) in (
         here.0,
@@ -141,11 +140,11 @@ module _ {S : Type 0} {shelf : Ghosts S} (f : Function) (feed : ShelfFeed S shel
 
   -- the judgement does not rest on the end, or the file does not go on
   told_reply :
-      (r : Reply) → Tells judgement r
+      (r : Reply) → Tells accepts judgement r
       → (rests_on_the_end judgement ≡ true → (more : Bool) × (more ≡ false) × ForSome (file_left feed) (λ contents. IsTrue more ↔ (room_of feed < length contents)))
-      → IsReplyToCertificate f (file_left feed) r
+      → IsReplyToCertificate Judges accepts (file_left feed) r
   told_reply r tells ends =
-      let here = judged_within (not_want judgement r tells) in (
+      let here = judged_within (not_want accepts judgement r tells) in (
         here.0,
         here.1.0,
         (
@@ -164,8 +163,8 @@ module _ {S : Type 0} {shelf : Ghosts S} (f : Function) (feed : ShelfFeed S shel
       )
 
   pub told_replies :
-      {E : Type 0} (answer : Result Reply E) → IfOk answer (λ r. Tells judgement r)
+      {E : Type 0} (answer : Result Reply E) → IfOk answer (λ r. Tells accepts judgement r)
       → (rests_on_the_end judgement ≡ true → (more : Bool) × (more ≡ false) × ForSome (file_left feed) (λ contents. IsTrue more ↔ (room_of feed < length contents)))
-      → IfOk answer (λ r. IsReplyToCertificate f (file_left feed) r)
+      → IfOk answer (λ r. IsReplyToCertificate Judges accepts (file_left feed) r)
   told_replies (Ok r) tells ends = told_reply r tells ends
   told_replies (Err e) tells ends = tt

@@ -2,6 +2,8 @@ mod Agreeing
 mod Asking
 mod Audited
 mod Behind
+mod Bounded
+mod Breaking
 mod Drilling
 mod Ending
 mod Ends
@@ -18,6 +20,7 @@ mod OneHub
 mod OneJudgement
 mod OneOutcome
 mod OneReply
+mod OneShortest
 mod OneVerdict
 mod Proving
 mod ReadCertificate

@@ -31,7 +31,7 @@ no_higher : (a b : ℤ) → a ≤ℤ b → b ≤ℤ a → a ≡ b
 no_higher a b low high = omega (arith, ints)
 
 -- the least values are one
-least_once : (w : List Lit) (floors values others : List ℤ) → AreLeast w floors values → AreLeast w floors others → values ≡ others
+pub least_once : (w : List Lit) (floors values others : List ℤ) → AreLeast w floors values → AreLeast w floors others → values ≡ others
 least_once w floors values others one other =
     ext_get_or (pos 0) values others (one.len ∙ sym other.len)
     (λ x few.
@@ -68,7 +68,7 @@ counter_once f ob w why a b one other =
     (subst (λ (values : List ℤ). IsReadOff f ob (valuation_of values) why b) same other.read)
 
 -- the counterexamples of one failing end are one
-end_countered_once :
+pub end_countered_once :
     (f : Function) (x y : FailingOb Why) (a b : Counter) → x ≡ y → IsCounter f x.ob x.end.answers x.end.why a
     → IsCounter f y.ob y.end.answers y.end.why b → a ≡ b
 end_countered_once f x y a b same one other =

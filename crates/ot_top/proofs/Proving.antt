@@ -5,7 +5,6 @@ use Rattle.std.proofs.lemmas.Bool.Decides.{nat_tests}
 use Rattle.std.proofs.lemmas.List.{take_all}
 use Rattle.diff_graph.specs.declared.lit.Lit.{Lit}
 use Rattle.diff_graph.specs.Solutions.{AreLeast, valuation_of}
-use Rattle.ot_model.specs.declared.cell.Cell.{Cell}
 use Rattle.ot_model.specs.declared.op.Kind.{Kind}
 use Rattle.fn_rules.specs.declared.function.Level.{Level}
 use Rattle.fn_rules.specs.declared.function.Level.TheVariants.{Tp1, Tp2}
@@ -20,11 +19,8 @@ use Rattle.fn_text.specs.Reading.{function_in}
 use Rattle.ask_core.specs.Plans.{Plan}
 use Rattle.ask_core.specs.Questions.{FailingEnd, Questions, QuestionList}
 use Rattle.ot_prove.specs.Outcomes.{answered_by}
-use Rattle.ot_questions.specs.declared.name.Who.TheVariants.{A, B, C}
 use Rattle.ot_questions.specs.declared.why.Why.{Why}
-use Rattle.ot_questions.specs.Meaning.{op_at}
 use Rattle.ot_questions.specs.Obligation.{plan_of}
-use Rattle.ot_questions.specs.Places.{sym_op}
 use Rattle.ot_sections.specs.declared.refusal.JudgeError.{JudgeError}
 use Rattle.ot_decide.specs.declared.verdict.Verdict.{Verdict}
 use Rattle.ot_decide.specs.declared.verdict.Verdict.TheVariants as verdicts
@@ -32,9 +28,8 @@ use Rattle.ot_sections.specs.Certificates.{IsCertificate}
 use Rattle.ot_judge.specs.Refusals.{IsJudgement}
 use Rattle.ot_decide.specs.Verdicts.{AreAsked, ObQuestions, IsDecidedAs, IsVerdict, IsWithin, count_in, failing_in}
 use Rattle.ot_counter.specs.declared.counter.Counter.{Counter}
-use Rattle.ot_counter.specs.Counters.{Breaks, BreaksBy, IsCounter, level_of}
+use Rattle.ot_counter.specs.Counters.{Breaks, BreaksBy, level_of}
 use Rattle.ask_core.specs.Leading.{LeadTo}
-use Rattle.ot_counter.specs.Sides.{left_at, right_at}
 use Rattle.ot_values.specs.Values.{floors_of, ops_at}
 use Rattle.ot_counter.specs.Documents.{document_at}
 use Rattle.ot_replies.specs.declared.reply.FileKind.TheVariants as files
@@ -43,14 +38,15 @@ use Rattle.ot_replies.specs.declared.reply.Subject.{Subject}
 use Rattle.ot_replies.specs.declared.reply.Subject.TheVariants.{First}
 use Rattle.ot_replies.specs.declared.reply.Reply.TheVariants.{Proved, Broken, Accepted, Usage}
 use Rattle.ot_words.specs.Commands.{Asked, Prove}
-use Rattle.ot_top.specs.Judgements.{IsReplyToCertificate, IsReplyToJudgement}
+use Rattle.ot_top.specs.Judgements.{IsReplyToCertificate, IsReplyToChecked, IsReplyToJudgement}
 use Rattle.ot_replies.specs.Limits.{limit_of}
 use Rattle.ot_top.specs.Replies.{IsReadAs, IsReply, IsReplyTo, IsReplyToFunction}
-use Rattle.ot_top.specs.Shown.{AreBothWays, HasBefore, HasLevel, IsAcceptedAt, IsAskedAt, IsBroken, IsComplete, IsProved, status_by}
+use Rattle.ot_top.specs.Shown.{HasBefore, HasLevel, IsAcceptedAt, IsAskedAt, IsBroken, IsComplete, IsProved, status_by}
 use Rattle.ot_replies.specs.Texts.{status_of, text_of}
 use Rattle.ot_top.specs.Verdicts.{IsReplyToProof, TellsVerdict}
 use Rattle.ot_words.specs.Words.{asked_by, most_questions}
 use Rattle.ot_top.proofs.Asking.{asked_at, asked_once}
+use Rattle.ot_top.proofs.Breaking.{IsBrokenBy, counter_breaks}
 use Rattle.ot_words.proofs.Bounds.{within_bounds}
 use Rattle.ot_prove.proofs.Leads.{literals_lead}
 
@@ -80,34 +76,41 @@ module _ (told : Option (List ℕ)) (bytes : List ℕ) (f : Function) (is_told :
       let same : h.0 ≡ f = cc in
       subst Gets same h.2
 
--- a certificate within the limit is accepted
-module _ (one_judgement :
-    (f : Function) (bytes : List ℕ) (one other : Result Level JudgeError) → IsTrue (is_valid f) → IsJudgement f bytes one
-    → IsJudgement f bytes other → one ≡ other)
-    (f : Function) (valid : IsTrue (is_valid f)) (certificate : List ℕ) (level : Level) (is_one : IsCertificate certificate f level)
+-- a certificate of any kind that is within the limit is accepted
+module _ {T : Type 0} (Judges : List ℕ → Result T JudgeError → Type 0) (accepts : T → Reply)
+    (one_judgement : (bytes : List ℕ) (one other : Result T JudgeError) → Judges bytes one → Judges bytes other → one ≡ other)
+    (certificate : List ℕ) (shown : T) (is_one : Judges certificate (Ok shown))
     (within : length certificate ≤ limit_of files.Certificate) where
   accepted_behind :
       (told : Option (List ℕ)) (contents : List ℕ) (r : Reply) → told ≡ Some certificate
-      → IsReplyToJudgement told contents (Ok level) r → r ≡ Accepted level
+      → IsReplyToJudgement accepts told contents (Ok shown) r → r ≡ accepts shown
   accepted_behind told contents r is (inl h) = absurd (let longer = h.1.0 certificate is in omega (arith, longer, within))
   accepted_behind told contents r is (inr h) = h.1
 
-  accepted_file : (told : Option (List ℕ)) (r : Reply) → told ≡ Some certificate → IsReplyToCertificate f told r → r ≡ Accepted level
+  pub accepted_file :
+      (told : Option (List ℕ)) (r : Reply) → told ≡ Some certificate → IsReplyToCertificate Judges accepts told r → r ≡ accepts shown
   accepted_file told r is (contents, known, reply) =
-      let judgement : Result Level JudgeError = reply.0 in
+      let judgement : Result T JudgeError = reply.0 in
       let front : take (limit_of files.Certificate) contents ≡ certificate =
       ap (λ (l : List ℕ). take (limit_of files.Certificate) l) (known certificate is)
       ∙ take_all (limit_of files.Certificate) certificate within in
-      let whole : IsJudgement f certificate judgement = subst (λ (b : List ℕ). IsJudgement f b judgement) front reply.1 in
-      let same : judgement ≡ Ok level = one_judgement f certificate judgement (Ok level) valid whole is_one in
+      let whole : Judges certificate judgement = subst (λ (b : List ℕ). Judges b judgement) front reply.1 in
+      let same : judgement ≡ Ok shown = one_judgement certificate judgement (Ok shown) whole is_one in
       accepted_behind told contents r is
-      (subst (λ (j : Result Level JudgeError). IsReplyToJudgement told contents j r) same reply.2)
+      (subst (λ (j : Result T JudgeError). IsReplyToJudgement accepts told contents j r) same reply.2)
 
-  accepted_at :
-      (bytes : List ℕ) → length bytes ≤ limit_of files.Function → function_in bytes ≡ Ok f → IsAcceptedAt bytes certificate level
-  accepted_at bytes small read holds name certificate_name r told certificate_told reply =
-      accepted_file (holds certificate_name) r certificate_told
-      (gets (holds name) bytes f told small read First (λ g. IsReplyToCertificate g (holds certificate_name) r) r reply)
+-- `check` accepts such a certificate
+accepted_at :
+    ((f : Function) (bytes : List ℕ) (one other : Result Level JudgeError) → IsTrue (is_valid f) → IsJudgement f bytes one
+    → IsJudgement f bytes other → one ≡ other)
+    → (f : Function) → IsTrue (is_valid f) → (certificate : List ℕ) (level : Level) → IsCertificate certificate f level
+    → length certificate ≤ limit_of files.Certificate → (bytes : List ℕ) → length bytes ≤ limit_of files.Function
+    → function_in bytes ≡ Ok f → IsAcceptedAt bytes certificate level
+accepted_at one_judgement f valid certificate level is_one within bytes small read holds name certificate_name r told certificate_told
+    reply =
+    accepted_file (IsJudgement f) Accepted (λ b one other first second. one_judgement f b one other valid first second) certificate level is_one
+    within (holds certificate_name) r certificate_told
+    (gets (holds name) bytes f told small read First (λ g. IsReplyToChecked g (holds certificate_name) r) r reply)
 
 -- status 0: the verdict is yes
 proved_verdict :
@@ -151,19 +154,6 @@ module _ (is_text : (bytes : List ℕ) (f : Function) → function_in bytes ≡ 
         subst IsWritten (ap (λ x. text_of x) held.3) written,
       )
 
-  -- what is read off values is what the interpreter gives on both ways
-  both_ways : (f : Function) (v : ℕ → ℤ) (d : List Cell) (ob : ObName)
-      → AreBothWays f (level_of ob) d (ops_at v ob) (left_at f v d ob) (right_at f v d ob)
-  both_ways f v d (Pair k l) = (op_at v (sym_op k A), op_at v (sym_op l B), refl, refl, refl)
-  both_ways f v d (Triple k l m) = (op_at v (sym_op k A), op_at v (sym_op l B), op_at v (sym_op m C), refl, refl, refl)
-
-  -- a counterexample breaks the property, and shows what the interpreter gives
-  abbrev IsBrokenBy : Function → Level → Counter → Type 0
-  IsBrokenBy f level counter =
-      IsAskedAt counter.level level × HasBefore f counter.level × Breaks f counter.level counter.doc counter.ops
-      × BreaksBy f counter.level counter.doc counter.ops counter.why
-      × AreBothWays f counter.level counter.doc counter.ops counter.left counter.right
-
   module _ (broken_there :
       (f : Function) (ob : ObName) (w : List Lit) (why : Why) (values : List ℤ) → IsTrue (is_valid f) → IsTrue (is_obligation f.head ob)
       → LeadTo why (plan_of f ob) w → AreLeast w (floors_of ob) values
@@ -185,25 +175,6 @@ module _ (is_text : (bytes : List ℕ) (f : Function) → function_in bytes ≡ 
     has_before f Tp1 lists (Triple k l m) end asked fails at = absurd at
     has_before f Tp2 lists (Triple k l m) end asked fails at = tp1_before f lists k l m end asked fails
 
-    counter_breaks :
-        (f : Function) (level : Level) (ob : ObName) (w : List Lit) (why : Why) (counter : Counter) → IsTrue (is_valid f)
-        → IsTrue (is_obligation f.head ob) → LeadTo why (plan_of f ob) w → IsAskedAt (level_of ob) level → HasBefore f (level_of ob)
-        → IsCounter f ob w why counter → IsBrokenBy f level counter
-    counter_breaks f level ob w why counter valid declared leads asked before is =
-        let v : ℕ → ℤ = valuation_of is.values in
-        let property : counter.level ≡ level_of ob = is.read.level in
-        let doc : counter.doc ≡ document_at v why = is.read.doc in
-        let ops : counter.ops ≡ ops_at v ob = is.read.ops in
-        let cause : counter.why ≡ why = is.read.cause in
-        let left : counter.left ≡ left_at f v (document_at v why) ob = is.read.left in
-        let right : counter.right ≡ right_at f v (document_at v why) ob = is.read.right in (
-          rw property asked,
-          rw property before,
-          rw (property, doc, ops) (broken_there f ob w why is.values valid declared leads is.least),
-          rw (property, doc, ops, cause) (by_the_cause f ob w why is.values valid declared leads is.least),
-          rw (property, doc, ops, left, right) (both_ways f v (document_at v why) ob),
-        )
-
     -- status 1: the verdict is no
     broken_verdict :
         (f : Function) (level : Level) (budget : ℕ) (r : Reply) (verdict : Verdict) → 1 ≡ status_of r → IsTrue (is_valid f)
@@ -216,7 +187,7 @@ module _ (is_text : (bytes : List ℕ) (f : Function) → function_in bytes ≡ 
         let w : List Lit = answered_by answers.items in
         let at = asked_at (plan_of f) f.head level decided.0 _ decided.1 refuted.first in (
           tells.0,
-          counter_breaks f level ob w why tells.0 valid refuted.listed (literals_lead why (plan_of f ob) answers.items refuted.way) at
+          counter_breaks broken_there by_the_cause f level ob w why tells.0 valid refuted.listed (literals_lead why (plan_of f ob) answers.items refuted.way) at
               (has_before f level decided.0 ob _ decided.1 refuted.first at) tells.1,
           tells.2,
         )

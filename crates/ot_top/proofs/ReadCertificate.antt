@@ -1,15 +1,13 @@
 -- The reply to a certificate, from the bytes that were read of its file.
 use Rattle.std.proofs.Common.{◌≡◌, ℕ, ◌+◌, ◌<◌, zero, suc, true, false, List, [], ◌∷◌, ◌++◌, take, length, length-append, Some, Result, Ok, Err, IfOk, ◌⊎◌, inl, inr, refl, sym, ap, ◌∙◌, subst, arith}
 use Rattle.std.proofs.Math.Seq.{take-append-add}
-use Rattle.fn_rules.specs.declared.function.Level.{Level}
-use Rattle.fn_rules.specs.Functions.{Function}
 use Rattle.ot_outside.specs.declared.shelf.Shelf.{Ghosts}
 use Rattle.ot_outside.specs.declared.shelf_feed.ShelfFeed.{ShelfFeed}
 use Rattle.ot_outside.specs.Reads.{Reads, after_reading}
 use Rattle.ot_outside.specs.ShelfFeed.{IsAllOfReads, KeepsShelf, feed_left, gave_by, hand_of, room_of, shelf_of, unread_of}
 use Rattle.ot_sections.specs.declared.refusal.JudgeError.{JudgeError}
 use Rattle.ot_sections.specs.Feeding.{IsSpent, MayGiveOf, MayHave, Whole}
-use Rattle.ot_judge.specs.Refusals.{IsJudgement, IsWant}
+use Rattle.ot_least.specs.Judgements.{IsWant}
 use Rattle.ot_replies.specs.declared.reply.FileKind.TheVariants as files
 use Rattle.ot_replies.specs.declared.reply.Reply.{Reply}
 use Rattle.ot_replies.specs.declared.reply.Reply.TheVariants.{TooLong}
@@ -30,16 +28,17 @@ none_unread new last (suc n) is same none empty =
     ap unread_of (same (omega (arith, is)))
     ∙ nothing_taken n (unread_of new) (ap (λ m. take m (unread_of new)) (sym is) ∙ empty)
 
-module _ {S : Type 0} {shelf : Ghosts S} (f : Function) (old new : ShelfFeed S shelf) (judgement : Result Level JudgeError)
+module _ {S : Type 0} {shelf : Ghosts S} {T : Type 0} (Judges : List ℕ → Result T JudgeError → Type 0) (accepts : T → Reply)
+    (old new : ShelfFeed S shelf) (judgement : Result T JudgeError)
     (whole : room_of old ≡ limit_of files.Certificate) (begins : gave_by old ≡ []) (all : IsAllOfReads old) (kept : KeepsShelf old new)
     (judged : IsWant judgement ⊎ ((all : Whole) → MayHave feed_left room_of gave_by hand_of new all
-    → (bytes : List ℕ) × MayGiveOf feed_left room_of gave_by old all bytes × IsJudgement f bytes judgement)) where
+    → (bytes : List ℕ) × MayGiveOf feed_left room_of gave_by old all bytes × Judges bytes judgement)) where
   limit_is : length (gave_by new) + room_of new ≡ limit_of files.Certificate
   limit_is =
       let here : length (gave_by old) + room_of old ≡ room_of old = omega (arith, ap length begins) in kept.same_limit ∙ here ∙ whole
 
   -- the bytes that were given and those at hand are judged
-  hand_judged : (IsWant judgement → ⊥) → IsJudgement f (gave_by new ++ hand_of new) judgement
+  hand_judged : (IsWant judgement → ⊥) → Judges (gave_by new ++ hand_of new) judgement
   unfolding MayGiveOf
   hand_judged no_want =
       elim judged [
@@ -47,11 +46,11 @@ module _ {S : Type 0} {shelf : Ghosts S} (f : Function) (old new : ShelfFeed S s
         | inr h ↦
             let there = h (record { bytes = gave_by new ++ hand_of new; may = false })
             (hand_of new, ((λ t. absurd (cc)), refl), λ spent. spent.none) in
-            subst (λ (l : List ℕ). IsJudgement f l judgement) (sym (there.1.1 ∙ ap (λ (l : List ℕ). l ++ there.0) begins)) there.2
+            subst (λ (l : List ℕ). Judges l judgement) (sym (there.1.1 ∙ ap (λ (l : List ℕ). l ++ there.0) begins)) there.2
       ]
 
   -- the judgement does not rest on the end
-  pub unrested_reply : (r : Reply) → Tells judgement r → rests_on_the_end judgement ≡ false → IsReplyToCertificate f (Some (bytes_read new)) r
+  pub unrested_reply : (r : Reply) → Tells accepts judgement r → rests_on_the_end judgement ≡ false → IsReplyToCertificate Judges accepts (Some (bytes_read new)) r
   unrested_reply r tells unrested =
       let within : gave_by new ++ hand_of new ≡ take (limit_of files.Certificate) (bytes_read new) =
       sym (take-append-add (gave_by new) (unread_of new) (room_of new))
@@ -61,7 +60,7 @@ module _ {S : Type 0} {shelf : Ghosts S} (f : Function) (old new : ShelfFeed S s
         λ known is. cc,
         (
           judgement,
-          subst (λ (l : List ℕ). IsJudgement f l judgement) within (hand_judged (not_want judgement r tells)),
+          subst (λ (l : List ℕ). Judges l judgement) within (hand_judged (not_want accepts judgement r tells)),
           inr ((λ rests. absurd (let clash : true ≡ false = sym rests ∙ unrested in cc)), tells),
         ),
       )
@@ -73,20 +72,20 @@ module _ {S : Type 0} {shelf : Ghosts S} (f : Function) (old new : ShelfFeed S s
     read_is = read ∙ ap (λ (l : List ℕ). l ++ unread_of last) same
 
     given_judged :
-        take (room_of new) (unread_of last) ≡ [] → IsJudgement f (take (limit_of files.Certificate) (bytes_read last)) judgement
+        take (room_of new) (unread_of last) ≡ [] → Judges (take (limit_of files.Certificate) (bytes_read last)) judgement
     given_judged none =
         let within : gave_by new ++ hand_of new ≡ take (limit_of files.Certificate) (bytes_read last) =
         ap (λ (l : List ℕ). gave_by new ++ l) (spent.none ∙ sym none)
         ∙ sym (take-append-add (gave_by new) (unread_of last) (room_of new))
         ∙ ap (λ (n : ℕ). take n (gave_by new ++ unread_of last)) limit_is
         ∙ ap (λ (l : List ℕ). take (limit_of files.Certificate) l) (sym read_is) in
-        subst (λ (l : List ℕ). IsJudgement f l judgement) within (hand_judged (sure judgement rests))
+        subst (λ (l : List ℕ). Judges l judgement) within (hand_judged (sure judgement rests))
 
     read_count : length (bytes_read last) ≡ length (gave_by new) + length (unread_of last)
     read_count = ap length read_is ∙ length-append (gave_by new) (unread_of last)
 
     pub further_reply :
-        room_of new ≡ 0 → 0 < length (unread_of last) → IsReplyToCertificate f (Some (bytes_read last)) (TooLong files.Certificate)
+        room_of new ≡ 0 → 0 < length (unread_of last) → IsReplyToCertificate Judges accepts (Some (bytes_read last)) (TooLong files.Certificate)
     further_reply full more = (
       bytes_read last,
       λ known is. cc,
@@ -110,7 +109,7 @@ module _ {S : Type 0} {shelf : Ghosts S} (f : Function) (old new : ShelfFeed S s
     nothing_of (suc n) [] none = refl
     nothing_of (suc n) (b ∷ bytes) none = cc
 
-    pub ended_reply : unread_of last ≡ [] → (r : Reply) → Tells judgement r → IsReplyToCertificate f (Some (bytes_read last)) r
+    pub ended_reply : unread_of last ≡ [] → (r : Reply) → Tells accepts judgement r → IsReplyToCertificate Judges accepts (Some (bytes_read last)) r
     ended_reply none r tells = (
       bytes_read last,
       λ known is. cc,
@@ -123,10 +122,10 @@ module _ {S : Type 0} {shelf : Ghosts S} (f : Function) (old new : ShelfFeed S s
 
 -- a reply that is told
 pub reply_of :
-    {E : Type 0} (judgement : Result Level JudgeError) (P : Reply → Type 0) (answer : Result Reply E) → IfOk answer (λ r. Tells judgement r)
-    → ((r : Reply) → Tells judgement r → P r) → IfOk answer P
-reply_of judgement P (Ok r) tells gets = gets r tells
-reply_of judgement P (Err e) tells gets = tt
+    {T E : Type 0} (accepts : T → Reply) (judgement : Result T JudgeError) (P : Reply → Type 0) (answer : Result Reply E) → IfOk answer (λ r. Tells accepts judgement r)
+    → ((r : Reply) → Tells accepts judgement r → P r) → IfOk answer P
+reply_of accepts judgement P (Ok r) tells gets = gets r tells
+reply_of accepts judgement P (Err e) tells gets = tt
 
 -- of a file that was opened nothing is read
 pub none_read :

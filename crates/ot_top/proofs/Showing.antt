@@ -23,7 +23,7 @@ use Rattle.ot_replies.specs.declared.reply.Reply.TheVariants.{Accepted, Refused,
 use Rattle.ot_words.specs.Commands.{Asked, Check}
 use Rattle.ot_top.specs.Judgements.{IsReplyToCertificate, IsReplyToContents, Tells, rests_on_the_end}
 use Rattle.ot_replies.specs.Limits.{limit_of, IsTooLong}
-use Rattle.ot_top.specs.Replies.{IsFunctionRefusal, IsReadAs, IsReply, IsReplyTo}
+use Rattle.ot_top.specs.Replies.{IsFunctionRefusal, IsReadAs, IsReply, IsReplyTo, IsReplyToFunction}
 use Rattle.ot_top.specs.Shown.{HasLevel, IsShown}
 use Rattle.ot_replies.specs.Texts.{status_of, text_of}
 
@@ -41,37 +41,38 @@ module _ (r : Reply) (is_zero : 0 ≡ status_of r) where
   not_refused subject told (inr h) = other_status r (FunctionRefused subject h.0) 3 is_zero h.2 refl (omega arith)
 
   -- status 0 of a judgement's reply is that of an accepted certificate, all of whose bytes were judged
-  accepted_bytes :
-      (f : Function) (contents : List ℕ) (judgement : Result Level JudgeError)
-      → IsJudgement f (take (limit_of files.Certificate) contents) judgement
-      → (IsTrue (rests_on_the_end judgement) → length contents ≤ limit_of files.Certificate) → Tells judgement r
-      → (level : Level) × IsCertificate contents f level × (r ≡ Accepted level)
-  accepted_bytes f contents (Ok level) is within tells =
-      (level, subst (λ (b : List ℕ). IsCertificate b f level) (take_all (limit_of files.Certificate) contents (within refl)) is, tells)
-  accepted_bytes f contents (Err (judge.Refused offset why)) is within tells =
-      absurd (other_status r (Refused offset why) 2 is_zero tells refl (omega arith))
-  accepted_bytes f contents (Err judge.Failed) is within tells = absurd tells
-  accepted_bytes f contents (Err judge.NoMemory) is within tells = absurd tells
+  module _ {T : Type 0} (Judges : List ℕ → Result T JudgeError → Type 0) (accepts : T → Reply) where
+    accepted_bytes :
+        (contents : List ℕ) (judgement : Result T JudgeError) → Judges (take (limit_of files.Certificate) contents) judgement
+        → (IsTrue (rests_on_the_end judgement) → length contents ≤ limit_of files.Certificate) → Tells accepts judgement r
+        → (shown : T) × Judges contents (Ok shown) × (r ≡ accepts shown)
+    accepted_bytes contents (Ok shown) is within tells =
+        (shown, subst (λ (b : List ℕ). Judges b (Ok shown)) (take_all (limit_of files.Certificate) contents (within refl)) is, tells)
+    accepted_bytes contents (Err (judge.Refused offset why)) is within tells =
+        absurd (other_status r (Refused offset why) 2 is_zero tells refl (omega arith))
+    accepted_bytes contents (Err judge.Failed) is within tells = absurd tells
+    accepted_bytes contents (Err judge.NoMemory) is within tells = absurd tells
 
-  contents_accepted :
-      (f : Function) (told : Option (List ℕ)) (contents : List ℕ) → IsReplyToContents f told contents r
-      → (level : Level) × IsCertificate contents f level × (r ≡ Accepted level)
-  contents_accepted f told contents (judgement, judged, inl h) = absurd (not_too_long files.Certificate told h.1)
-  contents_accepted f told contents (judgement, judged, inr h) = accepted_bytes f contents judgement judged h.0 h.1
+    contents_accepted :
+        (told : Option (List ℕ)) (contents : List ℕ) → IsReplyToContents Judges accepts told contents r
+        → (shown : T) × Judges contents (Ok shown) × (r ≡ accepts shown)
+    contents_accepted told contents (judgement, judged, inl h) = absurd (not_too_long files.Certificate told h.1)
+    contents_accepted told contents (judgement, judged, inr h) = accepted_bytes contents judgement judged h.0 h.1
 
-  file_accepted :
-      (f : Function) (told : Option (List ℕ)) → IsReplyToCertificate f told r
-      → (level : Level) × (contents : List ℕ) × ForSome told (λ known. contents ≡ known) × IsCertificate contents f level × (r ≡ Accepted level)
-  file_accepted f told (contents, are, h) =
-      let found = contents_accepted f told contents h in (found.0, contents, are, found.1, found.2)
+    file_accepted :
+        (told : Option (List ℕ)) → IsReplyToCertificate Judges accepts told r
+        → (shown : T) × (contents : List ℕ) × ForSome told (λ known. contents ≡ known) × Judges contents (Ok shown) × (r ≡ accepts shown)
+    file_accepted told (contents, are, h) =
+        let found = contents_accepted told contents h in (found.0, contents, are, found.1, found.2)
 
   -- the function is read, and there is a certificate of it
-  accepted :
-      (holds : List ℕ → Option (List ℕ)) (name certificate : List ℕ) → IsReplyTo holds (Check name certificate) r
-      → (f : Function) × IsReadAs (Ok f) (holds name)
-      × ((level : Level) × (contents : List ℕ) × ForSome (holds certificate) (λ known. contents ≡ known) × IsCertificate contents f level × (r ≡ Accepted level))
-  accepted holds name certificate (inl h) = absurd (not_refused First (holds name) h)
-  accepted holds name certificate (inr (f, read, h)) = (f, read, file_accepted f (holds certificate) h)
+  pub accepted :
+      {T : Type 0} (Judges : Function → List ℕ → Result T JudgeError → Type 0) (accepts : T → Reply) (first second : Option (List ℕ))
+      → IsReplyToFunction First first (λ f. IsReplyToCertificate (Judges f) accepts second r) r
+      → (f : Function) × IsReadAs (Ok f) first
+      × ((shown : T) × (contents : List ℕ) × ForSome second (λ known. contents ≡ known) × Judges f contents (Ok shown) × (r ≡ accepts shown))
+  accepted Judges accepts first second (inl h) = absurd (not_refused First first h)
+  accepted Judges accepts first second (inr (f, read, h)) = (f, read, file_accepted (Judges f) accepts second h)
 
 module _ (tp1 : (bytes : List ℕ) (f : Function) → IsCertificate bytes f Tp1 → HasTp1 f)
     (tp2 : (bytes : List ℕ) (f : Function) → IsCertificate bytes f Tp2 → HasTp1 f × HasTp2 f)
@@ -88,7 +89,7 @@ module _ (has_level : (bytes : List ℕ) (f : Function) (level : Level) → IsCe
   shown words holds r IsWritten is_zero is_reply written name certificate_name bytes named told =
       let reply : IsReplyTo holds (Check name certificate_name) r =
       subst (λ (o : Option Asked). MatchOption o (r ≡ Usage) (λ asked. IsReplyTo holds asked r)) named is_reply in
-      let found = accepted r is_zero holds name certificate_name reply in
+      let found = accepted r is_zero IsJudgement Accepted (holds name) (holds certificate_name) reply in
       let text = is_text bytes found.0 (found.1 bytes told).1 in
       let level = found.2.0 in
       let certificate = found.2.1 in (

@@ -15,12 +15,14 @@ use Rattle.ot_judge.specs.Refusals.{IsJudgement}
 use Rattle.ot_outside.specs.Reads.{Reads}
 use Rattle.ot_replies.specs.declared.reply.Reply.{Reply}
 use Rattle.ot_top.specs.Given.{IsAnswerOfGiven}
+use Rattle.ot_top.specs.Bounded.{IsBounded, IsSought}
 use Rattle.ot_top.specs.Replies.{IsReply}
 use Rattle.ot_top.specs.Shown.{HasLevel, IsBroken, IsComplete}
 use Rattle.ot_top.specs.Shows.{AreKnown, IsOfReply, Shows}
 use Rattle.ot_top.specs.Steady.{AreSteady}
 use Rattle.ot_replies.specs.Texts.{status_of, text_of}
 use Rattle.ot_top.proofs.Audited.{audited, compared}
+use Rattle.ot_top.proofs.Bounded.{bound_judged}
 use Rattle.ot_top.proofs.Proving.{complete, proved}
 use Rattle.ot_top.proofs.Showing.{shown}
 use Rattle.ot_top.proofs.Steady.{served, steady}
@@ -48,12 +50,13 @@ module _ (words : List (List ℕ)) (holds : List ℕ → Option (List ℕ)) (IsW
     (is_text : (bytes : List ℕ) (f : Function) → function_in bytes ≡ Ok f → IsTextOf bytes f)
     (is_within_limits : (bytes : List ℕ) (f : Function) → IsTextOf bytes f → IsTrue (is_valid f))
     (is_read : (bytes : List ℕ) (f : Function) → IsTextOf bytes f → function_in bytes ≡ Ok f)
-    (some_judgement : (f : Function) (bytes : List ℕ) → (judgement : Result Level JudgeError) × IsJudgement f bytes judgement)
     (one_judgement :
     (f : Function) (bytes : List ℕ) (one other : Result Level JudgeError) → IsTrue (is_valid f) → IsJudgement f bytes one
     → IsJudgement f bytes other → one ≡ other)
     (one_list : (p : Plan Why) (w : List Lit) (q r : Questions Why) → QuestionList p w q → QuestionList p w r → q ≡ r)
-    (is_broken : (r : Reply) → 1 ≡ status_of r → IsReply words holds r → IsWritten (text_of r) → IsBroken words holds IsWritten) where
+    (is_broken : (r : Reply) → 1 ≡ status_of r → IsReply words holds r → IsWritten (text_of r) → IsBroken words holds IsWritten)
+    (is_bounded : (r : Reply) → 0 ≡ status_of r → IsReply words holds r → IsWritten (text_of r) → IsBounded words holds IsWritten)
+    (is_sought : (r : Reply) → IsReply words holds r → IsWritten (text_of r) → IsSought words holds IsWritten (status_of r)) where
   pub shows : Shows words holds IsWritten status
   shows =
       record {
@@ -75,10 +78,19 @@ module _ (words : List (List ℕ)) (holds : List ℕ → Option (List ℕ)) (IsW
             subst (λ (s : ℕ). IsComplete words holds s) (sym told.3) (complete is_read one_list words holds told.0 told.1);
         judged =
             λ of_a_reply.
-            judged is_read one_judgement is_within_limits some_judgement words holds status IsWritten (answered of_a_reply);
+            judged is_read words holds status IsWritten (answered of_a_reply);
         unread = λ of_a_reply. unread is_read is_text words holds status IsWritten (answered of_a_reply);
         audited = λ of_a_reply. audited is_read words holds status IsWritten (answered of_a_reply);
         compared = λ of_a_reply. compared is_read words holds status IsWritten (answered of_a_reply);
+        sought =
+            λ of_a_reply.
+            let told = answered of_a_reply in
+            subst (λ (s : ℕ). IsSought words holds IsWritten s) (sym told.3) (is_sought told.0 told.1 told.4);
+        bounded =
+            λ zero.
+            let told = answered (of_reply status 0 zero (λ e. omega (arith, e)) (λ e. omega (arith, e)) (λ e. omega (arith, e))) in
+            is_bounded told.0 (sym zero ∙ told.3) told.1 told.4;
+        bound_judged = λ of_a_reply. bound_judged is_read words holds status IsWritten (answered of_a_reply);
         gone_through = λ of_a_reply. gone_through words holds status IsWritten (answered of_a_reply);
         steady =
             λ name session bytes f named known text agree one.

@@ -1,12 +1,10 @@
 -- What statuses tell, from the reply that was written.
 use Rattle.std.proofs.Common.{◌≡◌, ◌≢◌, ◌≤◌, ◌⊎◌, ℕ, true, false, Bool, List, length, take, Option, Some, None, Result, Ok, Err, refl, ap, ◌∙◌, subst, inl, inr, arith}
-use Rattle.std.specs.Prelude.{IsTrue, is_ok, if◌then◌else◌}
+use Rattle.std.specs.Prelude.{is_ok, if◌then◌else◌}
 use Rattle.std.specs.List.{list_all}
 use Rattle.std.proofs.lemmas.Bool.{cases_eq}
 use Rattle.std.proofs.lemmas.List.{take_all}
-use Rattle.fn_rules.specs.declared.function.Level.{Level}
 use Rattle.fn_rules.specs.Functions.{Function}
-use Rattle.fn_rules.specs.Validity.{is_valid}
 use Rattle.fn_text.specs.Grammar.{IsTextOf}
 use Rattle.fn_text.specs.Reading.{function_in}
 use Rattle.case_json.specs.declared.fault.CaseFault.{CaseFault}
@@ -25,7 +23,7 @@ use Rattle.ot_audit.specs.declared.audits.Audit.TheVariants as audits
 use Rattle.ot_audit.specs.declared.audits.Same.TheVariants as sames
 use Rattle.ot_replies.specs.AuditTexts.{is_total}
 use Rattle.ot_replies.specs.DrillTexts.{drill_text}
-use Rattle.ot_top.specs.Judgements.{IsReplyToCertificate, IsReplyToJudgement, Tells}
+use Rattle.ot_top.specs.Judgements.{IsReplyToCertificate, IsReplyToChecked, IsReplyToJudgement, Tells}
 use Rattle.ot_replies.specs.Limits.{limit_of}
 use Rattle.ot_top.specs.Replies.{IsReply}
 use Rattle.ot_top.specs.Shown.{IsGoneThrough, IsJudgedAs}
@@ -91,6 +89,11 @@ reply_named (replies.Compared sames.Everywhere) = omega arith
 reply_named (replies.Compared sames.Heads) = omega arith
 reply_named (replies.Compared (sames.Differ k l a b left right)) = omega arith
 reply_named (replies.Compared sames.Spent) = omega arith
+reply_named replies.Unbroken = omega arith
+reply_named (replies.Shortest counter cells) = omega arith
+reply_named (replies.Certified bytes) = omega arith
+reply_named replies.BoundTooLong = omega arith
+reply_named (replies.AtLeast level cells) = omega arith
 reply_named (replies.Drilled d) = differ_named d.differ
 reply_named replies.Usage = omega arith
 reply_named (replies.TooLong kind) = omega arith
@@ -138,45 +141,38 @@ gone_through words holds status IsWritten (r, reply, steady, is, written) number
         inr (is ∙ ap (λ x. status_of x) same ∙ both.1, (d, done.1.1, both.0, subst IsWritten (ap (λ x. text_of x) same) written))
 
 -- the status of a judgement that is told
-judgement_status : (judgement : Result Level JudgeError) (r : Reply) → Tells judgement r → status_of r ≡ (if is_ok judgement then 0 else 2)
-judgement_status (Ok level) r tells = ap (λ x. status_of x) tells
-judgement_status (Err (judge.Refused offset why)) r tells = ap (λ x. status_of x) tells
-judgement_status (Err judge.Failed) r tells = absurd tells
-judgement_status (Err judge.NoMemory) r tells = absurd tells
+judgement_status :
+    {T : Type 0} (accepts : T → Reply) (judgement : Result T JudgeError) (r : Reply) → ((shown : T) → status_of (accepts shown) ≡ 0)
+    → Tells accepts judgement r → status_of r ≡ (if is_ok judgement then 0 else 2)
+judgement_status accepts (Ok shown) r zero tells = ap (λ x. status_of x) tells ∙ zero shown
+judgement_status accepts (Err (judge.Refused offset why)) r zero tells = ap (λ x. status_of x) tells
+judgement_status accepts (Err judge.Failed) r zero tells = absurd tells
+judgement_status accepts (Err judge.NoMemory) r zero tells = absurd tells
 
-module _ (texts_are_read : (bytes : List ℕ) (f : Function) → IsTextOf bytes f → function_in bytes ≡ Ok f)
-    (one_judgement :
-    (f : Function) (bytes : List ℕ) (one other : Result Level JudgeError) → IsTrue (is_valid f) → IsJudgement f bytes one
-    → IsJudgement f bytes other → one ≡ other)
-    (is_valid_text : (bytes : List ℕ) (f : Function) → IsTextOf bytes f → IsTrue (is_valid f)) where
-  file_judged :
-      (f : Function) (told : Option (List ℕ)) (certificate : List ℕ) (judgement : Result Level JudgeError) (r : Reply)
-      → IsTrue (is_valid f) → told ≡ Some certificate → length certificate ≤ limit_of files.Certificate
-      → IsJudgement f certificate judgement → IsReplyToCertificate f told r → status_of r ≡ (if is_ok judgement then 0 else 2)
-  file_judged f told certificate judgement r valid is within judged (contents, known, (found, of_front, reply)) =
-      let front : take (limit_of files.Certificate) contents ≡ certificate =
-      ap (λ (l : List ℕ). take (limit_of files.Certificate) l) (known certificate is)
-      ∙ take_all (limit_of files.Certificate) certificate within in
-      let whole_judged : IsJudgement f certificate found = subst (λ (b : List ℕ). IsJudgement f b found) front of_front in
-      let same : found ≡ judgement = one_judgement f certificate found judgement valid whole_judged judged in
-      by_reply same reply
-    where
-      by_reply : found ≡ judgement → IsReplyToJudgement told contents found r → status_of r ≡ (if is_ok judgement then 0 else 2)
-      by_reply same (inl longer) = absurd (let more = longer.1.0 certificate is in omega (arith, more, within))
-      by_reply same (inr h) = judgement_status found r h.1 ∙ ap (λ (j : Result Level JudgeError). if is_ok j then 0 else 2) same
+-- a told certificate within its limit has a judgement, whose status is that of its reply
+pub file_judged :
+    {T : Type 0} (Judges : List ℕ → Result T JudgeError → Type 0) (accepts : T → Reply) → ((shown : T) → status_of (accepts shown) ≡ 0)
+    → (told : Option (List ℕ)) (certificate : List ℕ) (r : Reply) → told ≡ Some certificate
+    → length certificate ≤ limit_of files.Certificate → IsReplyToCertificate Judges accepts told r
+    → (judgement : Result T JudgeError) × Judges certificate judgement × (status_of r ≡ (if is_ok judgement then 0 else 2))
+file_judged Judges accepts zero told certificate r is within (contents, known, (judgement, of_front, reply)) =
+    let front : take (limit_of files.Certificate) contents ≡ certificate =
+    ap (λ (l : List ℕ). take (limit_of files.Certificate) l) (known certificate is)
+    ∙ take_all (limit_of files.Certificate) certificate within in
+    (judgement, subst (λ (b : List ℕ). Judges b judgement) front of_front, by_reply reply)
+  where
+    by_reply : IsReplyToJudgement accepts told contents judgement r → status_of r ≡ (if is_ok judgement then 0 else 2)
+    by_reply (inl longer) = absurd (let more = longer.1.0 certificate is in omega (arith, more, within))
+    by_reply (inr h) = judgement_status accepts judgement r zero h.1
 
+module _ (texts_are_read : (bytes : List ℕ) (f : Function) → IsTextOf bytes f → function_in bytes ≡ Ok f) where
   pub judged :
-      ((f : Function) (bytes : List ℕ) → (judgement : Result Level JudgeError) × IsJudgement f bytes judgement)
-      → (words : List (List ℕ)) (holds : List ℕ → Option (List ℕ)) (status : ℕ) (IsWritten : List ℕ → Type 0)
+      (words : List (List ℕ)) (holds : List ℕ → Option (List ℕ)) (status : ℕ) (IsWritten : List ℕ → Type 0)
       → IsAnswered words holds status IsWritten → IsJudgedAs words holds status
-  judged some_judgement words holds status IsWritten (r, reply, steady, is, written) name certificate_name bytes certificate f named told
-      certificate_told small text within =
+  judged words holds status IsWritten (r, reply, steady, is, written) name certificate_name bytes certificate f named told certificate_told
+      small text within =
       let gives = reply_to_asked words holds r (Check name certificate_name) named reply in
-      let got : IsReplyToCertificate f (holds certificate_name) r =
-      gets (holds name) bytes f told small (texts_are_read bytes f text) First (λ g. IsReplyToCertificate g (holds certificate_name) r) r gives in
-      let found = some_judgement f certificate in (
-        found.0,
-        found.1,
-        is
-            ∙ file_judged f (holds certificate_name) certificate found.0 r (is_valid_text bytes f text) certificate_told within found.1 got,
-      )
+      let got : IsReplyToChecked f (holds certificate_name) r =
+      gets (holds name) bytes f told small (texts_are_read bytes f text) First (λ g. IsReplyToChecked g (holds certificate_name) r) r gives in
+      let found = file_judged (IsJudgement f) replies.Accepted (λ level. refl) (holds certificate_name) certificate r certificate_told within got in
+      (found.0, found.1, is ∙ found.2)

@@ -1,7 +1,8 @@
 -- The status 3 is that of a function's file that is reached and is the text of no function.
 use Rattle.std.proofs.Common.{◌≡◌, ◌≢◌, ◌+◌, ℕ, true, false, Bool, List, [], ◌∷◌, Option, Some, None, Result, Ok, Err, refl, sym, ap, ◌∙◌, subst, inl, inr, arith}
 use Rattle.std.specs.Prelude.{if◌then◌else◌}
-use Rattle.fn_rules.specs.declared.function.Level.{Level}
+use Rattle.diff_graph.specs.declared.lit.Lit.{Lit}
+use Rattle.fn_rules.specs.declared.function.ObName.{ObName}
 use Rattle.fn_rules.specs.Functions.{Function}
 use Rattle.fn_rules.specs.Orders.{Outcome}
 use Rattle.fn_text.specs.Grammar.{IsTextOf}
@@ -19,6 +20,10 @@ use Rattle.case_json.specs.Scripts.{script_in}
 use Rattle.ot_hub.specs.Views.{HubData, begun}
 use Rattle.ot_sections.specs.declared.refusal.JudgeError.{JudgeError}
 use Rattle.ot_sections.specs.declared.refusal.JudgeError.TheVariants as judge
+use Rattle.ot_judge.specs.Refusals.{IsJudgement}
+use Rattle.ot_least.specs.declared.short.Short.{Short}
+use Rattle.ot_least.specs.declared.short.Short.TheVariants as shorts
+use Rattle.ot_least.specs.Judgements.{IsLowJudgement}
 use Rattle.ot_decide.specs.declared.verdict.Verdict.{Verdict}
 use Rattle.ot_decide.specs.declared.verdict.Verdict.TheVariants as verdicts
 use Rattle.ot_session.specs.declared.answer.Make.{Make as NotMade}
@@ -31,7 +36,7 @@ use Rattle.ot_replies.specs.declared.reply.Reply.{Reply}
 use Rattle.ot_replies.specs.declared.reply.Reply.TheVariants as replies
 use Rattle.ot_replies.specs.declared.reply.Subject.{Subject}
 use Rattle.ot_replies.specs.declared.reply.Subject.TheVariants.{First, Second}
-use Rattle.ot_words.specs.Commands.{Asked, Prove, Check, Integrate, Replay, Hub, Audit, Same, Drill}
+use Rattle.ot_words.specs.Commands.{Asked, Prove, Check, Integrate, Replay, Hub, Audit, Same, Least, Bound, Drill}
 use Rattle.ot_questions.specs.declared.why.Why.{Why}
 use Rattle.ot_decide.specs.Verdicts.{ObQuestions}
 use Rattle.std.specs.List.{list_all}
@@ -43,11 +48,12 @@ use Rattle.ot_replies.specs.AuditTexts.{is_total}
 use Rattle.ot_top.specs.Audits.{IsReplyToTwo}
 use Rattle.ot_top.specs.Drills.{IsReplyToQuestions}
 use Rattle.ot_top.specs.Hubs.{IsDone, IsRefused, IsReplyToHub, IsReplyToHubScript, TellsHub}
-use Rattle.ot_top.specs.Judgements.{IsReplyToJudgement, Tells}
+use Rattle.ot_top.specs.Judgements.{IsReplyToCertificate, Tells, at_least}
 use Rattle.ot_top.specs.Replies.{IsReplyTo, IsReplyToCase, IsReplyToFile, IsReplyToFunction, IsReplyToSecond, IsReplyToTrial, TellsOutcomes}
 use Rattle.ot_top.specs.Sessions.{IsReplyToScript, IsReplyToSession, Runs, TellsNotMade, TellsNotTaken, TellsSites}
 use Rattle.ot_top.specs.Shown.{IsUnread, IsUnreadFrom, function_names}
 use Rattle.ot_replies.specs.Texts.{differ_status, status_of}
+use Rattle.ot_top.specs.Shortest.{TellsLeast, TellsShort}
 use Rattle.ot_top.specs.Verdicts.{TellsVerdict}
 use Rattle.ot_top.proofs.HubStatus.{refused_other}
 use Rattle.ot_top.proofs.Proving.{reply_to_asked}
@@ -76,17 +82,33 @@ verdict_other f (verdicts.Yes bytes) r tells = named_so r (replies.Proved bytes.
 verdict_other f (verdicts.No ob answers why) r tells = named_so r (replies.Broken tells.0) 1 tells.2 refl (λ e. omega (arith, e))
 verdict_other f verdicts.Spent r tells = named_so r replies.Spent 8 tells refl (λ e. omega (arith, e))
 
-judgement_other : (judgement : Result Level JudgeError) (r : Reply) → Tells judgement r → status_of r ≢ 3
-judgement_other (Ok level) r tells = named_so r (replies.Accepted level) 0 tells refl (λ e. omega (arith, e))
-judgement_other (Err (judge.Refused offset why)) r tells = named_so r (replies.Refused offset why) 2 tells refl (λ e. omega (arith, e))
-judgement_other (Err judge.Failed) r tells = absurd tells
-judgement_other (Err judge.NoMemory) r tells = absurd tells
+judgement_other :
+    {T : Type 0} (accepts : T → Reply) (judgement : Result T JudgeError) (r : Reply) → ((shown : T) → status_of (accepts shown) ≡ 0)
+    → Tells accepts judgement r → status_of r ≢ 3
+judgement_other accepts (Ok shown) r zero tells = named_so r (accepts shown) 0 tells (zero shown) (λ e. omega (arith, e))
+judgement_other accepts (Err (judge.Refused offset why)) r zero tells = named_so r (replies.Refused offset why) 2 tells refl (λ e. omega (arith, e))
+judgement_other accepts (Err judge.Failed) r zero tells = absurd tells
+judgement_other accepts (Err judge.NoMemory) r zero tells = absurd tells
 
-certificate_other : (told : Option (List ℕ)) (contents : List ℕ) (judgement : Result Level JudgeError) (r : Reply)
-    → IsReplyToJudgement told contents judgement r → status_of r ≢ 3
-certificate_other told contents judgement r (inl longer) =
+certificate_other :
+    {T : Type 0} (Judges : List ℕ → Result T JudgeError → Type 0) (accepts : T → Reply) (told : Option (List ℕ)) (r : Reply)
+    → ((shown : T) → status_of (accepts shown) ≡ 0) → IsReplyToCertificate Judges accepts told r → status_of r ≢ 3
+certificate_other Judges accepts told r zero (contents, known, (judgement, judged, inl longer)) =
     named_so r (replies.TooLong files.Certificate) 9 longer.1.1 refl (λ e. omega (arith, e))
-certificate_other told contents judgement r (inr tells) = judgement_other judgement r tells.1
+certificate_other Judges accepts told r zero (contents, known, (judgement, judged, inr tells)) =
+    judgement_other accepts judgement r zero tells.1
+
+least_other :
+    (f : Function) (cert : Bool) (ob : ObName) (w : List Lit) (why : Why) (cells : ℕ) (bytes : List ℕ) (r : Reply)
+    → TellsLeast f cert ob w why cells bytes r → status_of r ≢ 3
+least_other f true ob w why cells bytes r tells = named_so r (replies.Certified bytes) 1 tells refl (λ e. omega (arith, e))
+least_other f false ob w why cells bytes r tells = named_so r (replies.Shortest tells.0 cells) 1 tells.2 refl (λ e. omega (arith, e))
+
+short_other : (f : Function) (cert : Bool) (short : Short) (r : Reply) → TellsShort f cert short r → status_of r ≢ 3
+short_other f cert shorts.Fine r tells = named_so r replies.Unbroken 0 tells refl (λ e. omega (arith, e))
+short_other f cert (shorts.Least ob answers why cells bytes) r tells = least_other f cert ob _ why cells bytes.items r tells
+short_other f cert shorts.TooLong r tells = named_so r replies.BoundTooLong 9 tells refl (λ e. omega (arith, e))
+short_other f cert shorts.Spent r tells = named_so r replies.Spent 8 tells refl (λ e. omega (arith, e))
 
 same_other : (same : Bool) → ◌≢◌ {A = ℕ} (if same then 0 else 1) 3
 same_other true is = absurd (omega (arith, is))
@@ -196,7 +218,7 @@ module _ (texts_are_read : (bytes : List ℕ) (f : Function) → IsTextOf bytes 
   unread_reply (Prove level budget name) reply =
       read_or_not First name [] _ (λ f gets. verdict_other f gets.0 r gets.3) reply
   unread_reply (Check name certificate) reply =
-      read_or_not First name [] _ (λ f gets. certificate_other (holds certificate) gets.0 gets.2.0 r gets.2.2) reply
+      read_or_not First name [] _ (λ f gets. certificate_other (IsJudgement f) replies.Accepted (holds certificate) r (λ level. refl) gets) reply
   unread_reply (Integrate name case) reply =
       read_or_not First name [] _ (λ f gets. file_other (holds case) (λ b. IsReplyToCase f b r) r (λ b. case_reply_other f b r) gets) reply
   unread_reply (Replay name session) reply =
@@ -208,6 +230,10 @@ module _ (texts_are_read : (bytes : List ℕ) (f : Function) → IsTextOf bytes 
   unread_reply (Same name other) reply =
       read_or_not First name (other ∷ []) (λ f. IsReplyToSecond f (holds other) r)
       (λ f second. read_or_not Second other [] (λ g. IsReplyToTwo f g r) (λ g gets. functions_other gets.0 r gets.2) second) reply
+  unread_reply (Least cert name) reply = read_or_not First name [] _ (λ f gets. short_other f cert gets.0 r gets.4) reply
+  unread_reply (Bound name certificate) reply =
+      read_or_not First name [] _
+      (λ f gets. certificate_other (IsLowJudgement f) at_least (holds certificate) r (λ shown. refl) gets) reply
   unread_reply (Drill number) reply = drilled_other number reply.0 r reply.2
 
 pub unread :

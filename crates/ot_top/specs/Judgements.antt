@@ -1,4 +1,5 @@
--- Which reply a certificate gets: the judgement of its bytes within the limit, or that it is too long.
+-- Which reply a certificate gets: the judgement of its bytes within the limit, or that it is too long. It is one of any kind: what
+-- its bytes are judged as and the reply to what it shows come with it.
 use Rattle.std.specs.Prelude.{◌≡◌, ℕ, ◌≤◌, ◌⊎◌, Bool, true, false, List, length, take, Option, Result, Ok, Err, IsTrue}
 use Rattle.std.specs.Option.{ForSome}
 use Rattle.fn_rules.specs.declared.function.Level.{Level}
@@ -8,9 +9,10 @@ use Rattle.ot_sections.specs.declared.refusal.JudgeError.TheVariants as judge
 use Rattle.ot_sections.specs.declared.refusal.Refusal.{Refusal}
 use Rattle.ot_sections.specs.declared.refusal.Refusal.TheVariants as why
 use Rattle.ot_judge.specs.Refusals.{IsJudgement}
+use Rattle.ot_least.specs.Judgements.{IsLowJudgement}
 use Rattle.ot_replies.specs.declared.reply.FileKind.TheVariants as files
 use Rattle.ot_replies.specs.declared.reply.Reply.{Reply}
-use Rattle.ot_replies.specs.declared.reply.Reply.TheVariants.{Accepted, Refused}
+use Rattle.ot_replies.specs.declared.reply.Reply.TheVariants.{Accepted, AtLeast, Refused}
 use Rattle.ot_replies.specs.Limits.{limit_of, IsTooLong}
 
 abbrev pub is_truncated : Refusal → Bool
@@ -18,37 +20,50 @@ is_truncated why.Truncated = true
 is_truncated other = false
 
 -- bytes behind those that were judged could change the judgement: they are accepted, or they end too early
-abbrev pub rests_on_the_end : Result Level JudgeError → Bool
-rests_on_the_end (Ok level) = true
+abbrev pub rests_on_the_end : {T : Type 0} → Result T JudgeError → Bool
+rests_on_the_end (Ok shown) = true
 rests_on_the_end (Err (judge.Refused offset why)) = is_truncated why
 rests_on_the_end (Err judge.Failed) = false
 rests_on_the_end (Err judge.NoMemory) = false
 
 -- the reply tells the judgement
-abbrev pub Tells : Result Level JudgeError → Reply → Type 0
-Tells (Ok level) r = r ≡ Accepted level
-Tells (Err (judge.Refused offset why)) r = r ≡ Refused offset why
-Tells (Err judge.Failed) r = ⊥
-Tells (Err judge.NoMemory) r = ⊥
+abbrev pub Tells : {T : Type 0} → (T → Reply) → Result T JudgeError → Reply → Type 0
+Tells accepts (Ok shown) r = r ≡ accepts shown
+Tells accepts (Err (judge.Refused offset why)) r = r ≡ Refused offset why
+Tells accepts (Err judge.Failed) r = ⊥
+Tells accepts (Err judge.NoMemory) r = ⊥
 
 -- In what follows `told` is what the certificate's file holds, where the shelf tells it, and `contents` are some bytes
--- that it may hold: those that are told, where they are.
+-- that it may hold: those that are told, where they are. `Judges` says what bytes are judged as, and `accepts` is the reply to
+-- what an accepted certificate shows.
 
 -- the reply to a judgement of the contents within the limit: the limit, where the file goes on behind it and that could
 -- change the judgement, and otherwise the judgement
-abbrev pub IsReplyToJudgement : Option (List ℕ) → List ℕ → Result Level JudgeError → Reply → Type 0
-IsReplyToJudgement told contents judgement r =
+abbrev pub IsReplyToJudgement : {T : Type 0} → (T → Reply) → Option (List ℕ) → List ℕ → Result T JudgeError → Reply → Type 0
+IsReplyToJudgement accepts told contents judgement r =
     (IsTrue (rests_on_the_end judgement) × IsTooLong files.Certificate told r)
-    ⊎ ((IsTrue (rests_on_the_end judgement) → length contents ≤ limit_of files.Certificate) × Tells judgement r)
+    ⊎ ((IsTrue (rests_on_the_end judgement) → length contents ≤ limit_of files.Certificate) × Tells accepts judgement r)
 
 -- the reply to contents
-abbrev pub IsReplyToContents : Function → Option (List ℕ) → List ℕ → Reply → Type 0
-IsReplyToContents f told contents r =
-    (judgement : Result Level JudgeError)
-    × IsJudgement f (take (limit_of files.Certificate) contents) judgement
-    × IsReplyToJudgement told contents judgement r
+abbrev pub IsReplyToContents :
+    {T : Type 0} → (List ℕ → Result T JudgeError → Type 0) → (T → Reply) → Option (List ℕ) → List ℕ → Reply → Type 0
+IsReplyToContents {T = T} Judges accepts told contents r =
+    (judgement : Result T JudgeError)
+    × Judges (take (limit_of files.Certificate) contents) judgement
+    × IsReplyToJudgement accepts told contents judgement r
 
 -- the reply to a certificate's file
-abbrev pub IsReplyToCertificate : Function → Option (List ℕ) → Reply → Type 0
-IsReplyToCertificate f told r =
-    (contents : List ℕ) × ForSome told (λ known. contents ≡ known) × IsReplyToContents f told contents r
+abbrev pub IsReplyToCertificate : {T : Type 0} → (List ℕ → Result T JudgeError → Type 0) → (T → Reply) → Option (List ℕ) → Reply → Type 0
+IsReplyToCertificate Judges accepts told r =
+    (contents : List ℕ) × ForSome told (λ known. contents ≡ known) × IsReplyToContents Judges accepts told contents r
+
+-- the reply to a certificate of a function, by what its level says
+abbrev pub IsReplyToChecked : Function → Option (List ℕ) → Reply → Type 0
+IsReplyToChecked f told r = IsReplyToCertificate (IsJudgement f) Accepted told r
+
+abbrev pub at_least : Level × ℕ → Reply
+at_least shown = AtLeast shown.0 shown.1
+
+-- the reply to a certificate that no document of fewer cells than its bound breaks a property
+abbrev pub IsReplyToBound : Function → Option (List ℕ) → Reply → Type 0
+IsReplyToBound f told r = IsReplyToCertificate (IsLowJudgement f) at_least told r

@@ -5,10 +5,12 @@ pub mod Running
 pub mod Hubs
 pub mod Drills
 pub mod Audits
+pub mod Shortest
 pub mod Audited
 pub mod Replies
 pub mod Given
 pub mod Shown
+pub mod Bounded
 pub mod Shows
 pub mod Answers
 pub mod Steady

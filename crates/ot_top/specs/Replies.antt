@@ -18,13 +18,14 @@ use Rattle.ot_replies.specs.declared.reply.Reply.{Reply}
 use Rattle.ot_replies.specs.declared.reply.Reply.TheVariants.{FunctionRefused, CaseRefused, Integrated, Usage}
 use Rattle.ot_replies.specs.declared.reply.Subject.{Subject}
 use Rattle.ot_replies.specs.declared.reply.Subject.TheVariants.{First, Second}
-use Rattle.ot_words.specs.Commands.{Asked, Prove, Check, Integrate, Replay, Hub, Audit, Same, Drill}
+use Rattle.ot_words.specs.Commands.{Asked, Prove, Check, Integrate, Replay, Hub, Audit, Same, Least, Bound, Drill}
 use Rattle.ot_top.specs.Audits.{IsReplyToAudit, IsReplyToTwo}
 use Rattle.ot_top.specs.Drills.{IsReplyToDrill}
 use Rattle.ot_top.specs.Hubs.{IsReplyToHub}
-use Rattle.ot_top.specs.Judgements.{IsReplyToCertificate}
+use Rattle.ot_top.specs.Judgements.{IsReplyToBound, IsReplyToChecked}
 use Rattle.ot_replies.specs.Limits.{limit_of, IsTooLong}
 use Rattle.ot_top.specs.Sessions.{IsReplyToSession}
+use Rattle.ot_top.specs.Shortest.{IsReplyToLeast}
 use Rattle.ot_top.specs.Verdicts.{IsReplyToProof}
 use Rattle.ot_words.specs.Words.{asked_by}
 
@@ -92,7 +93,7 @@ abbrev pub IsReplyTo : (List ℕ → Option (List ℕ)) → Asked → Reply → 
 IsReplyTo holds (Prove level budget function) r =
     IsReplyToFunction First (holds function) (λ f. IsReplyToProof f level budget r) r
 IsReplyTo holds (Check function certificate) r =
-    IsReplyToFunction First (holds function) (λ f. IsReplyToCertificate f (holds certificate) r) r
+    IsReplyToFunction First (holds function) (λ f. IsReplyToChecked f (holds certificate) r) r
 IsReplyTo holds (Integrate function case) r =
     IsReplyToFunction First (holds function) (λ f. IsReplyToCaseFile f (holds case) r) r
 IsReplyTo holds (Replay function session) r =
@@ -103,6 +104,10 @@ IsReplyTo holds (Audit function) r =
     IsReplyToFunction First (holds function) (λ f. IsReplyToAudit f r) r
 IsReplyTo holds (Same function other) r =
     IsReplyToFunction First (holds function) (λ f. IsReplyToSecond f (holds other) r) r
+IsReplyTo holds (Least cert function) r =
+    IsReplyToFunction First (holds function) (λ f. IsReplyToLeast f cert r) r
+IsReplyTo holds (Bound function certificate) r =
+    IsReplyToFunction First (holds function) (λ f. IsReplyToBound f (holds certificate) r) r
 IsReplyTo holds (Drill number) r = IsReplyToDrill number r
 
 -- the reply to words
@@ -122,4 +127,6 @@ AreOffered holds Offered (Replay function session) = Offered function × (GoesOn
 AreOffered holds Offered (Hub function hub) = Offered function × (GoesOn (holds function) → Offered hub)
 AreOffered holds Offered (Audit function) = Offered function
 AreOffered holds Offered (Same function other) = Offered function × (GoesOn (holds function) → Offered other)
+AreOffered holds Offered (Least cert function) = Offered function
+AreOffered holds Offered (Bound function certificate) = Offered function × (GoesOn (holds function) → Offered certificate)
 AreOffered holds Offered (Drill number) = Unit {0}

@@ -9,10 +9,12 @@ ghost use Rattle.ot_top.specs.Steady.{AreSteady, IsSteadyReply};
 ghost use Rattle.ot_words.specs.Words.{IsWithinBounds, asked_by};
 
 use crate::audit::audit;
+use crate::bound::bound;
 use crate::check::check;
 use crate::drill::drill;
 use crate::hub::hub;
 use crate::integrate::integrate;
+use crate::least::least;
 use crate::load::Stop;
 use crate::prove::prove;
 use crate::replay::replay;
@@ -51,6 +53,11 @@ fn reply_to<H: Shelf>(alloc: Global, shelf: &mut H, command: &Command<'_>) -> Re
         } => hub(alloc, shelf, function, name),
         Command::Audit { function } => audit(alloc, shelf, function),
         Command::Same { function, other } => same(alloc, shelf, function, other),
+        Command::Least { cert, function } => least(alloc, shelf, cert, function),
+        Command::Bound {
+            function,
+            certificate,
+        } => bound(alloc, shelf, function, certificate),
         Command::Drill { number } => Ok(drill(alloc, number)?),
     }
 }

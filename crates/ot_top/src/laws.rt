@@ -1,8 +1,8 @@
 //! Laws of replies. Each is the contract of a function that does nothing.
-ghost use Rattle.std.specs.Prelude.{◌≡◌, ◌≢◌, ℕ, List, Option, Some};
+ghost use Rattle.std.specs.Prelude.{◌≡◌, ◌≢◌, ℕ, true, false, List, Option, Some};
 ghost use Rattle.fn_rules.specs.declared.function.Level.{Level};
 ghost use Rattle.fn_rules.specs.Functions.{Function};
-ghost use Rattle.ot_words.specs.Commands.{Prove, Check, Integrate, Replay, Hub, Audit, Same, Drill};
+ghost use Rattle.ot_words.specs.Commands.{Prove, Check, Integrate, Replay, Hub, Audit, Same, Least, Bound, Drill};
 ghost use Rattle.ot_top.specs.Hubs.{IsReplyToHub};
 ghost use Rattle.ot_top.specs.Replies.{IsReplyTo};
 ghost use Rattle.ot_top.specs.Sessions.{IsReplyToSession};
@@ -12,6 +12,7 @@ use fn_text::what_is_read_is_in_the_grammar;
 use ot_audit::findings_are_one;
 use ot_decide::obligations_have_one_question_list;
 use ot_judge::bytes_have_one_judgement;
+use ot_least::{bytes_have_one_low_judgement, functions_have_one_shortest_document};
 use ot_replies::Reply;
 use ot_session::{makes_have_one_outcome, sessions_begin_as_one, takes_have_one_answer};
 
@@ -33,7 +34,7 @@ pub fn hubs_have_one_reply()
 {}
 
 /// Where the files that a command names are told, two replies to the command are one, so they have one status and one text;
-/// but the certificates that `prove` writes may differ.
+/// but the certificates that `prove` and `least --cert` write may differ.
 pub fn commands_have_one_reply()
     ensures check { (holds : List ℕ → Option (List ℕ)) (name certificate_name bytes certificate : List ℕ) (one other : Reply)
         → holds name ≡ Some bytes → holds certificate_name ≡ Some certificate
@@ -52,6 +53,14 @@ pub fn commands_have_one_reply()
     ensures same { (holds : List ℕ → Option (List ℕ)) (name other_name bytes contents : List ℕ) (one other : Reply)
         → holds name ≡ Some bytes → holds other_name ≡ Some contents
         → IsReplyTo holds (Same name other_name) one → IsReplyTo holds (Same name other_name) other → one ≡ other }
+    ensures bound { (holds : List ℕ → Option (List ℕ)) (name certificate_name bytes certificate : List ℕ) (one other : Reply)
+        → holds name ≡ Some bytes → holds certificate_name ≡ Some certificate
+        → IsReplyTo holds (Bound name certificate_name) one → IsReplyTo holds (Bound name certificate_name) other → one ≡ other }
+    ensures least { (holds : List ℕ → Option (List ℕ)) (name bytes : List ℕ) (one other : Reply)
+        → holds name ≡ Some bytes → IsReplyTo holds (Least false name) one → IsReplyTo holds (Least false name) other → one ≡ other }
+    ensures certified { (holds : List ℕ → Option (List ℕ)) (name bytes : List ℕ) (one other : Reply)
+        → holds name ≡ Some bytes → IsReplyTo holds (Least true name) one → IsReplyTo holds (Least true name) other
+        → (status_of one ≡ status_of other) × (status_of one ≢ 1 → one ≡ other) }
     ensures prove { (holds : List ℕ → Option (List ℕ)) (level : Level) (budget : ℕ) (name bytes : List ℕ) (one other : Reply)
         → holds name ≡ Some bytes → IsReplyTo holds (Prove level budget name) one → IsReplyTo holds (Prove level budget name) other
         → (status_of one ≡ status_of other) × (status_of one ≢ 0 → one ≡ other) }
@@ -67,4 +76,6 @@ pub fn commands_have_one_reply()
     sessions_have_one_reply();
     hubs_have_one_reply();
     findings_are_one();
+    bytes_have_one_low_judgement();
+    functions_have_one_shortest_document();
 }

@@ -9,6 +9,8 @@
 //! `hub FN HUB` runs the events of a hub, and compares its clients with its server.
 //! `audit FN` tells which cases of a function are ever taken, and which of its blocks are ever open.
 //! `same F G` tells whether two functions agree, or where they do not.
+//! `least FN` looks for the shortest document on which a function breaks a property, and certifies that none is shorter.
+//! `bound FN CERT` says whether a certificate shows that no document of fewer cells breaks a property.
 //! `drill N` generates a workload, and goes the whole way from its function to its sites.
 //!
 //! The program above relies on one clause: `run` writes the reply that `IsReply` tells, and ends with
@@ -18,12 +20,15 @@
 
 mod answer;
 mod audit;
+mod bound;
+mod certificate;
 mod check;
 mod drill;
 mod halt;
 mod hub;
 mod integrate;
 mod laws;
+mod least;
 mod load;
 mod program;
 mod prove;

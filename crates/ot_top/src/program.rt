@@ -17,9 +17,8 @@ use crate::load::Stop;
 use fn_text::{texts_of_functions_are_read, what_is_read_is_in_the_grammar};
 use ot_counter::failing_ends_have_counterexamples;
 use ot_decide::failing_triples_show_tp1;
-use ot_judge::{
-    all_bytes_have_a_judgement, bytes_have_one_judgement, certificates_show_the_properties,
-};
+use ot_judge::{bytes_have_one_judgement, certificates_show_the_properties};
+use ot_least::{bytes_have_one_low_judgement, low_certificates_show_shorter_documents};
 use ot_outside::{Shelf, Sink, write_all};
 use ot_prove::plans_have_one_question_list;
 use ot_questions::Why;
@@ -100,7 +99,8 @@ pub fn run<H: Shelf, S: Sink>(alloc: Global, words: &[String], shelf: &mut H, ou
 {
     certificates_show_the_properties();
     bytes_have_one_judgement();
-    all_bytes_have_a_judgement();
+    low_certificates_show_shorter_documents();
+    bytes_have_one_low_judgement();
     failing_triples_show_tp1();
     failing_ends_have_counterexamples();
     plans_have_one_question_list::<Why>();

@@ -26,8 +26,8 @@ use ot_replies::{Reply, Subject};
 use plain_list::List;
 use std::alloc::Global;
 
-// The counterexample of answers that lead to a failing end.
-fn counter_of(
+/// The counterexample of answers that lead to a failing end.
+pub(crate) fn counter_of(
     alloc: Global,
     rules: &Rules,
     ob: ObName,

@@ -8,10 +8,10 @@ use Rattle.clap.specs.ValueTests.{is_unsigned_in}
 use Rattle.clap.specs.Words.{Row, first_of}
 use Rattle.clap.specs.declared.builder.value_parser.ValueParser.TheVariants.{Unsigned}
 use Rattle.fn_rules.specs.declared.function.Level.{Level}
-use Rattle.ot_words.specs.Commands.{Asked, Prove, Check, Integrate, Replay, Hub, Audit, Same, Drill}
+use Rattle.ot_words.specs.Commands.{Asked, Prove, Check, Integrate, Replay, Hub, Audit, Same, Least, Bound, Drill}
 use Rattle.ot_drill.specs.declared.limits.TheConstants.{MOST_ROUNDS}
 use Rattle.clap_words.specs.Found.{found_by}
-use Rattle.ot_words.specs.Words.{IsWithinBounds, asked_by, audit_in, check_in, drill_app, drill_by, drill_in, hub_in, integrate_in, level_by, most_questions}
+use Rattle.ot_words.specs.Words.{IsWithinBounds, asked_by, audit_in, bound_in, check_in, drill_app, drill_by, drill_in, hub_in, integrate_in, is_given, least_app, least_by, least_in, level_by, most_questions}
 use Rattle.ot_words.specs.Words.{name_by, names_by, number_by, prove_app, prove_by, prove_in, replay_in, same_in}
 
 number_within : (most : ℕ) (text : List ℕ) (n : ℕ) → number_by most text ≡ Some n → n ≤ most
@@ -94,6 +94,15 @@ proofs_are_within words = go (found_by prove_app words)
         (option_and_then (number_by most_questions) (first_of (codes "budget") rows)) (first_of (codes "function") rows)
         (found_within most_questions (first_of (codes "budget") rows))
 
+leasts_are_within : (words : List (List ℕ)) → IsWithin (least_in words)
+unfolding least_in
+leasts_are_within words = go (found_by least_app words)
+  where
+    go : (found : Option (List Row)) → IsWithin (option_and_then least_by found)
+    go None = none_is_within
+    go (Some rows) =
+        names_are_within (Least (is_given (first_of (codes "cert") rows))) (λ n. tt) (first_of (codes "function") rows)
+
 drill_is_within : (number : Option ℕ) → ((n : ℕ) → number ≡ Some n → n ≤ MOST_ROUNDS) → IsWithin (option_map Drill number)
 drill_is_within None few asked is = absurd (cc)
 drill_is_within (Some n) few asked is =
@@ -124,4 +133,7 @@ within_bounds (word ∷ words) =
     (one_of (bytes_eq word (codes "audit")) (audit_in words) _ (names_are_within Audit (λ n. tt) (name_by (codes "audit") words))
     (one_of (bytes_eq word (codes "same")) (same_in words) _
     (names_are_within (λ n. Same n.0 n.1) (λ n. tt) (names_by (codes "same") words))
-    (one_of (bytes_eq word (codes "drill")) (drill_in words) None (drills_are_within words) none_is_within)))))))
+    (one_of (bytes_eq word (codes "least")) (least_in words) _ (leasts_are_within words)
+    (one_of (bytes_eq word (codes "bound")) (bound_in words) _
+    (names_are_within (λ n. Bound n.0 n.1) (λ n. tt) (names_by (codes "bound") words))
+    (one_of (bytes_eq word (codes "drill")) (drill_in words) None (drills_are_within words) none_is_within)))))))))

@@ -1,10 +1,10 @@
 -- The words of commands, read by clap.
-use Rattle.std.proofs.Common.{◌≡◌, [], ◌∷◌, Some, None, codes, refl}
+use Rattle.std.proofs.Common.{◌≡◌, [], ◌∷◌, Some, None, true, false, codes, refl}
 use Rattle.clap.proofs.OnLiterals.{clap_on_literals}
 use Rattle.fn_rules.specs.declared.function.Level.TheVariants.{Tp1, Tp2}
 use Rattle.clap_words.specs.Found.{found_by}
-use Rattle.ot_words.specs.Commands.{Prove, Check, Integrate, Audit, Same}
-use Rattle.ot_words.specs.Words.{asked_by, name_by, names_by, prove_in}
+use Rattle.ot_words.specs.Commands.{Prove, Check, Integrate, Audit, Same, Least}
+use Rattle.ot_words.specs.Words.{asked_by, least_in, name_by, names_by, prove_in}
 
 -- two file names, of which the empty word and `-` are such
 two_names : asked_by (codes "check" ∷ codes "a" ∷ codes "b" ∷ []) ≡ Some (Check (codes "a") (codes "b"))
@@ -100,3 +100,16 @@ flag_twice = refl
 no_such_flag : asked_by (codes "prove" ∷ codes "--tp" ∷ codes "a" ∷ []) ≡ None
 unfolding clap_on_literals prove_in found_by
 no_such_flag = refl
+
+-- so does the option of `least`, which has no budget
+no_certificate : asked_by (codes "least" ∷ codes "a" ∷ []) ≡ Some (Least false (codes "a"))
+unfolding clap_on_literals least_in found_by
+no_certificate = refl
+
+certificate_behind : asked_by (codes "least" ∷ codes "a" ∷ codes "--cert" ∷ []) ≡ Some (Least true (codes "a"))
+unfolding clap_on_literals least_in found_by
+certificate_behind = refl
+
+no_budget : asked_by (codes "least" ∷ codes "--budget=7" ∷ codes "a" ∷ []) ≡ None
+unfolding clap_on_literals least_in found_by
+no_budget = refl

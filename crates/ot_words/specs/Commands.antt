@@ -1,5 +1,5 @@
 -- What words ask for: a command, with the names of its files.
-use Rattle.std.specs.Prelude.{ℕ, List}
+use Rattle.std.specs.Prelude.{ℕ, Bool, List}
 use Rattle.fn_rules.specs.declared.function.Level.{Level}
 use Rattle.ot_words.specs.declared.command.Command.{Command}
 use Rattle.ot_words.specs.declared.command.Command.TheVariants as rust
@@ -19,6 +19,11 @@ pub data Asked : Type 0 where
   Audit : List ℕ → Asked
   -- of two functions' files: the functions are compared
   Same : List ℕ → List ℕ → Asked
+  -- of a function's file: the shortest document is looked for on which it breaks a property, and a certificate that none is
+  -- shorter is asked for, or not
+  Least : Bool → List ℕ → Asked
+  -- of a function's file and a certificate's file: the certificate is judged, as one that no shorter document breaks a property
+  Bound : List ℕ → List ℕ → Asked
   -- the workload of a number is gone through
   Drill : ℕ → Asked
 
@@ -30,4 +35,6 @@ asked_of (rust.Replay function session) = Replay function.now session.now
 asked_of (rust.Hub function hub) = Hub function.now hub.now
 asked_of (rust.Audit function) = Audit function.now
 asked_of (rust.Same function other) = Same function.now other.now
+asked_of (rust.Least cert function) = Least cert function.now
+asked_of (rust.Bound function certificate) = Bound function.now certificate.now
 asked_of (rust.Drill number) = Drill number

@@ -1,5 +1,5 @@
 -- Which words are those of a command, by what clap states of a simple command.
-use Rattle.std.specs.Prelude.{ℕ, ◌≤◌, List, [], ◌∷◌, Option, Some, None, codes, if◌then◌else◌, true, option_map, option_and_then}
+use Rattle.std.specs.Prelude.{ℕ, ◌≤◌, List, [], ◌∷◌, Option, Some, None, codes, if◌then◌else◌, Bool, true, false, option_map, option_and_then}
 use Rattle.std.specs.Str.{bytes_eq}
 use Rattle.std.specs.Str.Parse.{digits_value, without_leading_plus}
 use Rattle.clap.specs.Words.{App, Row, Rule, new_app, new_rule, with_rule, first_of}
@@ -10,7 +10,7 @@ use Rattle.clap_words.specs.Found.{found_by}
 use Rattle.fn_rules.specs.declared.function.Level.{Level}
 use Rattle.fn_rules.specs.declared.function.Level.TheVariants.{Tp1, Tp2}
 use Rattle.ot_drill.specs.declared.limits.TheConstants.{MOST_ROUNDS}
-use Rattle.ot_words.specs.Commands.{Asked, Prove, Check, Integrate, Replay, Hub, Audit, Same, Drill}
+use Rattle.ot_words.specs.Commands.{Asked, Prove, Check, Integrate, Replay, Hub, Audit, Same, Least, Bound, Drill}
 
 -- the clap command of a name, with no option for help and no arguments
 abbrev pub bare_app : List ℕ → App
@@ -33,9 +33,9 @@ two_files name = with_rule (with_rule (bare_app name) (required_rule (codes "fir
 abbrev pub most_questions : ℕ
 most_questions = 1000000
 
--- the option `--tp1`
-abbrev pub tp1_rule : Rule
-tp1_rule = record (new_rule (codes "tp1")) { long = Some (codes "tp1"); action = Some SetTrue }
+-- an option of a name that is given or not
+abbrev pub flag_rule : List ℕ → Rule
+flag_rule name = record (new_rule name) { long = Some name; action = Some SetTrue }
 
 -- the option `--budget N`, whose number clap reads
 abbrev pub budget_rule : Rule
@@ -52,7 +52,11 @@ number_rule = record (new_rule (codes "number")) { required = true; parser = Som
 
 -- the clap command `prove`: both options, and a file name
 abbrev pub prove_app : App
-prove_app = with_rule (with_rule (with_rule (bare_app (codes "prove")) tp1_rule) budget_rule) (required_rule (codes "function"))
+prove_app = with_rule (with_rule (with_rule (bare_app (codes "prove")) (flag_rule (codes "tp1"))) budget_rule) (required_rule (codes "function"))
+
+-- the clap command `least`: an option, and a file name
+abbrev pub least_app : App
+least_app = with_rule (with_rule (bare_app (codes "least")) (flag_rule (codes "cert"))) (required_rule (codes "function"))
 
 -- the clap command `drill`: a number, which clap reads
 abbrev pub drill_app : App
@@ -70,10 +74,14 @@ name_by name words = option_and_then (first_of (codes "function")) (found_by (on
 unfoldable pub names_by : List ℕ → List (List ℕ) → Option (List ℕ × List ℕ)
 names_by name words = option_and_then values_in (found_by (two_files name) words)
 
--- the level that the flag says
+-- the option is given
+abbrev pub is_given : Option (List ℕ) → Bool
+is_given None = false
+is_given (Some flag) = bytes_eq flag (codes "true")
+
+-- the level that the option says
 abbrev pub level_by : Option (List ℕ) → Level
-level_by None = Tp2
-level_by (Some flag) = if bytes_eq flag (codes "true") then Tp1 else Tp2
+level_by flag = if is_given flag then Tp1 else Tp2
 
 -- the number of a text that clap takes for one from 1 to the greatest
 abbrev pub number_by : ℕ → List ℕ → Option ℕ
@@ -88,6 +96,13 @@ prove_by rows =
 -- the command behind each first word
 unfoldable pub prove_in : List (List ℕ) → Option Asked
 prove_in words = option_and_then prove_by (found_by prove_app words)
+
+-- the option and the name that are found
+abbrev pub least_by : List Row → Option Asked
+least_by rows = option_map (Least (is_given (first_of (codes "cert") rows))) (first_of (codes "function") rows)
+
+unfoldable pub least_in : List (List ℕ) → Option Asked
+least_in words = option_and_then least_by (found_by least_app words)
 
 -- the number that is found
 abbrev pub drill_by : List Row → Option Asked
@@ -114,6 +129,9 @@ audit_in words = option_map Audit (name_by (codes "audit") words)
 abbrev pub same_in : List (List ℕ) → Option Asked
 same_in words = option_map (λ names. Same names.0 names.1) (names_by (codes "same") words)
 
+abbrev pub bound_in : List (List ℕ) → Option Asked
+bound_in words = option_map (λ names. Bound names.0 names.1) (names_by (codes "bound") words)
+
 -- the command that words name: the first word says which, and the others are its arguments
 abbrev pub asked_by : List (List ℕ) → Option Asked
 asked_by [] = None
@@ -125,8 +143,10 @@ asked_by (word ∷ words) =
     else (if bytes_eq word (codes "hub") then hub_in words
     else (if bytes_eq word (codes "audit") then audit_in words
     else (if bytes_eq word (codes "same") then same_in words
+    else (if bytes_eq word (codes "least") then least_in words
+    else (if bytes_eq word (codes "bound") then bound_in words
     else (if bytes_eq word (codes "drill") then drill_in words
-    else None)))))))
+    else None)))))))))
 
 -- the number that is asked for is within its bounds
 abbrev pub IsWithinBounds : Asked → Type 0

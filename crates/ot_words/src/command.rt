@@ -67,6 +67,24 @@ pub enum Command<'a> {
         other: &'a str,
     },
 
+    /// The shortest document is looked for on which a function breaks a property.
+    Least {
+        /// Whether a certificate is asked for that none is shorter.
+        cert: bool,
+
+        /// The name of the function's file.
+        function: &'a str,
+    },
+
+    /// A certificate that no shorter document breaks a property is judged.
+    Bound {
+        /// The name of the function's file.
+        function: &'a str,
+
+        /// The name of the certificate's file.
+        certificate: &'a str,
+    },
+
     /// The workload that is generated from a number is gone through.
     Drill {
         /// The number.

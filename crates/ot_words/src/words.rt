@@ -4,8 +4,9 @@ ghost use Rattle.clap.specs.Words.{app_of, first_of, found_of, rows_of, rule_of}
 ghost use Rattle.ot_drill.specs.declared.limits.TheConstants.{MOST_ROUNDS};
 ghost use Rattle.ot_words.specs.Commands.{asked_of};
 ghost use Rattle.clap.specs.declared.builder.value_parser.ValueParser.TheVariants.{Unsigned};
-ghost use Rattle.ot_words.specs.Words.{asked_by, audit_in, bare_app, budget_rule, check_in, drill_app, drill_by, drill_in, hub_in, integrate_in, level_by};
-ghost use Rattle.ot_words.specs.Words.{most_questions, name_by, names_by, number_by, number_rule, one_file, prove_app, prove_by, prove_in, replay_in, required_rule, same_in, tp1_rule, two_files, values_in};
+ghost use Rattle.ot_words.specs.Words.{asked_by, audit_in, bare_app, bound_in, budget_rule, check_in, drill_app, drill_by, drill_in, flag_rule, hub_in, integrate_in, is_given};
+ghost use Rattle.ot_words.specs.Words.{least_app, least_by, least_in, level_by, most_questions, name_by, names_by, number_by, number_rule, one_file, prove_app, prove_by, prove_in};
+ghost use Rattle.ot_words.specs.Words.{replay_in, required_rule, same_in, two_files, values_in};
 
 use crate::command::Command;
 use clap::builder::ValueParser;
@@ -26,14 +27,12 @@ fn budget_parser<'a>() -> ValueParser<'a>
     clap::value_parser!(u64).range(1..=1_000_000)
 }
 
-// The option `--tp1`.
-fn tp1_option<'a>(alloc: Global) -> Arg<'a>
-    ensures rule { rule_of result ≡ tp1_rule }
+// An option that is given or not.
+fn flag_option(alloc: Global, name: &str) -> Arg<'_>
+    ensures rule { rule_of result ≡ flag_rule name.entry.now }
     ensures local { result.global ≡ false }
 {
-    Arg::new(alloc, "tp1")
-        .long("tp1")
-        .action(ArgAction::SetTrue)
+    Arg::new(alloc, name).long(name).action(ArgAction::SetTrue)
 }
 
 // The option `--budget N`.
@@ -55,11 +54,11 @@ fn function_argument<'a>(alloc: Global) -> Arg<'a>
     Arg::new(alloc, "function").required(true)
 }
 
-// The clap command `prove`, without its arguments.
-fn bare_prove<'a>(alloc: Global) -> clap::Command<'a>
-    ensures { app_of result ≡ bare_app (codes "prove") }
+// The clap command of a name, which has no options, not even for help, and no arguments.
+fn bare_app(alloc: Global, name: &str) -> clap::Command<'_>
+    ensures { app_of result ≡ bare_app name.entry.now }
 {
-    clap::Command::new(alloc, "prove")
+    clap::Command::new(alloc, name)
         .no_binary_name(true)
         .disable_help_flag(true)
 }
@@ -68,9 +67,18 @@ fn bare_prove<'a>(alloc: Global) -> clap::Command<'a>
 fn prove_app<'a>(alloc: Global) -> Result<clap::Command<'a>, NoMemory>
     ensures { IfOk result (λ c. app_of c ≡ prove_app) }
 {
-    let with_level = bare_prove(alloc).arg(tp1_option(alloc))?;
+    let with_level = bare_app(alloc, "prove").arg(flag_option(alloc, "tp1"))?;
     let with_options = with_level.arg(budget_option(alloc))?;
     let whole = with_options.arg(function_argument(alloc))?;
+    Ok(whole)
+}
+
+// The clap command `least`: an option, and a file name.
+fn least_app<'a>(alloc: Global) -> Result<clap::Command<'a>, NoMemory>
+    ensures { IfOk result (λ c. app_of c ≡ least_app) }
+{
+    let with_flag = bare_app(alloc, "least").arg(flag_option(alloc, "cert"))?;
+    let whole = with_flag.arg(function_argument(alloc))?;
     Ok(whole)
 }
 
@@ -84,24 +92,15 @@ fn number_argument<'a>(alloc: Global) -> Arg<'a>
         .value_parser(clap::value_parser!(u64).range(1..=16))
 }
 
-// The clap command `drill`, without its number.
-fn bare_drill<'a>(alloc: Global) -> clap::Command<'a>
-    ensures { app_of result ≡ bare_app (codes "drill") }
-{
-    clap::Command::new(alloc, "drill")
-        .no_binary_name(true)
-        .disable_help_flag(true)
-}
-
 // The clap command `drill`: a number.
 fn drill_app<'a>(alloc: Global) -> Result<clap::Command<'a>, NoMemory>
     ensures { IfOk result (λ c. app_of c ≡ drill_app) }
 {
-    let whole = bare_drill(alloc).arg(number_argument(alloc))?;
+    let whole = bare_app(alloc, "drill").arg(number_argument(alloc))?;
     Ok(whole)
 }
 
-// The clap command of a name, which has no options, not even for help, and takes one file name.
+// The clap command of a name, which has no options and takes one file name.
 fn one_file(alloc: Global, name: &str) -> Result<clap::Command<'_>, NoMemory>
     ensures { IfOk result (λ c. app_of c ≡ one_file name.entry.now) }
 {
@@ -170,13 +169,24 @@ fn two_names<'a>(
     }
 }
 
-// The level that the flag says.
+// Whether the option is given.
+fn is_given(flag: Option<&str>) -> bool
+    ensures { result ≡ is_given (option_map (λ s. s.now) flag.entry) }
+{
+    match flag {
+        Some("true") => true,
+        _ => false,
+    }
+}
+
+// The level that the option says.
 fn level_by(flag: Option<&str>) -> Level
     ensures { result ≡ level_by (option_map (λ s. s.now) flag.entry) }
 {
-    match flag {
-        Some("true") => Level::Tp1,
-        _ => Level::Tp2,
+    if is_given(flag) {
+        Level::Tp1
+    } else {
+        Level::Tp2
     }
 }
 
@@ -279,6 +289,39 @@ fn same_in<'a>(alloc: Global, words: &'a [String]) -> Result<Option<Command<'a>>
     }
 }
 
+// The option and the name that clap finds.
+fn least_by<'a>(matches: &ArgMatches<'a>) -> Option<Command<'a>>
+    ensures { option_map asked_of result ≡ least_by (rows_of (found_of matches.now)) }
+{
+    let cert = is_given(value_of(matches, "cert"));
+    let function = value_of(matches, "function")?;
+    Some(Command::Least { cert, function })
+}
+
+// `least [--cert] FUNCTION`
+#[tactic(auto, unfolding(crate::specs::Words::least_in))]
+fn least_in<'a>(alloc: Global, words: &'a [String]) -> Result<Option<Command<'a>>, NoMemory>
+    ensures { IfOk result (λ command. option_map asked_of command ≡ least_in (map string_bytes words.entry.now)) }
+{
+    match matches_in(least_app(alloc)?, words)? {
+        Some(matches) => Ok(least_by(&matches)),
+        None => Ok(None),
+    }
+}
+
+// `bound FUNCTION CERTIFICATE`
+fn bound_in<'a>(alloc: Global, words: &'a [String]) -> Result<Option<Command<'a>>, NoMemory>
+    ensures { IfOk result (λ command. option_map asked_of command ≡ bound_in (map string_bytes words.entry.now)) }
+{
+    match two_names(alloc, "bound", words)? {
+        Some((function, certificate)) => Ok(Some(Command::Bound {
+            function,
+            certificate,
+        })),
+        None => Ok(None),
+    }
+}
+
 // The number that clap finds.
 fn drill_by<'a>(matches: &ArgMatches<'a>) -> Option<Command<'a>>
     ensures { option_map asked_of result ≡ drill_by (rows_of (found_of matches.now)) }
@@ -315,6 +358,8 @@ pub fn read_words<'a>(alloc: Global, words: &'a [String]) -> Result<Option<Comma
         "hub" => hub_in(alloc, arguments),
         "audit" => audit_in(alloc, arguments),
         "same" => same_in(alloc, arguments),
+        "least" => least_in(alloc, arguments),
+        "bound" => bound_in(alloc, arguments),
         "drill" => drill_in(alloc, arguments),
         _ => Ok(None),
     }

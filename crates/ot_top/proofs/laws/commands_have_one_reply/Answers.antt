@@ -1,6 +1,11 @@
+use Rattle.ot_judge.specs.Refusals.{IsJudgement}
+use Rattle.ot_least.specs.Judgements.{IsLowJudgement}
+use Rattle.ot_replies.specs.declared.reply.Reply.TheVariants.{Accepted}
+use Rattle.ot_top.specs.Judgements.{at_least}
 use Rattle.ot_top.proofs.OneAudit.{audit_replied_once, same_replied_once}
 use Rattle.ot_top.proofs.OneDrill.{drill_replied_once}
-use Rattle.ot_top.proofs.OneJudgement.{check_replied_once}
+use Rattle.ot_top.proofs.OneJudgement.{both_replied_once}
+use Rattle.ot_top.proofs.OneShortest.{certified_replied_once, least_replied_once}
 use Rattle.ot_top.specs.Hubs.{IsReplyToHub}
 use Rattle.ot_top.specs.Sessions.{IsReplyToSession}
 use Rattle.ot_top.proofs.OneOutcome.{file_replied_once, integrate_replied_once}
@@ -9,8 +14,27 @@ use Rattle.ot_top.proofs.laws.commands_have_one_reply.Goals as goal
 
 pub returns-clause-check : goal.returns-clause-check
 returns-clause-check c =
+    λ holds name certificate_name bytes certificate one other told certificate_told first second.
     let grammar = c.what_is_read_is_in_the_grammar.ensures in
-    check_replied_once c.bytes_have_one_judgement.ensures grammar.text grammar.valid
+    both_replied_once Accepted IsJudgement bytes
+    (λ f read b x y. c.bytes_have_one_judgement.ensures f b x y (grammar.valid bytes f (grammar.text bytes f read)))
+    (holds name) (holds certificate_name) certificate one other told certificate_told first second
+
+pub returns-clause-bound : goal.returns-clause-bound
+returns-clause-bound c =
+    λ holds name certificate_name bytes certificate one other told certificate_told first second.
+    both_replied_once at_least IsLowJudgement bytes (λ f read. c.bytes_have_one_low_judgement.ensures f)
+    (holds name) (holds certificate_name) certificate one other told certificate_told first second
+
+pub returns-clause-least : goal.returns-clause-least
+returns-clause-least c =
+    λ holds name bytes one other told first second.
+    least_replied_once c.functions_have_one_shortest_document.ensures holds name bytes one other told first second
+
+pub returns-clause-certified : goal.returns-clause-certified
+returns-clause-certified c =
+    λ holds name bytes one other told first second.
+    certified_replied_once c.functions_have_one_shortest_document.ensures holds name bytes one other told first second
 
 pub returns-clause-integrate : goal.returns-clause-integrate
 returns-clause-integrate c =

@@ -2,6 +2,7 @@
 use Rattle.std.proofs.Common.{◌≡◌, map}
 use Rattle.std.specs.Prelude.{string_bytes}
 use Rattle.std.specs.Io.KnownBytes.{append_known}
+use Rattle.ot_top.proofs.Bounded.{bounded, sought}
 use Rattle.ot_top.proofs.Proving.{broken}
 use Rattle.ot_top.proofs.Showing.{has_level}
 use Rattle.ot_top.proofs.Shows.{reply_known, shows}
@@ -21,9 +22,15 @@ returns-clause-shows g c =
     let reply = reply_known words (g.H.Shelf.holds c.args.shelf.now) holds (g.H.Shelf.reads c.args.shelf.now)
     (g.H.Shelf.reads c.write_answer.new.shelf) told.0 told.1 told.2 told.3 known in
     (told.0, reply.0, reply.1, told.4, told.5)) (has_level laws.tp1 laws.tp2 laws.one_outcome) grammar.text grammar.valid
-    c.texts_of_functions_are_read.ensures.read c.all_bytes_have_a_judgement.ensures c.bytes_have_one_judgement.ensures
+    c.texts_of_functions_are_read.ensures.read c.bytes_have_one_judgement.ensures
     c.plans_have_one_question_list.ensures.one
     (λ r. broken grammar.text grammar.valid counters.broken counters.by_the_cause c.failing_triples_show_tp1.ensures words holds r
+    (λ text. g.S.Sink.written c.write_answer.new.out ≡ append_known (g.S.Sink.written c.args.out.now) text))
+    (λ r. bounded grammar.text grammar.valid c.texts_of_functions_are_read.ensures.read c.low_certificates_show_shorter_documents.ensures
+    c.bytes_have_one_low_judgement.ensures words holds r
+    (λ text. g.S.Sink.written c.write_answer.new.out ≡ append_known (g.S.Sink.written c.args.out.now) text))
+    (λ r. sought grammar.text grammar.valid c.texts_of_functions_are_read.ensures.read c.low_certificates_show_shorter_documents.ensures
+    c.bytes_have_one_low_judgement.ensures counters.broken counters.by_the_cause words holds r
     (λ text. g.S.Sink.written c.write_answer.new.out ≡ append_known (g.S.Sink.written c.args.out.now) text))
 
 pub returns-clause-answered : goal.returns-clause-answered

@@ -6,5 +6,5 @@ use Rattle.ot_words.proofs.words.drill_app.Goals as goal
 
 pub returns : goal.returns
 returns c =
-    with_argument _ _ _ (bare_app (codes "drill")) number_rule c.in_ok-whole.ensures c.number_argument.ensures.local c.bare_drill.ensures
+    with_argument _ _ _ (bare_app (codes "drill")) number_rule c.in_ok-whole.ensures c.number_argument.ensures.local c.bare_app.ensures
     c.number_argument.ensures.rule

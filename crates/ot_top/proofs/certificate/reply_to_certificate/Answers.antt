@@ -1,6 +1,6 @@
 -- Of a file that was opened the feed has read nothing.
 use Rattle.ot_top.proofs.ReadCertificate.{none_read}
-use Rattle.ot_top.proofs.check.reply_to_certificate.Goals as goal
+use Rattle.ot_top.proofs.certificate.reply_to_certificate.Goals as goal
 
 pub reply_to_feed-requires-clause-read : goal.reply_to_feed-requires-clause-read
 reply_to_feed-requires-clause-read g c =
