@@ -5,17 +5,15 @@ usage: check.py
 
 The first function is examples/functions/ins.ot. The second has 64 cases of up to 16 comparisons each:
 61 cases for insertions far to the left of the other one, each of 16 comparisons, before its own. Both
-certificates are made by certificate.py.
+certificates are made by reference/certificate.py.
 """
 import os
 import subprocess
 import sys
 import tempfile
 
-from measure import measure
+from measure import REFERENCE, TOP, measure
 
-HERE = os.path.dirname(os.path.abspath(__file__))
-TOP = os.path.dirname(HERE)
 PROGRAM = os.path.join(TOP, "crates/otp/out/otp")
 
 
@@ -43,7 +41,7 @@ def main():
         for name, function in [("ins.ot", os.path.join(TOP, "examples/functions/ins.ot")), ("64 cases", many)]:
             certificate = os.path.join(folder, "certificate")
             with open(certificate, "w") as file:
-                made = subprocess.run([sys.executable, os.path.join(HERE, "certificate.py"), "--tp1", function], stdout=file)
+                made = subprocess.run([sys.executable, os.path.join(REFERENCE, "certificate.py"), "--tp1", function], stdout=file)
             if made.returncode == 0:
                 report(name, function, certificate)
             else:

@@ -2,9 +2,16 @@
 
 The peak is that of GNU time, which is small itself: a child of Python would show Python's own.
 """
+import os
 import subprocess
+import sys
 import tempfile
 import time
+
+TOP = os.path.dirname(os.path.dirname(os.path.abspath(__file__)))
+# Programs that share no code with otp; who measures imports them behind this module.
+REFERENCE = os.path.join(TOP, "reference")
+sys.path.insert(1, REFERENCE)
 
 
 def run_under_time(words, wanted):

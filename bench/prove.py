@@ -6,7 +6,7 @@ usage: prove.py [RUNS]      (after `otp`, or `rt run` in crates/otp; the least o
 
 The peak of the prover is shown beside the bytes of its certificate, which it holds whole before it writes them. Where
 z3 or cvc5 is installed, the same obligations are given to them too: each failing end of the plan that
-bench/certificate.py walks through has to be met by no integers.
+reference/certificate.py walks through has to be met by no integers.
 """
 import os
 import shutil
@@ -14,11 +14,10 @@ import subprocess
 import sys
 import tempfile
 
-from certificate import Ask, Holds, obligations, plan_of, read_function
-from measure import measure
+from measure import TOP, measure
 
-HERE = os.path.dirname(os.path.abspath(__file__))
-TOP = os.path.dirname(HERE)
+from certificate import Ask, Holds, obligations, plan_of, read_function
+
 PROGRAM = os.environ.get("OTP") or os.path.join(TOP, "crates/otp/out/otp")
 SHIPPED = os.path.join(TOP, "examples/functions")
 

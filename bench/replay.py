@@ -8,7 +8,7 @@ insertions each, and site 1 takes 488 of those of site 2, or 489, which wants mo
 each of three sites makes so many operations, a third of them deletions; site 1 takes those of the others in rising
 order, site 2 in falling order, where all but the last of a site are held, and site 3 those of site 2 and then those of
 site 1. The last session is as long as one can be: all its events but the first are repeats. How many forms were counted
-is what sessions.py says.
+is what reference/sessions.py says.
 """
 import json
 import os
@@ -16,20 +16,12 @@ import subprocess
 import sys
 import tempfile
 
-from measure import measure
+from measure import REFERENCE, TOP, measure
 
-HERE = os.path.dirname(os.path.abspath(__file__))
-TOP = os.path.dirname(HERE)
+from drill import make, takes
+
 PROGRAM = os.path.join(TOP, "crates/otp/out/otp")
 FUNCTION = os.path.join(TOP, "examples/functions/ttf.ot")
-
-
-def make(site, op, at=0, char=()):
-    return ["make", site, [op, at, *char, site]]
-
-
-def takes(site, numbers):
-    return [["take", site, number] for number in numbers]
 
 
 def two_sites(taken):
@@ -51,7 +43,7 @@ def repeats():
 
 
 def forms_of(name):
-    told = subprocess.run([sys.executable, os.path.join(HERE, "sessions.py"), "--forms", FUNCTION, name], stdout=subprocess.PIPE, text=True)
+    told = subprocess.run([sys.executable, os.path.join(REFERENCE, "sessions.py"), "--forms", FUNCTION, name], stdout=subprocess.PIPE, text=True)
     first = told.stdout.splitlines()[0]
     return first.split(",")[0] if first.startswith("forms") else "forms 500000"
 

@@ -10,8 +10,9 @@ import subprocess
 import sys
 import tempfile
 
-from drill import MOST, function_of
 from prove import PROGRAM, SHIPPED, TOP, least
+
+from drill import MOST, function_of
 
 
 def with_a_fault():

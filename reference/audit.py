@@ -4,7 +4,7 @@
 usage: audit.py [--budget N] [--questions] FN       a line a case and a line a block
        audit.py [--budget N] [--questions] FN FN2   `same`, or the first block on which the two do not agree
 
-The questions are those that docs/AUDIT.md lists, walked as bench/certificate.py walks those of an obligation. An end
+The questions are those that docs/AUDIT.md lists, walked as reference/certificate.py walks those of an obligation. An end
 that is reached by answers that some integers meet names two operations: the least values that meet the answers. It
 ends with status 0 where nothing is found, 1 where something is, and 8 where a question list is longer than the budget.
 Nothing of the program is used, and nothing of the program rests on it.

@@ -1,11 +1,11 @@
 #!/usr/bin/env python3
 """The shortest document on which a function breaks a property, by a search of its own, and by trying all documents.
 
-    bench/least.py [--tp1] FUNCTION..        searches, turn by turn, and then tries all documents of fewer cells than the
+    reference/least.py [--tp1] FUNCTION..        searches, turn by turn, and then tries all documents of fewer cells than the
                                              least length, and of as many, where these are at most 3
-    bench/least.py --lines FUNCTION          writes the counterexample, and how many cells its document has
-    bench/least.py --cert FUNCTION           writes a certificate that no shorter document breaks the property
-    bench/least.py --judge FUNCTION FILE     judges one
+    reference/least.py --lines FUNCTION          writes the counterexample, and how many cells its document has
+    reference/least.py --cert FUNCTION           writes a certificate that no shorter document breaks the property
+    reference/least.py --judge FUNCTION FILE     judges one
 
 It shares no code with the program: the plans and the judge are those of certificate.py and judge.py, and what is
 tried is executed here on documents.

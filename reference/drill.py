@@ -14,11 +14,18 @@ import os
 import sys
 
 from certificate import obligations, read_function, tree_of
-from replay import make, takes
 from sessions import replayed, script_of, told
 
 TOP = os.path.dirname(os.path.dirname(os.path.abspath(__file__)))
 MOST = 16
+
+
+def make(site, op, at=0, char=()):
+    return ["make", site, [op, at, *char, site]]
+
+
+def takes(site, numbers):
+    return [["take", site, number] for number in numbers]
 
 
 def function_of(number):
