@@ -1,0 +1,20 @@
+# Completions of otp for bash: source this file.
+_otp() {
+    local commands="prove check least bound audit same integrate replay hub drill"
+    local word=${COMP_WORDS[COMP_CWORD]} command=${COMP_WORDS[1]} ending=
+    COMPREPLY=()
+    if [ "$COMP_CWORD" -eq 1 ]; then
+        COMPREPLY=($(compgen -W "$commands" -- "$word"))
+        return
+    fi
+    case $command:$word in
+        prove:-*) COMPREPLY=($(compgen -W "--tp1 --budget" -- "$word")); return ;;
+        least:-*) COMPREPLY=($(compgen -W "--cert" -- "$word")); return ;;
+        drill:*) COMPREPLY=($(compgen -W "$(seq 16)" -- "$word")); return ;;
+    esac
+    # The first file is a function; a second one is what the command reads beside it.
+    [ "$COMP_CWORD" -eq 2 ] && ending=.ot
+    compopt -o filenames 2>/dev/null
+    COMPREPLY=($(compgen -f -X "!*$ending" -- "$word") $(compgen -d -- "$word"))
+}
+complete -F _otp otp ./otp
