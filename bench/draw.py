@@ -5,8 +5,8 @@ usage: draw.py FN > SVG      (after `otp`)
 
 Of TP1 it is a diamond: the document at the top, the two operations down its sides, and the two documents that should be
 one at the bottom. Of TP2 it is the diamond of two operations, with the third one in each corner as it is there, and
-below the two forms that should be one, with the documents that they lead to: two sides of a cube. What operations become
-is computed by reference/brute.py, and compared with what `otp` prints.
+below the two forms that should be one, with the documents that they lead to: two sides of a cube. What operations
+become is computed by reference/brute.py, and compared with what `otp` prints.
 """
 import os
 import sys
@@ -54,14 +54,17 @@ class Drawing:
             self.text(middle, height + 17, was, FAINT, 12)
 
     def svg(self, title):
-        heads = "".join(
-            f'<marker id="{colour[1:]}" viewBox="0 0 10 10" refX="9" refY="5" markerWidth="7" markerHeight="7" orient="auto">'
-            f'<path d="M0 0L10 5L0 10z" fill="{colour}"/></marker>' for colour in [*COLOURS, WRONG])
-        head = f'<svg xmlns="http://www.w3.org/2000/svg" width="{self.width}" height="{self.height}" ' \
-               f'viewBox="0 0 {self.width} {self.height}" font-family="DejaVu Sans Mono, monospace" text-anchor="middle">'
-        parts = [head, f"<title>{escape(title)}</title>", f"<defs>{heads}</defs>",
-                 f'<rect width="{self.width}" height="{self.height}" fill="#ffffff"/>']
+        size = f'width="{self.width}" height="{self.height}"'
+        font = 'font-family="DejaVu Sans Mono, monospace" text-anchor="middle"'
+        head = f'<svg xmlns="http://www.w3.org/2000/svg" {size} viewBox="0 0 {self.width} {self.height}" {font}>'
+        heads = "".join(map(arrow_head, [*COLOURS, WRONG]))
+        parts = [head, f"<title>{escape(title)}</title>", f"<defs>{heads}</defs>", f'<rect {size} fill="#ffffff"/>']
         return "\n".join([*parts, *self.lines, *self.boxes, "</svg>", ""])
+
+
+def arrow_head(colour):
+    place = 'viewBox="0 0 10 10" refX="9" refY="5" markerWidth="7" markerHeight="7" orient="auto"'
+    return f'<marker id="{colour[1:]}" {place}><path d="M0 0L10 5L0 10z" fill="{colour}"/></marker>'
 
 
 def end_text(form, document):
@@ -89,9 +92,10 @@ def was(op, form):
 
 def first_steps(drawing, f, broken, corners, notes):
     """The document, and the first operation of each way; `notes` are further lines in the corners."""
-    top, left, right = corners
-    for corner, op, side, note, colour in ((left, broken.operations[0], -1, notes[1], 0), (right, broken.operations[1], 1, notes[2], 1)):
-        drawing.arrow((top[0] + side * 20, top[1] + 12), (corner[0], corner[1] - 19 - 10 * len(note)), made(op), COLOURS[colour], side)
+    top = corners[0]
+    for side, corner, note, op, colour in zip((-1, 1), corners[1:], notes[1:], broken.operations, COLOURS):
+        start, end = (top[0] + side * 20, top[1] + 12), (corner[0], corner[1] - 19 - 10 * len(note))
+        drawing.arrow(start, end, made(op), colour, side)
         drawing.box(*corner, [(document_text(brute.execute(f, op, broken.document)), INK), *note])
     drawing.box(*top, [(document_text(broken.document), INK), *notes[0]])
 
@@ -108,8 +112,8 @@ def diamond(f, broken, title):
     corners = [(x, 70), (x - side, 190), (x + side, 190)]
     for at, end, op, other, colour in ((-1, ends[0], b, a, 1), (1, ends[1], a, b, 0)):
         form = brute.transform(f, op, other)
-        corner = (x + at * apart, 330)
-        drawing.arrow((x + at * side, 207), (corner[0], corner[1] - 18), shown(form), COLOURS[colour], at, was(op, form))
+        start, corner = (x + at * side, 207), (x + at * apart, 330)
+        drawing.arrow(start, (corner[0], corner[1] - 18), shown(form), COLOURS[colour], at, was(op, form))
         drawing.box(*corner, [(end, WRONG)], WRONG)
     first_steps(drawing, f, broken, corners, [[], [], []])
     drawing.text(x, 336, "≠", WRONG, 20, "bold")
@@ -140,10 +144,7 @@ def cube(f, broken, title):
     return drawing.svg(title)
 
 
-def main():
-    if len(sys.argv) != 2:
-        sys.exit("usage: draw.py FN > SVG")
-    path = sys.argv[1]
+def drawn(path):
     status, text = run("least", "--", path)
     if status != 1:
         sys.stderr.write(text)
@@ -152,7 +153,13 @@ def main():
     with open(path, encoding="utf-8", errors="replace") as file:
         f = brute.read_function(file.read())
     title = f"{os.path.basename(path)} lacks {broken.level.upper()}: {broken.cause}"
-    sys.stdout.write((diamond if broken.level == "tp1" else cube)(f, broken, title))
+    return (diamond if broken.level == "tp1" else cube)(f, broken, title)
+
+
+def main():
+    if len(sys.argv) != 2:
+        sys.exit("usage: draw.py FN > SVG")
+    sys.stdout.write(drawn(sys.argv[1]))
 
 
 if __name__ == "__main__":

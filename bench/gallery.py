@@ -12,6 +12,7 @@ import os
 import re
 import subprocess
 import sys
+import textwrap
 
 TOP = os.path.dirname(os.path.dirname(os.path.abspath(__file__)))
 sys.path.insert(0, os.path.join(TOP, "reference"))
@@ -115,8 +116,9 @@ class Entry:
         size = f"{len(self.certificate):,} (tp{2 - self.status})" if self.certificate else ""
         cause, cells = (self.broken.cause, f"{self.broken.cells}") if self.broken else ("", "")
         first, second = (f"{count:,}" for count in self.counts)
-        return [f"[`{self.name}`]({self.name}.ot)", self.said["From"].rstrip("."), "no" if self.tp1_status else "yes", tp2,
-                first, second if self.tp1_status == 0 else "", size, cause, cells, self.audit]
+        name, source = f"[`{self.name}`]({self.name}.ot)", self.said["From"].rstrip(".")
+        properties = ["no", tp2, first, ""] if self.tp1_status else ["yes", tp2, first, second]
+        return [name, source, *properties, size, cause, cells, self.audit]
 
 
 def audit_word(text):
@@ -216,8 +218,8 @@ def generated():
     lines += ["", "## What breaks the refuted ones", ""]
     for entry in entries:
         if entry.broken:
-            lines += [f"**`{entry.name}`** lacks {entry.broken.level.upper()}: {entry.broken.cause}. {entry.what}", ""]
-            lines += ["```text", diagram(entry), "```", ""]
+            told = f"**`{entry.name}`** lacks {entry.broken.level.upper()}: {entry.broken.cause}. {entry.what}"
+            lines += [*textwrap.wrap(told, 120, break_on_hyphens=False), "", "```text", diagram(entry), "```", ""]
     return "\n".join(lines)
 
 

@@ -1,13 +1,13 @@
 #!/usr/bin/env python3
 """Asks `otp` and, where they are installed, z3 and cvc5 whether functions have TP1 and TP2, and measures them.
 
-usage: peers.py [--smt] [FN..]      (after `otp`; the gallery's functions where none are named)
+usage: peers.py [--smt] [FN..]      (after `otp`; where none are named, the gallery's functions and two with many cases)
 
-With --smt it writes what the solvers are given for one function. The encoding is written from the definitions of the two
-properties alone: each parameter of an operation and each result is a variable, a block's guards stand once, as functions
-of the parameters, the document is its length and two uninterpreted functions (character and flag of a cell), and each
-pair or triple of kinds is an obligation between push and pop, whose negation has to be unsatisfiable. Nothing of how
-the program asks is used.
+With --smt it writes what the solvers are given for one function. The encoding is written from the definitions of the
+two properties alone: each parameter of an operation and each result is a variable, a block's guards stand once, as
+functions of the parameters, the document is its length and two uninterpreted functions (character and flag of a cell),
+and each pair or triple of kinds is an obligation between push and pop, whose negation has to be unsatisfiable. Nothing
+of how the program asks is used.
 
 The solvers get the pairs, and where none of them fails the triples in a second run. Each time is that of the whole
 process or of both; the least of three runs is told. Behind a verdict `no` stands how many cells the document has.
@@ -129,16 +129,15 @@ class Script:
             return f"({part} {j})"
         *before, form = forms
         letter, at = form.letter, form.at
-        own = {"ins": {"char": f"{letter}_c", "live": "true"}, "upd": {"char": f"{letter}_c"}, "del": {"live": "false"} if self.f.tomb else {}}
-        if form.kind == "ins":
-            shifted = f"(ite (< {j} {at}) {self.cell(before, j, part)} {self.cell(before, f'(- {j} 1)', part)})"
-        elif form.kind == "del" and not self.f.tomb:
-            shifted = f"(ite (< {j} {at}) {self.cell(before, j, part)} {self.cell(before, f'(+ {j} 1)', part)})"
-        else:
-            shifted = self.cell(before, j, part)
-        if part in own[form.kind]:
+        own = {"ins": {"char": f"{letter}_c", "live": "true"}, "upd": {"char": f"{letter}_c"}, "del": {"live": "false"}}
+        here = shifted = self.cell(before, j, part)
+        is_cut = form.kind == "del" and not self.f.tomb
+        if form.kind == "ins" or is_cut:
+            beyond = self.cell(before, f"(+ {j} 1)" if is_cut else f"(- {j} 1)", part)
+            shifted = f"(ite (< {j} {at}) {here} {beyond})"
+        if part in own[form.kind] and not is_cut:
             shifted = f"(ite (= {j} {at}) {own[form.kind][part]} {shifted})"
-        return f"(ite {form.nop} {self.cell(before, j, part)} {shifted})" if not form.made else shifted
+        return shifted if form.made else f"(ite {form.nop} {here} {shifted})"
 
     # Obligations.
 
@@ -148,10 +147,10 @@ class Script:
         b1, a1 = self.transformed(b, a), self.transformed(a, b)
         behind_a, behind_b = f"(+ n {self.growth(a)})", f"(+ n {self.growth(b)})"
         left, right = f"(+ {behind_a} {self.growth(b1)})", f"(+ {behind_b} {self.growth(a1)})"
-        cells = " ".join(f"(= {self.cell([a, b1], 'i', part)} {self.cell([b, a1], 'i', part)})" for part in ("char", "live"))
-        holds = f"(and {b1.has} {a1.has} {self.enabled(b1, behind_a)} {self.enabled(a1, behind_b)} (= {left} {right}) " \
-                f"(=> (and (<= 0 i) (< i {left})) (and {cells})))"
-        self.say(f"(not {holds})")
+        parts = [(self.cell([a, b1], "i", part), self.cell([b, a1], "i", part)) for part in ("char", "live")]
+        cells = f"(=> (and (<= 0 i) (< i {left})) (and {' '.join(f'(= {one} {other})' for one, other in parts)}))"
+        can = f"{b1.has} {a1.has} {self.enabled(b1, behind_a)} {self.enabled(a1, behind_b)}"
+        self.say(f"(not (and {can} (= {left} {right}) {cells}))")
 
     def triple(self, kinds):
         a, b, c = (self.operation(kind, letter) for kind, letter in zip(kinds, "abc"))
@@ -174,13 +173,33 @@ class Script:
         return "\n".join([*self.lines, "(exit)", ""])
 
 
+# Functions with many cases: TTF with cases in front that a later one covers, each at a distance of its own.
+
+def many_cases(*counts):
+    distances = iter(range(sum(counts), 0, -1))
+    blocks = {
+        "ins ins": ["p1 < p2 : ins p1", "p1 = p2 and s1 < s2 : ins p1", "true : ins p1 + 1"],
+        "ins del": ["true : ins p1"],
+        "del ins": ["p1 < p2 : del p1", "true : del p1 + 1"],
+        "del del": ["true : del p1"],
+    }
+    lines = ["otfn 1", "text tomb", "kinds ins del", "assume sites differ"]
+    for (block, cases), count in zip(blocks.items(), counts):
+        more = [f"p1 < p2 - {next(distances)} : {block[:3]} p1" for _ in range(count)]
+        lines += [f"block {block}", *(f"case {case}" for case in more + cases)]
+    return "\n".join([*lines, "end", ""])
+
+
+MANY = {"16-more-cases": (16, 0, 0, 0), "14-cases-a-block": (11, 13, 12, 13)}
+
+
 # The runs.
 
 def timed(words):
     best = None
     for _ in range(RUNS):
         start = time.monotonic()
-        done = subprocess.run(words, stdin=subprocess.DEVNULL, stdout=subprocess.PIPE, stderr=subprocess.DEVNULL, text=True, check=False)
+        done = subprocess.run(words, stdout=subprocess.PIPE, stderr=subprocess.DEVNULL, text=True, check=False)
         took = time.monotonic() - start
         best = (took, done) if best is None or took < best[0] else best
     return best
@@ -219,12 +238,21 @@ def shown(verdict, cells, seconds):
 
 def main():
     words = [word for word in sys.argv[1:] if word != "--smt"]
-    paths = words or [gallery.path_of(name) for name in gallery.names()]
     if "--smt" in sys.argv[1:]:
-        with open(paths[0], encoding="utf-8") as file:
+        with open(words[0], encoding="utf-8") as file:
             text = file.read()
         sys.stdout.write("".join(Script(brute.read_function(text)).obligations(size) for size in (2, 3)))
         return
+    with tempfile.TemporaryDirectory() as folder:
+        paths = words or [gallery.path_of(name) for name in gallery.names()]
+        for name, counts in {} if words else MANY.items():
+            paths.append(os.path.join(folder, name + ".ot"))
+            with open(paths[-1], "w", encoding="utf-8") as file:
+                file.write(many_cases(*counts))
+        report(paths)
+
+
+def report(paths):
     solvers = {name: solver for name, solver in SOLVERS.items() if shutil.which(name)}
     print("| " + " | ".join(["function", "otp", "certificate", *solvers]) + " |\n" + "|---" * (3 + len(solvers)) + "|")
     totals, wrong = dict.fromkeys(["otp", *solvers], 0.0), 0
@@ -240,8 +268,10 @@ def main():
             totals[name] += answer[2]
             row.append(shown(*answer))
         print("| " + " | ".join(row) + " |")
-    print("| all | " + " | ".join([f"{totals['otp']:.2f} s", "", *(f"{totals[name]:.2f} s" for name in solvers)]) + " |")
-    print(f"\n{len(paths)} functions; {wrong} verdicts differ from that of otp" + "".join(f"; left out: {name}" for name in SOLVERS if name not in solvers))
+    ours, *others = (f"{seconds:.2f} s" for seconds in totals.values())
+    print("| all | " + " | ".join([ours, "", *others]) + " |")
+    left = "".join(f"; left out: {name}" for name in SOLVERS if name not in solvers)
+    print(f"\n{len(paths)} functions; {wrong} verdicts differ from that of otp{left}")
     sys.exit(1 if wrong else 0)
 
 

@@ -127,7 +127,8 @@ def guard_text(guard, least=0):
 
 
 def function_text(f):
-    lines = [f"otfn {2 if 'upd' in f.kinds else 1}", f"text {'tomb' if f.tomb else 'plain'}", "kinds " + " ".join(f.kinds)]
+    version, mode = 2 if "upd" in f.kinds else 1, "tomb" if f.tomb else "plain"
+    lines = [f"otfn {version}", f"text {mode}", "kinds " + " ".join(f.kinds)]
     lines += ["assume sites differ"] * f.sites + ["assume chars differ"] * f.chars
     for block in itertools.product(f.kinds, repeat=2):
         lines.append("block " + " ".join(block))
