@@ -1,4 +1,3 @@
 pub mod Ends
-pub mod Cells
 pub mod Table
 pub mod Steps

@@ -6,11 +6,11 @@ use Rattle.ot_questions.specs.Nears.{IsNear, IsNearOp, IsDeclaredOp}
 use Rattle.ot_questions.specs.Places.{sym_kind}
 use Rattle.ot_terms.specs.Forms as forms
 use Rattle.ot_terms.specs.Forms.{FormTree, form_tree}
-use Rattle.ot_terms.specs.Cells as cells
-use Rattle.ot_terms.specs.Cells.{CellTree, cell_tree}
+use Rattle.ot_terms.specs.Cells.{cell_tree}
 use Rattle.ot_terms.specs.Goals as goals
 use Rattle.ot_terms.specs.Goals.{GoalTree, goal_tree}
 use Rattle.ot_terms.specs.Weights.{cases_of_kinds}
+use Rattle.cell_rules.specs.Cells.{IsReadable}
 use Rattle.goal_rules.specs.declared.front.Front.{Front}
 use Rattle.goal_rules.specs.declared.front.Front.TheVariants as rust
 
@@ -32,14 +32,6 @@ IsLowered (forms.Eq x y) = Unit {0}
 IsLowered (forms.And g h) = Unit {0}
 IsLowered (forms.Or g h) = Unit {0}
 IsLowered (forms.Not g) = Unit {0}
-
--- the place at which the cell is read is near the index
-abbrev pub IsReadable : CellTree → Type 0
-IsReadable (cells.At d at) = IsNear 999 at.off
-IsReadable (cells.Char ch) = Unit {0}
-IsReadable (cells.Dead cell) = IsReadable cell
-IsReadable (cells.Over ch cell) = IsReadable cell
-IsReadable (cells.If g on_yes on_no) = Unit {0}
 
 -- one of the cases for the two operations is next, or none is left
 pub record IsChoosable (f : Function) (case : ℕ) (a b : SymOp) : Type 0 where

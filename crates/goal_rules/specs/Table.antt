@@ -24,7 +24,7 @@ use Rattle.ot_terms.specs.Placing.{guard_form}
 use Rattle.ot_terms.specs.Standing.{results_of}
 use Rattle.ot_terms.specs.Weights.{transforms_of}
 use Rattle.ot_terms.specs.Belonging.{next_operands}
-use Rattle.goal_rules.specs.Cells.{read_step, finished_cell}
+use Rattle.cell_rules.specs.Cells.{read_step, finished_cell}
 use Rattle.goal_rules.specs.Ends.{end_goal}
 
 -- one of two goals, by a form: a question is left only where two different names are compared by `Le`

@@ -1,15 +1,16 @@
 //! The rules for the comparison of two cells.
 ghost use Rattle.std.specs.Prelude.{◌≡◌, IfOk, option_map};
 ghost use Rattle.ot_terms.specs.Cells.{cell_tree};
-ghost use Rattle.goal_rules.specs.Cells as cells;
-ghost use Rattle.goal_rules.specs.Steps.{front_tree, IsReadable};
+ghost use Rattle.cell_rules.specs.Cells as cells;
+ghost use Rattle.cell_rules.specs.Cells.{IsReadable};
+ghost use Rattle.goal_rules.specs.Steps.{front_tree};
 ghost use Rattle.goal_rules.specs.Table as table;
 
 use crate::front::Front;
 use crate::known::holds;
-use crate::reading::{finished, placed, read_step};
 use ask_core::NoMemory;
 use bumpalo::Bump;
+use cell_rules::{finished, placed, read_step};
 use ot_questions::{Finished, Source};
 use ot_terms::{CellT, Form, Goal, Place, Why};
 

@@ -8,7 +8,6 @@ mod ends;
 mod forms;
 mod front;
 mod known;
-mod reading;
 mod rewriting;
 
 pub use front::Front;

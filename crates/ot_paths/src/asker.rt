@@ -17,12 +17,13 @@ ghost use Rattle.ot_paths.specs.Given.{IsGiven, IsGiven-prop, own_plan};
 use ask_core::{Asker, NoMemory, Turn};
 use bumpalo::Bump;
 use diff_graph::Lit;
+use first_goals::start_goal;
 use fn_rules::{ObName, Rules};
 use goal_rules::Front;
 use laid_goals::laid_out;
 use ot_questions::plans_keep_limits;
 use ot_rewrite::front_of;
-use ot_terms::{Form, Goal, Place, Why, start_goal};
+use ot_terms::{Form, Goal, Place, Why, first_goals_stand_for_obligations};
 
 // Whether nothing is left to be rewritten at the goal's front, as where its questions are laid out.
 #[inline]
@@ -61,6 +62,7 @@ fn laid_obligation<'a>(bump: &'a Bump, rules: &Rules, ob: ObName) -> Result<&'a 
     ensures plan { IfOk result (λ g. ask_goal (function_of rules.now) (goal_tree g.now) ≡ plan_of (function_of rules.now) ob) }
 {
     plans_keep_limits();
+    first_goals_stand_for_obligations();
     let _head = rules.head();
     let start = start_goal(bump, rules, ob)?;
     let mut known = Vec::new(bump);

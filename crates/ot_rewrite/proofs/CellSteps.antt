@@ -18,7 +18,7 @@ use Rattle.ot_terms.specs.Cells.{CellTree, At, Char, Dead, Over, If}
 use Rattle.ot_terms.specs.Standing.{ask_form, ask_read, changes_of}
 use Rattle.ot_terms.specs.Weights.{doc_weight, cell_weight}
 use Rattle.ot_terms.specs.Belonging.{IsPlace, IsIndexOf, IsCellOf}
-use Rattle.goal_rules.specs.Cells.{read_change, bury, replace, read_step}
+use Rattle.cell_rules.specs.Cells.{read_change, bury, replace, read_step}
 use Rattle.ot_rewrite.proofs.FormRules.{IsPlace-lowerable}
 
 -- the new cell is read as the old one, has its names and small offsets, and weighs less

@@ -16,7 +16,8 @@ use Rattle.ot_terms.specs.Goals.{GoalTree}
 use Rattle.ot_terms.specs.Standing.{changes_of}
 use Rattle.ot_terms.specs.Weights.{transforms_of}
 use Rattle.ot_terms.specs.Belonging.{HasPlaces, IsCellOf, HasParts, IsGoalOf}
-use Rattle.goal_rules.specs.Steps.{IsLowered, IsReadable, IsReady}
+use Rattle.cell_rules.specs.Cells.{IsReadable}
+use Rattle.goal_rules.specs.Steps.{IsLowered, IsReady}
 
 lowered : (count : ℕ) (g : FormTree) → HasPlaces count g → IsLowered g
 lowered count forms.True h = tt

@@ -22,7 +22,7 @@ use Rattle.ot_terms.specs.Goals.{GoalTree, Same}
 use Rattle.ot_terms.specs.Standing.{ask_form, ask_read, ask_goal}
 use Rattle.ot_terms.specs.Weights.{goal_weight}
 use Rattle.ot_terms.specs.Belonging.{IsPlace, IsCellOf, HasParts}
-use Rattle.goal_rules.specs.Cells.{bury, replace, read_step, finished_cell}
+use Rattle.cell_rules.specs.Cells.{bury, replace, read_step, finished_cell}
 use Rattle.goal_rules.specs.Table.{same_source, same_finished, both_finished, parted, rewrite_right, rewrite_left, rewrite_same}
 use Rattle.ot_rewrite.proofs.Rewritings.{IsRewriting}
 use Rattle.ot_rewrite.proofs.FormRules.{given}

@@ -2,15 +2,19 @@
 ghost use Rattle.std.specs.Prelude.{◌≡◌, ◌↔◌, ℕ, ℤ, if◌then◌else◌, IsTrue, None};
 ghost use Rattle.fn_rules.specs.declared.function.ObName.{ObName};
 ghost use Rattle.fn_rules.specs.Functions.{Function};
+ghost use Rattle.fn_rules.specs.Obligations.{is_obligation};
+ghost use Rattle.fn_rules.specs.Validity.{is_valid};
 ghost use Rattle.ask_core.specs.Plans.{Plan, end_of, value};
 ghost use Rattle.ot_questions.specs.declared.why.Why.{Why};
+ghost use Rattle.ot_questions.specs.Obligation.{plan_of};
 ghost use Rattle.ot_terms.specs.Forms.{FormTree, form_holds};
 ghost use Rattle.ot_terms.specs.Cells.{CellTree};
 ghost use Rattle.ot_terms.specs.Goals.{GoalTree, Same};
 ghost use Rattle.ot_terms.specs.Meaning.{BaseDocument, cell_of};
 ghost use Rattle.ot_terms.specs.Standing.{ask_form, ask_goal};
 ghost use Rattle.ot_terms.specs.Belonging.{IsCellOf, IsGoalOf};
-ghost use Rattle.ot_terms.specs.Truth.{goal_holds};
+ghost use Rattle.ot_terms.specs.Starting.{start_of};
+ghost use Rattle.ot_terms.specs.Truth.{goal_holds, IsTrueEverywhere, IsTrueAtLength, HasInstance};
 
 /// At a valuation what is asked of a form goes on as the form is true.
 #[tactic(auto, using(crate::proofs::Forms::end_form))]
@@ -37,4 +41,17 @@ pub fn goals_are_true_as_their_plans()
         → goal_holds f v g ↔ IsTrue (value (ask_goal f g) v) }
     ensures alike { (f : Function) (ob : ObName) (g h : GoalTree) (v : ℕ → ℤ) → IsGoalOf f ob g → IsGoalOf f ob h
         → ask_goal f g ≡ ask_goal f h → goal_holds f v g ↔ goal_holds f v h }
+{}
+
+/// The goal that an obligation begins with is of the function and the obligation, and stands for the plan of the
+/// obligation. It is true at all integers exactly where the property holds for all operations of the kinds on all documents;
+/// and for each length by itself, at all integers with that length exactly where it holds on all documents of the length.
+#[tactic(auto, using(crate::proofs::Starts::ask_goal_start_of, crate::proofs::StartParts::start_of_belongs))]
+pub fn first_goals_stand_for_obligations()
+    ensures belongs { (f : Function) (ob : ObName) → IsTrue (is_obligation f.head ob) → IsGoalOf f ob (start_of f.head ob) }
+    ensures plan { (f : Function) (ob : ObName) → ask_goal f (start_of f.head ob) ≡ plan_of f ob }
+    ensures instance { (f : Function) (ob : ObName) (n : ℕ) → IsTrue (is_valid f) → IsTrue (is_obligation f.head ob)
+        → IsTrueAtLength f (start_of f.head ob) n ↔ HasInstance f ob n }
+    ensures whole { (f : Function) (ob : ObName) → IsTrue (is_valid f) → IsTrue (is_obligation f.head ob)
+        → IsTrueEverywhere f (start_of f.head ob) ↔ ((n : ℕ) → HasInstance f ob n) }
 {}

@@ -10,21 +10,21 @@
 
 mod cell;
 mod document;
+mod enabled;
 mod form;
 mod goal;
 mod laws;
 mod placing;
-mod starting;
 
 pub use ask_core::NoMemory;
 pub use cell::CellT;
 pub use document::DocT;
+pub use enabled::enabled_form;
 pub use form::Form;
 pub use goal::{Goal, Progress};
 pub use laws::{
-    cells_are_compared_over_all_documents, forms_are_asked_as_they_are_true,
-    goals_are_true_as_their_plans,
+    cells_are_compared_over_all_documents, first_goals_stand_for_obligations,
+    forms_are_asked_as_they_are_true, goals_are_true_as_their_plans,
 };
 pub use ot_questions::{Place, SymOp, Why};
 pub use placing::place_form;
-pub use starting::{enabled_form, start_goal};

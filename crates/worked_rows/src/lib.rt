@@ -12,8 +12,4 @@ mod samples;
 #[cfg(test)]
 mod setting;
 #[cfg(test)]
-mod sides;
-#[cfg(test)]
-mod terms;
-#[cfg(test)]
 mod words;

@@ -1,14 +1,20 @@
 //! What is asked next: a function, an obligation and the answers so far.
-ghost use Rattle.std.specs.Prelude.{◌≡◌};
+ghost use Rattle.std.specs.Prelude.{◌≡◌, IsTrue};
 ghost use Rattle.fn_rules.specs.Obligations.{is_obligation};
+ghost use Rattle.fn_rules.specs.Rules.{function_of};
+ghost use Rattle.ot_terms.specs.Goals.{goal_tree};
+ghost use Rattle.ot_paths.specs.Nodes.{IsNode};
 
 use crate::samples::{FAR_OT, INS_OT, LAST_OT, MARKS_OT};
+use ask_core::{Asker, Turn};
+use bumpalo::Bump;
 use diff_graph::Lit;
-use fn_rules::{Head, ObName};
+use fn_rules::{Head, ObName, Rules};
 use fn_text::read;
 use ot_model::Kind;
+use ot_paths::PathAsker;
 use ot_questions::{Next, Why};
-use plain_questions::next_question;
+use ot_terms::Goal;
 use std::alloc::{AllocError, Global};
 use std::process::Abort;
 use std::test::Fail;
@@ -23,8 +29,8 @@ const DELETION_AND_UPDATE: ObName = ObName::Pair(Kind::Del, Kind::Upd);
 
 const THREE_DELETIONS: ObName = ObName::Triple(Kind::Del, Kind::Del, Kind::Del);
 
-/// Whether the function has the obligation.
-pub fn is_meant(head: &Head, ob: ObName) -> bool
+// Whether the function has the obligation.
+fn is_meant(head: &Head, ob: ObName) -> bool
     ensures { result ≡ is_obligation head.now ob }
 {
     match ob {
@@ -33,9 +39,47 @@ pub fn is_meant(head: &Head, ob: ObName) -> bool
     }
 }
 
-/// The answers that a word of `y` and `n` stands for.
-pub fn answers_in(alloc: Global, word: &str) -> Result<Vec<bool>, AllocError> {
+// The answers that a word of `y` and `n` stands for.
+fn answers_in(alloc: Global, word: &str) -> Result<Vec<bool>, AllocError> {
     word.bytes().map(|letter| letter == b'y').collect(alloc)
+}
+
+// What comes behind a node and answers.
+fn next_at<'a>(
+    asker: &mut PathAsker<'a>,
+    node: &'a Goal<'a>,
+    answers: &[bool],
+) -> Result<Next, AllocError>
+    requires { IsNode (function_of asker.old.rules.now) asker.old.ob (goal_tree node.now) }
+{
+    match asker.turn(node)? {
+        Turn::Holds => Ok(Next::Holds),
+        Turn::Fails(why) => Ok(Next::Fails(why)),
+        Turn::Ask { lit, yes, no } => match answers {
+            [] => Ok(Next::Asked(lit)),
+            [answer, others @ ..] => {
+                if *answer {
+                    return Ok(next_at(asker, yes, others)?);
+                }
+                Ok(next_at(asker, no, others)?)
+            }
+        },
+    }
+}
+
+// What comes behind answers.
+fn next_question(
+    alloc: Global,
+    rules: &Rules,
+    ob: ObName,
+    answers: &[bool],
+) -> Result<Next, AllocError>
+    requires { IsTrue (is_obligation (function_of rules.now).head ob) }
+{
+    let bump = Bump::new(alloc);
+    let mut asker = PathAsker::new(&bump, rules, ob);
+    let start = asker.start()?;
+    Ok(next_at(&mut asker, start, answers)?)
 }
 
 fn next_in(
@@ -50,11 +94,11 @@ fn next_in(
     let rules = read(alloc, bytes).ok().ok_or("a function")?;
     let head = rules.head();
     assert!(rt; is_meant(&head, ob));
-    Ok(next_question(&rules, ob, answers))
+    Ok(next_question(alloc, &rules, ob, answers)?)
 }
 
-/// Rows: answers, yes or no, and what comes behind them: `x <= y + k` is asked, or the plan ends.
-pub type Rows = &'static [(&'static str, Option<(u8, u8, i32)>)];
+// Rows: answers, yes or no, and what comes behind them: `x <= y + k` is asked, or the plan ends.
+type Rows = &'static [(&'static str, Option<(u8, u8, i32)>)];
 
 const OF_INS: Rows = &[
     // The length, and whether the first and the second operation are enabled.
@@ -79,7 +123,7 @@ const OF_FAR: Rows = &[
     ("yyyyyyyy", Some((6, 1, 1))),
 ];
 
-// Deletions that leave tombstones stay where they are. What two of them ask is a table of `terms`.
+// Deletions that leave tombstones stay where they are.
 const OF_THREE_MARKS: Rows = &[("yyyyyy", Some((9, 1, -1))), ("yyyyyyy", None)];
 
 // Two updates of one cell: each final document has the other's character over the flag of the cell.
@@ -87,6 +131,38 @@ const OF_LAST: Rows = &[
     ("yyyyyyyyyyynynynyny", Some((8, 5, 0))),
     ("yyyyyyyyyyynynynynyy", Some((5, 8, 0))),
     ("yyyyyyyyyyynynynynyyy", None),
+];
+
+// Deletions whose guard is a negation, which asks one question.
+const NOT_OT: &str =
+    "otfn 1\ntext tomb\nkinds del\nblock del del\ncase not p1 <= p2 + 2 : del p1\ncase true : del p1\nend\n";
+
+const OF_NOT: Rows = &[
+    ("yyyyy", Some((6, 3, 2))),
+    ("yyyyyn", Some((3, 6, 2))),
+    ("yyyyynn", Some((0, 6, 0))),
+];
+
+// All that `MARKS_OT` asks where each answer is yes, and where the length or the first deletion is none.
+const OF_MARKS: Rows = &[
+    ("", Some((0, 1, 0))),
+    ("n", None),
+    ("y", Some((0, 3, 0))),
+    ("yy", Some((3, 1, -1))),
+    ("yyn", None),
+    ("yyy", Some((0, 6, 0))),
+    ("yyyy", Some((6, 1, -1))),
+    ("yyyyy", Some((0, 6, 0))),
+    ("yyyyyy", Some((6, 1, -1))),
+    ("yyyyyyy", Some((0, 3, 0))),
+    ("yyyyyyyy", Some((3, 1, -1))),
+    ("yyyyyyyyy", Some((0, 2, 0))),
+    ("yyyyyyyyyy", Some((2, 1, -1))),
+    ("yyyyyyyyyyy", Some((2, 6, -1))),
+    ("yyyyyyyyyyyy", Some((2, 3, -1))),
+    ("yyyyyyyyyyyyy", Some((2, 3, -1))),
+    ("yyyyyyyyyyyyyy", Some((2, 6, -1))),
+    ("yyyyyyyyyyyyyyy", None),
 ];
 
 /// Deletions that leave tombstones and updates, which stay as and where they are.
@@ -136,6 +212,8 @@ fn answers_lead_to_the_next_question(rt: HostRuntime) -> Result<(), Fail> {
     let alloc = rt.alloc();
     expect_rows(&rt, alloc, INS_OT, INSERTIONS, OF_INS)?;
     expect_rows(&rt, alloc, FAR_OT, INSERTIONS, OF_FAR)?;
+    expect_rows(&rt, alloc, MARKS_OT, DELETIONS, OF_MARKS)?;
+    expect_rows(&rt, alloc, NOT_OT, DELETIONS, OF_NOT)?;
     expect_rows(&rt, alloc, MARKS_OT, THREE_DELETIONS, OF_THREE_MARKS)?;
     expect_rows(&rt, alloc, LAST_OT, UPDATES, OF_LAST)?;
     expect_rows(&rt, alloc, STAYING_OT, DELETION_AND_UPDATE, OF_STAYING)

@@ -12,14 +12,6 @@ pub const FAR_OT: &str =
 pub const SITES_OT: &str =
     "otfn 1\ntext plain\nkinds ins del\nassume sites differ\nblock ins ins\ncase p1 < p2 : ins p1\ncase p1 = p2 and s1 < s2 : ins p1\ncase true : ins p1 + 1\nblock ins del\ncase p1 <= p2 : ins p1\ncase true : ins p1 - 1\nblock del ins\ncase p1 < p2 : del p1\ncase true : del p1 + 1\nblock del del\ncase p1 < p2 : del p1\ncase p2 < p1 : del p1 - 1\ncase true : nop\nend\n";
 
-/// `SITES_OT` with an insertion that a deletion at its position moves, though nothing before it was taken out.
-pub const OFFBY_OT: &str =
-    "otfn 1\ntext plain\nkinds ins del\nassume sites differ\nblock ins ins\ncase p1 < p2 : ins p1\ncase p1 = p2 and s1 < s2 : ins p1\ncase true : ins p1 + 1\nblock ins del\ncase p1 < p2 : ins p1\ncase true : ins p1 - 1\nblock del ins\ncase p1 < p2 : del p1\ncase true : del p1 + 1\nblock del del\ncase p1 < p2 : del p1\ncase p2 < p1 : del p1 - 1\ncase true : nop\nend\n";
-
-/// `SITES_OT` with deletions of one cell of which the second takes out another one.
-pub const TWICE_OT: &str =
-    "otfn 1\ntext plain\nkinds ins del\nassume sites differ\nblock ins ins\ncase p1 < p2 : ins p1\ncase p1 = p2 and s1 < s2 : ins p1\ncase true : ins p1 + 1\nblock ins del\ncase p1 <= p2 : ins p1\ncase true : ins p1 - 1\nblock del ins\ncase p1 < p2 : del p1\ncase true : del p1 + 1\nblock del del\ncase p1 <= p2 : del p1\ncase true : del p1 - 1\nend\n";
-
 /// Insertions and deletions on text with tombstones.
 pub const TTF_OT: &str =
     "otfn 1\ntext tomb\nkinds ins del\nassume sites differ\nblock ins ins\ncase p1 < p2 : ins p1\ncase p1 = p2 and s1 < s2 : ins p1\ncase true : ins p1 + 1\nblock ins del\ncase true : ins p1\nblock del ins\ncase p1 < p2 : del p1\ncase true : del p1 + 1\nblock del del\ncase true : del p1\nend\n";
@@ -27,24 +19,8 @@ pub const TTF_OT: &str =
 /// Deletions that leave tombstones and stay where they are.
 pub const MARKS_OT: &str = "otfn 1\ntext tomb\nkinds del\nblock del del\ncase true : del p1\nend\n";
 
-/// Insertions with no case for equal positions.
-pub const TIES_OT: &str =
-    "otfn 1\ntext plain\nkinds ins\nassume sites differ\nblock ins ins\ncase p1 < p2 : ins p1\ncase p2 < p1 : ins p1 + 1\nend\n";
-
-/// `TTF_OT` with updates, which move nothing; of two updates of one cell that of the lower site stays.
-pub const TTFU_OT: &str =
-    "otfn 2\ntext tomb\nkinds ins del upd\nassume sites differ\nblock ins ins\ncase p1 < p2 : ins p1\ncase p1 = p2 and s1 < s2 : ins p1\ncase true : ins p1 + 1\nblock ins del\ncase true : ins p1\nblock del ins\ncase p1 < p2 : del p1\ncase true : del p1 + 1\nblock del del\ncase true : del p1\nblock ins upd\ncase true : ins p1\nblock del upd\ncase true : del p1\nblock upd ins\ncase p1 < p2 : upd p1\ncase true : upd p1 + 1\nblock upd del\ncase true : upd p1\nblock upd upd\ncase p1 < p2 or p2 < p1 or s1 < s2 : upd p1\ncase true : nop\nend\n";
-
-/// All kinds on plain text. An update that meets its deletion stays there, which is wrong at the end of the document.
-pub const UPDATES_OT: &str =
-    "otfn 2\ntext plain\nkinds ins del upd\nassume sites differ\nblock ins ins\ncase p1 < p2 : ins p1\ncase p1 = p2 and s1 < s2 : ins p1\ncase true : ins p1 + 1\nblock ins del\ncase p1 <= p2 : ins p1\ncase true : ins p1 - 1\nblock ins upd\ncase true : ins p1\nblock del ins\ncase p1 < p2 : del p1\ncase true : del p1 + 1\nblock del del\ncase p1 < p2 : del p1\ncase p2 < p1 : del p1 - 1\ncase true : nop\nblock del upd\ncase true : del p1\nblock upd ins\ncase p1 < p2 : upd p1\ncase true : upd p1 + 1\nblock upd del\ncase p1 <= p2 : upd p1\ncase true : upd p1 - 1\nblock upd upd\ncase p1 < p2 or p2 < p1 or s1 < s2 : upd p1\ncase true : nop\nend\n";
-
 /// Updates of which the last one wins.
 pub const LAST_OT: &str = "otfn 2\ntext plain\nkinds upd\nblock upd upd\ncase true : upd p1\nend\n";
-
-/// Insertions and updates whose ties are broken by characters, where an update that meets an insertion does not move.
-pub const CHARS_OT: &str =
-    "otfn 2\ntext tomb\nkinds ins upd\nassume chars differ\nblock ins ins\ncase p1 < p2 : ins p1\ncase p1 = p2 and c1 < c2 : ins p1\ncase true : ins p1 + 1\nblock ins upd\ncase c1 < c2 or p1 <= p2 : ins p1\nblock upd ins\ncase p1 < p2 : upd p1\ncase p1 = p2 and c1 < c2 : upd p1\ncase true : upd p1 + 1\nblock upd upd\ncase not p1 = p2 or c2 < c1 : upd p1\ncase true : nop\nend\n";
 
 /// A certificate of `MARKS_OT` at level tp1.
 pub const MARKS_CERT: &str =

@@ -1,0 +1,158 @@
+//! One step in reading a cell.
+ghost use Rattle.std.specs.Prelude.{◌≡◌, IfOk, option_map};
+ghost use Rattle.ot_questions.specs.Nears.{IsNear};
+ghost use Rattle.ot_terms.specs.Cells as trees;
+ghost use Rattle.ot_terms.specs.Cells.{cell_tree};
+ghost use Rattle.ot_terms.specs.Forms as forms;
+ghost use Rattle.ot_terms.specs.Documents.{doc_tree};
+ghost use Rattle.cell_rules.specs.Cells as cells;
+ghost use Rattle.cell_rules.specs.Cells.{IsReadable};
+
+use ask_core::NoMemory;
+use bumpalo::Bump;
+use ot_questions::Finished;
+use ot_terms::{CellT, DocT, Form, Place};
+
+// Before the change, at it, and behind it.
+#[inline]
+fn by_place<'a>(
+    bump: &'a Bump,
+    j: Place,
+    at: Place,
+    before: &'a CellT<'a>,
+    there: CellT<'a>,
+    behind: &'a CellT<'a>,
+) -> Result<CellT<'a>, NoMemory>
+    ensures { IfOk result (λ r. cell_tree r ≡ trees.If (forms.Lt j at) (cell_tree before.now) (trees.If (forms.Le j at) (cell_tree there.entry) (cell_tree behind.now))) }
+{
+    let there = placed(bump, there)?;
+    let here = Form::le(bump, j, at)?;
+    Ok(CellT::If {
+        form: Form::lt(bump, j, at)?,
+        yes: before,
+        no: CellT::either(bump, here, there, behind)?,
+    })
+}
+
+// The cell of a document at a place, by its last change; the base document has no change.
+#[inline]
+fn read_change<'a>(
+    bump: &'a Bump,
+    doc: &'a DocT<'a>,
+    j: Place,
+) -> Result<Option<CellT<'a>>, NoMemory>
+    requires { IsNear 999 j.off }
+    ensures { IfOk result (λ r. option_map cell_tree r ≡ cells.read_change (doc_tree doc.now) j) }
+{
+    match *doc {
+        DocT::Base => Ok(None),
+        DocT::Put { doc, at, ch } => {
+            let before = CellT::at(bump, doc, j)?;
+            let behind = CellT::at(bump, doc, j.plus(-1))?;
+            Ok(Some(by_place(bump, j, at, before, CellT::Char(ch), behind)?))
+        }
+        DocT::Cut { doc, at } => Ok(Some(CellT::If {
+            form: Form::lt(bump, j, at)?,
+            yes: CellT::at(bump, doc, j)?,
+            no: CellT::at(bump, doc, j.plus(1))?,
+        })),
+        DocT::Mark { doc, at } => {
+            let cell = CellT::at(bump, doc, j)?;
+            Ok(Some(by_place(bump, j, at, cell, CellT::Dead(cell), cell)?))
+        }
+        DocT::Over { doc, at, ch } => {
+            let cell = CellT::at(bump, doc, j)?;
+            Ok(Some(by_place(bump, j, at, cell, CellT::Over { ch, cell }, cell)?))
+        }
+    }
+}
+
+// A dead cell, by the cell that it was.
+fn bury<'a>(bump: &'a Bump, cell: CellT<'a>) -> Result<Option<CellT<'a>>, NoMemory>
+    ensures { IfOk result (λ r. option_map cell_tree r ≡ cells.bury (cell_tree cell.entry)) }
+{
+    match cell {
+        CellT::At { .. } => Ok(None),
+        CellT::Char(_) => Ok(None),
+        CellT::Dead(cell) => Ok(Some(CellT::Dead(cell))),
+        CellT::Over { ch, .. } => Ok(Some(CellT::Dead(CellT::of_char(bump, ch)?))),
+        CellT::If { form, yes, no } => Ok(Some(CellT::If {
+            form,
+            yes: CellT::dead(bump, yes)?,
+            no: CellT::dead(bump, no)?,
+        })),
+    }
+}
+
+// A cell with another character, by the cell that it was.
+fn replace<'a>(bump: &'a Bump, ch: u8, cell: CellT<'a>) -> Result<Option<CellT<'a>>, NoMemory>
+    ensures { IfOk result (λ r. option_map cell_tree r ≡ cells.replace ch (cell_tree cell.entry)) }
+{
+    match cell {
+        CellT::At { .. } => Ok(None),
+        CellT::Char(_) => Ok(Some(CellT::Char(ch))),
+        CellT::Dead(_) => Ok(Some(CellT::Dead(CellT::of_char(bump, ch)?))),
+        CellT::Over { cell, .. } => Ok(Some(CellT::Over { ch, cell })),
+        CellT::If { form, yes, no } => Ok(Some(CellT::If {
+            form,
+            yes: CellT::over(bump, ch, yes)?,
+            no: CellT::over(bump, ch, no)?,
+        })),
+    }
+}
+
+/// One step in reading a cell, from the inside; none where it is finished or a question comes first.
+#[tactic(auto, unfolding(crate::specs::Cells::read_step))]
+pub fn read_step<'a>(bump: &'a Bump, cell: CellT<'a>) -> Result<Option<CellT<'a>>, NoMemory>
+    requires { IsReadable (cell_tree cell) }
+    ensures { IfOk result (λ r. option_map cell_tree r ≡ cells.read_step (cell_tree cell.entry)) }
+{
+    match cell {
+        CellT::At { doc, at } => Ok(read_change(bump, doc, at)?),
+        CellT::Char(_) => Ok(None),
+        CellT::Dead(inner) => match read_step(bump, *inner)? {
+            Some(read) => Ok(Some(CellT::Dead(placed(bump, read)?))),
+            None => Ok(bury(bump, *inner)?),
+        },
+        CellT::Over { ch, cell: inner } => match read_step(bump, *inner)? {
+            Some(read) => Ok(Some(CellT::Over {
+                ch,
+                cell: placed(bump, read)?,
+            })),
+            None => Ok(replace(bump, ch, *inner)?),
+        },
+        CellT::If { .. } => Ok(None),
+    }
+}
+
+/// What a cell is made of where no step is left.
+pub fn finished(cell: CellT<'_>) -> Option<Finished>
+    ensures { result ≡ cells.finished_cell (cell_tree cell.entry) }
+{
+    match cell {
+        CellT::At { doc, at } => match doc {
+            DocT::Base => Some(Finished::base(at.off)),
+            DocT::Put { .. } => None,
+            DocT::Cut { .. } => None,
+            DocT::Mark { .. } => None,
+            DocT::Over { .. } => None,
+        },
+        CellT::Char(ch) => Some(Finished::put(ch)),
+        CellT::Dead(inner) => match finished(*inner) {
+            Some(inner) => Some(inner.buried()),
+            None => None,
+        },
+        CellT::Over { ch, cell: inner } => match finished(*inner) {
+            Some(inner) => Some(inner.replaced(ch)),
+            None => None,
+        },
+        CellT::If { .. } => None,
+    }
+}
+
+/// The cell, in the arena.
+pub fn placed<'a>(bump: &'a Bump, cell: CellT<'a>) -> Result<&'a CellT<'a>, NoMemory>
+    ensures { IfOk result (λ r. r.now ≡ cell.entry) }
+{
+    Ok(bump.try_alloc(cell)?)
+}
