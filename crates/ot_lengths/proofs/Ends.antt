@@ -21,10 +21,15 @@ some_is x y e = cc
 one_more : (w rest answers : List Lit) (l : Lit) → answers ≡ (w ++ l ∷ []) ++ rest → answers ≡ w ++ l ∷ rest
 one_more w rest answers l e = e ∙ append_assoc w (l ∷ []) rest
 
-lead_yes : (l : Lit) (on_yes on_no : Plan Why) (w : List Lit) (e : FailingEnd Why) → LeadsBehind on_yes (with_answer w l true) e → LeadsBehind (Ask l on_yes on_no) w e
-lead_yes l on_yes on_no w e h = record { rest = l ∷ h.rest; behind = one_more w h.rest e.answers l h.behind; leads = inl (refl, h.leads) }
+lead_yes :
+    (l : Lit) (on_yes on_no : Plan Why) (w : List Lit) (e : FailingEnd Why) → LeadsBehind on_yes (with_answer w l true) e
+    → LeadsBehind (Ask l on_yes on_no) w e
+lead_yes l on_yes on_no w e h =
+    record { rest = l ∷ h.rest; behind = one_more w h.rest e.answers l h.behind; leads = inl (refl, h.leads) }
 
-lead_no : (l : Lit) (on_yes on_no : Plan Why) (w : List Lit) (e : FailingEnd Why) → LeadsBehind on_no (with_answer w l false) e → LeadsBehind (Ask l on_yes on_no) w e
+lead_no :
+    (l : Lit) (on_yes on_no : Plan Why) (w : List Lit) (e : FailingEnd Why) → LeadsBehind on_no (with_answer w l false) e
+    → LeadsBehind (Ask l on_yes on_no) w e
 lead_no l on_yes on_no w e h =
     record { rest = negated l ∷ h.rest; behind = one_more w h.rest e.answers (negated l) h.behind; leads = inr (refl, h.leads) }
 
@@ -62,6 +67,7 @@ ends_lead (Fails why) w q e (inr (_, is)) fails =
       leads = ap (λ (x : FailingEnd Why). x.why) here;
     }
 
-pub first_end_leads : (p : Plan Why) (q : Questions Why) (e : FailingEnd Why) → QuestionList p [] q → q.failing ≡ Some e → LeadTo e.why p e.answers
+pub first_end_leads :
+    (p : Plan Why) (q : Questions Why) (e : FailingEnd Why) → QuestionList p [] q → q.failing ≡ Some e → LeadTo e.why p e.answers
 first_end_leads p q e list fails =
     let h = ends_lead p [] q e list fails in subst (λ (x : List Lit). LeadTo e.why p x) (sym h.behind) h.leads
