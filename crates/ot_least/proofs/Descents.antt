@@ -1,8 +1,7 @@
 -- What a turn of the search comes to: too many questions, a low certificate, or a failing end from which it goes on.
 use Rattle.std.specs.List.{AllByRecursion}
 use Rattle.std.specs.declared.alloc.Global.{Global}
-use Rattle.std.proofs.Common.{◌≡◌, ℕ, ℤ, pos, ◌+◌, ◌<◌, ◌≤◌, true, IsTrue, List, [], ◌∷◌, ◌++◌, length, drop, Option, Some, None, MatchOption, option_map, Vec, inl, inr, refl, sym, ap, subst, ◌∙◌, arith, length-append}
-use Rattle.std.specs.Option.{option_or}
+use Rattle.std.proofs.Common.{◌≡◌, ℕ, ℤ, pos, ◌+◌, ◌<◌, ◌≤◌, true, IsTrue, List, [], ◌∷◌, ◌++◌, length, drop, Some, Vec, inl, inr, refl, sym, ap, subst, ◌∙◌, arith, length-append}
 use Rattle.std.specs.Fmt.{decimal}
 use Rattle.std.proofs.lemmas.Fmt.{length-decimal-le}
 use Rattle.diff_graph.specs.declared.lit.Lit.{Lit}
@@ -19,7 +18,7 @@ use Rattle.fn_rules.specs.Properties.{HasTp1}
 use Rattle.fn_rules.specs.Validity.{is_valid}
 use Rattle.ask_core.specs.Leading.{LeadTo}
 use Rattle.ask_core.specs.Plans.{Plan, value}
-use Rattle.ask_core.specs.Questions.{FailingEnd, Questions}
+use Rattle.ask_core.specs.Questions.{FailingEnd}
 use Rattle.ask_core.specs.Trees.{AnswerTree, Fits}
 use Rattle.cert_text.specs.Certificates.{sections_text}
 use Rattle.cert_text.specs.Spelling.{end_text}
@@ -40,6 +39,7 @@ use Rattle.ot_least.specs.declared.short.Short.{Short}
 use Rattle.ot_least.specs.declared.short.Short.TheVariants as short
 use Rattle.ot_least.specs.Endings.{IsEnding, end_of}
 use Rattle.ot_least.specs.Lows.{HasAt, IsBroken, IsLow, level_of, low_header_text, parts_of}
+use Rattle.ot_least.proofs.Listed.{end_is_listed}
 use Rattle.ot_least.specs.Shortest.{EndHasCells, Falls, IsLeast, behind_first, end_by}
 
 -- a property of documents of a length that fails is broken
@@ -53,39 +53,6 @@ header_few Tp1 bound few =
     omega (arith, length-decimal-le 4 bound (omega arith) (omega arith) (omega arith), length-append (decimal bound) (10 ∷ []))
 header_few Tp2 bound few =
     omega (arith, length-decimal-le 4 bound (omega arith) (omega arith) (omega arith), length-append (decimal bound) (10 ∷ []))
-
--- the failing end is one of the obligations that were asked
-module _ (P : ObName → Type 0) (plan : ObName → Plan Why) (x : FailingOb Why) where
-  abbrev IsEnd : Option (FailingOb Why) → Type 0
-  IsEnd o = o ≡ Some x
-
-  abbrev first_of : ObName → Option (FailingEnd Why) → Option (FailingOb Why) → Option (FailingOb Why)
-  first_of ob failing later = option_or (option_map (λ e. record { ob = ob; end = e }) failing) later
-
-  here_or_later :
-      (ob : ObName) (obs : List ObName) (q : Questions Why) (failing : Option (FailingEnd Why)) (lists : List (ObQuestions Why))
-      → P ob → ((later : List (ObQuestions Why)) → AreAsked plan obs later → IsEnd (failing_in later) → P x.ob) → q.failing ≡ failing
-      → MatchOption failing
-      ((later : List (ObQuestions Why)) × AreAsked plan obs later × (lists ≡ record { ob = ob; questions = q } ∷ later))
-      (λ _. lists ≡ record { ob = ob; questions = q } ∷ [])
-      → IsEnd (failing_in lists) → P x.ob
-  here_or_later ob obs q None lists here later fails (others, asked, is) end =
-      later others asked
-      (subst (λ (o : Option (FailingEnd Why)). IsEnd (first_of ob o (failing_in others))) fails
-      (subst (λ (l : List (ObQuestions Why)). IsEnd (failing_in l)) is end))
-  here_or_later ob obs q (Some e) lists here later fails is end =
-      let first : Some (record { ob = ob; end = e }) ≡ Some x =
-      subst (λ (o : Option (FailingEnd Why)). IsEnd (first_of ob o None)) fails
-      (subst (λ (l : List (ObQuestions Why)). IsEnd (failing_in l)) is end) in
-      let same : record { ob = ob; end = e } ≡ x = cc in
-      subst (λ (y : FailingOb Why). P y.ob) same here
-
-  pub end_is_listed :
-      (obs : List ObName) (lists : List (ObQuestions Why)) → AllByRecursion P obs → AreAsked plan obs lists → IsEnd (failing_in lists)
-      → P x.ob
-  end_is_listed [] lists all asked end = let none : None ≡ Some x = subst (λ (l : List (ObQuestions Why)). IsEnd (failing_in l)) asked end in cc
-  end_is_listed (ob ∷ obs) lists all (q, listed, joins) end =
-      here_or_later ob obs q q.failing lists all.0 (λ later asked. end_is_listed obs later all.1 asked) refl joins end
 
 answers_behind : (answers : List Answer) → answered_by (drop 1 answers) ≡ drop 1 (answered_by answers)
 answers_behind [] = refl
@@ -157,8 +124,8 @@ module _ (f : Function) (budget : ℕ) (e : Ending) (obs : List ObName) (are : o
       (settled : AreSettled f.head plan obs budget before after (search.Fails ob answers why)) where
     pub same_level : AllByRecursion (λ o. level_of o ≡ level_of e.ob) (parts_of f.head (level_of e.ob)) → level_of ob ≡ level_of e.ob
     same_level all =
-        end_is_listed (λ o. level_of o ≡ level_of e.ob) plan (end_by ob answers.items why) (parts_of f.head (level_of e.ob)) settled.0 all
-        (asked_there settled.0 settled.1) settled.2.1.first
+        (end_is_listed (λ o. level_of o ≡ level_of e.ob) plan (end_by ob answers.items why) (parts_of f.head (level_of e.ob)) settled.0 all
+        (asked_there settled.0 settled.1) settled.2.1.first).here
 
     pub falls_on :
         (next : Ending) (answer : Short) → IsEnding f next → next.ob ≡ ob → next.answers.items ≡ drop 1 answers.items → next.why ≡ why

@@ -2,8 +2,10 @@ mod Breaking
 mod Descents
 mod Endings
 mod FirstBytes
+mod FirstEnds
 mod Fronts
 mod HeaderFits
+mod Listed
 mod LowRun
 mod LowShows
 mod OneHeader

@@ -1,6 +1,6 @@
 //! What low certificates show, and what the length of a failing end is. These functions work nothing out: their contracts
 //! are the laws.
-ghost use Rattle.std.specs.Prelude.{◌≡◌, ◌<◌, ◌≤ℤ◌, ◌-ℤ◌, ◌∷◌, ℕ, ℤ, pos, IsTrue, List, Ok, Result, Some};
+ghost use Rattle.std.specs.Prelude.{◌≡◌, ◌≢◌, ◌<◌, ◌≤ℤ◌, ◌-ℤ◌, ◌∷◌, ℕ, ℤ, pos, IsTrue, List, Ok, Result, Some};
 ghost use Rattle.diff_graph.specs.declared.lit.Lit.{Lit};
 ghost use Rattle.diff_graph.specs.Literals.{AreMet, IsPossible};
 ghost use Rattle.diff_graph.specs.Solutions.{AreLeast, valuation_of};
@@ -16,12 +16,14 @@ ghost use Rattle.ot_questions.specs.Obligation.{plan_below, plan_of};
 ghost use Rattle.ot_values.specs.Values.{floors_of};
 ghost use Rattle.ot_sections.specs.declared.refusal.JudgeError.{JudgeError};
 ghost use Rattle.ot_least.specs.declared.short.Short.{Short};
+ghost use Rattle.ot_least.specs.declared.short.Short.TheVariants.{TooLong};
 ghost use Rattle.ot_least.specs.Judgements.{IsJudgedLow, IsLowJudgement};
 ghost use Rattle.ot_least.specs.Lows.{HasAt, IsLow, level_of};
 ghost use Rattle.ot_least.specs.Shortest.{AreAlike, IsShort};
 
 use ask_core::{answers_lead_to_ends, fitting_trees_hold};
 use ot_decide::obligations_have_one_question_list;
+use ot_lengths::first_documents_have_at_most_1000_cells;
 use ot_questions::{
     Why, bounded_plans_mean_shorter_documents, pair_plans_mean_tp1, plans_compare_like_with_like,
     triple_plans_mean_tp2,
@@ -93,4 +95,12 @@ pub fn functions_have_one_shortest_document()
     ensures { (f : Function) (budget : ℕ) (one other : Short) → IsShort f budget one → IsShort f budget other → AreAlike one other }
 {
     obligations_have_one_question_list();
+}
+
+/// The search for the shortest document of a valid function never ends for the length of the first failing end's document: no
+/// such document has more than 1,000 cells.
+pub fn first_documents_are_never_too_long()
+    ensures { (f : Function) (budget : ℕ) (short : Short) → IsTrue (is_valid f) → IsShort f budget short → short ≢ TooLong }
+{
+    first_documents_have_at_most_1000_cells();
 }

@@ -18,8 +18,9 @@ pub use bound::check_bound;
 pub use descent::shortest;
 pub use laws::{
     bytes_have_one_low_judgement, failing_ends_below_a_bound_are_shorter,
-    failing_ends_break_at_their_length, functions_have_one_shortest_document,
-    low_certificates_are_sections, low_certificates_show_shorter_documents,
+    failing_ends_break_at_their_length, first_documents_are_never_too_long,
+    functions_have_one_shortest_document, low_certificates_are_sections,
+    low_certificates_show_shorter_documents,
 };
 pub use ot_sections::{JudgeError, Refusal};
 pub use short::Short;

@@ -1,0 +1,79 @@
+#!/usr/bin/env python3
+"""How many cells the documents of failing ends have, of drawn functions whose offsets are near 99 either way.
+
+usage: longest.py [SEED [COUNT]]
+
+The plans are those of certificate.py. Of each obligation up to 4,000 places of its plan are looked at, and of each failing
+end there the least values that meet its answers; and of each function the first failing end. It shares no code with the
+program, which answers `limit bound` where the first failing end has more than 1,000 cells.
+"""
+import sys
+from itertools import product
+
+from certificate import LENGTH, Ask, Fails, closed, obligations, plan_of, read_function
+from comparison import drawing_of
+from least import first_end, values_of
+
+PLACES = 4_000
+OFFSETS = ["", " + 98", " - 98", " + 99", " - 99", " - 99"]
+
+
+def drawn_atom(draw):
+    first, second = draw.choice(["12", "21"])
+    return f"p{first} {draw.choice(['<', '<=', '='])} p{second}{draw.choice(OFFSETS)}"
+
+
+def drawn_case(draw, kind):
+    guard = drawn_atom(draw) if draw.random() < 0.7 else f"not {drawn_atom(draw)}"
+    if draw.random() < 0.2:
+        guard += f" and {drawn_atom(draw)}"
+    return f"case {guard} : {kind} {draw.choice(['p1', 'p2'])}{draw.choice(['', ' + 99', ' - 99'])}"
+
+
+def drawn_text(draw):
+    kinds = draw.choice([["ins"], ["del"], ["upd"], ["ins", "del"]])
+    lines = ["otfn 2" if "upd" in kinds else "otfn 1", f"text {draw.choice(['plain', 'tomb'])}", "kinds " + " ".join(kinds)]
+    for first, second in product(kinds, repeat=2):
+        cases = [drawn_case(draw, first) for _ in range(draw.randint(1, 3))]
+        lines += [f"block {first} {second}", *cases, f"case true : {first} p1"]
+    return "\n".join([*lines, "end", ""])
+
+
+def lengths(plan, names):
+    """The lengths that the least values give at the failing ends that some integers meet."""
+    table = [[(0, ()) if x == y else None for y in range(names)] for x in range(names)]
+    waiting = [(plan, (), table, None)]
+    for _ in range(PLACES):
+        if not waiting:
+            return
+        go, answers, table, lit = waiting.pop()
+        if lit is not None:
+            answers += (lit,)
+            table, cycle = closed(table, *lit, len(answers) - 1)
+            if cycle is not None:
+                continue
+        here = go()
+        if isinstance(here, Ask):
+            x, y, k = here.lit
+            waiting.append((here.no, answers, table, (y, x, -k - 1)))
+            waiting.append((here.yes, answers, table, (x, y, k)))
+        elif isinstance(here, Fails):
+            yield values_of(answers, names)[LENGTH]
+
+
+def main():
+    draw, count = drawing_of(sys.argv[1:])
+    longest = {"pair": 0, "triple": 0, "first": 0}
+    for _ in range(count):
+        f = read_function(drawn_text(draw))
+        for kinds in obligations(f, True):
+            found = max(lengths(lambda: plan_of(f, kinds), 3 + 3 * len(kinds)), default=0)
+            size = "pair" if len(kinds) == 2 else "triple"
+            longest[size] = max(longest[size], found)
+        _, end = first_end(f, obligations(f, True), None)
+        longest["first"] = max(longest["first"], end[2][LENGTH] if end else 0)
+    told = ", ".join(f"{size} {cells}" for size, cells in longest.items())
+    print(f"{count} functions, most cells of a failing end: {told}")
+
+
+main()
