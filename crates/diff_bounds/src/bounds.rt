@@ -1,10 +1,10 @@
 //! The table of distances.
-ghost use Rattle.std.specs.Prelude.{◌≡◌, ◌↔◌, ℕ, ◌<◌, ◌≤◌, IsTrue, true, false, List, [], ◌∷◌, ◌++◌, Option, IfOk};
+ghost use Rattle.std.specs.Prelude.{◌≡◌, ◌↔◌, ℕ, ◌<◌, ◌≤◌, IsTrue, true, false, List, [], ◌∷◌, ◌++◌, Option, IfOk, OnOk};
 ghost use Rattle.diff_graph.specs.declared.hop.Hop.{Hop};
 ghost use Rattle.diff_graph.specs.Tables.{IsNamed, IsSmall, Numbered, literals_of, kept_of, StandsFor, Follows, IsPossibleWith, IsCycleOf};
 ghost use Rattle.diff_bounds.specs.Kept.{AreBounds, has_room, IsTightest};
 
-use crate::rows::{allows, begin_rows, cycle_at, insert, kept};
+use crate::rows::{allows, begin_rows, insert, kept, write_cycle};
 use diff_graph::{Hop, Lit, NoMemory, new_rows_stand_for_nothing, tables_tell_what_is_possible};
 use std::alloc::Global;
 use std::marker::Model;
@@ -85,7 +85,22 @@ impl<const N: usize> Bounds<N> {
         ensures { (ps : List Numbered) → StandsFor N (kept_of self.now) ps
             → IfOk result (λ picks. IsCycleOf N (ps ++ record { number = number; lit = lit } ∷ []) picks.items) }
     {
+        let mut picks = Vec::new(alloc);
+        self.write_why_not(&mut picks, lit, number)?;
+        Ok(picks)
+    }
+
+    /// The same, written into `picks` in place of what it held, so that a vector that is used again takes
+    /// memory once.
+    pub fn write_why_not(&self, picks: &mut Vec<u32>, lit: Lit, number: u32) -> Result<(), NoMemory>
+        requires named { IsNamed N lit }
+        requires small { IsSmall lit }
+        requires not_allowed { has_room (kept_of self.now) lit ≡ false }
+        ensures { (ps : List Numbered) → StandsFor N (kept_of self.now) ps
+            → OnOk result (IsCycleOf N (ps ++ record { number = number; lit = lit } ∷ []) picks.new.items) }
+    {
         tables_tell_what_is_possible();
-        Ok(cycle_at(alloc, &self.rows, lit, number)?)
+        write_cycle(picks, &self.rows, lit, number)?;
+        Ok(())
     }
 }

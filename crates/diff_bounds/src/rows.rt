@@ -1,12 +1,11 @@
 //! The rows of a table in arrays. The row of a name keeps what is known from each name to it.
-ghost use Rattle.std.specs.Prelude.{◌≡◌, ℕ, ◌<◌, ◌≤◌, true, List, [], ◌∷◌, ◌++◌, length, slice_index_or, Option, Some, None, IfOk};
+ghost use Rattle.std.specs.Prelude.{◌≡◌, ℕ, ◌<◌, ◌≤◌, true, List, [], ◌∷◌, ◌++◌, length, slice_index_or, Option, Some, None, OnOk};
 ghost use Rattle.diff_graph.specs.Tables.{IsNamed, IsSmall, Numbered, kept_of, StandsFor, IsAtMost};
 ghost use Rattle.diff_graph.specs.Steps.{added, keeps, numbers_along, IsModest, IsNewRow, AreNewRows, IsSquare, AreModest, IsLowered};
 ghost use Rattle.diff_bounds.specs.Kept.{has_room};
 
 use diff_graph::table::{begin_ways, keeps, leaves_room, lower_row, push_chain};
 use diff_graph::{Hop, Lit, NoMemory, lowered_rows_keep_the_step, tables_stand_for_what_is_added};
-use std::alloc::Global;
 
 /// Keeps each name at 0 to itself, in rows that keep nothing.
 // Out of line: where the compiler sees through it, a new table is spelled out cell by cell.
@@ -118,20 +117,21 @@ fn lower_rows<const N: usize>(rows: &mut [[Option<Hop>; N]], ways: &[Option<Hop>
     }
 }
 
-/// The numbers of the negative cycle that a literal closes which is not allowed.
-pub fn cycle_at<const N: usize>(
-    alloc: Global,
+/// Writes the numbers of the negative cycle that a literal closes which is not allowed, in place of what
+/// was held.
+pub fn write_cycle<const N: usize>(
+    picks: &mut Vec<u32>,
     rows: &[[Option<Hop>; N]],
     lit: Lit,
     number: u32,
-) -> Result<Vec<u32>, NoMemory>
+) -> Result<(), NoMemory>
     requires square { IsSquare rows.now }
     requires named { IsNamed (length rows.now) lit }
-    ensures { IfOk result (λ picks. picks.items
+    ensures { OnOk result (picks.new.items
         ≡ number ∷ numbers_along (λ x. kept_of rows.now x lit.x) (length rows.now) lit.y lit.x) }
 {
-    let mut picks = Vec::new(alloc);
+    picks.clear();
     picks.push(number)?;
-    push_chain(&mut picks, &rows[lit.x as usize][..], lit.y, lit.x)?;
-    Ok(picks)
+    push_chain(picks, &rows[lit.x as usize][..], lit.y, lit.x)?;
+    Ok(())
 }

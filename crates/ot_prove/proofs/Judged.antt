@@ -1,15 +1,18 @@
 -- What is known of the open places after a question.
 use Rattle.std.proofs.Common.{◌≡◌, ℕ, ◌-◌, ◌<◌, true, false, List, [], ◌∷◌, ◌++◌, length, set, get_or, reverse, Option, Some, None, arith, refl, sym, ap, ◌∙◌, subst}
-use Rattle.std.proofs.lemmas.List.{reverse-append, get_or_push, get_or_default, length-append}
+use Rattle.std.proofs.lemmas.List.{append_assoc, reverse-append, get_or_push, get_or_default, length-append}
 use Rattle.diff_graph.specs.declared.lit.Lit.{Lit}
-use Rattle.ask_core.specs.Trees.{with_answer}
-use Rattle.ot_prove.specs.declared.split.Sides.{Sides}
-use Rattle.ot_prove.specs.declared.split.Sides.TheVariants.{Both, OnlyYes, OnlyNo}
-use Rattle.ot_prove.specs.Sides.{Rows, IsTableOf, AreJudged, AreSides, cycles_of, tables_of, JudgesSides}
+use Rattle.ask_core.specs.Trees.{IsCycleAmong, with_answer}
+use Rattle.ot_prove.specs.Sides.{Rows, IsTableOf, AreJudged, JudgesSides}
 
 -- a last element is the first from behind
 pub reverse-push : {X : Type 0} (xs : List X) (x : X) → reverse (xs ++ x ∷ []) ≡ x ∷ reverse xs
 reverse-push xs x = reverse-append xs (x ∷ [])
+
+-- two elements that are put one after the other
+pub pushed_two : {X : Type 0} (xs ys zs : List X) (x y : X) → ys ≡ xs ++ x ∷ [] → zs ≡ ys ++ y ∷ [] → zs ≡ xs ++ x ∷ y ∷ []
+pushed_two xs ys zs x y first second =
+    second ∙ ap (λ (front : List _). front ++ y ∷ []) first ∙ append_assoc xs (x ∷ []) (y ∷ [])
 
 reverse-push_two : {X : Type 0} (xs : List X) (x y : X) → reverse (xs ++ x ∷ y ∷ []) ≡ y ∷ x ∷ reverse xs
 reverse-push_two xs x y = reverse-append xs (x ∷ y ∷ [])
@@ -36,6 +39,30 @@ last_at tables rows place some is read =
     let same : get_or tables (length tables - 1) [] ≡ get_or tables (length tables - 1) rows =
     get_or_default tables (length tables - 1) [] rows inside in
     same ∙ ap (λ (i : ℕ). get_or tables i rows) (sym is) ∙ read
+
+-- what a question leaves: the table of each side that some integers meet beside that of the place, and a cycle for
+-- a side that none meet
+pub data Sides : Type 0 where
+  Both : Rows → Sides
+  OnlyYes : List ℕ → Sides
+  OnlyNo : List ℕ → Sides
+
+-- the table of the place after the question, and the sides
+abbrev pub AreSides : List Lit → Lit → Rows → Sides → Type 0
+AreSides w l rows (Both of_yes) = IsTableOf (with_answer w l true) of_yes × IsTableOf (with_answer w l false) rows
+AreSides w l rows (OnlyYes picks) = IsTableOf (with_answer w l true) rows × IsCycleAmong (with_answer w l false) picks
+AreSides w l rows (OnlyNo picks) = IsTableOf (with_answer w l false) rows × IsCycleAmong (with_answer w l true) picks
+
+-- what is kept for the two sides, that of yes last
+abbrev pub cycles_of : Sides → List (Option (List ℕ))
+cycles_of (Both of_yes) = None ∷ None ∷ []
+cycles_of (OnlyYes picks) = Some picks ∷ None ∷ []
+cycles_of (OnlyNo picks) = None ∷ Some picks ∷ []
+
+abbrev pub tables_of : Sides → List Rows
+tables_of (Both of_yes) = of_yes ∷ []
+tables_of (OnlyYes picks) = []
+tables_of (OnlyNo picks) = []
 
 module _ (l : Lit) (w : List Lit) (ws : List (List Lit)) (cycles : List (Option (List ℕ))) (front : List Rows) (rows : Rows) where
   -- the sides put last are first from behind

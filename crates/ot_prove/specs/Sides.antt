@@ -1,14 +1,16 @@
 -- What is known of the open places of a search, the first place first: a negative cycle of its answers, or
 -- else a table that stands for them.
-use Rattle.std.specs.Prelude.{◌≡◌, ℕ, neg_ℤ, ◌≤ℤ◌, true, false, List, [], ◌∷◌, length, Option, Some, None}
+use Rattle.std.specs.Prelude.{◌≡◌, ℕ, ◌-◌, neg_ℤ, ◌≤ℤ◌, Bool, true, false, List, [], ◌∷◌, ◌++◌, length, slice_index_or, slice_set, Option, Some, None}
 use Rattle.diff_graph.specs.declared.lit.Lit.{Lit}
 use Rattle.diff_graph.specs.declared.lit.TheConstants.{MAX_LITERAL_OFFSET}
 use Rattle.diff_graph.specs.declared.hop.Hop.{Hop}
-use Rattle.diff_graph.specs.Tables.{Numbered, StandsFor, kept_of, numbered_from}
+use Rattle.diff_graph.specs.Literals.{answered_of}
+use Rattle.diff_graph.specs.Tables.{Numbered, StandsFor, IsCycleOf, kept_of, numbered_from}
+use Rattle.diff_bounds.specs.Kept.{has_room}
 use Rattle.ask_core.specs.Trees.{IsCycleAmong, with_answer}
 use Rattle.ot_prove.specs.declared.split.TheConstants.{MAX_NAMES}
-use Rattle.ot_prove.specs.declared.split.Sides.{Sides}
-use Rattle.ot_prove.specs.declared.split.Sides.TheVariants.{Both, OnlyYes, OnlyNo}
+use Rattle.ot_prove.specs.declared.split.Room.{Room}
+use Rattle.ot_prove.specs.declared.split.Room.TheVariants.{Both, OnlyYes, OnlyNo}
 
 -- the rows of a table: the row of y has what is kept for each name x and y
 abbrev pub Rows : Type 0
@@ -34,22 +36,34 @@ AreJudged (w ∷ ws) (Some picks ∷ cycles) tables = IsCycleAmong w picks × Ar
 AreJudged (w ∷ ws) (None ∷ cycles) [] = ⊥
 AreJudged (w ∷ ws) (None ∷ cycles) (rows ∷ tables) = IsTableOf w rows × AreJudged ws cycles tables
 
--- what a question after the answers leaves: the table of the place, and the sides
-abbrev pub AreSides : List Lit → Lit → Rows → Sides → Type 0
-AreSides w l rows (Both of_yes) = IsTableOf (with_answer w l true) of_yes × IsTableOf (with_answer w l false) rows
-AreSides w l rows (OnlyYes picks) = IsTableOf (with_answer w l true) rows × IsCycleAmong (with_answer w l false) picks
-AreSides w l rows (OnlyNo picks) = IsTableOf (with_answer w l false) rows × IsCycleAmong (with_answer w l true) picks
+-- the table of the first place, which is the last one
+abbrev pub last_rows : List Rows → Rows
+last_rows tables = slice_index_or tables (length tables - 1) []
 
--- what is kept for the two sides, that of yes last
-abbrev pub cycles_of : Sides → List (Option (List ℕ))
-cycles_of (Both of_yes) = None ∷ None ∷ []
-cycles_of (OnlyYes picks) = Some picks ∷ None ∷ []
-cycles_of (OnlyNo picks) = None ∷ Some picks ∷ []
+-- with the literal under the number, the picks are a negative cycle of each list that the table stands for
+abbrev pub ClosesCycle : (ℕ → ℕ → Option Hop) → ℕ → Lit → List ℕ → Type 0
+ClosesCycle t number l picks =
+    (ps : List Numbered) → StandsFor MAX_NAMES t ps
+    → IsCycleOf MAX_NAMES (ps ++ record { number = number; lit = l } ∷ []) picks
 
-abbrev pub tables_of : Sides → List Rows
-tables_of (Both of_yes) = of_yes ∷ []
-tables_of (OnlyYes picks) = []
-tables_of (OnlyNo picks) = []
+-- the table has room for the sides that are named, and the other one closes the cycle
+abbrev pub HasRoom : (ℕ → ℕ → Option Hop) → ℕ → Lit → Room → Type 0
+HasRoom t number l Both = (has_room t (answered_of l true) ≡ true) × (has_room t (answered_of l false) ≡ true)
+HasRoom t number l (OnlyYes picks) =
+    (has_room t (answered_of l true) ≡ true) × ClosesCycle t number (answered_of l false) picks
+HasRoom t number l (OnlyNo picks) =
+    (has_room t (answered_of l false) ≡ true) × ClosesCycle t number (answered_of l true) picks
+
+-- a table stands for so many answers, and the new one for these with one more
+abbrev pub AddsAnswer : ℕ → Lit → Bool → Rows → Rows → Type 0
+AddsAnswer number l said before after =
+    (w : List Lit) → length w ≡ number → IsTableOf w before → IsTableOf (with_answer w l said) after
+
+-- the last table is now that for no, and the one for yes stands behind it
+abbrev pub HasSplit : ℕ → Lit → List Rows → List Rows → Type 0
+HasSplit number l before after =
+    (of_yes of_no : Rows) × AddsAnswer number l true (last_rows before) of_yes × AddsAnswer number l false (last_rows before) of_no
+    × (after ≡ slice_set before (length before - 1) of_no ++ of_yes ∷ [])
 
 -- where a place with so many answers has the first table, both its sides are judged after the question
 abbrev pub JudgesSides :

@@ -1,12 +1,12 @@
 //! A search under way: the open places, what is known of each, and the tree so far.
-ghost use Rattle.std.specs.Prelude.{◌≡◌, ◌+◌, ◌-◌, ◌<◌, ◌≤◌, ◌^◌, [], ◌∷◌, ◌++◌, None, length, reverse, drop, slice_index_or, map, IfOk, OnOk};
+ghost use Rattle.std.specs.Prelude.{◌≡◌, ◌+◌, ◌<◌, ◌≤◌, ◌^◌, [], ◌∷◌, ◌++◌, None, length, reverse, drop, slice_index_or, map, IfOk, OnOk};
 ghost use Rattle.diff_graph.specs.Tables.{IsNamed, StandsFor, kept_of};
 ghost use Rattle.diff_graph.specs.declared.lit.Lit.{Lit};
 ghost use Rattle.ask_core.specs.declared.tree.Tok.TheVariants as token;
 ghost use Rattle.ask_core.specs.Askers.{SamePlans};
 ghost use Rattle.ask_core.specs.Paths.{OpenPlace, after_question, first_answers};
 ghost use Rattle.ot_prove.specs.declared.split.TheConstants.{MAX_NAMES};
-ghost use Rattle.ot_prove.specs.Sides.{IsAsked, JudgesSides, StandsForSome};
+ghost use Rattle.ot_prove.specs.Sides.{IsAsked, JudgesSides, StandsForSome, last_rows};
 ghost use Rattle.ot_prove.specs.Searching.{IsSearching, IsUnderWay, IsUnderWayOr, WeighsLess};
 
 use crate::NoMemory;
@@ -20,7 +20,7 @@ use std::alloc::Global;
 
 /// A search under way. The last of `cycles` is of the first open place: a negative cycle of its answers,
 /// or none where some integers meet them. Those places have a table each, the last one that of the first
-/// of them.
+/// of them. `numbers` is where a cycle is read from a table.
 #[derive(Drop)]
 pub struct Search<N: Copy> {
     pub path: Path<N>,
@@ -28,6 +28,7 @@ pub struct Search<N: Copy> {
     pub tables: Vec<Bounds<MAX_NAMES>>,
     pub tree: Tree,
     pub asked: u64,
+    pub numbers: Vec<u32>,
 }
 
 impl<N: Copy> Search<N> {
@@ -48,6 +49,7 @@ impl<N: Copy> Search<N> {
             tables,
             tree: Tree::new(alloc),
             asked: 0,
+            numbers: Vec::new(alloc),
         })
     }
 
@@ -69,7 +71,7 @@ impl<N: Copy> Search<N> {
         requires named { IsNamed MAX_NAMES lit }
         requires asked { IsAsked lit }
         requires some { 0 < length self.old.tables.items }
-        requires stands { StandsForSome MAX_NAMES (slice_index_or self.old.tables.items (length self.old.tables.items - 1) []) }
+        requires stands { StandsForSome MAX_NAMES (last_rows self.old.tables.items) }
         ensures path { OnOk result (self.new.path ≡ after_question lit yes no self.old.path) }
         ensures tree { OnOk result (self.new.tree ≡ self.old.tree ++ token.Ask ∷ []) }
         ensures asked { OnOk result (self.new.asked ≡ self.old.asked + 1) }
@@ -77,7 +79,14 @@ impl<N: Copy> Search<N> {
             (reverse self.old.tables.items) (reverse self.new.cycles.items) (reverse self.new.tables.items)) }
     {
         let number = self.path.answers().len() as u32;
-        judge_sides(alloc, &mut self.cycles, &mut self.tables, lit, number)?;
+        judge_sides(
+            alloc,
+            &mut self.numbers,
+            &mut self.cycles,
+            &mut self.tables,
+            lit,
+            number,
+        )?;
         self.path.ask(lit, yes, no)?;
         self.tree.push(Tok::Ask)?;
         self.asked += 1;

@@ -2,7 +2,7 @@ use Rattle.std.proofs.Common.{◌≡◌, rules, subst, sym, List, ℕ, [], ◌�
 use Rattle.diff_graph.specs.declared.hop.Hop.{Hop}
 use Rattle.diff_graph.specs.Tables.{kept_of, IsCycleOf}
 use Rattle.diff_graph.specs.Steps.{numbers_along}
-use Rattle.diff_bounds.proofs.bounds.Bounds.why_not.Goals as goal
+use Rattle.diff_bounds.proofs.bounds.Bounds.write_why_not.Goals as goal
 
 pub returns : goal.returns
 returns g c = λ ps stands.
@@ -10,10 +10,10 @@ returns g c = λ ps stands.
     let lit = c.args.lit in
     let names : length rows ≡ g.row.N =
     subst (λ (rows : List (List (Option Hop))). length rows ≡ g.row.N) c.self.view_is c.self.invariant.len in
-    let picks : c.in_ok-cycle_at.field-0.items ≡ c.args.number ∷ numbers_along (λ x. kept_of rows x lit.x) (length rows) lit.y lit.x =
+    let picks : c.write_cycle.new.picks.items ≡ c.args.number ∷ numbers_along (λ x. kept_of rows x lit.x) (length rows) lit.y lit.x =
     search rules in
     let picks' =
-    subst (λ (n : ℕ). c.in_ok-cycle_at.field-0.items ≡ c.args.number ∷ numbers_along (λ x. kept_of rows x lit.x) n lit.y lit.x)
+    subst (λ (n : ℕ). c.write_cycle.new.picks.items ≡ c.args.number ∷ numbers_along (λ x. kept_of rows x lit.x) n lit.y lit.x)
     names picks in
     subst (λ (numbers : List ℕ). IsCycleOf g.row.N (ps ++ record { number = c.args.number; lit = lit } ∷ []) numbers) (sym picks')
     (c.tables_tell_what_is_possible.ensures.cycle g.row.N
