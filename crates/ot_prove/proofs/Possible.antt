@@ -1,17 +1,17 @@
 -- Whether some integers meet answers, by a table or by a cycle, and how a table gets one more answer.
-use Rattle.std.proofs.Common.{◌≡◌, ◌↔◌, ◌⊎◌, ℕ, suc, ◌+◌, ◌-◌, ◌≤◌, ℤ, pos, ◌-ℤ◌, ◌+ℤ◌, ◌≤ℤ◌, true, false, List, [], ◌∷◌, ◌++◌, length, Option, Some, slice_get, Ok, IsTrue, arith, refl, sym, ap, ◌∙◌, subst, inl, inr}
+use Rattle.std.proofs.Common.{◌≡◌, ◌↔◌, ◌⊎◌, ℕ, suc, ◌+◌, ◌-◌, ◌≤◌, ℤ, pos, ◌-ℤ◌, ◌+ℤ◌, ◌≤ℤ◌, Bool, true, false, List, [], ◌∷◌, ◌++◌, length, Option, Some, slice_get, Ok, IsTrue, arith, refl, sym, ap, ◌∙◌, subst, inl, inr}
 use Rattle.std.proofs.lemmas.Int.{ints}
 use Rattle.std.proofs.lemmas.Bool.{cases_Bool}
 use Rattle.diff_graph.specs.declared.lit.Lit.{Lit}
 use Rattle.diff_graph.specs.declared.hop.Hop.{Hop}
-use Rattle.diff_graph.specs.Literals.{Meets, AreMet, IsPossible, is_met, negated}
+use Rattle.diff_graph.specs.Literals.{Meets, AreMet, IsPossible, answered_of, is_met, negated}
 use Rattle.diff_graph.specs.Cycles.{picked, pick_verdict}
 use Rattle.diff_graph.specs.Tables.{IsNamed, Numbered, literals_of, numbered_from, IsAmong, AreAmong, kept_of, StandsFor, IsPossibleWith, IsCycleOf}
 use Rattle.diff_graph.specs.Steps.{leaves_room}
 use Rattle.diff_bounds.specs.Kept.{has_room}
-use Rattle.ask_core.specs.Trees.{IsCycleAmong}
+use Rattle.ask_core.specs.Trees.{IsCycleAmong, with_answer}
 use Rattle.ot_prove.specs.declared.split.TheConstants.{MAX_NAMES}
-use Rattle.ot_prove.specs.Sides.{Rows, IsTableOf}
+use Rattle.ot_prove.specs.Sides.{Rows, IsTableOf, ClosesCycle}
 
 -- ---- literals under their places
 pub literals_of-numbered_from : (place : ℕ) (ls : List Lit) → literals_of (numbered_from place ls) ≡ ls
@@ -128,17 +128,12 @@ IsCycleAmong-push w l number picks long cycle =
     let ok : pick_verdict (w ++ l ∷ []) picks ≡ Ok tt = rw got cycle.negative in
     (cycle_has_picks (w ++ l ∷ []) picks ok, cycle.few, ok)
 
--- the same where the literal and the picks are given by equations
-pub IsCycleAmong-answered :
-    (w : List Lit) (l given : Lit) (number : ℕ) (rows : Rows) (numbers picks : List ℕ) → given ≡ l → picks ≡ numbers
-    → length w ≡ number
-    → ((ps : List Numbered) → StandsFor MAX_NAMES (kept_of rows) ps
-    → IsCycleOf MAX_NAMES (ps ++ record { number = number; lit = given } ∷ []) numbers)
-    → IsTableOf w rows → IsCycleAmong (w ++ l ∷ []) picks
-IsCycleAmong-answered w l given number rows numbers picks is are long names stands =
-    subst (λ (x : Lit). IsCycleAmong (w ++ x ∷ []) picks) is
-    (subst (λ (x : List ℕ). IsCycleAmong (w ++ given ∷ []) x) (sym are)
-    (IsCycleAmong-push w given number numbers long (names (numbered_from 0 w) stands)))
+-- a cycle that an answer closes is one among the answers with it
+pub IsCycleAmong-closed :
+    (w : List Lit) (l : Lit) (said : Bool) (number : ℕ) (rows : Rows) (picks : List ℕ) → length w ≡ number
+    → ClosesCycle (kept_of rows) number (answered_of l said) picks → IsTableOf w rows → IsCycleAmong (with_answer w l said) picks
+IsCycleAmong-closed w l said number rows picks long closes stands =
+    IsCycleAmong-push w (answered_of l said) number picks long (closes (numbered_from 0 w) stands)
 
 -- ---- the two answers to a literal
 -- each valuation meets one of the two

@@ -16,8 +16,10 @@ use Rattle.ot_prove.specs.declared.split.TheConstants.{MAX_NAMES}
 use Rattle.ot_prove.specs.declared.outcome.Outcome.{Outcome}
 use Rattle.ot_prove.specs.declared.outcome.Outcome.TheVariants.{Yes, Spent}
 use Rattle.ot_prove.specs.Outcomes.{AreAllPossible, IsDecided}
-use Rattle.ot_prove.specs.Sides.{Rows, IsTableOf, IsAsked, StandsForSome, AreJudged, JudgesSides}
-use Rattle.ot_prove.specs.Searching.{plan_weight, weight_of, HasCome, answers_at, AgreesWithLists, AreShort, LeadsTo, AreReached, IsSearching}
+use Rattle.ot_prove.specs.declared.split.Room.{Room}
+use Rattle.ot_prove.specs.declared.split.Room.TheVariants.{Both, OnlyYes, OnlyNo}
+use Rattle.ot_prove.specs.Sides.{Rows, IsTableOf, IsAsked, StandsForSome, AreJudged, JudgesSides, cycles_of}
+use Rattle.ot_prove.specs.Searching.{plan_weight, weight_of, HasCome, answers_at, AgreesWithLists, AreShort, LeadsTo, AreReached, IsSearching, known_by, GoesOn}
 use Rattle.ot_prove.proofs.Literals.{fine_question}
 use Rattle.ot_prove.proofs.Coming.{HasCome-begun, HasCome-question, HasCome-holds, HasCome-cycle, AgreesWithLists-spent, fails_here, AgreesWithLists-yes}
 use Rattle.ot_prove.proofs.Possible.{AreNeverMet, IsPossible-by_table, impossible_by_cycle}
@@ -74,6 +76,13 @@ module _ {W : Type 0} where
       let y_below : l.y < count = literal.named.1 in
       ((omega arith, omega arith), literal.asked)
 
+-- a question leaves a first place
+pub after_question-some :
+    {N : Type 0} (places : List (OpenPlace N)) (l : Lit) (on_yes on_no : N) → 0 < length places
+    → 0 < length (after_question l on_yes on_no places)
+after_question-some [] l on_yes on_no some = absurd (omega arith)
+after_question-some (p ∷ places) l on_yes on_no some = omega arith
+
 module _ {N W : Type 0} where
   -- ---- what stays when own nodes keep their plans
   pub SamePlans-trans :
@@ -107,19 +116,20 @@ module _ {N W : Type 0} where
 
   module _ (is_own : N → Type 0) (plan : N → Plan W) (root : Plan W) (budget : ℕ) where
     pub IsSearching-begun :
-        (count : ℕ) (first : N) (cycles : List (Option (List ℕ))) (tables : List Rows)
-        → is_own first × (plan first ≡ root) → IsFine count (plan first) → cycles ≡ None ∷ []
+        (count : ℕ) (first : N) (possible : Bool) (cycles : List (Option (List ℕ))) (tables : List Rows)
+        → is_own first × (plan first ≡ root) → IsFine count (plan first) → (possible ≡ true) × (cycles ≡ [])
         → (length tables ≡ 1) × IsTableOf [] (get_or tables 0 [])
-        → IsSearching is_own plan root budget (record { node = first; answers = [] } ∷ []) (reverse cycles) (reverse tables) [] 0
-    IsSearching-begun count first cycles [] begins fine cycles_are tables_are = absurd (omega (arith, tables_are.0))
-    IsSearching-begun count first cycles (rows ∷ other ∷ tables) begins fine cycles_are tables_are =
+        → IsSearching is_own plan root budget (record { node = first; answers = [] } ∷ []) (known_by possible (reverse cycles))
+        (reverse tables) [] 0
+    IsSearching-begun count first possible cycles [] begins fine cycles_are tables_are = absurd (omega (arith, tables_are.0))
+    IsSearching-begun count first possible cycles (rows ∷ other ∷ tables) begins fine cycles_are tables_are =
         absurd (omega (arith, tables_are.0))
-    IsSearching-begun count first cycles (rows ∷ []) begins fine cycles_are tables_are = record {
+    IsSearching-begun count first possible cycles (rows ∷ []) begins fine cycles_are tables_are = record {
       own = (begins.0, tt);
       short = (omega (arith, fine.paths), tt);
       reached = (sym begins.1, tt);
       judged =
-          subst (λ (xs : List (Option (List ℕ))). AreJudged ([] ∷ []) (reverse xs) (reverse (rows ∷ []))) (sym cycles_are)
+          subst (λ (b : Bool). AreJudged ([] ∷ []) (known_by b (reverse cycles)) (reverse (rows ∷ []))) (sym cycles_are.0)
           (tables_are.1, tt);
       so_far = [];
       come = subst (λ (p : Plan W). HasCome root [] [] (record { plan = p; answers = [] } ∷ [])) (sym begins.1) (HasCome-begun root);
@@ -294,10 +304,41 @@ module _ {N W : Type 0} where
 
     pub first_is_judged :
         (places : List (OpenPlace N)) (cycles : List (Option (List ℕ))) (tables : List Rows) (tree : List Tok) (asked : ℕ)
-        → 0 < length places → IsSearching is_own plan root budget places (reverse cycles) tables tree asked → 0 < length cycles
+        → 0 < length places → IsSearching is_own plan root budget places cycles tables tree asked → 0 < length cycles
     first_is_judged [] cycles tables tree asked some s = absurd (omega arith)
     first_is_judged (p ∷ places) [] tables tree asked some s = absurd s.judged
     first_is_judged (p ∷ places) (x ∷ cycles) tables tree asked some s = omega arith
+
+  -- ---- a question, whose side for yes is perhaps closed at once
+  module _ (is_own : N → Type 0) (plan : N → Plan W) (root : Plan W) (budget : ℕ) where
+    pub IsSearching-on :
+        (room : Room) (numbers : List ℕ) (places new_places : List (OpenPlace N)) (cycles new_cycles : List (Option (List ℕ)))
+        (tables : List Rows) (tree new_tree : List Tok) (asked : ℕ) → 0 < length places → AreNeverMet
+        → GoesOn room numbers places cycles tree new_places new_cycles new_tree
+        → IsSearching is_own plan root budget places (cycles_of room numbers cycles) tables tree asked
+        → IsSearching is_own plan root budget new_places (None ∷ new_cycles) tables new_tree asked
+    IsSearching-on Both numbers places new_places cycles new_cycles tables tree new_tree asked some never on s = rw (on.0, on.1, on.2) s
+    IsSearching-on OnlyYes numbers places new_places cycles new_cycles tables tree new_tree asked some never on s =
+        rw (on.0, on.1, on.2) s
+    IsSearching-on OnlyNo numbers places new_places cycles new_cycles tables tree new_tree asked some never on s =
+        rw (on.0, on.1, on.2)
+        (IsSearching-cycle is_own plan root budget places numbers (None ∷ cycles) tables tree asked some never s)
+
+    pub IsSearching-asked :
+        (places new_places : List (OpenPlace N)) (cycles new_cycles : List (Option (List ℕ))) (tables new_tables : List Rows)
+        (tree new_tree : List Tok) (asked : ℕ) (l : Lit) (on_yes on_no : N) (room : Room) (numbers : List ℕ)
+        → 0 < length places → AreNeverMet
+        → IsSearching is_own plan root budget places (None ∷ cycles) (reverse tables) tree asked
+        → is_own on_yes × is_own on_no × (first_plan plan places ≡ Ask l (plan on_yes) (plan on_no)) → asked ≢ budget
+        → JudgesSides l (length (first_answers places)) cycles (reverse tables) (cycles_of room numbers cycles) new_tables
+        → GoesOn room numbers (after_question l on_yes on_no places) cycles (tree ++ token.Ask ∷ []) new_places new_cycles new_tree
+        → IsSearching is_own plan root budget new_places (None ∷ new_cycles) new_tables new_tree (asked + 1)
+    IsSearching-asked places new_places cycles new_cycles tables new_tables tree new_tree asked l on_yes on_no room numbers some never
+        s begins fits judges on =
+        IsSearching-on room numbers (after_question l on_yes on_no places) new_places cycles new_cycles new_tables
+        (tree ++ token.Ask ∷ []) new_tree (asked + 1) (after_question-some places l on_yes on_no some) never on
+        (IsSearching-question is_own plan root budget places cycles tables tree asked l on_yes on_no (cycles_of room numbers cycles)
+        new_tables s begins fits judges)
 
   -- ---- weights
   module _ (plan : N → Plan W) where
@@ -314,6 +355,28 @@ module _ {N W : Type 0} where
         → weight_of (branches_at plan (drop 1 places)) < weight_of (branches_at plan places)
     weight_of-close [] some = absurd (omega arith)
     weight_of-close (p ∷ places) some = omega (arith, plan_weight-some (plan p.node))
+
+    weight_of-on :
+        (room : Room) (numbers : List ℕ) (places new_places : List (OpenPlace N)) (cycles new_cycles : List (Option (List ℕ)))
+        (tree new_tree : List Tok) → 0 < length places → GoesOn room numbers places cycles tree new_places new_cycles new_tree
+        → weight_of (branches_at plan new_places) ≤ weight_of (branches_at plan places)
+    weight_of-on Both numbers places new_places cycles new_cycles tree new_tree some on = rw on.0 (omega arith)
+    weight_of-on OnlyYes numbers places new_places cycles new_cycles tree new_tree some on = rw on.0 (omega arith)
+    weight_of-on OnlyNo numbers places new_places cycles new_cycles tree new_tree some on =
+        let less = weight_of-close places some in rw on.0 (omega (arith, less))
+
+    pub weight_of-asked :
+        (room : Room) (numbers : List ℕ) (places new_places : List (OpenPlace N)) (cycles new_cycles : List (Option (List ℕ)))
+        (tree new_tree : List Tok) (l : Lit) (on_yes on_no : N) → 0 < length places
+        → first_plan plan places ≡ Ask l (plan on_yes) (plan on_no)
+        → GoesOn room numbers (after_question l on_yes on_no places) cycles tree new_places new_cycles new_tree
+        → weight_of (branches_at plan new_places) < weight_of (branches_at plan places)
+    weight_of-asked room numbers places new_places cycles new_cycles tree new_tree l on_yes on_no some asks on =
+        let less = weight_of-question places l on_yes on_no asks in
+        let more =
+        weight_of-on room numbers (after_question l on_yes on_no places) new_places cycles new_cycles tree new_tree
+        (after_question-some places l on_yes on_no some) on in
+        omega (arith, less, more)
 
   -- ---- the end of a search
   module _ (is_own : N → Type 0) (plan : N → Plan W) (root : Plan W) (budget : ℕ) where

@@ -1,12 +1,13 @@
 -- What is known of the open places of a search, the first place first: a negative cycle of its answers, or
 -- else a table that stands for them.
-use Rattle.std.specs.Prelude.{◌≡◌, ℕ, ◌-◌, neg_ℤ, ◌≤ℤ◌, Bool, true, false, List, [], ◌∷◌, ◌++◌, length, slice_index_or, slice_set, Option, Some, None}
+use Rattle.std.specs.Prelude.{◌≡◌, ℕ, ◌-◌, ◌≤◌, neg_ℤ, ◌≤ℤ◌, Bool, true, false, List, [], ◌∷◌, ◌++◌, length, slice_index_or, slice_set, Option, Some, None}
 use Rattle.diff_graph.specs.declared.lit.Lit.{Lit}
 use Rattle.diff_graph.specs.declared.lit.TheConstants.{MAX_LITERAL_OFFSET}
 use Rattle.diff_graph.specs.declared.hop.Hop.{Hop}
 use Rattle.diff_graph.specs.Literals.{answered_of}
 use Rattle.diff_graph.specs.Tables.{Numbered, StandsFor, IsCycleOf, kept_of, numbered_from}
 use Rattle.diff_bounds.specs.Kept.{has_room}
+use Rattle.ask_core.specs.declared.picks.TheConstants.{MAX_PICKS}
 use Rattle.ask_core.specs.Trees.{IsCycleAmong, with_answer}
 use Rattle.ot_prove.specs.declared.split.TheConstants.{MAX_NAMES}
 use Rattle.ot_prove.specs.declared.split.Room.{Room}
@@ -47,12 +48,24 @@ ClosesCycle t number l picks =
     → IsCycleOf MAX_NAMES (ps ++ record { number = number; lit = l } ∷ []) picks
 
 -- the table has room for the sides that are named, and the other one closes the cycle
-abbrev pub HasRoom : (ℕ → ℕ → Option Hop) → ℕ → Lit → Room → Type 0
-HasRoom t number l Both = (has_room t (answered_of l true) ≡ true) × (has_room t (answered_of l false) ≡ true)
-HasRoom t number l (OnlyYes picks) =
-    (has_room t (answered_of l true) ≡ true) × ClosesCycle t number (answered_of l false) picks
-HasRoom t number l (OnlyNo picks) =
-    (has_room t (answered_of l false) ≡ true) × ClosesCycle t number (answered_of l true) picks
+abbrev pub HasRoom : (ℕ → ℕ → Option Hop) → ℕ → Lit → List ℕ → Room → Type 0
+HasRoom t number l numbers Both = (has_room t (answered_of l true) ≡ true) × (has_room t (answered_of l false) ≡ true)
+HasRoom t number l numbers OnlyYes =
+    (has_room t (answered_of l true) ≡ true) × ClosesCycle t number (answered_of l false) numbers
+HasRoom t number l numbers OnlyNo =
+    (has_room t (answered_of l false) ≡ true) × ClosesCycle t number (answered_of l true) numbers
+
+-- where there is a cycle, its numbers are no more than a token may have
+abbrev pub HasFew : List ℕ → Room → Type 0
+HasFew numbers Both = Unit {0}
+HasFew numbers OnlyYes = length numbers ≤ MAX_PICKS
+HasFew numbers OnlyNo = length numbers ≤ MAX_PICKS
+
+-- what is known of the two sides, that of yes first, and then of other places
+abbrev pub cycles_of : Room → List ℕ → List (Option (List ℕ)) → List (Option (List ℕ))
+cycles_of Both numbers cycles = None ∷ None ∷ cycles
+cycles_of OnlyYes numbers cycles = None ∷ Some numbers ∷ cycles
+cycles_of OnlyNo numbers cycles = Some numbers ∷ None ∷ cycles
 
 -- a table stands for so many answers, and the new one for these with one more
 abbrev pub AddsAnswer : ℕ → Lit → Bool → Rows → Rows → Type 0

@@ -1,29 +1,30 @@
 //! A search under way: the open places, what is known of each, and the tree so far.
-ghost use Rattle.std.specs.Prelude.{◌≡◌, ◌+◌, ◌<◌, ◌≤◌, ◌^◌, [], ◌∷◌, ◌++◌, None, length, reverse, drop, slice_index_or, map, IfOk, OnOk};
+ghost use Rattle.std.specs.Prelude.{◌≡◌, ◌+◌, ◌<◌, ◌≤◌, ◌^◌, [], ◌∷◌, ◌++◌, true, length, drop, slice_index_or, map, IfOk, OnOk};
 ghost use Rattle.diff_graph.specs.Tables.{IsNamed, StandsFor, kept_of};
 ghost use Rattle.diff_graph.specs.declared.lit.Lit.{Lit};
-ghost use Rattle.ask_core.specs.declared.tree.Tok.TheVariants as token;
 ghost use Rattle.ask_core.specs.Askers.{SamePlans};
-ghost use Rattle.ask_core.specs.Paths.{OpenPlace, after_question, first_answers};
+ghost use Rattle.ask_core.specs.Paths.{OpenPlace, first_answers};
 ghost use Rattle.ot_prove.specs.declared.split.TheConstants.{MAX_NAMES};
-ghost use Rattle.ot_prove.specs.Sides.{IsAsked, JudgesSides, StandsForSome, last_rows};
-ghost use Rattle.ot_prove.specs.Searching.{IsSearching, IsUnderWay, IsUnderWayOr, WeighsLess};
+ghost use Rattle.ot_prove.specs.Sides.{IsAsked, StandsForSome, last_rows};
+ghost use Rattle.ot_prove.specs.Searching.{HasAsked, HasClosed, IsUnderWay, IsUnderWayOr, WeighsLess, known_of};
 
 use crate::NoMemory;
 use crate::answers::answers_along;
 use crate::outcome::Outcome;
-use crate::split::{MAX_NAMES, judge_sides};
+use crate::split::{MAX_NAMES, Room, judge_sides, picks_of};
 use ask_core::{Asker, Path, Picks, Tok, Tree, Turn, turn_at};
 use diff_bounds::Bounds;
 use diff_graph::{Lit, negative_cycles_are_never_met};
 use std::alloc::Global;
 
-/// A search under way. The last of `cycles` is of the first open place: a negative cycle of its answers,
-/// or none where some integers meet them. Those places have a table each, the last one that of the first
-/// of them. `numbers` is where a cycle is read from a table.
+/// A search under way. For each open place `cycles` has a negative cycle of its answers, or none where some
+/// integers meet them, the first place last. Where the first place is known to be `possible`, it has none there. The
+/// places that some integers meet have a table each, the last one that of the first of them. `numbers` is where a
+/// cycle is read from a table.
 #[derive(Drop)]
 pub struct Search<N: Copy> {
     pub path: Path<N>,
+    pub possible: bool,
     pub cycles: Vec<Option<Picks>>,
     pub tables: Vec<Bounds<MAX_NAMES>>,
     pub tree: Tree,
@@ -35,17 +36,16 @@ impl<N: Copy> Search<N> {
     /// A search with one open place, to which no answers lead.
     pub fn begin(alloc: Global, first: N) -> Result<Search<N>, NoMemory>
         ensures path { IfOk result (λ s. s.path ≡ record { node = first; answers = [] } ∷ []) }
-        ensures cycles { IfOk result (λ s. s.cycles.items ≡ None ∷ []) }
+        ensures cycles { IfOk result (λ s. (s.possible ≡ true) × (s.cycles.items ≡ [])) }
         ensures tables { IfOk result (λ s. (length s.tables.items ≡ 1) × StandsFor MAX_NAMES (kept_of (slice_index_or s.tables.items 0 [])) []) }
         ensures nothing { IfOk result (λ s. (s.tree ≡ []) × (s.asked ≡ 0)) }
     {
-        let mut cycles = Vec::new(alloc);
-        cycles.push(None)?;
         let mut tables = Vec::new(alloc);
         tables.push(Bounds::new())?;
         Ok(Search {
             path: Path::new(alloc, first),
-            cycles,
+            possible: true,
+            cycles: Vec::new(alloc),
             tables,
             tree: Tree::new(alloc),
             asked: 0,
@@ -63,7 +63,8 @@ impl<N: Copy> Search<N> {
         Ok(())
     }
 
-    /// Asks a literal at the first place, which some integers meet.
+    /// Asks a literal at the first place, which some integers meet. A side for yes that none meet is closed at
+    /// once.
     pub fn ask(&mut self, alloc: Global, lit: Lit, yes: N, no: N) -> Result<(), NoMemory>
         requires opened { 0 < length self.old.path }
         requires few { length (first_answers self.old.path) < 2 ^ 32 }
@@ -72,25 +73,53 @@ impl<N: Copy> Search<N> {
         requires asked { IsAsked lit }
         requires some { 0 < length self.old.tables.items }
         requires stands { StandsForSome MAX_NAMES (last_rows self.old.tables.items) }
-        ensures path { OnOk result (self.new.path ≡ after_question lit yes no self.old.path) }
-        ensures tree { OnOk result (self.new.tree ≡ self.old.tree ++ token.Ask ∷ []) }
         ensures asked { OnOk result (self.new.asked ≡ self.old.asked + 1) }
-        ensures judged { OnOk result (JudgesSides lit (length (first_answers self.old.path)) (reverse self.old.cycles.items)
-            (reverse self.old.tables.items) (reverse self.new.cycles.items) (reverse self.new.tables.items)) }
+        ensures possible { OnOk result (self.new.possible ≡ self.old.possible) }
+        ensures judged { OnOk result (HasAsked lit yes no self.old self.new) }
     {
         let number = self.path.answers().len() as u32;
-        judge_sides(
-            alloc,
-            &mut self.numbers,
-            &mut self.cycles,
-            &mut self.tables,
-            lit,
-            number,
-        )?;
+        let room = judge_sides(&mut self.numbers, &mut self.tables, lit, number)?;
         self.path.ask(lit, yes, no)?;
         self.tree.push(Tok::Ask)?;
         self.asked += 1;
-        Ok(())
+        match room {
+            Room::Both => {
+                self.cycles.push(None)?;
+                Ok(())
+            }
+            Room::OnlyYes => {
+                let picks = picks_of(alloc, self.numbers.as_slice());
+                self.cycles.push(Some(picks))?;
+                Ok(())
+            }
+            Room::OnlyNo => {
+                let picks = picks_of(alloc, self.numbers.as_slice());
+                self.close(Tok::Cycle(picks))?;
+                Ok(())
+            }
+        }
+    }
+
+    /// Finds what is known of the first place. Where it is a cycle, the place is closed with it: then the answer
+    /// is true. Else some integers meet its answers.
+    fn close_impossible(&mut self) -> Result<bool, NoMemory>
+        requires opened { 0 < length self.old.path }
+        requires known { 0 < length (known_of self.old) }
+        ensures { IfOk result (HasClosed self.old self.new) }
+    {
+        if self.possible {
+            return Ok(false);
+        }
+        match next_cycle(&mut self.cycles) {
+            Some(picks) => {
+                self.close(Tok::Cycle(picks))?;
+                Ok(true)
+            }
+            None => {
+                self.possible = true;
+                Ok(false)
+            }
+        }
     }
 }
 
@@ -103,14 +132,15 @@ fn take_turn<A: Asker>(
 ) -> Result<Option<Outcome<A::Why>>, NoMemory>
     requires names { A.name_count asker.old ≤ MAX_NAMES }
     requires opened { 0 < length search.old.path }
-    requires searching { IsSearching (A.is_own asker.old) (A.plan asker.old) (A.root asker.old) budget search.old.path
-        (None ∷ reverse search.old.cycles.items) (reverse search.old.tables.items) search.old.tree search.old.asked }
+    requires possible { search.old.possible ≡ true }
+    requires searching { IsUnderWay (A.is_own asker.old) (A.plan asker.old) (A.root asker.old) budget search.old }
     ensures step { IfOk result (λ r. IsUnderWayOr (A.is_own asker.new) (A.plan asker.new) (A.root asker.new) budget search.new r) }
     ensures falls { IfOk result (λ r. WeighsLess (A.plan asker.old) (A.plan asker.new) search.old search.new r) }
     ensures same { SamePlans (A.is_own asker.old) (A.is_own asker.new) (A.plan asker.old) (A.plan asker.new) }
     ensures root { A.root asker.new ≡ A.root asker.old }
     ensures count { A.name_count asker.new ≡ A.name_count asker.old }
 {
+    negative_cycles_are_never_met();
     match turn_at(asker, &search.path)? {
         Turn::Ask { lit, yes, no } => {
             if search.asked == budget {
@@ -121,6 +151,7 @@ fn take_turn<A: Asker>(
         }
         Turn::Holds => {
             search.tables.pop();
+            search.possible = false;
             search.close(Tok::Holds)?;
             Ok(None)
         }
@@ -159,11 +190,8 @@ pub fn step<A: Asker>(
     ensures count { A.name_count asker.new ≡ A.name_count asker.old }
 {
     negative_cycles_are_never_met();
-    match next_cycle(&mut search.cycles) {
-        Some(picks) => {
-            search.close(Tok::Cycle(picks))?;
-            Ok(None)
-        }
-        None => take_turn(alloc, asker, search, budget),
+    if search.close_impossible()? {
+        return Ok(None);
     }
+    take_turn(alloc, asker, search, budget)
 }

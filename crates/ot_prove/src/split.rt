@@ -1,10 +1,10 @@
 //! The two sides of a question at a place that some integers meet.
-ghost use Rattle.std.specs.Prelude.{◌≡◌, ◌<◌, ◌≤◌, true, false, length, IfOk, OnOk, reverse};
+ghost use Rattle.std.specs.Prelude.{◌≡◌, ℕ, ◌<◌, ◌≤◌, true, false, List, Option, length, IfOk, OnOk, reverse};
 ghost use Rattle.diff_graph.specs.Literals.{answered_of};
-ghost use Rattle.diff_graph.specs.Tables.{IsNamed, IsSmall, kept_of};
+ghost use Rattle.diff_graph.specs.Tables.{IsNamed, kept_of};
 ghost use Rattle.diff_bounds.specs.Kept.{has_room};
 ghost use Rattle.ask_core.specs.declared.picks.TheConstants.{MAX_PICKS};
-ghost use Rattle.ot_prove.specs.Sides.{AddsAnswer, ClosesCycle, HasRoom, HasSplit, IsAsked, JudgesSides, StandsForSome, last_rows};
+ghost use Rattle.ot_prove.specs.Sides.{AddsAnswer, HasFew, HasRoom, HasSplit, IsAsked, JudgesSides, StandsForSome, cycles_of, last_rows};
 
 use crate::NoMemory;
 use ask_core::Picks;
@@ -15,21 +15,21 @@ use std::alloc::Global;
 /// The most names of an asker whose plan is searched.
 pub const MAX_NAMES: usize = 12;
 
-/// Which sides of a question there is room for, with a negative cycle for the other one.
-#[derive(Drop)]
+/// Which sides of a question there is room for.
+#[derive(Clone, Copy, Debug, PartialEq, Eq)]
 pub enum Room {
     /// Both sides.
     Both,
 
-    /// Yes alone, and a cycle for no.
-    OnlyYes(Picks),
+    /// Yes alone.
+    OnlyYes,
 
-    /// No alone, and a cycle for yes.
-    OnlyNo(Picks),
+    /// No alone.
+    OnlyNo,
 }
 
 /// The picks with these numbers.
-fn picks_of(alloc: Global, numbers: &[u32]) -> Picks
+pub fn picks_of(alloc: Global, numbers: &[u32]) -> Picks
     requires { length numbers.now ≤ MAX_PICKS }
     ensures { result ≡ numbers.now }
 {
@@ -40,27 +40,9 @@ fn picks_of(alloc: Global, numbers: &[u32]) -> Picks
     picks
 }
 
-/// A negative cycle for an answer that the table has no room for, under the number of answers there.
-fn cycle_of(
-    alloc: Global,
-    table: &Bounds<MAX_NAMES>,
-    numbers: &mut Vec<u32>,
-    answer: Lit,
-    number: u32,
-) -> Result<Picks, NoMemory>
-    requires named { IsNamed MAX_NAMES answer }
-    requires small { IsSmall answer }
-    requires not_allowed { has_room (kept_of table.now) answer ≡ false }
-    requires stands { StandsForSome MAX_NAMES table.now }
-    ensures { IfOk result (ClosesCycle (kept_of table.now) number answer) }
-{
-    table.write_why_not(numbers, answer, number)?;
-    Ok(picks_of(alloc, numbers))
-}
-
-/// Which sides of a literal a table has room for, under the number of answers there.
+/// Which sides of a literal a table has room for, under the number of answers there. Of a side for which it
+/// has none, a negative cycle is written.
 fn room_of(
-    alloc: Global,
     table: &Bounds<MAX_NAMES>,
     numbers: &mut Vec<u32>,
     lit: Lit,
@@ -69,18 +51,18 @@ fn room_of(
     requires named { IsNamed MAX_NAMES lit }
     requires asked { IsAsked lit }
     requires stands { StandsForSome MAX_NAMES table.now }
-    ensures { IfOk result (HasRoom (kept_of table.now) number lit) }
+    ensures { IfOk result (HasRoom (kept_of table.now) number lit numbers.new.items) }
 {
     tables_tell_what_is_possible();
     let yes = answered(lit, true);
     let no = answered(lit, false);
     if !table.allows(no) {
-        let picks = cycle_of(alloc, table, numbers, no, number)?;
-        return Ok(Room::OnlyYes(picks));
+        table.write_why_not(numbers, no, number)?;
+        return Ok(Room::OnlyYes);
     }
     if !table.allows(yes) {
-        let picks = cycle_of(alloc, table, numbers, yes, number)?;
-        return Ok(Room::OnlyNo(picks));
+        table.write_why_not(numbers, yes, number)?;
+        return Ok(Room::OnlyNo);
     }
     Ok(Room::Both)
 }
@@ -113,42 +95,35 @@ fn split(tables: &mut Vec<Bounds<MAX_NAMES>>, lit: Lit, number: u32) -> Result<(
     Ok(())
 }
 
-/// Judges both sides of a question at the place of the last table, which has so many answers. They take the
-/// place of what was known of it: yes last, since it is next.
+/// Judges both sides of a question at the place of the last table, which has so many answers. That table is
+/// then one of a side that there is room for. Of a side for which there is none, a negative cycle is written.
 pub fn judge_sides(
-    alloc: Global,
     numbers: &mut Vec<u32>,
-    cycles: &mut Vec<Option<Picks>>,
     tables: &mut Vec<Bounds<MAX_NAMES>>,
     lit: Lit,
     number: u32,
-) -> Result<(), NoMemory>
+) -> Result<Room, NoMemory>
     requires some { 0 < length tables.old.items }
     requires named { IsNamed MAX_NAMES lit }
     requires asked { IsAsked lit }
     requires stands { StandsForSome MAX_NAMES (last_rows tables.old.items) }
-    ensures { OnOk result (JudgesSides lit number (reverse cycles.old.items) (reverse tables.old.items)
-        (reverse cycles.new.items) (reverse tables.new.items)) }
+    ensures judged { IfOk result (λ room. (cycles : List (Option (List ℕ)))
+        → JudgesSides lit number cycles (reverse tables.old.items) (cycles_of room numbers.new.items cycles) (reverse tables.new.items)) }
+    ensures few { IfOk result (HasFew numbers.new.items) }
 {
     let last = tables.len() - 1;
-    match room_of(alloc, &tables[last], numbers, lit, number)? {
+    match room_of(&tables[last], numbers, lit, number)? {
         Room::Both => {
             split(tables, lit, number)?;
-            cycles.push(None)?;
-            cycles.push(None)?;
-            Ok(())
+            Ok(Room::Both)
         }
-        Room::OnlyYes(picks) => {
+        Room::OnlyYes => {
             answer(&mut tables[last], lit, true, number);
-            cycles.push(Some(picks))?;
-            cycles.push(None)?;
-            Ok(())
+            Ok(Room::OnlyYes)
         }
-        Room::OnlyNo(picks) => {
+        Room::OnlyNo => {
             answer(&mut tables[last], lit, false, number);
-            cycles.push(None)?;
-            cycles.push(Some(picks))?;
-            Ok(())
+            Ok(Room::OnlyNo)
         }
     }
 }

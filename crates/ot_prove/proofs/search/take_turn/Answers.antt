@@ -1,12 +1,24 @@
-use Rattle.std.proofs.Common.{◌≡◌, List, [], Some, reverse, sym, ◌∙◌, ap, subst, arith}
+use Rattle.std.proofs.Common.{◌≡◌, ℕ, Bool, true, false, List, [], ◌∷◌, ◌++◌, Option, None, Some, reverse, sym, ◌∙◌, ap, subst, arith}
 use Rattle.diff_graph.specs.declared.lit.Lit.{Lit}
 use Rattle.ask_core.specs.Plans.{Plan, Fails}
-use Rattle.ask_core.specs.Paths.{first_answers, first_plan}
+use Rattle.ask_core.specs.declared.tree.Tok.{Tok}
+use Rattle.ask_core.specs.declared.tree.Tok.TheVariants as token
+use Rattle.ask_core.specs.Paths.{OpenPlace, first_answers, first_plan}
 use Rattle.ask_core.specs.Questions.{QuestionList}
-use Rattle.ot_prove.specs.Searching.{LeadsTo}
+use Rattle.ot_prove.specs.Sides.{Rows}
+use Rattle.ot_prove.specs.Searching.{LeadsTo, IsSearching, known_by}
 use Rattle.ot_prove.specs.Outcomes.{AreAnswersTo}
-use Rattle.ot_prove.proofs.Steps.{IsSearching-same, IsSearching-question, IsSearching-holds, spent_at_first, failing_at_first, first_is_reached, first_has_table, asked_literal, weight_of-question, weight_of-close, without_last}
+use Rattle.ot_prove.proofs.Steps.{IsSearching-same, IsSearching-asked, IsSearching-holds, spent_at_first, failing_at_first, first_is_reached, first_has_table, asked_literal, weight_of-asked, weight_of-close, without_last}
 use Rattle.ot_prove.proofs.search.take_turn.Goals as goal
+
+-- a first place that is known to be possible
+known_first :
+    {N W : Type 0} {is_own : N → Type 0} {plan : N → Plan W} {root : Plan W} {budget : ℕ} {places : List (OpenPlace N)}
+    {cycles : List (Option (List ℕ))} {tables : List Rows} {tree : List Tok} {asked : ℕ} (possible : Bool) → possible ≡ true
+    → IsSearching is_own plan root budget places (known_by possible cycles) tables tree asked
+    → IsSearching is_own plan root budget places (None ∷ cycles) tables tree asked
+known_first true is s = s
+known_first false is s = absurd (cc)
 
 pub returns-then-search-budget-clause-step : goal.returns-then-search-budget-clause-step
 returns-then-search-budget-clause-step g c =
@@ -17,7 +29,7 @@ returns-then-search-budget-clause-step g c =
     let begins = rw c.in-Ask.is at c.in_ok-lit.ensures.begins in
     spent_at_first (A.is_own now) (A.plan now) (A.root now) c.args.budget s.path (reverse s.cycles.items) s.tables.items s.tree
     s.asked c.in-Ask.lit (A.plan now c.in-Ask.yes) (A.plan now c.in-Ask.no)
-    (IsSearching-same c.requires.searching kept.own kept.branches kept.root_kept) begins.2 c.if-search-budget.true
+    (IsSearching-same (known_first s.possible c.requires.possible c.requires.searching) kept.own kept.branches kept.root_kept) begins.2 c.if-search-budget.true
 
 pub ask-requires-clause-named : goal.ask-requires-clause-named
 ask-requires-clause-named g c =
@@ -41,7 +53,7 @@ ask-requires-clause-some g c =
     let was = c.args.asker.now in
     let s = c.args.search.now in
     (first_has_table (A.is_own was) (A.plan was) (A.root was) c.args.budget s.path (reverse s.cycles.items)
-    s.tables.items s.tree s.asked c.requires.opened c.requires.searching).0
+    s.tables.items s.tree s.asked c.requires.opened (known_first s.possible c.requires.possible c.requires.searching)).0
 
 pub ask-requires-clause-stands : goal.ask-requires-clause-stands
 ask-requires-clause-stands g c =
@@ -49,7 +61,7 @@ ask-requires-clause-stands g c =
     let was = c.args.asker.now in
     let s = c.args.search.now in
     (first_has_table (A.is_own was) (A.plan was) (A.root was) c.args.budget s.path (reverse s.cycles.items)
-    s.tables.items s.tree s.asked c.requires.opened c.requires.searching).1
+    s.tables.items s.tree s.asked c.requires.opened (known_first s.possible c.requires.possible c.requires.searching)).1
 
 pub returns-in_ok-ask-in-Ask-clause-step : goal.returns-in_ok-ask-in-Ask-clause-step
 returns-in_ok-ask-in-Ask-clause-step g c =
@@ -59,11 +71,13 @@ returns-in_ok-ask-in-Ask-clause-step g c =
     let s = c.args.search.now in
     let begins = rw c.in-Ask.is at c.in_ok-lit.ensures.begins in
     let after = c.in_ok-ask-in-Ask.ensures in
-    rw (after.path, after.tree, after.asked)
-    (IsSearching-question (A.is_own now) (A.plan now) (A.root now) c.args.budget s.path (reverse s.cycles.items) s.tables.items
-    s.tree s.asked c.in-Ask.lit c.in-Ask.yes c.in-Ask.no (reverse c.ask.new.self.cycles.items)
-    (reverse c.ask.new.self.tables.items) (IsSearching-same c.requires.searching kept.own kept.branches kept.root_kept)
-    begins c.if-search-budget.false after.judged)
+    let judged = after.judged in
+    rw (after.possible, c.requires.possible, after.asked)
+    (IsSearching-asked (A.is_own now) (A.plan now) (A.root now) c.args.budget s.path c.ask.new.self.path (reverse s.cycles.items)
+    (reverse c.ask.new.self.cycles.items) s.tables.items (reverse c.ask.new.self.tables.items) s.tree c.ask.new.self.tree s.asked
+    c.in-Ask.lit c.in-Ask.yes c.in-Ask.no judged.0 judged.1 c.requires.opened c.negative_cycles_are_never_met.ensures
+    (IsSearching-same (known_first s.possible c.requires.possible c.requires.searching) kept.own kept.branches kept.root_kept)
+    begins c.if-search-budget.false judged.2 judged.3)
 
 pub returns-in_ok-ask-in-Ask-clause-falls : goal.returns-in_ok-ask-in-Ask-clause-falls
 returns-in_ok-ask-in-Ask-clause-falls g c =
@@ -71,8 +85,12 @@ returns-in_ok-ask-in-Ask-clause-falls g c =
     let now = c.turn_at.new.asker in
     let s = c.args.search.now in
     let begins = rw c.in-Ask.is at c.in_ok-lit.ensures.begins in
-    let falls = weight_of-question (A.plan now) s.path c.in-Ask.lit c.in-Ask.yes c.in-Ask.no begins.2 in
-    rw (c.in_ok-ask-in-Ask.ensures.path, ← c.turn_at.ensures.branches) falls
+    let judged = c.in_ok-ask-in-Ask.ensures.judged in
+    let falls =
+    weight_of-asked (A.plan now) judged.0 judged.1 s.path c.ask.new.self.path (reverse s.cycles.items)
+    (reverse c.ask.new.self.cycles.items) (s.tree ++ token.Ask ∷ []) c.ask.new.self.tree c.in-Ask.lit c.in-Ask.yes c.in-Ask.no
+    c.requires.opened begins.2 judged.3 in
+    rw (← c.turn_at.ensures.branches) falls
 
 pub returns-in_ok-close-in-Holds-clause-step : goal.returns-in_ok-close-in-Holds-clause-step
 returns-in_ok-close-in-Holds-clause-step g c =
@@ -85,7 +103,7 @@ returns-in_ok-close-in-Holds-clause-step g c =
     rw c.in_ok-close-in-Holds.ensures
     (IsSearching-holds (A.is_own now) (A.plan now) (A.root now) c.args.budget s.path (reverse s.cycles.items) s.tables.items
     c.pop.new.self.items s.tree s.asked c.requires.opened
-    (IsSearching-same c.requires.searching kept.own kept.branches kept.root_kept) begins less)
+    (IsSearching-same (known_first s.possible c.requires.possible c.requires.searching) kept.own kept.branches kept.root_kept) begins less)
 
 pub returns-in_ok-close-in-Holds-clause-falls : goal.returns-in_ok-close-in-Holds-clause-falls
 returns-in_ok-close-in-Holds-clause-falls g c =
@@ -101,7 +119,7 @@ answers_along-requires g c =
       first_plan (A.plan now) s.path,
       rw c.answers.ensures
           (first_is_reached (A.is_own now) (A.plan now) (A.root now) c.args.budget s.path _ _ s.tree s.asked c.requires.opened
-          (IsSearching-same c.requires.searching kept.own kept.branches kept.root_kept)),
+          (IsSearching-same (known_first s.possible c.requires.possible c.requires.searching) kept.own kept.branches kept.root_kept)),
     )
 
 pub returns-in_ok-answers-in-Fails-clause-step : goal.returns-in_ok-answers-in-Fails-clause-step
@@ -113,7 +131,7 @@ returns-in_ok-answers-in-Fails-clause-step g c q list =
     let s = c.args.search.now in
     let begins = rw c.in-Fails.is at c.in_ok-lit.ensures.begins in
     let same_root : A.root last ≡ A.root now = c.answers_along.ensures.root in
-    let searching = IsSearching-same c.requires.searching kept.own kept.branches kept.root_kept in
+    let searching = IsSearching-same (known_first s.possible c.requires.possible c.requires.searching) kept.own kept.branches kept.root_kept in
     let found =
     failing_at_first (A.is_own now) (A.plan now) (A.root now) c.args.budget s.path (reverse s.cycles.items) s.tables.items s.tree
     s.asked c.in-Fails.why q searching begins

@@ -21,5 +21,6 @@ returns-then-not-allows c =
     subst (λ (x : Lit). has_room t x ≡ false) c.answered-no.ensures (sym c.allows.ensures.room ∙ c.if-not-allows.true) in (
       room_for_the_other c.tables_tell_what_is_possible.ensures.possible MAX_NAMES t c.requires.stands.0 (negated lit) lit
           c.requires.stands.1 (named.1, named.0) named (λ v. swapped (one_answer_is_met lit v)) no_room,
-      subst (λ (x : Lit). ClosesCycle t c.args.number x c.in_ok-picks.picks) c.answered-no.ensures c.in_ok-picks.ensures,
+      subst (λ (x : Lit). ClosesCycle t c.args.number x c.write_why_not.new.picks.items) c.answered-no.ensures
+          c.in_ok-write_why_not.ensures,
     )
