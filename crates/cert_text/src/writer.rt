@@ -1,5 +1,5 @@
 //! Certificates, written part by part.
-ghost use Rattle.std.specs.Prelude.{◌≡◌, ◌∷◌, ◌++◌, [], OnOk, OnErr, Some};
+ghost use Rattle.std.specs.Prelude.{◌≡◌, ◌+◌, ◌<◌, ◌∷◌, ◌++◌, [], OnOk, OnErr, Some};
 ghost use Rattle.std.specs.Fmt.{decimal};
 ghost use Rattle.ask_core.specs.Trees.{AnswerTree, tokens_of};
 ghost use Rattle.cert_text.specs.Numbers.{more_numbers_text, numbers_text};
@@ -32,7 +32,7 @@ pub fn write_ob(name: ObName, tree: &Tree, out: &mut Vec<u8>) -> Result<(), NoMe
     let line = ob_line(*out.allocator(), name);
     append(line.as_slice(), out)?;
     write_tokens(tree, out)?;
-    append(b"\n", out)
+    append_byte(b'\n', out)
 }
 
 /// Appends the last line. After `NoMemory` a front of it was appended.
@@ -50,10 +50,36 @@ fn append(bytes: &[u8], out: &mut Vec<u8>) -> Result<(), NoMemory>
     out.extend_from_slice(bytes)
 }
 
+// One byte, which needs no copy of a slice.
+#[inline]
+fn append_byte(byte: u8, out: &mut Vec<u8>) -> Result<(), NoMemory>
+    ensures ok { OnOk result (out.new.items ≡ out.old.items ++ byte ∷ []) }
+    ensures err { OnErr result (AppendsFront (Some out.old.items) (byte ∷ []) (Some out.new.items)) }
+{
+    out.push(byte)?;
+    Ok(())
+}
+
+#[inline]
+fn digit_of(value: u32) -> u8
+    requires { value < 10 }
+    ensures { result ≡ 48 + value }
+{
+    b'0' + value as u8
+}
+
+// Most numbers have one digit or two.
 fn write_number(number: u32, out: &mut Vec<u8>) -> Result<(), NoMemory>
     ensures ok { OnOk result (out.new.items ≡ out.old.items ++ decimal number) }
     ensures err { OnErr result (AppendsFront (Some out.old.items) (decimal number) (Some out.new.items)) }
 {
+    if number < 10 {
+        return append_byte(digit_of(number), out);
+    }
+    if number < 100 {
+        append_byte(digit_of(number / 10), out)?;
+        return append_byte(digit_of(number % 10), out);
+    }
     let mut buffer = Buffer::new();
     append(buffer.format(number).as_bytes(), out)
 }
@@ -66,7 +92,7 @@ fn write_more_numbers(numbers: &[u32], out: &mut Vec<u8>) -> Result<(), NoMemory
     let Some((first, rest)) = numbers.split_first() else {
         return Ok(());
     };
-    append(b",", out)?;
+    append_byte(b',', out)?;
     write_number(*first, out)?;
     write_more_numbers(rest, out)
 }
@@ -87,12 +113,12 @@ fn write_token(tok: &Tok, out: &mut Vec<u8>) -> Result<(), NoMemory>
     ensures err { OnErr result (AppendsFront (Some out.old.items) (token_text tok.now) (Some out.new.items)) }
 {
     match tok {
-        Tok::Ask => append(b"?", out),
-        Tok::Holds => append(b".", out),
+        Tok::Ask => append_byte(b'?', out),
+        Tok::Holds => append_byte(b'.', out),
         Tok::Cycle(picks) => {
-            append(b"x", out)?;
+            append_byte(b'x', out)?;
             write_numbers(picks.as_slice(), out)?;
-            append(b";", out)
+            append_byte(b';', out)
         }
     }
 }

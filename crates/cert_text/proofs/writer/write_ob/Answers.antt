@@ -30,7 +30,7 @@ returns-clause-err c =
     let first : c.append.new.out.items ≡ c.args.out.now.items ++ ob_text c.args.name = rw line at c.in_ok-append.ensures.ok in
     let second : c.write_tokens.new.out.items ≡ c.append.new.out.items ++ tokens_text c.args.tree.now =
     c.in_ok-write_tokens.ensures.ok in
-    error_behind c.append-2.result c.args.out.now.items c.write_tokens.new.out.items c.append-2.new.out.items
+    error_behind c.append_byte.result c.args.out.now.items c.write_tokens.new.out.items c.append_byte.new.out.items
     (ob_text c.args.name ++ tokens_text c.args.tree.now) (10 ∷ [])
     (both_pieces c.args.out.now.items c.append.new.out.items c.write_tokens.new.out.items (ob_text c.args.name) (tokens_text c.args.tree.now) first second)
-    c.append-2.ensures.err
+    c.append_byte.ensures.err
