@@ -3,6 +3,7 @@ use Rattle.std.proofs.Common.{◌≡◌, ℕ, ◌-◌, ◌<◌, true, false, Lis
 use Rattle.std.proofs.lemmas.List.{reverse-append, get_or_push, get_or_default, length-append}
 use Rattle.diff_graph.specs.declared.lit.Lit.{Lit}
 use Rattle.diff_graph.specs.Literals.{answered_of}
+use Rattle.ask_core.specs.Trees.{with_answer}
 use Rattle.diff_graph.specs.Tables.{kept_of}
 use Rattle.ot_prove.specs.Sides.{Rows, IsTableOf, AreJudged, JudgesSides, AddsAnswer, ClosesCycle, last_rows}
 use Rattle.ot_prove.proofs.Possible.{IsCycleAmong-closed}
@@ -77,22 +78,26 @@ module _ (l : Lit) (number : ℕ) (numbers : List ℕ) (tables : List Rows) (som
       ∙ reverse-push (front ++ of_no ∷ []) of_yes ∙ ap (λ (xs : List Rows). of_yes ∷ xs) (reverse-push front of_no) in
       rw shown (adds_yes w long known.0, (adds_no w long known.0, known.1))
 
-  -- one side alone, whose table is written, and a cycle of the other one
-  module _ (rows : Rows) (new_tables : List Rows) (are : new_tables ≡ set tables (length tables - 1) rows)
-      (cycles : List (Option (List ℕ))) where
-    shown_one : reverse new_tables ≡ rows ∷ reverse front
-    shown_one = ap reverse (are ∙ written rows) ∙ reverse-push front rows
+  -- one side alone, for which the table stands already, and a cycle of the other one
+  shown_same : reverse tables ≡ last_rows tables ∷ reverse front
+  shown_same = ap reverse whole ∙ reverse-push front (last_rows tables)
 
-    pub JudgesSides-only_yes :
-        AddsAnswer number l true (last_rows tables) rows → ClosesCycle (kept_of (last_rows tables)) number (answered_of l false) numbers
-        → JudgesSides l number cycles (reverse tables) (None ∷ Some numbers ∷ cycles) (reverse new_tables)
-    JudgesSides-only_yes adds closes w ws long judged =
-        let known = known_at w ws cycles judged in
-        rw shown_one (adds w long known.0, (IsCycleAmong-closed w l false number (last_rows tables) numbers long closes known.0, known.1))
+  pub JudgesSides-only_yes :
+      (cycles : List (Option (List ℕ))) → AddsAnswer number l true (last_rows tables) (last_rows tables)
+      → ClosesCycle (kept_of (last_rows tables)) number (answered_of l false) numbers
+      → JudgesSides l number cycles (reverse tables) (None ∷ Some numbers ∷ cycles) (reverse tables)
+  JudgesSides-only_yes cycles adds closes w ws long judged =
+      let known = known_at w ws cycles judged in
+      subst (λ (xs : List Rows).
+      AreJudged (with_answer w l true ∷ with_answer w l false ∷ ws) (None ∷ Some numbers ∷ cycles) xs) (sym shown_same)
+      (adds w long known.0, (IsCycleAmong-closed w l false number (last_rows tables) numbers long closes known.0, known.1))
 
-    pub JudgesSides-only_no :
-        AddsAnswer number l false (last_rows tables) rows → ClosesCycle (kept_of (last_rows tables)) number (answered_of l true) numbers
-        → JudgesSides l number cycles (reverse tables) (Some numbers ∷ None ∷ cycles) (reverse new_tables)
-    JudgesSides-only_no adds closes w ws long judged =
-        let known = known_at w ws cycles judged in
-        rw shown_one (IsCycleAmong-closed w l true number (last_rows tables) numbers long closes known.0, (adds w long known.0, known.1))
+  pub JudgesSides-only_no :
+      (cycles : List (Option (List ℕ))) → AddsAnswer number l false (last_rows tables) (last_rows tables)
+      → ClosesCycle (kept_of (last_rows tables)) number (answered_of l true) numbers
+      → JudgesSides l number cycles (reverse tables) (Some numbers ∷ None ∷ cycles) (reverse tables)
+  JudgesSides-only_no cycles adds closes w ws long judged =
+      let known = known_at w ws cycles judged in
+      subst (λ (xs : List Rows).
+      AreJudged (with_answer w l true ∷ with_answer w l false ∷ ws) (Some numbers ∷ None ∷ cycles) xs) (sym shown_same)
+      (IsCycleAmong-closed w l true number (last_rows tables) numbers long closes known.0, (adds w long known.0, known.1))

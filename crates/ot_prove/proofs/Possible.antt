@@ -1,5 +1,5 @@
 -- Whether some integers meet answers, by a table or by a cycle, and how a table gets one more answer.
-use Rattle.std.proofs.Common.{◌≡◌, ◌↔◌, ◌⊎◌, ℕ, suc, ◌+◌, ◌-◌, ◌≤◌, ℤ, pos, ◌-ℤ◌, ◌+ℤ◌, ◌≤ℤ◌, Bool, true, false, List, [], ◌∷◌, ◌++◌, length, Option, Some, slice_get, Ok, IsTrue, arith, refl, sym, ap, ◌∙◌, subst, inl, inr}
+use Rattle.std.proofs.Common.{◌≡◌, ◌↔◌, ◌⊎◌, ℕ, suc, ◌+◌, ◌-◌, ◌≤◌, ℤ, pos, negsuc, ◌-ℤ◌, ◌+ℤ◌, ◌≤ℤ◌, Bool, true, false, List, [], ◌∷◌, ◌++◌, length, Option, None, Some, slice_get, Ok, IsTrue, arith, refl, sym, ap, ◌∙◌, subst, inl, inr}
 use Rattle.std.proofs.lemmas.Int.{ints}
 use Rattle.std.proofs.lemmas.Bool.{cases_Bool}
 use Rattle.diff_graph.specs.declared.lit.Lit.{Lit}
@@ -7,11 +7,10 @@ use Rattle.diff_graph.specs.declared.hop.Hop.{Hop}
 use Rattle.diff_graph.specs.Literals.{Meets, AreMet, IsPossible, answered_of, is_met, negated}
 use Rattle.diff_graph.specs.Cycles.{picked, pick_verdict}
 use Rattle.diff_graph.specs.Tables.{IsNamed, Numbered, literals_of, numbered_from, IsAmong, AreAmong, kept_of, StandsFor, IsPossibleWith, IsCycleOf}
-use Rattle.diff_graph.specs.Steps.{leaves_room}
-use Rattle.diff_bounds.specs.Kept.{has_room}
+use Rattle.diff_graph.specs.Steps.{keeps, leaves_room}
 use Rattle.ask_core.specs.Trees.{IsCycleAmong, with_answer}
 use Rattle.ot_prove.specs.declared.split.TheConstants.{MAX_NAMES}
-use Rattle.ot_prove.specs.Sides.{Rows, IsTableOf, ClosesCycle}
+use Rattle.ot_prove.specs.Sides.{Rows, IsTableOf, AddsAnswer, ClosesCycle}
 
 -- ---- literals under their places
 pub literals_of-numbered_from : (place : ℕ) (ls : List Lit) → literals_of (numbered_from place ls) ≡ ls
@@ -149,13 +148,27 @@ TellsPossible =
     (n : ℕ) (t : ℕ → ℕ → Option Hop) (ps : List Numbered) (l : Lit)
     → StandsFor n t ps → IsNamed n l → (IsTrue (leaves_room (t l.y l.x) l.k) ↔ IsPossibleWith (literals_of ps) l)
 
--- where each valuation meets one of two literals, and a table has no room for one, it has room for the other
-pub room_for_the_other :
-    TellsPossible → (n : ℕ) (t : ℕ → ℕ → Option Hop) (ps : List Numbered) (a b : Lit) → StandsFor n t ps
-    → IsNamed n a → IsNamed n b → ((v : ℕ → ℤ) → Meets v a ⊎ Meets v b) → has_room t a ≡ false → has_room t b ≡ true
-room_for_the_other tells n t ps a b stands a_named b_named either no_room =
-    elim (either stands.possible.0) [
-      | inl met ↦
-          (let room : has_room t a ≡ true = (tells n t ps a stands a_named).1 (stands.possible.0, (stands.possible.1, met)) in absurd (cc))
-      | inr met ↦ (tells n t ps b stands b_named).1 (stands.possible.0, (stands.possible.1, met))
-    ]
+-- what a table keeps already may be added
+abbrev pub StandsForKept : Type 0
+StandsForKept =
+    (n : ℕ) (t : ℕ → ℕ → Option Hop) (ps : List Numbered) (number : ℕ) (l : Lit)
+    → StandsFor n t ps → IsNamed n l → keeps (t l.x l.y) l.k ≡ true
+    → StandsFor n t (ps ++ record { number = number; lit = l } ∷ [])
+
+-- where a table has no room for an answer, it keeps the other one
+pub keeps-yes : (o : Option Hop) (k : ℤ) → leaves_room o (negsuc 0 -ℤ k) ≡ false → keeps o k ≡ true
+keeps-yes None k none = absurd (cc)
+keeps-yes (Some h) k none = grind (arith, ints)
+
+pub keeps-no : (o : Option Hop) (k : ℤ) → leaves_room o k ≡ false → keeps o (negsuc 0 -ℤ k) ≡ true
+keeps-no None k none = absurd (cc)
+keeps-no (Some h) k none = grind (arith, ints)
+
+-- then it stands for the answers with that one
+pub AddsAnswer-kept :
+    StandsForKept → (rows : Rows) (l : Lit) (said : Bool) (number : ℕ) → IsNamed MAX_NAMES (answered_of l said)
+    → keeps (kept_of rows (answered_of l said).x (answered_of l said).y) (answered_of l said).k ≡ true
+    → AddsAnswer number l said rows rows
+AddsAnswer-kept adds rows l said number named kept w long stands =
+    IsTableOf-push w (answered_of l said) number rows long
+    (adds MAX_NAMES (kept_of rows) (numbered_from 0 w) number (answered_of l said) stands named kept)

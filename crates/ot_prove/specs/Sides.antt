@@ -47,13 +47,20 @@ ClosesCycle t number l picks =
     (ps : List Numbered) → StandsFor MAX_NAMES t ps
     → IsCycleOf MAX_NAMES (ps ++ record { number = number; lit = l } ∷ []) picks
 
--- the table has room for the sides that are named, and the other one closes the cycle
-abbrev pub HasRoom : (ℕ → ℕ → Option Hop) → ℕ → Lit → List ℕ → Room → Type 0
-HasRoom t number l numbers Both = (has_room t (answered_of l true) ≡ true) × (has_room t (answered_of l false) ≡ true)
-HasRoom t number l numbers OnlyYes =
-    (has_room t (answered_of l true) ≡ true) × ClosesCycle t number (answered_of l false) numbers
-HasRoom t number l numbers OnlyNo =
-    (has_room t (answered_of l false) ≡ true) × ClosesCycle t number (answered_of l true) numbers
+-- a table stands for so many answers, and the new one for these with one more
+abbrev pub AddsAnswer : ℕ → Lit → Bool → Rows → Rows → Type 0
+AddsAnswer number l said before after =
+    (w : List Lit) → length w ≡ number → IsTableOf w before → IsTableOf (with_answer w l said) after
+
+-- the table has room for both sides, or it stands for the answers with the side that is named, and the other one
+-- closes the cycle
+abbrev pub HasRoom : Rows → ℕ → Lit → List ℕ → Room → Type 0
+HasRoom rows number l numbers Both =
+    (has_room (kept_of rows) (answered_of l true) ≡ true) × (has_room (kept_of rows) (answered_of l false) ≡ true)
+HasRoom rows number l numbers OnlyYes =
+    AddsAnswer number l true rows rows × ClosesCycle (kept_of rows) number (answered_of l false) numbers
+HasRoom rows number l numbers OnlyNo =
+    AddsAnswer number l false rows rows × ClosesCycle (kept_of rows) number (answered_of l true) numbers
 
 -- where there is a cycle, its numbers are no more than a token may have
 abbrev pub HasFew : List ℕ → Room → Type 0
@@ -66,11 +73,6 @@ abbrev pub cycles_of : Room → List ℕ → List (Option (List ℕ)) → List (
 cycles_of Both numbers cycles = None ∷ None ∷ cycles
 cycles_of OnlyYes numbers cycles = None ∷ Some numbers ∷ cycles
 cycles_of OnlyNo numbers cycles = Some numbers ∷ None ∷ cycles
-
--- a table stands for so many answers, and the new one for these with one more
-abbrev pub AddsAnswer : ℕ → Lit → Bool → Rows → Rows → Type 0
-AddsAnswer number l said before after =
-    (w : List Lit) → length w ≡ number → IsTableOf w before → IsTableOf (with_answer w l said) after
 
 -- the last table is now that for no, and the one for yes stands behind it
 abbrev pub HasSplit : ℕ → Lit → List Rows → List Rows → Type 0

@@ -9,7 +9,7 @@ ghost use Rattle.ot_prove.specs.Sides.{AddsAnswer, HasFew, HasRoom, HasSplit, Is
 use crate::NoMemory;
 use ask_core::Picks;
 use diff_bounds::Bounds;
-use diff_graph::{Lit, answered, tables_tell_what_is_possible};
+use diff_graph::{Lit, answered, tables_stand_for_what_is_added, tables_tell_what_is_possible};
 use std::alloc::Global;
 
 /// The most names of an asker whose plan is searched.
@@ -41,7 +41,7 @@ pub fn picks_of(alloc: Global, numbers: &[u32]) -> Picks
 }
 
 /// Which sides of a literal a table has room for, under the number of answers there. Of a side for which it
-/// has none, a negative cycle is written.
+/// has none, a negative cycle is written; the other one follows already, so the table stands for it too.
 fn room_of(
     table: &Bounds<MAX_NAMES>,
     numbers: &mut Vec<u32>,
@@ -51,9 +51,10 @@ fn room_of(
     requires named { IsNamed MAX_NAMES lit }
     requires asked { IsAsked lit }
     requires stands { StandsForSome MAX_NAMES table.now }
-    ensures { IfOk result (HasRoom (kept_of table.now) number lit numbers.new.items) }
+    ensures { IfOk result (HasRoom table.now number lit numbers.new.items) }
 {
     tables_tell_what_is_possible();
+    tables_stand_for_what_is_added();
     let yes = answered(lit, true);
     let no = answered(lit, false);
     if !table.allows(no) {
@@ -117,13 +118,7 @@ pub fn judge_sides(
             split(tables, lit, number)?;
             Ok(Room::Both)
         }
-        Room::OnlyYes => {
-            answer(&mut tables[last], lit, true, number);
-            Ok(Room::OnlyYes)
-        }
-        Room::OnlyNo => {
-            answer(&mut tables[last], lit, false, number);
-            Ok(Room::OnlyNo)
-        }
+        Room::OnlyYes => Ok(Room::OnlyYes),
+        Room::OnlyNo => Ok(Room::OnlyNo),
     }
 }

@@ -1,4 +1,4 @@
-use Rattle.std.proofs.Common.{◌≡◌, ℕ, ◌-◌, true, false, List, length, set, sym, ap, subst, arith}
+use Rattle.std.proofs.Common.{◌≡◌, ℕ, ◌-◌, true, false, List, length, sym, subst, arith}
 use Rattle.diff_graph.specs.Literals.{answered_of}
 use Rattle.diff_graph.specs.Tables.{kept_of}
 use Rattle.ot_prove.specs.Sides.{Rows, AddsAnswer, ClosesCycle}
@@ -21,25 +21,18 @@ returns-in-OnlyYes-clause-judged c cycles =
     let place = last_place tables c.args.tables.now.len c.len-last.result c.args.tables.now.ok.0 c.len-last.ensures in
     let room = rw c.in-OnlyYes.is at c.in_ok-room_of.ensures in
     let read = last_at tables c.index.result.now (c.len-last.result - 1) c.requires.some place (sym c.index.ensures) in
-    let written = last_at tables c.index_mut.result.now (c.len-last.result - 1) c.requires.some place (sym c.index_mut.ensures.value) in
-    JudgesSides-only_yes c.args.lit c.args.number c.room_of.new.numbers.items tables c.requires.some c.answer.new.table
-    (set tables (c.len-last.result - 1) c.answer.new.table) (ap (λ (i : ℕ). set tables i c.answer.new.table) place) cycles
-    (subst (λ (x : Rows). AddsAnswer c.args.number c.args.lit true x c.answer.new.table) (sym written) c.answer.ensures)
+    JudgesSides-only_yes c.args.lit c.args.number c.room_of.new.numbers.items tables c.requires.some cycles
+    (subst (λ (x : Rows). AddsAnswer c.args.number c.args.lit true x x) (sym read) room.0)
     (subst (λ (x : Rows). ClosesCycle (kept_of x) c.args.number (answered_of c.args.lit false) c.room_of.new.numbers.items) (sym read)
     room.1)
 
 pub returns-in-OnlyNo-clause-judged : goal.returns-in-OnlyNo-clause-judged
 returns-in-OnlyNo-clause-judged c cycles =
     let tables = c.args.tables.now.items in
-    let rows = c.answer-in-OnlyNo.new.table in
     let place = last_place tables c.args.tables.now.len c.len-last.result c.args.tables.now.ok.0 c.len-last.ensures in
     let room = rw c.in-OnlyNo.is at c.in_ok-room_of.ensures in
     let read = last_at tables c.index.result.now (c.len-last.result - 1) c.requires.some place (sym c.index.ensures) in
-    let written =
-    last_at tables c.index_mut-in-OnlyNo.result.now (c.len-last.result - 1) c.requires.some place
-    (sym c.index_mut-in-OnlyNo.ensures.value) in
-    JudgesSides-only_no c.args.lit c.args.number c.room_of.new.numbers.items tables c.requires.some rows
-    (set tables (c.len-last.result - 1) rows) (ap (λ (i : ℕ). set tables i rows) place) cycles
-    (subst (λ (x : Rows). AddsAnswer c.args.number c.args.lit false x rows) (sym written) c.answer-in-OnlyNo.ensures)
+    JudgesSides-only_no c.args.lit c.args.number c.room_of.new.numbers.items tables c.requires.some cycles
+    (subst (λ (x : Rows). AddsAnswer c.args.number c.args.lit false x x) (sym read) room.0)
     (subst (λ (x : Rows). ClosesCycle (kept_of x) c.args.number (answered_of c.args.lit true) c.room_of.new.numbers.items) (sym read)
     room.1)
