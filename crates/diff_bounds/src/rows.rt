@@ -119,6 +119,7 @@ fn lower_rows<const N: usize>(rows: &mut [[Option<Hop>; N]], ways: &[Option<Hop>
 
 /// Writes the numbers of the negative cycle that a literal closes which is not allowed, in place of what
 /// was held.
+#[inline]
 pub fn write_cycle<const N: usize>(
     picks: &mut Vec<u32>,
     rows: &[[Option<Hop>; N]],

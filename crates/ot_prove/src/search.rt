@@ -65,6 +65,7 @@ impl<N: Copy> Search<N> {
 
     /// Asks a literal at the first place, which some integers meet. A side for yes that none meet is closed at
     /// once.
+    #[inline(always)]
     pub fn ask(&mut self, alloc: Global, lit: Lit, yes: N, no: N) -> Result<(), NoMemory>
         requires opened { 0 < length self.old.path }
         requires few { length (first_answers self.old.path) < 2 ^ 32 }
@@ -102,6 +103,7 @@ impl<N: Copy> Search<N> {
 
     /// Finds what is known of the first place. Where it is a cycle, the place is closed with it: then the answer
     /// is true. Else some integers meet its answers.
+    #[inline(always)]
     fn close_impossible(&mut self) -> Result<bool, NoMemory>
         requires opened { 0 < length self.old.path }
         requires known { 0 < length (known_of self.old) }
@@ -124,6 +126,7 @@ impl<N: Copy> Search<N> {
 }
 
 /// Goes on at a first place that some integers meet, by the turn of its node.
+#[inline(always)]
 fn take_turn<A: Asker>(
     alloc: Global,
     asker: &mut A,
@@ -174,6 +177,7 @@ fn next_cycle(cycles: &mut Vec<Option<Picks>>) -> Option<Picks>
 }
 
 /// Goes on at the first place: where no integers meet its answers it is closed with their cycle.
+#[inline(always)]
 pub fn step<A: Asker>(
     alloc: Global,
     asker: &mut A,

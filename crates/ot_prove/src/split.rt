@@ -29,6 +29,7 @@ pub enum Room {
 }
 
 /// The picks with these numbers.
+#[inline(always)]
 pub fn picks_of(alloc: Global, numbers: &[u32]) -> Picks
     requires { length numbers.now ≤ MAX_PICKS }
     ensures { result ≡ numbers.now }
@@ -42,6 +43,7 @@ pub fn picks_of(alloc: Global, numbers: &[u32]) -> Picks
 
 /// Which sides of a literal a table has room for, under the number of answers there. Of a side for which it
 /// has none, a negative cycle is written; the other one follows already, so the table stands for it too.
+#[inline(always)]
 fn room_of(
     table: &Bounds<MAX_NAMES>,
     numbers: &mut Vec<u32>,
@@ -98,6 +100,8 @@ fn split(tables: &mut Vec<Bounds<MAX_NAMES>>, lit: Lit, number: u32) -> Result<(
 
 /// Judges both sides of a question at the place of the last table, which has so many answers. That table is
 /// then one of a side that there is room for. Of a side for which there is none, a negative cycle is written.
+// In the loop of each asker: a question has so little to do that a call of it would show.
+#[inline(always)]
 pub fn judge_sides(
     numbers: &mut Vec<u32>,
     tables: &mut Vec<Bounds<MAX_NAMES>>,
