@@ -75,6 +75,32 @@ impl<A: Asker> Checker<A> {
         ensures err_open { OnErr result (open_branches A.plan self.new ≡ open_branches A.plan self.old) }
         ensures root { A.root self.new.asker ≡ A.root self.old.asker }
     {
+        self.judge(&tok)
+    }
+
+    /// The same of a token that the caller keeps.
+    #[inline(always)]
+    pub fn judge(&mut self, tok: &Tok) -> Result<Progress, CheckError>
+        requires { 0 < length self.old.places }
+
+        // What a token that is taken leaves, and that the last one shows what the tree is for.
+        ensures step { IfOk result (λ p. after tok.now (open_branches A.plan self.old) ≡ Ok (open_branches A.plan self.new)) }
+        ensures completes { IfOk result (λ p. IsStep p tok.now (open_branches A.plan self.old) (open_branches A.plan self.new)) }
+        ensures done { result ≡ Ok progress.Done → (v : ℕ → ℤ) → value (A.root self.old.asker) v ≡ true }
+        ensures open { result ≡ Ok progress.More → 0 < length self.new.places }
+        ensures closed { result ≡ Ok progress.Done → self.new.places ≡ [] }
+        ensures none_before { IfOk result (λ p. (self.old.refusal ≡ None) × (self.new.refusal ≡ None)) }
+
+        // When each refusal comes, and that it stays.
+        ensures why { self.old.refusal ≡ None → IfErr result (λ e. IsCauseOf e tok.now (open_branches A.plan self.old)) }
+        ensures refused { self.old.refusal ≡ None
+            → IfErr result (λ e. e ≢ end.NoMemory → BeginsNothing tok.now (open_branches A.plan self.old)) }
+        ensures stays { IfErr result (λ e. self.new.refusal ≡ Some e) }
+        ensures again { (e : CheckError) → self.old.refusal ≡ Some e → result ≡ Err e }
+        ensures err { OnErr result (self.new.places ≡ self.old.places) }
+        ensures err_open { OnErr result (open_branches A.plan self.new ≡ open_branches A.plan self.old) }
+        ensures root { A.root self.new.asker ≡ A.root self.old.asker }
+    {
         if let Some(end) = self.refusal {
             return Err(end);
         }

@@ -12,6 +12,7 @@ use ask_core::{Asker, MAX_PICKS, Path, Picks, Tok, Turn, turn_at};
 use diff_graph::is_negative_cycle;
 
 /// Takes a cycle: it closes the first place where it is a negative cycle of the answers there.
+#[inline(always)]
 pub fn take_cycle<N: Copy>(path: &mut Path<N>, picks: &Picks) -> Result<(), CheckError>
     requires { 0 < length path.old }
     ensures few { length picks.now ≤ MAX_PICKS }
@@ -26,6 +27,7 @@ pub fn take_cycle<N: Copy>(path: &mut Path<N>, picks: &Picks) -> Result<(), Chec
 }
 
 /// Takes `.`: it closes the first place where the plan holds there.
+#[inline(always)]
 pub fn take_end<A: Asker>(asker: &mut A, path: &mut Path<A::Node>) -> Result<(), CheckError>
     requires open { 0 < length path.old }
     requires own { AreOwn (A.is_own asker.old) path.old }
@@ -47,6 +49,7 @@ pub fn take_end<A: Asker>(asker: &mut A, path: &mut Path<A::Node>) -> Result<(),
 }
 
 /// Takes `?`: the first place becomes its part for yes, and then comes its part for no.
+#[inline(always)]
 pub fn take_question<A: Asker>(asker: &mut A, path: &mut Path<A::Node>) -> Result<(), CheckError>
     requires open { 0 < length path.old }
     requires own { AreOwn (A.is_own asker.old) path.old }
@@ -69,24 +72,25 @@ pub fn take_question<A: Asker>(asker: &mut A, path: &mut Path<A::Node>) -> Resul
 
 /// Takes any token at the first place, or says why it is refused there; a refusal leaves the path as
 /// it was.
+#[inline(always)]
 pub fn take_token<A: Asker>(
     asker: &mut A,
     path: &mut Path<A::Node>,
-    tok: Tok,
+    tok: &Tok,
 ) -> Result<(), CheckError>
     requires open { 0 < length path.old }
     requires own { AreOwn (A.is_own asker.old) path.old }
-    ensures ok { OnOk result (after tok (branches_at (A.plan asker.old) path.old) ≡ Ok (branches_at (A.plan asker.new) path.new)) }
-    ensures few { OnOk result (HasFewPicks tok) }
+    ensures ok { OnOk result (after tok.now (branches_at (A.plan asker.old) path.old) ≡ Ok (branches_at (A.plan asker.new) path.new)) }
+    ensures few { OnOk result (HasFewPicks tok.now) }
     ensures own { AreOwn (A.is_own asker.new) path.new }
     ensures err { OnErr result (path.new ≡ path.old) }
-    ensures why { IfErr result (λ e. IsCauseOf e tok (branches_at (A.plan asker.old) path.old)) }
+    ensures why { IfErr result (λ e. IsCauseOf e tok.now (branches_at (A.plan asker.old) path.old)) }
     ensures branches { branches_at (A.plan asker.new) path.old ≡ branches_at (A.plan asker.old) path.old }
     ensures root { A.root asker.new ≡ A.root asker.old }
 {
     match tok {
         Tok::Ask => take_question(asker, path),
         Tok::Holds => take_end(asker, path),
-        Tok::Cycle(picks) => take_cycle(path, &picks),
+        Tok::Cycle(picks) => take_cycle(path, picks),
     }
 }

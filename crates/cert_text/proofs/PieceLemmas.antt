@@ -103,7 +103,7 @@ ends_reads was now piece taken result (within, (front, byte, between, text, goes
     (λ h. last.0 (before.0 h), λ h. before.1 (last.1 h))
 
 -- of a piece that is not empty some bytes are taken, and none behind it
-ends_within :
+pub ends_within :
     (was now : Progress) (piece : List ℕ) (taken : ℕ) (result : Result (Option Item) CertError)
     → EndsWithin was piece taken result now → (taken ≤ length piece) × (0 < taken)
 ends_within was now piece taken result (within, (front, byte, between, text, goes, gives)) =

@@ -122,7 +122,7 @@ impl Cycle {
 
 /// The number with a further digit, if it may have one: a leading zero has none, and a number has at most
 /// five.
-#[inline]
+#[inline(always)]
 pub(crate) fn number_with_digit(number: Option<u32>, digit: u8) -> Option<u32>
     requires short { IsShortNumber number }
     requires low { 48 ≤ digit }
@@ -141,6 +141,7 @@ pub(crate) fn number_with_digit(number: Option<u32>, digit: u8) -> Option<u32>
 
 // Whether a further digit may stand behind those of a number: a leading zero has none, and a number has at
 // most five.
+#[inline(always)]
 fn takes_digit(number: u32) -> bool
     ensures { IsTrue result ↔ ((0 < number) × (number < 10000)) }
 {

@@ -1,5 +1,5 @@
 //! Whole tokens at the front of a piece of bytes, with the number and its digits at hand.
-ghost use Rattle.std.specs.Prelude.{◌≡◌, ◌≤◌, ◌<◌, ◌^◌, ◌∷◌, length, take, IfSome};
+ghost use Rattle.std.specs.Prelude.{◌≡◌, ◌≤◌, ◌<◌, ◌^◌, [], ◌∷◌, length, take, IfSome};
 ghost use Rattle.ask_core.specs.declared.tree.Tok.TheVariants as token;
 ghost use Rattle.cert_text.specs.Numbers.{IsSpellableCycle};
 ghost use Rattle.cert_text.specs.Places.{open_after};
@@ -9,13 +9,13 @@ use crate::cycle::number_with_digit;
 use ask_core::{MAX_PICKS, Picks, Tok};
 use std::alloc::Global;
 
-// The numbers of a cycle at the front of the bytes, and how many bytes that is with the `;` behind them.
-#[inline]
-fn whole_numbers(alloc: Global, bytes: &[u8]) -> Option<(Picks, usize)>
-    ensures { IfSome result (λ x. IsSpellableCycle x.0 × (x.1 ≤ length bytes.now)
-        × (token_text (token.Cycle x.0) ≡ 120 ∷ take x.1 bytes.now)) }
+// Puts the numbers of a cycle at the front of the bytes behind none: how many bytes that is with the `;` behind them.
+#[inline(always)]
+fn whole_numbers(bytes: &[u8], picks: &mut Picks) -> Option<usize>
+    requires { picks.old ≡ [] }
+    ensures { IfSome result (λ len. IsSpellableCycle picks.new × (len ≤ length bytes.now)
+        × (token_text (token.Cycle picks.new) ≡ 120 ∷ take len bytes.now)) }
 {
-    let mut picks = Picks::new(alloc);
     let mut number = None;
     for (i, byte) in bytes.iter().enumerate() {
         let byte = *byte;
@@ -29,7 +29,7 @@ fn whole_numbers(alloc: Global, bytes: &[u8]) -> Option<(Picks, usize)>
             number = None;
         } else if byte == b';' {
             picks.push(number?);
-            return Some((picks, i + 1));
+            return Some(i + 1);
         } else {
             return None;
         }
@@ -38,25 +38,35 @@ fn whole_numbers(alloc: Global, bytes: &[u8]) -> Option<(Picks, usize)>
     None
 }
 
-/// The token at the front of the bytes, and how many bytes it has, where they begin with a whole one.
-#[inline]
-pub(crate) fn whole_token(alloc: Global, bytes: &[u8]) -> Option<(Tok, usize)>
-    ensures { IfSome result (λ x. IsSpellable x.0 × (x.1 ≤ length bytes.now) × (token_text x.0 ≡ take x.1 bytes.now)) }
+/// Puts the token at the front of the bytes into `tok`, where they begin with a whole one: how many bytes it has.
+/// Otherwise it is not said what `tok` is.
+#[inline(always)]
+pub(crate) fn whole_token(alloc: Global, bytes: &[u8], tok: &mut Tok) -> Option<usize>
+    ensures { IfSome result (λ len. IsSpellable tok.new × (len ≤ length bytes.now) × (token_text tok.new ≡ take len bytes.now)) }
 {
     let (first, rest) = bytes.split_first()?;
     match *first {
-        b'?' => Some((Tok::Ask, 1)),
-        b'.' => Some((Tok::Holds, 1)),
-        b'x' => match whole_numbers(alloc, rest) {
-            Some((picks, len)) => Some((Tok::Cycle(picks), len + 1)),
-            None => None,
-        },
+        b'?' => {
+            *tok = Tok::Ask;
+            Some(1)
+        }
+        b'.' => {
+            *tok = Tok::Holds;
+            Some(1)
+        }
+        b'x' => {
+            *tok = Tok::Cycle(Picks::new(alloc));
+            match tok {
+                Tok::Cycle(picks) => Some(whole_numbers(rest, picks)? + 1),
+                _ => None,
+            }
+        }
         _ => None,
     }
 }
 
 /// How many branches are open behind a token.
-#[inline]
+#[inline(always)]
 pub(crate) fn branches_behind(branches: u64, tok: &Tok) -> u64
     requires some { 0 < branches }
     requires few { branches < 2 ^ 63 }

@@ -5,13 +5,13 @@ ghost use Rattle.cert_text.specs.declared.item.CertError.{CertError};
 ghost use Rattle.cert_text.specs.Places.{Line, Start};
 ghost use Rattle.cert_text.specs.Stages.{refusal_of};
 ghost use Rattle.cert_text.specs.Reading.{Gives, Reading, Reads, ReadsOn, fed_to};
-ghost use Rattle.cert_text.specs.Pieces.{EndsWithin, GivesOf, IsUnderWay};
+ghost use Rattle.cert_text.specs.Pieces.{GivesOf, IsUnderWay};
 
 use crate::line::LineBytes;
 use crate::piece::{branches_behind, whole_token};
 use crate::stage::Stage;
 use crate::step::{Begun, Step, part_step};
-use crate::{CertError, Item, Part};
+use crate::{CertError, Item, Part, Tok};
 use fn_rules::{Level, ObName};
 use std::alloc::Global;
 use std::marker::Model;
@@ -131,28 +131,36 @@ impl Reader {
         ensures reads { (rest : List ℕ) (items : List Item) (end : Result (Unit {0}) CertError) →
             Reads self.old (take result.0 piece.now ++ rest) items end ↔ ReadsOn result.1 self.new rest items end }
     {
-        match self.take_token(piece) {
-            Some((taken, item)) => (taken, Ok(Some(item))),
+        let mut tok = Tok::Ask;
+        match self.feed_token(piece, &mut tok) {
+            Some((offset, taken)) => {
+                let part = Part::Tok(tok);
+                (taken, Ok(Some(Item { offset, part })))
+            }
             None => self.feed_each(piece),
         }
     }
 
-    // The whole token of a tree at the front of a piece, where nothing of it came before.
-    #[inline]
-    fn take_token(&mut self, piece: &[u8]) -> Option<(usize, Item)>
+    /// Takes the whole token of a tree at the front of a piece, where nothing of it came before, and puts it into `tok`:
+    /// how many bytes of the file stand before it, and how many it has. This is what `feed_piece` gives of the piece.
+    /// Where there is none it takes nothing, and it is not said what `tok` is.
+    #[inline(always)]
+    pub fn feed_token(&mut self, piece: &[u8], tok: &mut Tok) -> Option<(u64, usize)>
         requires { fed_to self.old + length piece.now ≤ 2 ^ 63 }
-        ensures some { IfSome result (λ x. EndsWithin self.old piece.now x.0 (Ok (Some x.1)) self.new) }
-        ensures fed { IfSome result (λ x. fed_to self.new ≤ fed_to self.old + x.0) }
+        ensures gives { IfSome result (λ x. GivesOf self.old piece.now x.1
+            (Ok (Some (record { offset = x.0; part = Part.Tok tok.new }))) self.new) }
+        ensures within { IfSome result (λ x. x.1 ≤ length piece.now) }
+        ensures some { IfSome result (λ x. 0 < x.1) }
+        ensures fed { IfSome result (λ x. fed_to self.new ≤ fed_to self.old + x.1) }
         ensures none { IfNone result (self.new ≡ self.old) }
     {
         match (self.refused, self.stage, &self.begun) {
             (None, Stage::Tree(level, came, branches), Begun::Line(_)) if branches > 0 => {
-                let (tok, taken) = whole_token(self.alloc, piece)?;
+                let taken = whole_token(self.alloc, piece, tok)?;
                 let offset = self.offset;
                 self.offset = offset + taken as u64;
-                self.stage = Stage::Tree(level, came, branches_behind(branches, &tok));
-                let part = Part::Tok(tok);
-                Some((taken, Item { offset, part }))
+                self.stage = Stage::Tree(level, came, branches_behind(branches, tok));
+                Some((offset, taken))
             }
             _ => None,
         }

@@ -15,8 +15,8 @@ use Rattle.cert_text.specs.Pieces.{EndsWithin, GivesOf, GoesOn}
 use Rattle.ot_sections.specs.declared.refusal.JudgeError.{JudgeError}
 use Rattle.ot_sections.specs.Parts.{end_of_spelling}
 use Rattle.ot_outside.specs.declared.feed.Feed.{Ghosts}
-use Rattle.ot_sections.specs.Feeding.{Fed, Has, IsSpent, IsTruncated, MayGive, MayGiveOf, MayHave, Whole, Yields}
-use Rattle.ot_sections.specs.Stands.{Came, IsMisspeltBehind, IsOver, begun_of, offset_of, place_of}
+use Rattle.ot_sections.specs.Feeding.{Fed, Has, IsSpent, IsTruncated, MayGive, MayGiveOf, MayHave, Whole, Yields, fed}
+use Rattle.ot_sections.specs.Stands.{Came, IsBetween, IsMisspeltBehind, IsOver, begun_of, offset_of, place_of}
 
 -- told bytes begin with those that are given
 told_behind :
@@ -126,6 +126,32 @@ pub record ReadsAt {F : Type 0} (feeds : Ghosts F) (was now : Fed F) : Type 0 wh
   pub at : now.reader ≡ Reading (place_of was.reader) (offset_of was.reader) (begun_of now.reader)
   pub bytes :
       (all : Whole) (rest : List ℕ) → Yields feeds now.feed all rest → Yields feeds was.feed all (begun_of now.reader ++ rest)
+
+-- between two parts nothing came of the next one
+pub not_begun : {F : Type 0} (feeds : Ghosts F) (was : Fed F) → IsBetween was.reader → ReadsAt feeds was was
+not_begun feeds was between =
+    let none : begun_of was.reader ≡ [] = ap begun_of between in
+    record {
+      at = between ∙ ap (λ (l : List ℕ). Reading (place_of was.reader) (offset_of was.reader) l) (sym none);
+      bytes = λ all rest may. subst (λ (l : List ℕ). Yields feeds was.feed all (l ++ rest)) (sym none) may;
+    }
+
+-- what comes of a feed that was asked for a further byte comes of the feed before
+module _ {F : Type 0} (feeds : Ghosts F) (reader : Progress) (old asked : F) (same : IsAsked feeds old asked) where
+  pub came_asked : (now : Fed F) (item : Item) → Came feeds (fed reader asked) now item → Came feeds (fed reader old) now item
+  came_asked now item came =
+      record {
+        part = came.part;
+        bytes =
+            λ all rest may.
+            same_given feeds old asked same all (part_text (place_of reader) item.part ++ rest) (came.bytes all rest may);
+      }
+
+  pub misspelt_asked :
+      (new : F) (e : JudgeError) → IsMisspeltBehind feeds (fed reader asked) new e → IsMisspeltBehind feeds (fed reader old) new e
+  misspelt_asked new e misspelt all have refused =
+      let bytes = misspelt all have refused in
+      (bytes.0, same_given feeds old asked same all bytes.0 bytes.1, bytes.2)
 
 -- it goes on
 goes_on_by :

@@ -32,8 +32,9 @@ fn end_at(offset: u64, end: CheckError) -> JudgeError
     JudgeError::Refused { offset, why }
 }
 
-// The next token of a tree that has an open branch, and its offset.
-fn next_token<F: Feed>(reader: &mut Reader, feed: &mut F) -> Result<(u64, Tok), JudgeError>
+// The same as `next_token`, of a token that may stand in several pieces.
+#[inline(never)]
+fn split_token<F: Feed>(reader: &mut Reader, feed: &mut F) -> Result<(u64, Tok), JudgeError>
     requires between { IsBetween reader.old }
     requires still_open { (n : ℕ) × (0 < n) × IsTreeOf n (place_of reader.old) }
     requires room { fed_to reader.old + F.bound feed.old < 2 ^ 63 }
@@ -48,6 +49,29 @@ fn next_token<F: Feed>(reader: &mut Reader, feed: &mut F) -> Result<(u64, Tok), 
         Part::Tok(tok) => Ok((offset, tok)),
         _ => unreachable!(),
     }
+}
+
+// The next token of a tree that has an open branch is put into `tok`: its offset.
+#[inline(always)]
+fn next_token<F: Feed>(reader: &mut Reader, feed: &mut F, tok: &mut Tok) -> Result<u64, JudgeError>
+    requires between { IsBetween reader.old }
+    requires still_open { (n : ℕ) × (0 < n) × IsTreeOf n (place_of reader.old) }
+    requires room { fed_to reader.old + F.bound feed.old < 2 ^ 63 }
+    ensures token { IfOk result (λ offset. Came F.Feed (fed reader.old feed.old) (fed reader.new feed.new)
+        (record { offset = offset; part = Part.Tok tok.new })) }
+    ensures fewer { IfOk result (λ _. F.bound feed.new < F.bound feed.old) }
+    ensures misspelt { IfErr result (IsMisspeltBehind F.Feed (fed reader.old feed.old) feed.new) }
+    ensures leaves { Leaves F.Feed (fed reader.old feed.old) (fed reader.new feed.new) result }
+{
+    if feed.more()? {
+        if let Some((offset, taken)) = reader.feed_token(feed.at_hand(), tok) {
+            feed.consume(taken);
+            return Ok(offset);
+        }
+    }
+    let (offset, whole) = split_token(reader, feed)?;
+    *tok = whole;
+    Ok(offset)
 }
 
 /// Judges the tree of an obligation, which answers what the asker asks: it takes its tokens up to the last one.
@@ -71,9 +95,10 @@ pub(crate) fn judge_tree<A: Asker, F: Feed>(
     ensures leaves { Leaves F.Feed (fed reader.old feed.old) (fed reader.new feed.new) result }
 {
     let mut checker = Checker::new(alloc, asker)?;
+    let mut tok = Tok::Ask;
     loop {
-        let (offset, tok) = next_token(reader, feed)?;
-        match checker.feed(tok) {
+        let offset = next_token(reader, feed, &mut tok)?;
+        match checker.judge(&tok) {
             Ok(Progress::More) => {}
             Ok(Progress::Done) => return Ok(()),
             Err(end) => return Err(end_at(offset, end)),

@@ -13,75 +13,75 @@ pub returns-in_err-offset-clause-refused : goal.returns-in_err-offset-clause-ref
 returns-in_err-offset-clause-refused g c =
     let p = err_from_is_err_and c.from_residual-in_err-offset.result c.from_residual-in_err-offset.ensures.1 in
     rw (p.1, p.2)
-    (refused_bytes g.F.Feed (stand (fed c.args.reader.now c.args.feed.now) (opened (g.A.Asker.root c.args.asker))) (fed c.loop-checker.reader c.loop-checker.feed) (open_branches g.A.Asker.plan c.loop-checker.checker) c.loop-checker.invariant.leads c.next_token.new.feed c.in_err-offset.field-0.0 c.in_err-offset.ensures.misspelt)
+    (refused_bytes g.F.Feed (stand (fed c.args.reader.now c.args.feed.now) (opened (g.A.Asker.root c.args.asker))) (fed c.loop-tok.reader c.loop-tok.feed) (open_branches g.A.Asker.plan c.loop-tok.checker) c.loop-tok.invariant.leads c.next_token.new.feed c.in_err-offset.field-0.0 c.in_err-offset.ensures.misspelt)
 
 pub returns-in_err-offset-clause-leaves : goal.returns-in_err-offset-clause-leaves
 returns-in_err-offset-clause-leaves g c =
     let p = err_from_is_err_and c.from_residual-in_err-offset.result c.from_residual-in_err-offset.ensures.1 in
     rw (p.1, p.2)
     (leaves_as g.F.Feed (fed c.args.reader.now c.args.feed.now) (fed c.next_token.new.reader c.next_token.new.feed) c.in_err-offset.field-0.0
-    (leaves_on g.F.Feed (fed c.args.reader.now c.args.feed.now) (fed c.loop-checker.reader c.loop-checker.feed) (fed c.next_token.new.reader c.next_token.new.feed) _ c.loop-checker.invariant.leaves (rw c.in_err-offset.was at c.next_token.ensures.leaves)))
+    (leaves_on g.F.Feed (fed c.args.reader.now c.args.feed.now) (fed c.loop-tok.reader c.loop-tok.feed) (fed c.next_token.new.reader c.next_token.new.feed) _ c.loop-tok.invariant.leaves (rw c.in_err-offset.was at c.next_token.ensures.leaves)))
 
-pub loop-checker-preserved : goal.loop-checker-preserved
-loop-checker-preserved g c =
-    let counts : length (open_branches g.A.Asker.plan c.loop-checker.checker) ≡ length c.loop-checker.checker.places =
-    counted (g.A.Asker.plan c.loop-checker.checker.asker) c.loop-checker.checker.places in
-    let here : IsTreeOf (length (open_branches g.A.Asker.plan c.loop-checker.checker)) (place_of c.loop-checker.reader) =
-    subst (λ (n : ℕ). IsTreeOf n (place_of c.loop-checker.reader)) (sym counts) c.loop-checker.invariant.tree in
-    let behind = behind_token g.F.Feed (fed c.loop-checker.reader c.loop-checker.feed) (fed c.next_token.new.reader c.next_token.new.feed) c.in_ok-offset.offset c.in_ok-offset.tok (open_branches g.A.Asker.plan c.loop-checker.checker) (open_branches g.A.Asker.plan c.feed.new.self) c.in_ok-offset.ensures.token here
+pub loop-tok-preserved : goal.loop-tok-preserved
+loop-tok-preserved g c =
+    let counts : length (open_branches g.A.Asker.plan c.loop-tok.checker) ≡ length c.loop-tok.checker.places =
+    counted (g.A.Asker.plan c.loop-tok.checker.asker) c.loop-tok.checker.places in
+    let here : IsTreeOf (length (open_branches g.A.Asker.plan c.loop-tok.checker)) (place_of c.loop-tok.reader) =
+    subst (λ (n : ℕ). IsTreeOf n (place_of c.loop-tok.reader)) (sym counts) c.loop-tok.invariant.tree in
+    let behind = behind_token g.F.Feed (fed c.loop-tok.reader c.loop-tok.feed) (fed c.next_token.new.reader c.next_token.new.feed) c.in_ok-offset.offset c.next_token.new.tok (open_branches g.A.Asker.plan c.loop-tok.checker) (open_branches g.A.Asker.plan c.judge.new.self) c.in_ok-offset.ensures.token here
     c.in-Ok-More.ensures.step in
     record {
-      between = between_parts g.F.Feed (fed c.loop-checker.reader c.loop-checker.feed) (fed c.next_token.new.reader c.next_token.new.feed) _ c.in_ok-offset.ensures.token;
+      between = between_parts g.F.Feed (fed c.loop-tok.reader c.loop-tok.feed) (fed c.next_token.new.reader c.next_token.new.feed) _ c.in_ok-offset.ensures.token;
       tree =
           subst (λ (n : ℕ). IsTreeOf n (place_of c.next_token.new.reader))
-          (counted (g.A.Asker.plan c.feed.new.self.asker) c.feed.new.self.places) behind.0;
+          (counted (g.A.Asker.plan c.judge.new.self.asker) c.judge.new.self.places) behind.0;
       some = c.in-Ok-More.ensures.open (cc);
-      same_tree = behind.1 ∙ c.loop-checker.invariant.same_tree;
+      same_tree = behind.1 ∙ c.loop-tok.invariant.same_tree;
       unrefused = c.in-Ok-More.ensures.none_before.1;
       leads =
-          leads_token g.F.Feed (stand (fed c.args.reader.now c.args.feed.now) (opened (g.A.Asker.root c.args.asker))) (fed c.loop-checker.reader c.loop-checker.feed) (open_branches g.A.Asker.plan c.loop-checker.checker) c.loop-checker.invariant.leads (fed c.next_token.new.reader c.next_token.new.feed) c.in_ok-offset.offset c.in_ok-offset.tok (open_branches g.A.Asker.plan c.feed.new.self)
+          leads_token g.F.Feed (stand (fed c.args.reader.now c.args.feed.now) (opened (g.A.Asker.root c.args.asker))) (fed c.loop-tok.reader c.loop-tok.feed) (open_branches g.A.Asker.plan c.loop-tok.checker) c.loop-tok.invariant.leads (fed c.next_token.new.reader c.next_token.new.feed) c.in_ok-offset.offset c.next_token.new.tok (open_branches g.A.Asker.plan c.judge.new.self)
           c.in_ok-offset.ensures.token c.in-Ok-More.ensures.step;
       leaves =
-          leaves_on g.F.Feed (fed c.args.reader.now c.args.feed.now) (fed c.loop-checker.reader c.loop-checker.feed) (fed c.next_token.new.reader c.next_token.new.feed) (Ok tt) c.loop-checker.invariant.leaves
-          (goes_on_by g.F.Feed (fed c.loop-checker.reader c.loop-checker.feed) (fed c.next_token.new.reader c.next_token.new.feed) _ (rw c.in_ok-offset.was at c.next_token.ensures.leaves));
+          leaves_on g.F.Feed (fed c.args.reader.now c.args.feed.now) (fed c.loop-tok.reader c.loop-tok.feed) (fed c.next_token.new.reader c.next_token.new.feed) (Ok tt) c.loop-tok.invariant.leaves
+          (goes_on_by g.F.Feed (fed c.loop-tok.reader c.loop-tok.feed) (fed c.next_token.new.reader c.next_token.new.feed) _ (rw c.in_ok-offset.was at c.next_token.ensures.leaves));
     }
 
 pub returns-in-Ok-Done-clause-closed : goal.returns-in-Ok-Done-clause-closed
 returns-in-Ok-Done-clause-closed g c =
-    let counts : length (open_branches g.A.Asker.plan c.loop-checker.checker) ≡ length c.loop-checker.checker.places =
-    counted (g.A.Asker.plan c.loop-checker.checker.asker) c.loop-checker.checker.places in
-    let here : IsTreeOf (length (open_branches g.A.Asker.plan c.loop-checker.checker)) (place_of c.loop-checker.reader) =
-    subst (λ (n : ℕ). IsTreeOf n (place_of c.loop-checker.reader)) (sym counts) c.loop-checker.invariant.tree in
-    let closed : c.feed.new.self.places ≡ [] = c.in-Ok-Done.ensures.closed (cc) in
-    let none = no_branch (g.A.Asker.plan c.feed.new.self.asker) c.feed.new.self.places closed in
-    let behind = behind_token g.F.Feed (fed c.loop-checker.reader c.loop-checker.feed) (fed c.next_token.new.reader c.next_token.new.feed) c.in_ok-offset.offset c.in_ok-offset.tok (open_branches g.A.Asker.plan c.loop-checker.checker) [] c.in_ok-offset.ensures.token here
+    let counts : length (open_branches g.A.Asker.plan c.loop-tok.checker) ≡ length c.loop-tok.checker.places =
+    counted (g.A.Asker.plan c.loop-tok.checker.asker) c.loop-tok.checker.places in
+    let here : IsTreeOf (length (open_branches g.A.Asker.plan c.loop-tok.checker)) (place_of c.loop-tok.reader) =
+    subst (λ (n : ℕ). IsTreeOf n (place_of c.loop-tok.reader)) (sym counts) c.loop-tok.invariant.tree in
+    let closed : c.judge.new.self.places ≡ [] = c.in-Ok-Done.ensures.closed (cc) in
+    let none = no_branch (g.A.Asker.plan c.judge.new.self.asker) c.judge.new.self.places closed in
+    let behind = behind_token g.F.Feed (fed c.loop-tok.reader c.loop-tok.feed) (fed c.next_token.new.reader c.next_token.new.feed) c.in_ok-offset.offset c.next_token.new.tok (open_branches g.A.Asker.plan c.loop-tok.checker) [] c.in_ok-offset.ensures.token here
     (c.in-Ok-Done.ensures.step ∙ ap Ok none) in (
-      between_parts g.F.Feed (fed c.loop-checker.reader c.loop-checker.feed) (fed c.next_token.new.reader c.next_token.new.feed) _ c.in_ok-offset.ensures.token,
-      tree_is (place_of c.next_token.new.reader) 0 behind.0 ∙ behind.1 ∙ c.loop-checker.invariant.same_tree,
+      between_parts g.F.Feed (fed c.loop-tok.reader c.loop-tok.feed) (fed c.next_token.new.reader c.next_token.new.feed) _ c.in_ok-offset.ensures.token,
+      tree_is (place_of c.next_token.new.reader) 0 behind.0 ∙ behind.1 ∙ c.loop-tok.invariant.same_tree,
     )
 
 pub returns-in-Ok-Done-clause-leads : goal.returns-in-Ok-Done-clause-leads
 returns-in-Ok-Done-clause-leads g c =
-    let closed : c.feed.new.self.places ≡ [] = c.in-Ok-Done.ensures.closed (cc) in
-    let none = no_branch (g.A.Asker.plan c.feed.new.self.asker) c.feed.new.self.places closed in
-    leads_token g.F.Feed (stand (fed c.args.reader.now c.args.feed.now) (opened (g.A.Asker.root c.args.asker))) (fed c.loop-checker.reader c.loop-checker.feed) (open_branches g.A.Asker.plan c.loop-checker.checker) c.loop-checker.invariant.leads (fed c.next_token.new.reader c.next_token.new.feed) c.in_ok-offset.offset c.in_ok-offset.tok [] c.in_ok-offset.ensures.token
+    let closed : c.judge.new.self.places ≡ [] = c.in-Ok-Done.ensures.closed (cc) in
+    let none = no_branch (g.A.Asker.plan c.judge.new.self.asker) c.judge.new.self.places closed in
+    leads_token g.F.Feed (stand (fed c.args.reader.now c.args.feed.now) (opened (g.A.Asker.root c.args.asker))) (fed c.loop-tok.reader c.loop-tok.feed) (open_branches g.A.Asker.plan c.loop-tok.checker) c.loop-tok.invariant.leads (fed c.next_token.new.reader c.next_token.new.feed) c.in_ok-offset.offset c.next_token.new.tok [] c.in_ok-offset.ensures.token
     (c.in-Ok-Done.ensures.step ∙ ap Ok none)
 
 pub returns-in-Ok-Done-clause-leaves : goal.returns-in-Ok-Done-clause-leaves
 returns-in-Ok-Done-clause-leaves g c =
-    leaves_on g.F.Feed (fed c.args.reader.now c.args.feed.now) (fed c.loop-checker.reader c.loop-checker.feed) (fed c.next_token.new.reader c.next_token.new.feed) (Ok tt) c.loop-checker.invariant.leaves
-    (goes_on_by g.F.Feed (fed c.loop-checker.reader c.loop-checker.feed) (fed c.next_token.new.reader c.next_token.new.feed) _ (rw c.in_ok-offset.was at c.next_token.ensures.leaves))
+    leaves_on g.F.Feed (fed c.args.reader.now c.args.feed.now) (fed c.loop-tok.reader c.loop-tok.feed) (fed c.next_token.new.reader c.next_token.new.feed) (Ok tt) c.loop-tok.invariant.leaves
+    (goes_on_by g.F.Feed (fed c.loop-tok.reader c.loop-tok.feed) (fed c.next_token.new.reader c.next_token.new.feed) _ (rw c.in_ok-offset.was at c.next_token.ensures.leaves))
 
 pub returns-in-Err-clause-refused : goal.returns-in-Err-clause-refused
 returns-in-Err-clause-refused g c =
     rw c.end_at.ensures
-    (refused_token g.F.Feed (stand (fed c.args.reader.now c.args.feed.now) (opened (g.A.Asker.root c.args.asker))) (fed c.loop-checker.reader c.loop-checker.feed) (open_branches g.A.Asker.plan c.loop-checker.checker) c.loop-checker.invariant.leads (fed c.next_token.new.reader c.next_token.new.feed) c.in_ok-offset.offset c.in_ok-offset.tok c.in-Err.end
-    c.in_ok-offset.ensures.token (c.in-Err.ensures.why c.loop-checker.invariant.unrefused))
+    (refused_token g.F.Feed (stand (fed c.args.reader.now c.args.feed.now) (opened (g.A.Asker.root c.args.asker))) (fed c.loop-tok.reader c.loop-tok.feed) (open_branches g.A.Asker.plan c.loop-tok.checker) c.loop-tok.invariant.leads (fed c.next_token.new.reader c.next_token.new.feed) c.in_ok-offset.offset c.next_token.new.tok c.in-Err.end
+    c.in_ok-offset.ensures.token (c.in-Err.ensures.why c.loop-tok.invariant.unrefused))
 
 pub returns-in-Err-clause-leaves : goal.returns-in-Err-clause-leaves
 returns-in-Err-clause-leaves g c =
     rw c.end_at.ensures
     (leaves_with g.F.Feed (fed c.args.reader.now c.args.feed.now) (fed c.next_token.new.reader c.next_token.new.feed) _
-    (leaves_on g.F.Feed (fed c.args.reader.now c.args.feed.now) (fed c.loop-checker.reader c.loop-checker.feed) (fed c.next_token.new.reader c.next_token.new.feed) (Ok tt) c.loop-checker.invariant.leaves
-    (goes_on_by g.F.Feed (fed c.loop-checker.reader c.loop-checker.feed) (fed c.next_token.new.reader c.next_token.new.feed) _ (rw c.in_ok-offset.was at c.next_token.ensures.leaves)))
+    (leaves_on g.F.Feed (fed c.args.reader.now c.args.feed.now) (fed c.loop-tok.reader c.loop-tok.feed) (fed c.next_token.new.reader c.next_token.new.feed) (Ok tt) c.loop-tok.invariant.leaves
+    (goes_on_by g.F.Feed (fed c.loop-tok.reader c.loop-tok.feed) (fed c.next_token.new.reader c.next_token.new.feed) _ (rw c.in_ok-offset.was at c.next_token.ensures.leaves)))
     (token_not_early c.in_ok-offset.offset c.in-Err.end) (token_no_failure c.in_ok-offset.offset c.in-Err.end))

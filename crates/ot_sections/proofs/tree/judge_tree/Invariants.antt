@@ -6,8 +6,8 @@ use Rattle.ot_sections.proofs.Leaving.{GoesOn}
 use Rattle.ot_sections.proofs.tree.judge_tree.Given as goal
 
 -- what is judged behind the tokens that came is judged of the tree
-abbrev pub invariant-loop-checker : goal.invariant-loop-checker
-invariant-loop-checker g l = record {
+abbrev pub invariant-loop-tok : goal.invariant-loop-tok
+invariant-loop-tok g l = record {
   between : IsBetween l.reader;
   tree : IsTreeOf (length l.checker.places) (place_of l.reader);
   some : 0 < length l.checker.places;
@@ -19,5 +19,5 @@ invariant-loop-checker g l = record {
   leaves : GoesOn g.F.Feed (fed l.fn.reader l.fn.feed) (fed l.reader l.feed);
 }
 
-abbrev pub decreases-loop-checker : goal.decreases-loop-checker
-decreases-loop-checker g l = g.F.Feed.bound l.feed
+abbrev pub decreases-loop-tok : goal.decreases-loop-tok
+decreases-loop-tok g l = g.F.Feed.bound l.feed

@@ -1,9 +1,51 @@
+use Rattle.std.proofs.Common.{◌≡◌, ◌∙◌, subst}
+use Rattle.std.proofs.lemmas.Result.{err_from_is_err_and}
 use Rattle.cert_text.specs.declared.item.Part.TheVariants as part
+use Rattle.cert_text.specs.Reading.{Progress}
 use Rattle.ot_sections.specs.Feeding.{fed}
-use Rattle.ot_sections.proofs.Coming.{came_as}
+use Rattle.ot_sections.specs.Stands.{Came, IsMisspeltBehind}
+use Rattle.ot_sections.proofs.Coming.{IsAsked, came_asked, misspelt_asked, not_begun, part_comes, took_of}
 use Rattle.ot_sections.proofs.tree.next_token.Goals as goal
+use Rattle.ot_sections.proofs.tree.next_token.Goals.{then-branch+in_default, else-branch}
+
+pub returns-in-Some-clause-token : goal.returns-in-Some-clause-token
+returns-in-Some-clause-token g c =
+    let same : IsAsked g.F.Feed c.args.feed.now c.more.new.self =
+    record { left = c.more.ensures.left; bound = c.more.ensures.bound; gave = c.more.ensures.gave } in
+    let took = took_of g.F.Feed c.args.feed.now c.more.new.self c.consume.new.self c.at_hand.result.now c.in-Some.taken
+    (c.at_hand.ensures.hand, c.in-Some.ensures.within) same
+    (record { left = c.consume.ensures.left; bound = c.consume.ensures.bound; gave = c.consume.ensures.gave }) in
+    part_comes g.F.Feed (fed c.args.reader.now c.args.feed.now) (fed c.args.reader.now c.args.feed.now) (fed c.feed_token.new.self c.consume.new.self)
+    (not_begun g.F.Feed (fed c.args.reader.now c.args.feed.now) c.requires.between) c.at_hand.result.now c.in-Some.taken _ took
+    c.in-Some.ensures.gives
+
+pub returns-in_err-offset-clause-misspelt : goal.returns-in_err-offset-clause-misspelt
+returns-in_err-offset-clause-misspelt g c =
+    let p = err_from_is_err_and c.from_residual-in_err-offset.result c.from_residual-in_err-offset.ensures.1 in
+    let same : IsAsked g.F.Feed c.args.feed.now c.more.new.self =
+    record { left = c.more.ensures.left; bound = c.more.ensures.bound; gave = c.more.ensures.gave } in
+    let reader_is : c.if-branch.reader ≡ c.args.reader.now =
+    elim c.if-branch.branch [
+      | then-branch+in_default w ↦ w.reader-is ∙ w.in_default.ensures.none
+      | else-branch w ↦ w.reader-is
+    ] in
+    rw (p.1, p.2)
+    (misspelt_asked g.F.Feed c.args.reader.now c.args.feed.now c.more.new.self same c.split_token.new.feed c.in_err-offset.field-0.0
+    (subst (λ (r : Progress). IsMisspeltBehind g.F.Feed (fed r c.more.new.self) c.split_token.new.feed c.in_err-offset.field-0.0) reader_is
+    c.in_err-offset.ensures.misspelt))
 
 pub returns-clause-token : goal.returns-clause-token
 returns-clause-token g c =
-    came_as g.F.Feed (fed c.args.reader.now c.args.feed.now) (fed c.expect_part.new.reader c.expect_part.new.feed) c.in_ok-offset.field-0
-    (part.Tok c.in-Tok.tok) (cc) c.in_ok-offset.ensures.came
+    let same : IsAsked g.F.Feed c.args.feed.now c.more.new.self =
+    record { left = c.more.ensures.left; bound = c.more.ensures.bound; gave = c.more.ensures.gave } in
+    let reader_is : c.if-branch.reader ≡ c.args.reader.now =
+    elim c.if-branch.branch [
+      | then-branch+in_default w ↦ w.reader-is ∙ w.in_default.ensures.none
+      | else-branch w ↦ w.reader-is
+    ] in
+    came_asked g.F.Feed c.args.reader.now c.args.feed.now c.more.new.self same (fed c.split_token.new.reader c.split_token.new.feed)
+    (record { offset = c.in_ok-offset.offset; part = part.Tok c.in_ok-offset.whole })
+    (subst
+    (λ (r : Progress). Came g.F.Feed (fed r c.more.new.self) (fed c.split_token.new.reader c.split_token.new.feed)
+    (record { offset = c.in_ok-offset.offset; part = part.Tok c.in_ok-offset.whole }))
+    reader_is c.in_ok-offset.ensures.token)

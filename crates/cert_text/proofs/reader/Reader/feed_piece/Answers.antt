@@ -6,14 +6,13 @@ use Rattle.cert_text.proofs.reader.Reader.feed_piece.Goals as goal
 
 pub returns-in-Some : goal.returns-in-Some
 returns-in-Some c =
-    let given = c.in-Some.ensures.some in
-    let taken = piece_within c.args.self.now c.take_token.new.self c.args.piece.now c.in-Some.taken (Ok (Some c.in-Some.item)) given in
+    let given = c.in-Some.ensures.gives in
     record {
       gives = given;
-      within = taken.0;
-      some = taken.1;
+      within = c.in-Some.ensures.within;
+      some = λ any. c.in-Some.ensures.some;
       fed = c.in-Some.ensures.fed;
-      reads = piece_reads c.args.self.now c.take_token.new.self c.args.piece.now c.in-Some.taken (Ok (Some c.in-Some.item)) given;
+      reads = piece_reads c.args.self.now c.feed_token.new.self c.args.piece.now c.in-Some.taken (Ok (Some _)) given;
     }
 
 pub returns-in-None : goal.returns-in-None
