@@ -1,3 +1,4 @@
+mod Cycles
 pub mod Completing
 mod Examples
 pub mod Feeding

@@ -11,6 +11,7 @@
 #![tactic(auto)]
 
 mod checker;
+mod cycle;
 mod laws;
 mod token;
 mod verdict;

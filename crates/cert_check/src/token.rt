@@ -7,6 +7,7 @@ ghost use Rattle.ask_core.specs.Paths.{AreOwn, branches_at, first_answers};
 ghost use Rattle.cert_check.specs.Steps.{after, end_of_cycle, HasFewPicks};
 ghost use Rattle.cert_check.specs.Judging.{IsCauseOf};
 
+use crate::cycle::is_plain_cycle;
 use crate::verdict::CheckError;
 use ask_core::{Asker, MAX_PICKS, Path, Picks, Tok, Turn, turn_at};
 use diff_graph::is_negative_cycle;
@@ -21,7 +22,9 @@ pub fn take_cycle<N: Copy>(path: &mut Path<N>, picks: &Picks) -> Result<(), Chec
     ensures err { OnErr result (path.new ≡ path.old) }
     ensures why { IfErr result (λ e. (p : PickError) × (pick_verdict (first_answers path.old) picks.now ≡ Err p) × (e ≡ end_of_cycle p)) }
 {
-    is_negative_cycle(path.answers(), picks.as_slice())?;
+    if !is_plain_cycle(path.answers(), picks.as_slice()) {
+        is_negative_cycle(path.answers(), picks.as_slice())?;
+    }
     path.close();
     Ok(())
 }
