@@ -1,0 +1,3 @@
+pub mod CertificateTrees
+pub mod Soundness
+mod Examples
