@@ -1,3 +1,4 @@
 pub mod CertificateTrees
+pub mod NoStarts
 pub mod Soundness
 mod Examples

@@ -4,7 +4,7 @@ use Rattle.diff_graph.specs.declared.lit.Lit.{Lit}
 use Rattle.ask_core.specs.Trees.{AnswerTree, IsCycleAmong, with_answer}
 use Rattle.ask_core.specs.Trees as answer
 use Rattle.proof_trees.specs.declared.limits.TheConstants.{MAX_LEMMAS, MAX_LITERALS}
-use Rattle.proof_trees.specs.Starts.{MarkedPlan, Ask, Holds, Fails, start_of, Comparison, conditions_at}
+use Rattle.proof_trees.specs.Starts.{MarkedPlan, Ask, Holds, Fails, start_of, Comparison, conditions_between}
 
 -- a proof tree. The first tree of a lemma shows it, and the second one goes on where it was shown. A citation
 -- has the number of a lemma, and a cycle for each literal and each condition
@@ -70,7 +70,7 @@ FollowsUnder (Some es) ls w cycles = EachFollows w (ls ++ es) cycles
 abbrev pub Serves : {S : Type 0} → Comparison S → Option (Learned S) → Option S → List Lit → List (List ℕ) → Type 0
 Serves compare None here w cycles = ⊥
 Serves compare (Some lemma) here w cycles =
-    FollowsUnder (conditions_at compare lemma.start here) lemma.literals w cycles
+    FollowsUnder (conditions_between compare (Some lemma.start) here) lemma.literals w cycles
 
 -- the tree shows the plan after the list of literals: it asks where the plan asks, ends where the plan holds,
 -- names a negative cycle of the list anywhere, and where a start is shows a lemma or cites one that is known

@@ -36,15 +36,16 @@ IsMarkedBy meaning (Ask start l on_yes on_no) =
 IsMarkedBy meaning (Holds start) = StandsFor meaning start plain.Holds
 IsMarkedBy meaning (Fails start why) = StandsFor meaning start (plain.Fails why)
 
--- a comparison says of a start of a lemma and a start where it is cited under which conditions the lemma
+-- a comparison says of the start of a lemma and a start where it is cited under which conditions the lemma
 -- serves there, or that they do not compare
 abbrev pub Comparison : Type 0 → Type 0
 Comparison S = S → S → Option (List Lit)
 
--- the conditions at a place, where a start is there and compares
-abbrev pub conditions_at : {S : Type 0} → Comparison S → S → Option S → Option (List Lit)
-conditions_at compare s None = None
-conditions_at compare s (Some here) = compare s here
+-- the conditions between two places, where a start is at both and the starts compare
+abbrev pub conditions_between : {S : Type 0} → Comparison S → Option S → Option S → Option (List Lit)
+conditions_between compare None here = None
+conditions_between compare (Some s) None = None
+conditions_between compare (Some s) (Some here) = compare s here
 
 -- a valuation that meets the conditions gives both starts one value
 abbrev pub IsLawful : {S W : Type 0} → Comparison S → (S → Plan W) → Type 0

@@ -11,7 +11,13 @@
 mod certificates;
 mod limits;
 mod showing;
+mod starter;
+mod startless;
+mod token;
 
 pub use certificates::certificates_are_proofs;
 pub use limits::{MAX_LEMMAS, MAX_LITERALS};
 pub use showing::shown_plans_hold;
+pub use starter::Starter;
+pub use startless::Startless;
+pub use token::{Literals, ProofTok};
