@@ -1,0 +1,2 @@
+pub mod Steps
+pub use Rattle.proof_trees.specs.Tokens

@@ -1,0 +1,8 @@
+//! The judge of proofs with lemmas.
+#![tactic(auto)]
+
+mod laws;
+mod verdict;
+
+pub use laws::proof_tokens_are_taken_one_by_one;
+pub use verdict::ProofError;
