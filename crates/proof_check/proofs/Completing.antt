@@ -11,7 +11,7 @@ use Rattle.ask_core.specs.Trees.{IsCycleAmong}
 use Rattle.proof_trees.specs.declared.limits.TheConstants.{MAX_LEMMAS, MAX_LITERALS}
 use Rattle.proof_trees.specs.declared.token.ProofTok.{ProofTok}
 use Rattle.proof_trees.specs.declared.token.ProofTok.TheVariants as token
-use Rattle.proof_trees.specs.Starts.{MarkedPlan, Ask, Holds, Fails, start_of, Comparison}
+use Rattle.proof_trees.specs.Starts.{MarkedPlan, Ask, Holds, Fails, start_of, Comparison, conditions_between}
 use Rattle.proof_trees.specs.Proofs.{ProofTree, Question, End, Impossible, Lemma, Citation, Learned, with_lemma, learned, MayLearn, EachFollows, FollowsUnder, Serves, Shows}
 use Rattle.proof_trees.specs.Tokens.{tokens_of, cycle_tokens, Wanted, Tree, Cycle, Learn, wanted_cycles, Completes, HasFew}
 use Rattle.proof_check.specs.declared.verdict.ProofError.{ProofError}
@@ -22,6 +22,11 @@ cycle_has_picks : (w : List Lit) (picks : List ℕ) → pick_verdict w picks ≡
 cycle_has_picks w [] ok = absurd (cc)
 cycle_has_picks w (n ∷ picks) ok = omega arith
 
+-- where no start is, none compares
+no_start_no_conditions : {S : Type 0} (compare : Comparison S) (s : Option S) → conditions_between compare s None ≡ None
+no_start_no_conditions compare None = refl
+no_start_no_conditions compare (Some s) = refl
+
 module _ {S W : Type 0} (compare : Comparison S) where
   -- the tokens complete what a token left, if it was taken
   abbrev pub IsCompleted : List ProofTok → Result (Standing S W) ProofError → Type 0
@@ -30,14 +35,14 @@ module _ {S W : Type 0} (compare : Comparison S) where
 
   -- lemmas that are learned at once take no token
   Completes-settled :
-      (tokens : List ProofTok) (known : List (Learned S)) (wanted : List (Wanted S W))
+      (tokens : List ProofTok) (known : List (Learned S W)) (wanted : List (Wanted S W))
       → (Completes compare tokens wanted known ↔ IsCompleted tokens (Ok (settled known wanted)))
   Completes-settled tokens known [] = (λ rest. rest, λ rest. rest)
   Completes-settled tokens known (Tree p w ∷ wanted) = (λ rest. rest, λ rest. rest)
   Completes-settled tokens known (Cycle w ∷ wanted) = (λ rest. rest, λ rest. rest)
-  Completes-settled tokens known (Learn start ls ∷ wanted) = Completes-settled tokens (with_lemma known start ls) wanted
+  Completes-settled tokens known (Learn p ls ∷ wanted) = Completes-settled tokens (with_lemma known p ls) wanted
 
-  module _ (known : List (Learned S)) (w : List Lit) (wanted : List (Wanted S W)) (tokens : List ProofTok) where
+  module _ (known : List (Learned S W)) (w : List Lit) (wanted : List (Wanted S W)) (tokens : List ProofTok) where
     -- a cycle
     cycle_taken :
         (picks : List ℕ) (verdict : Result (Unit {0}) PickError) → pick_verdict w picks ≡ verdict → IsCycleAmong w picks
@@ -58,9 +63,9 @@ module _ {S W : Type 0} (compare : Comparison S) where
     lemma_taken :
         (start : Option S) (p : MarkedPlan S W) (ls : List Lit) (t u : ProofTree) (rest : List ProofTok)
         → MayLearn start ls known → Shows compare t p ls known
-        → Shows compare u p w (with_lemma (learned t p known) start ls)
+        → Shows compare u p w (with_lemma (learned t p known) p ls)
         → tokens ≡ (tokens_of t ++ tokens_of u) ++ rest
-        → Completes compare rest wanted (learned u p (with_lemma (learned t p known) start ls))
+        → Completes compare rest wanted (learned u p (with_lemma (learned t p known) p ls))
         → IsCompleted tokens (after_lemma start known ls p w wanted)
     lemma_taken None p ls t u rest may first second same later = absurd may
     lemma_taken (Some s) p ls t u rest may first second same later =
@@ -71,9 +76,9 @@ module _ {S W : Type 0} (compare : Comparison S) where
         (start : Option S) (p : MarkedPlan S W) (ls : List Lit) → length ls ≤ MAX_LITERALS
         → IsCompleted tokens (after_lemma start known ls p w wanted)
         → (t u : ProofTree) × (rest : List ProofTok) × MayLearn start ls known × Shows compare t p ls known
-        × Shows compare u p w (with_lemma (learned t p known) start ls)
+        × Shows compare u p w (with_lemma (learned t p known) p ls)
         × (tokens ≡ (tokens_of t ++ tokens_of u) ++ rest)
-        × Completes compare rest wanted (learned u p (with_lemma (learned t p known) start ls))
+        × Completes compare rest wanted (learned u p (with_lemma (learned t p known) p ls))
     lemma_begun None p ls short none = absurd none
     lemma_begun (Some s) p ls short begun =
         elim (cases_Bool (nat_lt (length known) MAX_LEMMAS)) [
@@ -83,11 +88,11 @@ module _ {S W : Type 0} (compare : Comparison S) where
       where
         lemma_parts :
             length known < MAX_LEMMAS
-            → Completes compare tokens (Tree p ls ∷ Learn (Some s) ls ∷ Tree p w ∷ wanted) known
+            → Completes compare tokens (Tree p ls ∷ Learn p ls ∷ Tree p w ∷ wanted) known
             → (t u : ProofTree) × (rest : List ProofTok) × MayLearn (Some s) ls known × Shows compare t p ls known
-            × Shows compare u p w (with_lemma (learned t p known) (Some s) ls)
+            × Shows compare u p w (with_lemma (learned t p known) p ls)
             × (tokens ≡ (tokens_of t ++ tokens_of u) ++ rest)
-            × Completes compare rest wanted (learned u p (with_lemma (learned t p known) (Some s) ls))
+            × Completes compare rest wanted (learned u p (with_lemma (learned t p known) p ls))
         lemma_parts few (t, middle, first, same, (u, rest, second, same_rest, later)) =
             let e : tokens ≡ tokens_of t ++ (tokens_of u ++ rest) = cc in
             (t, u, rest, (short, few), first, second, rw append_assoc e, later)
@@ -113,18 +118,21 @@ module _ {S W : Type 0} (compare : Comparison S) where
         (cycles_taken (ls ++ es) cycles rest follows later))
 
     citation_taken :
-        (start : Option S) (found : Option (Learned S)) (cycles : List (List ℕ)) (rest : List ProofTok)
+        (start : Option S) (found : Option (Learned S W)) (cycles : List (List ℕ)) (rest : List ProofTok)
         → Serves compare found start w cycles → tokens ≡ cycle_tokens cycles ++ rest → Completes compare rest wanted known
         → IsCompleted tokens (after_citation compare start found known w wanted)
     citation_taken None None cycles rest serves same later = absurd serves
-    citation_taken None (Some lemma) cycles rest serves same later = absurd serves
+    citation_taken None (Some lemma) cycles rest serves same later =
+        absurd
+        (subst (λ (x : Option (List Lit)). FollowsUnder x lemma.literals w cycles) (no_start_no_conditions compare (start_of lemma.plan))
+        serves)
     citation_taken (Some here) None cycles rest serves same later = absurd serves
     citation_taken (Some here) (Some lemma) cycles rest serves same later =
-        comparison_taken (compare lemma.start here) lemma.literals cycles rest serves same later
+        comparison_taken (conditions_between compare (start_of lemma.plan) (Some here)) lemma.literals cycles rest serves same later
 
   -- what begins with the cycles that are wanted
   cycles_begun :
-      (known : List (Learned S)) (w : List Lit) (wanted : List (Wanted S W)) (ls : List Lit) (tokens : List ProofTok)
+      (known : List (Learned S W)) (w : List Lit) (wanted : List (Wanted S W)) (ls : List Lit) (tokens : List ProofTok)
       → Completes compare tokens (wanted_cycles w ls ++ wanted) known
       → (cycles : List (List ℕ)) × (rest : List ProofTok) × EachFollows w ls cycles
       × (tokens ≡ cycle_tokens cycles ++ rest) × Completes compare rest wanted known
@@ -133,7 +141,7 @@ module _ {S W : Type 0} (compare : Comparison S) where
       let others = cycles_begun known w wanted ls middle more in
       (c ∷ others.0, others.1, (is, others.2), same ∙ ap (λ (x : List ProofTok). token.Cycle c ∷ x) others.3, others.4)
 
-  module _ (known : List (Learned S)) (w : List Lit) (wanted : List (Wanted S W)) (tokens : List ProofTok) where
+  module _ (known : List (Learned S W)) (w : List Lit) (wanted : List (Wanted S W)) (tokens : List ProofTok) where
     comparison_begun :
         (conditions : Option (List Lit)) (ls : List Lit) → IsCompleted tokens (after_comparison conditions known ls w wanted)
         → (cycles : List (List ℕ)) × (rest : List ProofTok) × FollowsUnder conditions ls w cycles
@@ -144,12 +152,12 @@ module _ {S W : Type 0} (compare : Comparison S) where
         ((Completes-settled tokens known (wanted_cycles w (ls ++ es) ++ wanted)).1 begun)
 
     citation_begun :
-        (start : Option S) (found : Option (Learned S)) → IsCompleted tokens (after_citation compare start found known w wanted)
+        (start : Option S) (found : Option (Learned S W)) → IsCompleted tokens (after_citation compare start found known w wanted)
         → (cycles : List (List ℕ)) × (rest : List ProofTok) × Serves compare found start w cycles
         × (tokens ≡ cycle_tokens cycles ++ rest) × Completes compare rest wanted known
     citation_begun None found none = absurd none
     citation_begun (Some here) None none = absurd none
-    citation_begun (Some here) (Some lemma) begun = comparison_begun (compare lemma.start here) lemma.literals begun
+    citation_begun (Some here) (Some lemma) begun = comparison_begun (conditions_between compare (start_of lemma.plan) (Some here)) lemma.literals begun
 
     -- a question
     question_taken :
@@ -279,27 +287,27 @@ module _ {S W : Type 0} (compare : Comparison S) where
     begun_at_cycle (token.Cite number) few none = absurd none
 
   Completes-taken :
-      (tok : ProofTok) (tokens : List ProofTok) (known : List (Learned S)) (wanted : List (Wanted S W))
+      (tok : ProofTok) (tokens : List ProofTok) (known : List (Learned S W)) (wanted : List (Wanted S W))
       → Completes compare (tok ∷ tokens) wanted known → IsCompleted tokens (after compare tok known wanted)
   Completes-taken tok tokens known [] whole = absurd (cc)
   Completes-taken tok tokens known (Tree p w ∷ wanted) (t, rest, shows, same, later) =
       taken_at_tree known w wanted tokens tok p t rest shows same later
   Completes-taken tok tokens known (Cycle w ∷ wanted) whole = taken_at_cycle known w wanted tokens tok whole
-  Completes-taken tok tokens known (Learn start ls ∷ wanted) whole =
-      Completes-taken tok tokens (with_lemma known start ls) wanted whole
+  Completes-taken tok tokens known (Learn p ls ∷ wanted) whole =
+      Completes-taken tok tokens (with_lemma known p ls) wanted whole
 
   Completes-begun :
-      (tok : ProofTok) (tokens : List ProofTok) (known : List (Learned S)) (wanted : List (Wanted S W)) → HasFew tok
+      (tok : ProofTok) (tokens : List ProofTok) (known : List (Learned S W)) (wanted : List (Wanted S W)) → HasFew tok
       → IsCompleted tokens (after compare tok known wanted) → Completes compare (tok ∷ tokens) wanted known
   Completes-begun tok tokens known [] few none = absurd none
   Completes-begun tok tokens known (Tree p w ∷ wanted) few begun = begun_at_tree known w wanted tokens tok p few begun
   Completes-begun tok tokens known (Cycle w ∷ wanted) few begun = begun_at_cycle known w wanted tokens tok few begun
-  Completes-begun tok tokens known (Learn start ls ∷ wanted) few begun =
-      Completes-begun tok tokens (with_lemma known start ls) wanted few begun
+  Completes-begun tok tokens known (Learn p ls ∷ wanted) few begun =
+      Completes-begun tok tokens (with_lemma known p ls) wanted few begun
 
   -- a token that is taken leaves what the others complete
   pub Completes-step :
-      (tok : ProofTok) (tokens : List ProofTok) (known : List (Learned S)) (wanted : List (Wanted S W))
+      (tok : ProofTok) (tokens : List ProofTok) (known : List (Learned S W)) (wanted : List (Wanted S W))
       (next : Standing S W) → HasFew tok → after compare tok known wanted ≡ Ok next
       → (Completes compare (tok ∷ tokens) wanted known ↔ Completes compare tokens next.wanted next.known)
   Completes-step tok tokens known wanted next few taken = (
@@ -313,7 +321,7 @@ module _ {S W : Type 0} (compare : Comparison S) where
 
   -- a token that is refused begins nothing that completes them
   pub Completes-refused :
-      (tok : ProofTok) (tokens : List ProofTok) (known : List (Learned S)) (wanted : List (Wanted S W)) (why : ProofError)
+      (tok : ProofTok) (tokens : List ProofTok) (known : List (Learned S W)) (wanted : List (Wanted S W)) (why : ProofError)
       → after compare tok known wanted ≡ Err why → Completes compare (tok ∷ tokens) wanted known → ⊥
   Completes-refused tok tokens known wanted why refused whole =
       subst (λ (x : Result (Standing S W) ProofError). IsCompleted tokens x) refused

@@ -9,7 +9,7 @@ use Rattle.cert_check.specs.Steps.{end_of_cycle}
 use Rattle.proof_trees.specs.declared.limits.TheConstants.{MAX_LEMMAS}
 use Rattle.proof_trees.specs.declared.token.ProofTok.{ProofTok}
 use Rattle.proof_trees.specs.declared.token.ProofTok.TheVariants as token
-use Rattle.proof_trees.specs.Starts.{MarkedPlan, Ask, Holds, Fails, start_of, Comparison}
+use Rattle.proof_trees.specs.Starts.{MarkedPlan, Ask, Holds, Fails, start_of, Comparison, conditions_between}
 use Rattle.proof_trees.specs.Proofs.{Learned, with_lemma}
 use Rattle.proof_trees.specs.Tokens.{Wanted, Tree, Cycle, Learn, wanted_cycles}
 use Rattle.proof_check.specs.declared.verdict.ProofError.{ProofError}
@@ -17,19 +17,19 @@ use Rattle.proof_check.specs.declared.verdict.ProofError.TheVariants as error
 
 -- the lemmas that are known, and what is wanted of the tokens
 pub record Standing (S W : Type 0) : Type 0 where
-  pub known : List (Learned S)
+  pub known : List (Learned S W)
   pub wanted : List (Wanted S W)
 
 -- a lemma whose tree has ended is known
-abbrev pub settled : {S W : Type 0} → List (Learned S) → List (Wanted S W) → Standing S W
+abbrev pub settled : {S W : Type 0} → List (Learned S W) → List (Wanted S W) → Standing S W
 settled known [] = record { known = known; wanted = [] }
 settled known (Tree p w ∷ wanted) = record { known = known; wanted = Tree p w ∷ wanted }
 settled known (Cycle w ∷ wanted) = record { known = known; wanted = Cycle w ∷ wanted }
-settled known (Learn start ls ∷ wanted) = settled (with_lemma known start ls) wanted
+settled known (Learn p ls ∷ wanted) = settled (with_lemma known p ls) wanted
 
 -- after `?` where a tree of the plan is wanted
 abbrev pub after_question :
-    {S W : Type 0} → List (Learned S) → MarkedPlan S W → List Lit → List (Wanted S W) → Result (Standing S W) ProofError
+    {S W : Type 0} → List (Learned S W) → MarkedPlan S W → List Lit → List (Wanted S W) → Result (Standing S W) ProofError
 after_question known (Ask start l on_yes on_no) w wanted =
     Ok (record {
       known = known;
@@ -40,46 +40,46 @@ after_question known (Fails start why) w wanted = Err (error.Tree check.NotAQues
 
 -- after `.` there
 abbrev pub after_end :
-    {S W : Type 0} → List (Learned S) → MarkedPlan S W → List (Wanted S W) → Result (Standing S W) ProofError
+    {S W : Type 0} → List (Learned S W) → MarkedPlan S W → List (Wanted S W) → Result (Standing S W) ProofError
 after_end known (Ask start l on_yes on_no) wanted = Err (error.Tree check.NotDone)
 after_end known (Holds start) wanted = Ok (settled known wanted)
 after_end known (Fails start why) wanted = Err (error.Tree check.GoalFails)
 
 -- after a cycle with this verdict
 abbrev pub after_cycle :
-    {S W : Type 0} → Result (Unit {0}) PickError → List (Learned S) → List (Wanted S W) → Result (Standing S W) ProofError
+    {S W : Type 0} → Result (Unit {0}) PickError → List (Learned S W) → List (Wanted S W) → Result (Standing S W) ProofError
 after_cycle (Ok done) known wanted = Ok (settled known wanted)
 after_cycle (Err why) known wanted = Err (error.Tree (end_of_cycle why))
 
 -- after `l` where a tree of the plan is wanted, at this start of the plan, if it has one
 abbrev pub after_lemma :
-    {S W : Type 0} → Option S → List (Learned S) → List Lit → MarkedPlan S W → List Lit → List (Wanted S W)
+    {S W : Type 0} → Option S → List (Learned S W) → List Lit → MarkedPlan S W → List Lit → List (Wanted S W)
     → Result (Standing S W) ProofError
 after_lemma None known ls p w wanted = Err error.NoStart
 after_lemma (Some s) known ls p w wanted =
     if nat_lt (length known) MAX_LEMMAS
-    then Ok (record { known = known; wanted = Tree p ls ∷ Learn (Some s) ls ∷ Tree p w ∷ wanted })
+    then Ok (record { known = known; wanted = Tree p ls ∷ Learn p ls ∷ Tree p w ∷ wanted })
     else Err error.TooManyLemmas
 
 -- after `c`: the conditions of the comparison, if the starts compare, and the literals of the lemma
 abbrev pub after_comparison :
-    {S W : Type 0} → Option (List Lit) → List (Learned S) → List Lit → List Lit → List (Wanted S W)
+    {S W : Type 0} → Option (List Lit) → List (Learned S W) → List Lit → List Lit → List (Wanted S W)
     → Result (Standing S W) ProofError
 after_comparison None known ls w wanted = Err error.OtherStart
 after_comparison (Some es) known ls w wanted = Ok (settled known (wanted_cycles w (ls ++ es) ++ wanted))
 
 -- the start here, if there is one, and the lemma of the number, if it is known
 abbrev pub after_citation :
-    {S W : Type 0} → Comparison S → Option S → Option (Learned S) → List (Learned S) → List Lit → List (Wanted S W)
+    {S W : Type 0} → Comparison S → Option S → Option (Learned S W) → List (Learned S W) → List Lit → List (Wanted S W)
     → Result (Standing S W) ProofError
 after_citation compare None found known w wanted = Err error.NoStart
 after_citation compare (Some here) None known w wanted = Err error.UnknownLemma
 after_citation compare (Some here) (Some lemma) known w wanted =
-    after_comparison (compare lemma.start here) known lemma.literals w wanted
+    after_comparison (conditions_between compare (start_of lemma.plan) (Some here)) known lemma.literals w wanted
 
 -- after a token where a tree is wanted
 abbrev pub after_at_tree :
-    {S W : Type 0} → Comparison S → ProofTok → List (Learned S) → MarkedPlan S W → List Lit → List (Wanted S W)
+    {S W : Type 0} → Comparison S → ProofTok → List (Learned S W) → MarkedPlan S W → List Lit → List (Wanted S W)
     → Result (Standing S W) ProofError
 after_at_tree compare token.Ask known p w wanted = after_question known p w wanted
 after_at_tree compare token.Holds known p w wanted = after_end known p wanted
@@ -90,7 +90,7 @@ after_at_tree compare (token.Cite number) known p w wanted =
 
 -- after a token where a cycle is wanted: nothing is asked there, nothing holds and nothing starts
 abbrev pub after_at_cycle :
-    {S W : Type 0} → ProofTok → List (Learned S) → List Lit → List (Wanted S W) → Result (Standing S W) ProofError
+    {S W : Type 0} → ProofTok → List (Learned S W) → List Lit → List (Wanted S W) → Result (Standing S W) ProofError
 after_at_cycle token.Ask known w wanted = Err (error.Tree check.NotAQuestion)
 after_at_cycle token.Holds known w wanted = Err (error.Tree check.GoalFails)
 after_at_cycle (token.Cycle picks) known w wanted = after_cycle (pick_verdict w picks) known wanted
@@ -99,8 +99,8 @@ after_at_cycle (token.Cite number) known w wanted = Err error.NoStart
 
 -- what is known and wanted after a token, or why it is refused. Where nothing is wanted nothing is asked
 abbrev pub after :
-    {S W : Type 0} → Comparison S → ProofTok → List (Learned S) → List (Wanted S W) → Result (Standing S W) ProofError
+    {S W : Type 0} → Comparison S → ProofTok → List (Learned S W) → List (Wanted S W) → Result (Standing S W) ProofError
 after compare tok known [] = Err (error.Tree check.NotAQuestion)
 after compare tok known (Tree p w ∷ wanted) = after_at_tree compare tok known p w wanted
 after compare tok known (Cycle w ∷ wanted) = after_at_cycle tok known w wanted
-after compare tok known (Learn start ls ∷ wanted) = after compare tok (with_lemma known start ls) wanted
+after compare tok known (Learn p ls ∷ wanted) = after compare tok (with_lemma known p ls) wanted

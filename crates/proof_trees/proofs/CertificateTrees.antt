@@ -8,9 +8,9 @@ use Rattle.proof_trees.specs.Proofs.{ProofTree, Question, End, Impossible, Lemma
 
 module _ {S W : Type 0} where
   -- such a tree teaches no lemma
-  pub learned-proof_of : (t : AnswerTree) (p : MarkedPlan S W) (known : List (Learned S)) → learned (proof_of t) p known ≡ known
+  pub learned-proof_of : (t : AnswerTree) (p : MarkedPlan S W) (known : List (Learned S W)) → learned (proof_of t) p known ≡ known
   learned-proof_of (answer.Question t u) (Ask start l on_yes on_no) known =
-      ap (λ (k : List (Learned S)). learned (proof_of u) on_no k) (learned-proof_of t on_yes known) ∙ learned-proof_of u on_no known
+      ap (λ (k : List (Learned S W)). learned (proof_of u) on_no k) (learned-proof_of t on_yes known) ∙ learned-proof_of u on_no known
   learned-proof_of (answer.Question t u) (Holds start) known = refl
   learned-proof_of (answer.Question t u) (Fails start why) known = refl
   learned-proof_of answer.End p known = refl
@@ -18,7 +18,7 @@ module _ {S W : Type 0} where
 
   -- it shows what it fits
   pub Shows-proof_of :
-      (compare : Comparison S) (t : AnswerTree) (p : MarkedPlan S W) (w : List Lit) (known : List (Learned S))
+      (compare : Comparison S) (t : AnswerTree) (p : MarkedPlan S W) (w : List Lit) (known : List (Learned S W))
       → (Shows compare (proof_of t) p w known ↔ Fits t (unmarked p) w)
   Shows-proof_of compare (answer.Question t u) (Ask start l on_yes on_no) w known =
       let at_yes = Shows-proof_of compare t on_yes (with_answer w l true) known in

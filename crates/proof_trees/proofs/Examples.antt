@@ -55,17 +55,17 @@ shows-cited_twice = (
 
 learned-once :
     learned (citing (Citation 0 ((0 ∷ 2 ∷ []) ∷ []))) (two_start_plan 3) []
-    ≡ record { start = 3; literals = at_most ∷ [] } ∷ []
+    ≡ record { plan = start_plan 3; literals = at_most ∷ [] } ∷ []
 learned-once = refl
 
 -- a lemma that is shown within another one is known first
 learned-inner_first :
     learned (Lemma (at_most ∷ []) (Lemma [] End End) End) (start_plan 3) []
-    ≡ record { start = 3; literals = [] } ∷ record { start = 3; literals = at_most ∷ [] } ∷ []
+    ≡ record { plan = start_plan 3; literals = [] } ∷ record { plan = start_plan 3; literals = at_most ∷ [] } ∷ []
 learned-inner_first = refl
 
 -- a citation needs a cycle for each literal
-unshown-no_cycles : Shows equal (Citation 0 []) (start_plan 3) (at_most ∷ []) (record { start = 3; literals = at_most ∷ [] } ∷ []) → ⊥
+unshown-no_cycles : Shows equal (Citation 0 []) (start_plan 3) (at_most ∷ []) (record { plan = start_plan 3; literals = at_most ∷ [] } ∷ []) → ⊥
 unshown-no_cycles shows = shows
 
 -- a lemma cannot be cited within its own tree
@@ -76,23 +76,23 @@ unshown-within_itself shows = shows.1
 unshown-no_start : Shows {W = ℕ} equal (Lemma [] End End) (Holds None) [] [] → ⊥
 unshown-no_start shows = shows.0
 
-unshown-cited_at_no_start : Shows {W = ℕ} equal (Citation 0 []) (Holds None) [] (record { start = 3; literals = [] } ∷ []) → ⊥
+unshown-cited_at_no_start : Shows {W = ℕ} equal (Citation 0 []) (Holds None) [] (record { plan = start_plan 3; literals = [] } ∷ []) → ⊥
 unshown-cited_at_no_start shows = shows
 
 -- a start that does not compare
 unshown-other_start :
-    Shows equal (Citation 0 ((0 ∷ 1 ∷ []) ∷ [])) (start_plan 5) (at_most ∷ []) (record { start = 3; literals = at_most ∷ [] } ∷ []) → ⊥
+    Shows equal (Citation 0 ((0 ∷ 1 ∷ []) ∷ [])) (start_plan 5) (at_most ∷ []) (record { plan = start_plan 3; literals = at_most ∷ [] } ∷ []) → ⊥
 unshown-other_start shows = shows
 
 -- one that compares under a condition, which then needs its cycle too
 shows-under_a_condition :
     Shows alike (Citation 0 ((0 ∷ 2 ∷ []) ∷ (1 ∷ 2 ∷ []) ∷ [])) (start_plan 5) (at_most ∷ other ∷ [])
-    (record { start = 3; literals = at_most ∷ [] } ∷ [])
+    (record { plan = start_plan 3; literals = at_most ∷ [] } ∷ [])
 shows-under_a_condition = ((lit≤ tt, lit≤ tt, refl), ((lit≤ tt, lit≤ tt, refl), tt))
 
 unshown-condition_left_out :
     Shows alike (Citation 0 ((0 ∷ 2 ∷ []) ∷ [])) (start_plan 5) (at_most ∷ other ∷ [])
-    (record { start = 3; literals = at_most ∷ [] } ∷ []) → ⊥
+    (record { plan = start_plan 3; literals = at_most ∷ [] } ∷ []) → ⊥
 unshown-condition_left_out shows = shows.1
 
 -- a tree of a certificate shows the same plan, with the first question answered again at each start

@@ -1,5 +1,5 @@
 -- A tree that shows a plan leaves true lemmas true, and the plan holds where its literals are met.
-use Rattle.std.proofs.Common.{◌≡◌, ◌↔◌, ℕ, ℤ, Bool, true, false, List, [], ◌∷◌, ◌++◌, inl, inr, refl, sym, ◌∙◌, subst, Option, Some, None, Ok, zero, suc}
+use Rattle.std.proofs.Common.{ap, ◌≡◌, ◌↔◌, ℕ, ℤ, Bool, true, false, List, [], ◌∷◌, ◌++◌, inl, inr, refl, sym, ◌∙◌, Option, Some, None, Ok, zero, suc}
 use Rattle.std.specs.Prelude.{slice_get}
 use Rattle.std.proofs.lemmas.Bool.{cases_Bool}
 use Rattle.diff_graph.specs.declared.lit.Lit.{Lit}
@@ -8,7 +8,7 @@ use Rattle.diff_graph.specs.Cycles.{pick_verdict}
 use Rattle.ask_core.specs.Plans.{Plan, value}
 use Rattle.ask_core.specs.Plans as plain
 use Rattle.ask_core.specs.Trees.{with_answer}
-use Rattle.proof_trees.specs.Starts.{MarkedPlan, Ask, Holds, Fails, unmarked, start_of, StandsFor, IsMarkedBy, Comparison, IsLawful}
+use Rattle.proof_trees.specs.Starts.{MarkedPlan, Ask, Holds, Fails, unmarked, start_of, StandsFor, IsMarkedBy, Comparison, conditions_between, IsLawful}
 use Rattle.proof_trees.specs.Proofs.{ProofTree, Question, End, Impossible, Lemma, Citation, Learned, with_lemma, learned, EachFollows, FollowsUnder, Serves, Shows}
 use Rattle.proof_trees.specs.Truth.{HoldsUnder, AreTrue}
 
@@ -42,48 +42,40 @@ module _
     StandsFor-start_of (Fails start why) marked = marked
 
     -- one more lemma that was shown
-    AreTrue-push : (known : List (Learned S)) (lemma : Learned S) → AreTrue meaning known
-        → HoldsUnder lemma.literals (meaning lemma.start) → AreTrue meaning (known ++ lemma ∷ [])
-    AreTrue-push [] lemma are_true holds = (holds, tt)
-    AreTrue-push (x ∷ known) lemma are_true holds = (are_true.0, AreTrue-push known lemma are_true.1 holds)
-
     AreTrue-with_lemma :
-        (known : List (Learned S)) (start : Option S) (ls : List Lit) (p : Plan W) → StandsFor meaning start p
-        → AreTrue meaning known → HoldsUnder ls p → AreTrue meaning (with_lemma known start ls)
-    AreTrue-with_lemma known None ls p stands are_true holds = are_true
-    AreTrue-with_lemma known (Some s) ls p stands are_true holds =
-        AreTrue-push known (record { start = s; literals = ls }) are_true
-        (subst (λ (q : Plan W). HoldsUnder ls q) stands holds)
-
-    -- a lemma that is known is true
-    AreTrue-at : (known : List (Learned S)) (number : ℕ) (lemma : Learned S) → AreTrue meaning known
-        → slice_get known number ≡ Some lemma → HoldsUnder lemma.literals (meaning lemma.start)
-    AreTrue-at [] number lemma are_true at = absurd (cc)
-    AreTrue-at (x ∷ known) zero lemma are_true at =
-        let same : x ≡ lemma = cc in
-        subst (λ (y : Learned S). HoldsUnder y.literals (meaning y.start)) same are_true.0
-    AreTrue-at (x ∷ known) (suc number) lemma are_true at = AreTrue-at known number lemma are_true.1 at
+        (known : List (Learned S W)) (p : MarkedPlan S W) (ls : List Lit) → StandsFor meaning (start_of p) (unmarked p)
+        → AreTrue meaning known → HoldsUnder ls (unmarked p) → AreTrue meaning (with_lemma known p ls)
+    AreTrue-with_lemma [] p ls stands are_true holds = ((stands, holds), tt)
+    AreTrue-with_lemma (x ∷ known) p ls stands are_true holds =
+        (are_true.0, AreTrue-with_lemma known p ls stands are_true.1 holds)
 
     -- a lemma that serves at a start shows the plan there
     HoldsUnder-following :
-        (lemma : Learned S) (here : S) (w : List Lit) (cycles : List (List ℕ)) (conditions : Option (List Lit))
-        → compare lemma.start here ≡ conditions → HoldsUnder lemma.literals (meaning lemma.start)
-        → FollowsUnder conditions lemma.literals w cycles → HoldsUnder w (meaning here)
-    HoldsUnder-following lemma here w cycles None compared holds follows v met = absurd follows
-    HoldsUnder-following lemma here w cycles (Some es) compared holds follows v met =
-        let all = AreMet-parts v lemma.literals es (AreMet-following v w (lemma.literals ++ es) cycles met follows) in
-        sym (lawful lemma.start here es v compared all.1) ∙ holds v all.0
+        (s start : Option S) (q p : Plan W) (ls w : List Lit) (cycles : List (List ℕ)) → StandsFor meaning s q
+        → HoldsUnder ls q → StandsFor meaning start p → FollowsUnder (conditions_between compare s start) ls w cycles
+        → HoldsUnder w p
+    HoldsUnder-following None start q p ls w cycles stands_there holds stands follows = absurd follows
+    HoldsUnder-following (Some s) None q p ls w cycles stands_there holds stands follows = absurd follows
+    HoldsUnder-following (Some s) (Some here) q p ls w cycles stands_there holds stands follows =
+        under (compare s here) refl follows
+      where
+        under : (conditions : Option (List Lit)) → compare s here ≡ conditions → FollowsUnder conditions ls w cycles → HoldsUnder w p
+        under None compared none v met = absurd none
+        under (Some es) compared follows_there v met =
+            let all = AreMet-parts v ls es (AreMet-following v w (ls ++ es) cycles met follows_there) in
+            ap (λ (x : Plan W). value x v) stands ∙ sym (lawful s here es v compared all.1)
+            ∙ ap (λ (x : Plan W). value x v) (sym stands_there) ∙ holds v all.0
 
+    -- a lemma that is known is true
     HoldsUnder-serving :
-        (known : List (Learned S)) (number : ℕ) (found : Option (Learned S)) (start : Option S) (p : Plan W)
-        (w : List Lit) (cycles : List (List ℕ)) → slice_get known number ≡ found → StandsFor meaning start p
-        → AreTrue meaning known → Serves compare found start w cycles → HoldsUnder w p
-    HoldsUnder-serving known number None start p w cycles at stands are_true serves = absurd serves
-    HoldsUnder-serving known number (Some lemma) None p w cycles at stands are_true serves = absurd serves
-    HoldsUnder-serving known number (Some lemma) (Some here) p w cycles at stands are_true serves =
-        subst (λ (q : Plan W). HoldsUnder w q) (sym stands)
-        (HoldsUnder-following lemma here w cycles (compare lemma.start here) refl
-        (AreTrue-at known number lemma are_true at) serves)
+        (known : List (Learned S W)) (number : ℕ) (start : Option S) (p : Plan W) (w : List Lit) (cycles : List (List ℕ))
+        → StandsFor meaning start p → AreTrue meaning known → Serves compare (slice_get known number) start w cycles
+        → HoldsUnder w p
+    HoldsUnder-serving [] number start p w cycles stands are_true serves = absurd serves
+    HoldsUnder-serving (x ∷ known) zero start p w cycles stands are_true serves =
+        HoldsUnder-following (start_of x.plan) start (unmarked x.plan) p x.literals w cycles are_true.0.0 are_true.0.1 stands serves
+    HoldsUnder-serving (x ∷ known) (suc number) start p w cycles stands are_true serves =
+        HoldsUnder-serving known number start p w cycles stands are_true.1 serves
 
     -- a question holds where both its parts do
     HoldsUnder-question :
@@ -97,7 +89,7 @@ module _
 
     -- both parts of the claim, part by part of the tree: each part may use the lemmas of those before it
     pub shown_plan_holds :
-        (t : ProofTree) (p : MarkedPlan S W) (w : List Lit) (known : List (Learned S))
+        (t : ProofTree) (p : MarkedPlan S W) (w : List Lit) (known : List (Learned S W))
         → IsMarkedBy meaning p → AreTrue meaning known → Shows compare t p w known
         → AreTrue meaning (learned t p known) × HoldsUnder w (unmarked p)
     shown_plan_holds (Question t u) (Ask start l on_yes on_no) w known marked are_true shows =
@@ -113,11 +105,9 @@ module _
         (are_true, λ v met. absurd (never_met v w picks shows.2 met))
     shown_plan_holds (Lemma ls t u) p w known marked are_true shows =
         let first = shown_plan_holds t p ls known marked are_true shows.1 in
-        shown_plan_holds u p w (with_lemma (learned t p known) (start_of p) ls) marked
-        (AreTrue-with_lemma (learned t p known) (start_of p) ls (unmarked p) (StandsFor-start_of p marked) first.0 first.1)
-        shows.2
+        shown_plan_holds u p w (with_lemma (learned t p known) p ls) marked
+        (AreTrue-with_lemma (learned t p known) p ls (StandsFor-start_of p marked) first.0 first.1) shows.2
     shown_plan_holds (Citation number cycles) p w known marked are_true shows = (
       are_true,
-      HoldsUnder-serving known number (slice_get known number) (start_of p) (unmarked p) w cycles refl
-          (StandsFor-start_of p marked) are_true shows,
+      HoldsUnder-serving known number (start_of p) (unmarked p) w cycles (StandsFor-start_of p marked) are_true shows,
     )

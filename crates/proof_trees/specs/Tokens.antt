@@ -1,5 +1,5 @@
 -- The tokens of proof trees, and what is still wanted of them.
-use Rattle.std.specs.Prelude.{◌≡◌, ℕ, ◌≤◌, ⊤, List, [], ◌∷◌, ◌++◌, length, false, Option}
+use Rattle.std.specs.Prelude.{◌≡◌, ℕ, ◌≤◌, ⊤, List, [], ◌∷◌, ◌++◌, length, false}
 use Rattle.diff_graph.specs.declared.lit.Lit.{Lit}
 use Rattle.ask_core.specs.declared.picks.TheConstants.{MAX_PICKS}
 use Rattle.ask_core.specs.Trees.{IsCycleAmong, with_answer}
@@ -27,7 +27,7 @@ tokens_of (Citation number cycles) = token.Cite number ∷ cycle_tokens cycles
 pub data Wanted (S W : Type 0) : Type 0 where
   Tree : MarkedPlan S W → List Lit → Wanted S W
   Cycle : List Lit → Wanted S W
-  Learn : Option S → List Lit → Wanted S W
+  Learn : MarkedPlan S W → List Lit → Wanted S W
 
 -- a cycle for each literal, which follows from the list then
 abbrev pub wanted_cycles : {S W : Type 0} → List Lit → List Lit → List (Wanted S W)
@@ -35,7 +35,7 @@ wanted_cycles w [] = []
 wanted_cycles w (l ∷ ls) = Cycle (with_answer w l false) ∷ wanted_cycles w ls
 
 -- the tokens are, in order, what is wanted, and nothing else, given the lemmas that are known
-abbrev pub Completes : {S W : Type 0} → Comparison S → List ProofTok → List (Wanted S W) → List (Learned S) → Type 0
+abbrev pub Completes : {S W : Type 0} → Comparison S → List ProofTok → List (Wanted S W) → List (Learned S W) → Type 0
 Completes compare tokens [] known = tokens ≡ []
 Completes compare tokens (Tree p w ∷ wanted) known =
     (t : ProofTree) × (rest : List ProofTok) × Shows compare t p w known × (tokens ≡ tokens_of t ++ rest)
@@ -43,7 +43,7 @@ Completes compare tokens (Tree p w ∷ wanted) known =
 Completes compare tokens (Cycle w ∷ wanted) known =
     (picks : List ℕ) × (rest : List ProofTok) × IsCycleAmong w picks × (tokens ≡ token.Cycle picks ∷ rest)
     × Completes compare rest wanted known
-Completes compare tokens (Learn start ls ∷ wanted) known = Completes compare tokens wanted (with_lemma known start ls)
+Completes compare tokens (Learn p ls ∷ wanted) known = Completes compare tokens wanted (with_lemma known p ls)
 
 -- a token has no more numbers and literals than it may have. Their types see to it
 abbrev pub HasFew : ProofTok → Type 0

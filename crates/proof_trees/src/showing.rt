@@ -18,11 +18,11 @@ pub fn shown_plans_hold<S: Copy, W: Copy>()
 
     // The same at any place of a plan, whatever is known there.
     ensures from_a_place { (compare : Comparison S) (meaning : S → Plan W) (t : ProofTree) (p : MarkedPlan S W)
-        (w : List Lit) (known : List (Learned S))
+        (w : List Lit) (known : List (Learned S W))
         → IsLawful compare meaning → IsMarkedBy meaning p → AreTrue meaning known → Shows compare t p w known
         → HoldsUnder w (unmarked p) }
     ensures lemmas { (compare : Comparison S) (meaning : S → Plan W) (t : ProofTree) (p : MarkedPlan S W)
-        (w : List Lit) (known : List (Learned S))
+        (w : List Lit) (known : List (Learned S W))
         → IsLawful compare meaning → IsMarkedBy meaning p → AreTrue meaning known → Shows compare t p w known
         → AreTrue meaning (learned t p known) }
 {
