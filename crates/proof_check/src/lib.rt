@@ -2,7 +2,9 @@
 #![tactic(auto)]
 
 mod laws;
+mod places;
 mod verdict;
 
 pub use laws::{completed_plans_hold, proof_tokens_are_taken_one_by_one};
+pub use places::Places;
 pub use verdict::ProofError;

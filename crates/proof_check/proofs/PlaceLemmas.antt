@@ -1,0 +1,263 @@
+-- The places of a proof after each change of its path.
+use Rattle.std.proofs.Common.{get_or, ◌≡◌, ℕ, ◌+◌, ◌<◌, ◌≤◌, List, [], ◌∷◌, ◌++◌, length, take, drop, map, reverse, Option, Some, None, Bool, true, false, arith, refl, sym, ◌∙◌, ap, subst, append_assoc, zero, suc}
+use Rattle.std.specs.Prelude.{if◌then◌else◌, slice_get}
+use Rattle.std.proofs.lemmas.List.{reverse-append, map-append, take-take, take-append-le, take_at, drop-append-le, drop-take, length-append, length-take-le, drop_at}
+use Rattle.std.proofs.Math.Seq.{take-length}
+use Rattle.std.proofs.lemmas.Option.{slice_get_read}
+use Rattle.diff_graph.specs.declared.lit.Lit.{Lit}
+use Rattle.diff_graph.specs.Literals.{answered_of}
+use Rattle.proof_check.specs.declared.places.At.{At}
+use Rattle.proof_check.specs.declared.places.At.TheVariants as at
+use Rattle.proof_check.specs.declared.places.Known.{Known}
+use Rattle.proof_check.specs.declared.places.Waiting.{Waiting}
+use Rattle.proof_check.specs.declared.places.Waiting.TheVariants as waiting
+use Rattle.proof_check.specs.Parts.{cycle_part}
+use Rattle.proof_check.specs.Places.{WantedAt, Tree, OpenProof, first_list, settled_at, closed, asked, begun, cited, cycles_at, literals_at, place_at, behind, IsNested, open_proof, IsOpenPath}
+
+-- a last element is the first from behind
+reverse-push : {X : Type 0} (xs : List X) (x : X) → reverse (xs ++ x ∷ []) ≡ x ∷ reverse xs
+reverse-push xs x = reverse-append xs (x ∷ [])
+
+module _ {N : Type 0} where
+  -- a higher limit is kept too
+  pub IsNested-more :
+      (base low high : ℕ) (parts : List (Waiting N)) → low ≤ high → IsNested base low parts → IsNested base high parts
+  IsNested-more base low high [] less nested = tt
+  IsNested-more base low high (waiting.Place place depth answer ∷ parts) less nested =
+      (nested.0, omega (arith, nested.1), nested.2)
+  IsNested-more base low high (waiting.Lemma n below count ∷ parts) less nested =
+      (nested.0, omega (arith, nested.1), nested.2)
+
+  -- parts that wait see the shared literals alone
+  behind-same :
+      (base limit : ℕ) (u w : List Lit) (parts : List (Waiting N)) → ((k : ℕ) → k ≤ limit → take k u ≡ take k w)
+      → IsNested base limit parts → behind base u parts ≡ behind base w parts
+  behind-same base limit u w [] same nested = refl
+  behind-same base limit u w (waiting.Place place depth answer ∷ parts) same nested =
+      let here : take depth u ≡ take depth w = same depth nested.1 in
+      let later : behind base u parts ≡ behind base w parts =
+      behind-same base depth u w parts (λ k below. same k (omega (arith, nested.1))) nested.2 in
+      rw (here, later) refl
+  behind-same base limit u w (waiting.Lemma n below count ∷ parts) same nested =
+      let whole : take (base + count) u ≡ take (base + count) w = same (base + count) nested.1 in
+      let literals : take count (drop base u) ≡ take count (drop base w) =
+      sym (drop-take base count u) ∙ ap (λ (x : List Lit). drop base x) whole ∙ drop-take base count w in
+      let list : take base u ≡ take base w = same base (omega (arith, nested.1)) in
+      let later : behind below u parts ≡ behind below w parts =
+      behind-same below base u w parts (λ k less. same k (omega (arith, nested.1))) nested.2 in
+      rw (literals, list, later) refl
+
+  literals_found :
+      (known : List (Known N)) (number : ℕ) (k : Known N) → slice_get known number ≡ Some k
+      → k.literals ≡ literals_at known number
+  literals_found [] number k found = absurd (cc)
+  literals_found (x ∷ known) zero k found = let same : x ≡ k = cc in ap (λ (y : Known N). y.literals) (sym same)
+  literals_found (x ∷ known) (suc number) k found = literals_found known number k found
+
+  first_list-place_at : (place : At N) (w : List Lit) (wanted : List (WantedAt N)) → first_list (place_at place w ∷ wanted) ≡ w
+  first_list-place_at (at.Tree n) w wanted = refl
+  first_list-place_at at.Cycle w wanted = refl
+
+  settled_at-place_at :
+      (known : List (Known N)) (place : At N) (w : List Lit) (wanted : List (WantedAt N))
+      → settled_at known (place_at place w ∷ wanted) ≡ record { known = known; wanted = place_at place w ∷ wanted }
+  settled_at-place_at known (at.Tree n) w wanted = refl
+  settled_at-place_at known at.Cycle w wanted = refl
+
+  -- one literal more
+  pub longer_path :
+      (base : ℕ) (list u : List Lit) (l : Lit) (parts : List (Waiting N)) → IsOpenPath base list parts
+      → u ≡ list ++ l ∷ [] → IsOpenPath base u parts
+  longer_path base list u l parts path longer =
+      let more : length u ≡ length list + 1 = rw (longer, length-append) refl in
+      record {
+        within = omega (arith, more, path.within);
+        nested = IsNested-more base (length list) (length u) (reverse parts) (omega (arith, more)) path.nested;
+      }
+
+  pub longer_path_if :
+      (b : Bool) (base : ℕ) (list u : List Lit) (l : Lit) (parts : List (Waiting N)) → IsOpenPath base list parts
+      → u ≡ (if b then list ++ l ∷ [] else list) → IsOpenPath base u parts
+  longer_path_if true base list u l parts path same = longer_path base list u l parts path same
+  longer_path_if false base list u l parts path same = subst (λ (x : List Lit). IsOpenPath base x parts) (sym same) path
+
+  -- the innermost part that waits is taken out
+  pub shorter_path :
+      (base : ℕ) (list : List Lit) (parts rest : List (Waiting N)) (place : At N) (depth : ℕ) (answer : Lit)
+      → IsOpenPath base list parts → parts ≡ rest ++ waiting.Place place depth answer ∷ []
+      → IsOpenPath base (take depth list) rest
+  shorter_path base list parts rest place depth answer path same =
+      let nested = rw (same, reverse-push) at path.nested in
+      let long : length (take depth list) ≡ depth = length-take-le depth list nested.1 in
+      record {
+        within = omega (arith, long, nested.0);
+        nested = IsNested-more base depth (length (take depth list)) (reverse rest) (omega (arith, long)) nested.2;
+      }
+
+  pub outer_path :
+      (base : ℕ) (list : List Lit) (parts rest : List (Waiting N)) (n : N) (below count : ℕ)
+      → IsOpenPath base list parts → parts ≡ rest ++ waiting.Lemma n below count ∷ []
+      → IsOpenPath below (take base list) rest
+  outer_path base list parts rest n below count path same =
+      let nested = rw (same, reverse-push) at path.nested in
+      let long : length (take base list) ≡ base = length-take-le base list (omega (arith, nested.1)) in
+      record {
+        within = omega (arith, long, nested.0);
+        nested = IsNested-more below base (length (take base list)) (reverse rest) (omega (arith, long)) nested.2;
+      }
+
+  -- a lemma's literals more, and its place waits
+  pub lemma_path :
+      (base : ℕ) (list u : List Lit) (ls : List Lit) (parts later : List (Waiting N)) (n : N) → IsOpenPath base list parts
+      → u ≡ list ++ ls → later ≡ parts ++ waiting.Lemma n base (length ls) ∷ [] → IsOpenPath (length list) u later
+  lemma_path base list u ls parts later n path longer deeper =
+      let more : length u ≡ length list + length ls = rw (longer, length-append) refl in
+      record {
+        within = omega (arith, more);
+        nested = rw (deeper, reverse-push) (path.within, omega (arith, more), path.nested);
+      }
+
+  pub appended_path :
+      (base : ℕ) (list u : List Lit) (ls : List Lit) (parts : List (Waiting N)) → IsOpenPath base list parts
+      → u ≡ list ++ ls → IsOpenPath base u parts
+  appended_path base list u ls parts path longer =
+      let more : length u ≡ length list + length ls = rw (longer, length-append) refl in
+      record {
+        within = omega (arith, more, path.within);
+        nested = IsNested-more base (length list) (length u) (reverse parts) (omega (arith, more)) path.nested;
+      }
+
+  pub begun_places :
+      (known : List (Known N)) (current : Option (At N)) (base : ℕ) (list u ls : List Lit) (parts later : List (Waiting N))
+      (n : N) (p : OpenProof N)
+      → open_proof known current base list parts ≡ p → 0 < length p.wanted → IsOpenPath base list parts
+      → u ≡ list ++ ls → later ≡ parts ++ waiting.Lemma n base (length ls) ∷ []
+      → record { known = known; wanted = Tree n (drop (length list) u) ∷ behind (length list) u (reverse later) } ≡ begun n ls p
+  begun_places known None base list u ls parts later n p shown opened path longer deeper =
+      absurd (omega (arith, opened, ap (λ (x : OpenProof N). length x.wanted) shown))
+  begun_places known (Some place) base list u ls parts later n p shown opened path longer deeper =
+      let own : drop (length list) (list ++ ls) ≡ ls = drop_at list ls (length list) refl in
+      let whole : take (length ls) ls ≡ ls = take-length ls in
+      let full : take (length list) (list ++ ls) ≡ list = take_at list ls (length list) refl in
+      let others : behind base (list ++ ls) (reverse parts) ≡ behind base list (reverse parts) =
+      behind-same base (length list) (list ++ ls) list (reverse parts) (λ k below. take-append-le k list ls below) path.nested in
+      rw (longer, deeper, ← shown, reverse-push, own, whole, full, others, first_list-place_at) refl
+
+  -- a question puts the part for yes first and the part for no second
+  pub asked_places :
+      (known : List (Known N)) (current : Option (At N)) (base : ℕ) (list u : List Lit) (parts later : List (Waiting N))
+      (l : Lit) (on_yes on_no : N) (p : OpenProof N)
+      → open_proof known current base list parts ≡ p → 0 < length p.wanted → IsOpenPath base list parts
+      → u ≡ list ++ answered_of l true ∷ []
+      → later ≡ parts ++ waiting.Place (at.Tree on_no) (length list) (answered_of l false) ∷ []
+      → record { known = known; wanted = Tree on_yes (drop base u) ∷ behind base u (reverse later) } ≡ asked l on_yes on_no p
+  asked_places known None base list u parts later l on_yes on_no p shown opened path longer deeper =
+      absurd (omega (arith, opened, ap (λ (x : OpenProof N). length x.wanted) shown))
+  asked_places known (Some place) base list u parts later l on_yes on_no p shown opened path longer deeper =
+      let here : drop base (list ++ answered_of l true ∷ []) ≡ drop base list ++ answered_of l true ∷ [] =
+      drop-append-le base list (answered_of l true ∷ []) path.within in
+      let full : take (length list) (list ++ answered_of l true ∷ []) ≡ list = take_at list (answered_of l true ∷ []) (length list) refl in
+      let others : behind base (list ++ answered_of l true ∷ []) (reverse parts) ≡ behind base list (reverse parts) =
+      behind-same base (length list) (list ++ answered_of l true ∷ []) list (reverse parts)
+      (λ k below. take-append-le k list (answered_of l true ∷ []) below ∙ refl) path.nested in
+      rw (longer, deeper, ← shown, reverse-push, here, full, others, first_list-place_at) refl
+
+  -- the innermost part that waits is next
+  pub closed_places :
+      (known : List (Known N)) (current : Option (At N)) (base : ℕ) (list u : List Lit) (parts rest : List (Waiting N))
+      (place : At N) (depth : ℕ) (answer : Lit) (p : OpenProof N)
+      → open_proof known current base list parts ≡ p → 0 < length p.wanted → IsOpenPath base list parts
+      → parts ≡ rest ++ waiting.Place place depth answer ∷ [] → u ≡ take depth list ++ answer ∷ []
+      → record { known = known; wanted = place_at place (drop base u) ∷ behind base u (reverse rest) } ≡ closed p
+  closed_places known None base list u parts rest place depth answer p shown opened path same next =
+      absurd (omega (arith, opened, ap (λ (x : OpenProof N). length x.wanted) shown))
+  closed_places known (Some first) base list u parts rest place depth answer p shown opened path same next =
+      let nested = rw (same, reverse-push) at path.nested in
+      let long : length (take depth list) ≡ depth = length-take-le depth list nested.1 in
+      let here : drop base (take depth list ++ answer ∷ []) ≡ drop base (take depth list) ++ answer ∷ [] =
+      drop-append-le base (take depth list) (answer ∷ []) (omega (arith, long, nested.0)) in
+      let others : behind base (take depth list ++ answer ∷ []) (reverse rest) ≡ behind base list (reverse rest) =
+      behind-same base depth (take depth list ++ answer ∷ []) list (reverse rest)
+      (λ k below. take-append-le k (take depth list) (answer ∷ []) (omega (arith, long)) ∙ take-take k depth list below) nested.2 in
+      rw (next, ← shown, same, reverse-push, here, others, settled_at-place_at) refl
+
+  -- a lemma whose tree has ended is known, and its place is next
+  pub learned_places :
+      (known later : List (Known N)) (current : Option (At N)) (base : ℕ) (list u : List Lit) (parts rest : List (Waiting N))
+      (n : N) (below count : ℕ) (p : OpenProof N)
+      → open_proof known current base list parts ≡ p → 0 < length p.wanted → IsOpenPath base list parts
+      → parts ≡ rest ++ waiting.Lemma n below count ∷ [] → u ≡ take base list
+      → later ≡ known ++ record { node = n; literals = take count (drop base list) } ∷ []
+      → record { known = later; wanted = Tree n (drop below u) ∷ behind below u (reverse rest) } ≡ closed p
+  learned_places known later None base list u parts rest n below count p shown opened path same next more =
+      absurd (omega (arith, opened, ap (λ (x : OpenProof N). length x.wanted) shown))
+  learned_places known later (Some first) base list u parts rest n below count p shown opened path same next more =
+      let nested = rw (same, reverse-push) at path.nested in
+      let others : behind below (take base list) (reverse rest) ≡ behind below list (reverse rest) =
+      behind-same below base (take base list) list (reverse rest) (λ k less. take-take k base list less) nested.2 in
+      rw (next, more, ← shown, same, reverse-push, others) refl
+
+  -- parts that wait for cycles of the present list
+  cycle_parts_nested :
+      (base limit : ℕ) (ls : List Lit) (parts : List (Waiting N)) → base ≤ limit → IsNested base limit parts
+      → IsNested base limit (map (cycle_part limit) ls ++ parts)
+  cycle_parts_nested base limit [] parts within nested = nested
+  cycle_parts_nested base limit (l ∷ ls) parts within nested =
+      (within, omega arith, cycle_parts_nested base limit ls parts within nested)
+
+  cycle_parts_behind :
+      (base : ℕ) (list ls : List Lit) (parts : List (Waiting N))
+      → behind base list (map (cycle_part (length list)) ls ++ parts) ≡ cycles_at (drop base list) ls ++ behind base list parts
+  cycle_parts_behind base list [] parts = refl
+  cycle_parts_behind base list (l ∷ ls) parts =
+      let whole : take (length list) list ≡ list = take-length list in
+      rw (whole, cycle_parts_behind base list ls parts) refl
+
+  pub cycles_path :
+      (base : ℕ) (list ls : List Lit) (parts later : List (Waiting N)) → IsOpenPath base list parts
+      → reverse later ≡ map (cycle_part (length list)) ls ++ reverse parts → IsOpenPath base list later
+  cycles_path base list ls parts later path same =
+      record {
+        within = path.within;
+        nested = rw same (cycle_parts_nested base (length list) ls (reverse parts) path.within path.nested);
+      }
+
+  -- what is wanted where cycles for literals wait behind the first place
+  pub cycles_wait :
+      (known : List (Known N)) (current : Option (At N)) (base : ℕ) (list ls : List Lit) (parts later : List (Waiting N))
+      (p : OpenProof N)
+      → open_proof known current base list parts ≡ p → 0 < length p.wanted
+      → reverse later ≡ map (cycle_part (length list)) ls ++ reverse parts
+      → (0 < length (open_proof known current base list later).wanted)
+      × (closed (open_proof known current base list later) ≡ cited ls p)
+  cycles_wait known None base list ls parts later p shown opened same =
+      absurd (omega (arith, opened, ap (λ (x : OpenProof N). length x.wanted) shown))
+  cycles_wait known (Some place) base list ls parts later p shown opened same =
+      (omega arith, rw (← shown, same, cycle_parts_behind, first_list-place_at) refl)
+
+  -- the cycles of two lists wait behind one another
+  pub cycles_joined :
+      (depth : ℕ) (ls es : List Lit) (parts between later : List (Waiting N))
+      → reverse later ≡ map (cycle_part depth) ls ++ reverse between
+      → reverse between ≡ map (cycle_part depth) es ++ reverse parts
+      → reverse later ≡ map (cycle_part depth) (ls ++ es) ++ reverse parts
+  cycles_joined depth ls es parts between later second first =
+      rw (second, first, map-append, append_assoc) refl
+
+  -- the literals of a lemma that is known
+  known_places :
+      (known : List (Known N)) (current : Option (At N)) (base : ℕ) (list : List Lit) (parts : List (Waiting N))
+      → (open_proof known current base list parts).known ≡ known
+  known_places known None base list parts = refl
+  known_places known (Some place) base list parts = refl
+
+  pub literals_known :
+      (known : List (Known N)) (current : Option (At N)) (base : ℕ) (list : List Lit) (parts : List (Waiting N))
+      (p : OpenProof N) (number : ℕ) (k : Known N) → open_proof known current base list parts ≡ p
+      → number < length p.known → k ≡ get_or known number k → k.literals ≡ literals_at p.known number
+  literals_known known current base list parts p number k shown few read =
+      let same : known ≡ p.known = sym (known_places known current base list parts) ∙ ap (λ (x : OpenProof N). x.known) shown in
+      let less : number < length known = omega (arith, few, ap (λ (x : List (Known N)). length x) same) in
+      let found : k.literals ≡ literals_at known number =
+      literals_found known number k (slice_get_read known (length known) number k refl less read) in
+      subst (λ (x : List (Known N)). k.literals ≡ literals_at x number) same found

@@ -1,0 +1,11 @@
+use Rattle.std.proofs.Common.{◌≡◌, ◌≤◌, length, map, reverse, drop, ◌++◌}
+use Rattle.proof_check.specs.Parts.{cycle_part}
+use Rattle.proof_check.proofs.places.wait_for_cycles.Given as goal
+
+abbrev pub invariant-loop-left : goal.invariant-loop-left
+invariant-loop-left g l =
+    (l.left ≤ length l.literals)
+    × (reverse l.waiting.items ≡ map (cycle_part l.depth) (drop l.left l.literals) ++ reverse l.initial.waiting.items)
+
+abbrev pub decreases-loop-left : goal.decreases-loop-left
+decreases-loop-left g l = l.left
