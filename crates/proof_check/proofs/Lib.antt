@@ -1,3 +1,4 @@
 pub mod Completing
 pub mod PlaceLemmas
+pub mod Standings
 mod Examples

@@ -1,5 +1,5 @@
 -- What a token of a proof tree does to what is wanted and to the lemmas that are known.
-use Rattle.std.specs.Prelude.{length, List, [], ◌∷◌, ◌++◌, true, false, Result, Ok, Err, Option, Some, None, if◌then◌else◌, nat_lt, slice_get}
+use Rattle.std.specs.Prelude.{◌≡◌, length, List, [], ◌∷◌, ◌++◌, true, false, Result, Ok, Err, Option, Some, None, if◌then◌else◌, nat_lt, slice_get}
 use Rattle.diff_graph.specs.declared.lit.Lit.{Lit}
 use Rattle.diff_graph.specs.declared.lit.PickError.{PickError}
 use Rattle.diff_graph.specs.Cycles.{pick_verdict}
@@ -104,3 +104,7 @@ after compare tok known [] = Err (error.Tree check.NotAQuestion)
 after compare tok known (Tree p w ∷ wanted) = after_at_tree compare tok known p w wanted
 after compare tok known (Cycle w ∷ wanted) = after_at_cycle tok known w wanted
 after compare tok known (Learn p ls ∷ wanted) = after compare tok (with_lemma known p ls) wanted
+
+-- the token is taken and makes this of what was known and wanted
+abbrev pub IsTaken : {S W : Type 0} → Comparison S → ProofTok → Standing S W → Standing S W → Type 0
+IsTaken compare tok old new = after compare tok old.known old.wanted ≡ Ok new
