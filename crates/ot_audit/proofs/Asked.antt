@@ -1,5 +1,5 @@
 -- Goals about guards ask what the questions about operations ask, and the offsets of valid cases are small.
-use Rattle.std.proofs.Common.{◌≡◌, ℕ, ℤ, pos, Bool, true, false, ◌&&◌, nat_le, if◌then◌else◌, int_le, Option, Some, None, List, [], ◌∷◌, length, refl, ap, sym, subst, ◌∙◌, ◌⊎◌, inl, inr, arith}
+use Rattle.std.proofs.Common.{◌≡◌, ℕ, ℤ, pos, Bool, true, false, ◌&&◌, nat_le, if◌then◌else◌, Option, Some, None, List, [], ◌∷◌, length, refl, ap, ◌∙◌, arith}
 use Rattle.std.specs.Ordering.{int_eq}
 use Rattle.std.specs.List.{AllByRecursion, list_all}
 use Rattle.std.proofs.lemmas.Bool.{and_parts}
@@ -11,10 +11,9 @@ use Rattle.fn_rules.specs.declared.guard.Cmp.TheVariants as cmp
 use Rattle.fn_rules.specs.declared.guard.Sort.{Sort}
 use Rattle.fn_rules.specs.declared.guard.Sort.TheVariants.{Pos, Site, Char}
 use Rattle.fn_rules.specs.declared.guard.Tightness.TheVariants.{Loose}
-use Rattle.fn_rules.specs.declared.function.Head.{Head}
 use Rattle.fn_rules.specs.declared.function.Res.{Res}
 use Rattle.fn_rules.specs.declared.function.Res.TheVariants as results
-use Rattle.fn_rules.specs.declared.limits.TheConstants.{MAX_CASES, MAX_ATOMS, MAX_NESTING, MAX_OFFSET}
+use Rattle.fn_rules.specs.declared.limits.TheConstants.{MAX_CASES, MAX_ATOMS, MAX_NESTING}
 use Rattle.fn_rules.specs.Formulas.{Formula, Always, Compare, And, Or, Not}
 use Rattle.fn_rules.specs.Functions.{Function, GuardedCase}
 use Rattle.fn_rules.specs.Validity.{is_offset, is_offset_for, has_valid_atoms, atoms_of, nesting_of, is_valid_res, is_valid_case, are_valid_cases}

@@ -12,7 +12,6 @@ use Rattle.ot_model.specs.Operations.{kind_of, at_of, site_of, char_of}
 use Rattle.fn_rules.specs.Conditions.{IsFormOf}
 use Rattle.fn_rules.specs.Functions.{Function, GuardedCase, cases_of, is_declared_pair}
 use Rattle.fn_rules.specs.Transformation.{transform_of}
-use Rattle.ask_core.specs.Plans as plans
 use Rattle.ask_core.specs.Plans.{Plan, end_of}
 use Rattle.ot_questions.specs.declared.name.Who.TheVariants.{A, B}
 use Rattle.ot_questions.specs.declared.place.SymOp.{SymOp}
@@ -64,7 +63,7 @@ nop_or_not : (a form : Op) (k : Kind) → kind_of a ≡ Some k → kind_of form 
 nop_or_not a form k is moved e =
     let none : None ≡ Some k = sym (ap kind_of e) ∙ (moved ∙ is) in cc
 
-one_form :
+pub one_form :
     (a x y : Op) (k : Kind) → kind_of a ≡ Some k → IsFormOf a x → IsFormOf a y → (x ≡ y) ⊎ (x ≢ y)
 one_form a x y k is (inl gone) (inl other_gone) = inl (gone ∙ sym other_gone)
 one_form a x y k is (inl gone) (inr moved) = inr (λ e. nop_or_not a y k is moved.kind (sym e ∙ gone))
@@ -159,11 +158,11 @@ module _ (one : EndsOneForm) (h : Function) (v : ℕ → ℤ) (a : Op) (k : Kind
       ]
 
 -- what asking for a result comes to
-abbrev Comes : (ℕ → ℤ) → (Option SymOp → Plan Why) → Option Why → Option Op → Type 0
+abbrev pub Comes : (ℕ → ℤ) → (Option SymOp → Plan Why) → Option Why → Option Op → Type 0
 Comes v go end None = end ≡ end_of (go None) v
 Comes v go end (Some r) = (x : SymOp) × StandsFor v x r × (end ≡ end_of (go (Some x)) v)
 
-goes_to :
+pub goes_to :
     (v : ℕ → ℤ) (ask : (Option SymOp → Plan Why) → Plan Why) (go : Option SymOp → Plan Why) (o : Option Op)
     → GoesOnWith v ask o → Comes v go (end_of (ask go) v) o
 goes_to v ask go None goes = goes go

@@ -20,18 +20,18 @@ use Rattle.ot_questions.specs.declared.why.Why.{Why}
 use Rattle.ot_questions.specs.declared.why.Why.TheVariants.{Operations}
 use Rattle.ot_questions.specs.Instances.{StandsFor}
 use Rattle.ot_questions.specs.Names.{zero_name, position_name}
-use Rattle.ot_questions.specs.Places.{place, zero_place, integer_at, sym_op, sym_kind}
+use Rattle.ot_questions.specs.Places.{place, zero_place, integer_at, sym_op}
 use Rattle.ot_questions.specs.Questions.{ask_le, ask_guard, ask_allowed}
-use Rattle.ot_terms.specs.Goals.{GoalTree, Holds, Fails, If}
+use Rattle.ot_terms.specs.Goals.{GoalTree, Holds, If}
 use Rattle.ot_terms.specs.Placing.{guard_form}
 use Rattle.ot_terms.specs.Standing.{ask_form, ask_goal}
 use Rattle.ot_terms.specs.Starting.{if_allowed}
 use Rattle.ot_audit.specs.declared.target.Target.{Target}
 use Rattle.ot_audit.specs.declared.target.Target.TheVariants.{Case, Open}
 use Rattle.ot_audit.specs.Goals.{found, if_there, if_meant, unless_true, at_own, at_target, target_goal}
-use Rattle.ot_audit.specs.Reached.{AreMeant, AreFalse, IsTrueOf, IsTaken, IsReachedIn}
+use Rattle.ot_audit.specs.Reached.{AreMeant, AreFalse, IsTrueOf, IsReachedIn}
 use Rattle.ot_audit.specs.Searches.{NamesTwo, Reaches}
-use Rattle.ot_audit.proofs.Meant.{Posed, posed_where_meant, meant_where_posed}
+use Rattle.ot_audit.proofs.Meant.{posed_where_meant, meant_where_posed}
 
 -- what the laws of questions and terms say
 abbrev pub EndsAtMost : Type 0
@@ -59,7 +59,7 @@ abbrev pub TestsAllowed : Type 0
 TestsAllowed = (f : Function) (a b : Op) → ((is_allowed f a b ≡ true) → IsAllowed f a b) × (IsAllowed f a b → (is_allowed f a b ≡ true))
 
 -- a cause comes by the way that ends in it
-some_passed : {X : Type 0} (b : Bool) (o : Option X) (x : X) → (if b then o else None) ≡ Some x → (b ≡ true) × (o ≡ Some x)
+pub some_passed : {X : Type 0} (b : Bool) (o : Option X) (x : X) → (if b then o else None) ≡ Some x → (b ≡ true) × (o ≡ Some x)
 some_passed true o x e = (refl, e)
 some_passed false o x e = absurd (cc)
 
@@ -67,7 +67,7 @@ some_stopped : {X : Type 0} (b : Bool) (o : Option X) (x : X) → (if b then Non
 some_stopped true o x e = absurd (cc)
 some_stopped false o x e = (refl, e)
 
-by_true : {X : Type 0} (b : Bool) (x y : X) → b ≡ true → (if b then x else y) ≡ x
+pub by_true : {X : Type 0} (b : Bool) (x y : X) → b ≡ true → (if b then x else y) ≡ x
 by_true true x y e = refl
 by_true false x y e = absurd (cc)
 
@@ -75,10 +75,10 @@ by_false : {X : Type 0} (b : Bool) (x y : X) → b ≡ false → (if b then x el
 by_false true x y e = absurd (cc)
 by_false false x y e = refl
 
-le_true : (x y : ℤ) → int_le x y ≡ true → x ≤ℤ y
+pub le_true : (x y : ℤ) → int_le x y ≡ true → x ≤ℤ y
 le_true x y e = grind (arith, ints)
 
-true_le : (x y : ℤ) → x ≤ℤ y → int_le x y ≡ true
+pub true_le : (x y : ℤ) → x ≤ℤ y → int_le x y ≡ true
 true_le x y h = grind (arith, ints)
 
 -- names stand for an operation of their kind, at its position
@@ -90,7 +90,7 @@ kind_named v kinds.Upd who a stands = sym stands.kind
 without_offset : (x y : ℤ) → (x +ℤ pos 0) ≡ y → x ≡ y
 without_offset x y e = omega (arith, ints)
 
-at_named : (v : ℕ → ℤ) (k : Kind) (who : Who) (a : Op) → StandsFor v (sym_op k who) a → v (position_name who) ≡ at_of a
+pub at_named : (v : ℕ → ℤ) (k : Kind) (who : Who) (a : Op) → StandsFor v (sym_op k who) a → v (position_name who) ≡ at_of a
 at_named v kinds.Ins who a stands = without_offset (v (position_name who)) (at_of a) stands.at
 at_named v kinds.Del who a stands = without_offset (v (position_name who)) (at_of a) stands.at
 at_named v kinds.Upd who a stands = without_offset (v (position_name who)) (at_of a) stands.at

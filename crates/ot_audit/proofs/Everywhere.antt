@@ -17,7 +17,7 @@ use Rattle.ot_audit.specs.Audits.{AreCompared, GoesOn, IsComparedAs}
 use Rattle.ot_audit.specs.Reached.{Agree, AreMeant}
 
 -- what holds of all that a test keeps holds of all that passes it
-of_kept :
+pub of_kept :
     {X : Type 0} (p : X → Bool) (P : X → Type 0) (xs : List X) → AllByRecursion P (filter p xs)
     → AllByRecursion (λ x. p x ≡ true → P x) xs
 of_kept p P [] all = tt

@@ -1,5 +1,5 @@
 -- What guards reach, computed on small functions.
-use Rattle.std.proofs.Common.{◌≡◌, ℤ, pos, negsuc, ℕ, Some, refl}
+use Rattle.std.proofs.Common.{◌≡◌, ℤ, pos, negsuc, Some, refl}
 use Rattle.ot_model.specs.declared.op.Kind.TheVariants as kinds
 use Rattle.ot_model.specs.declared.op.Op.{Op}
 use Rattle.ot_model.specs.declared.op.Op.TheVariants.{Ins, Del}

@@ -32,7 +32,7 @@ use Rattle.ot_questions.specs.Nears.{IsNear}
 use Rattle.ot_questions.specs.Obligation.{ask_same_form}
 use Rattle.ot_questions.specs.Places.{place, zero_place, sym_op, sym_kind}
 use Rattle.ot_questions.specs.Questions.{ask_le, ask_guard, ask_result, ask_allowed}
-use Rattle.ot_terms.specs.Goals.{GoalTree, Holds, Fails, If}
+use Rattle.ot_terms.specs.Goals.{GoalTree, Holds, If}
 use Rattle.ot_terms.specs.Placing.{guard_form}
 use Rattle.ot_terms.specs.Standing.{ask_form, ask_goal}
 use Rattle.ot_terms.specs.Starting.{if_allowed}
@@ -147,16 +147,16 @@ module _ (valid_cases : ValidCases) where
       let nine = nine_pairs in
       omega arith
 
-longer_kept : (m n : ℕ) (p : Plan Why) → m ≤ n → IsKept 9 m p → IsKept 9 n p
+pub longer_kept : (m n : ℕ) (p : Plan Why) → m ≤ n → IsKept 9 m p → IsKept 9 n p
 longer_kept m n p more kept = let short = kept.short in record { asked = kept.asked; short = omega arith }
 
-holds_kept : (m : ℕ) → IsKept 9 m plans.Holds
+pub holds_kept : (m : ℕ) → IsKept 9 m plans.Holds
 holds_kept m = record { asked = tt; short = omega arith }
 
-fails_kept : (m : ℕ) (why : Why) → IsKept 9 m (plans.Fails why)
+pub fails_kept : (m : ℕ) (why : Why) → IsKept 9 m (plans.Fails why)
 fails_kept m why = record { asked = tt; short = omega arith }
 
-kind_of_named : (k : Kind) (who : Who) → sym_kind (sym_op k who) ≡ Some k
+pub kind_of_named : (k : Kind) (who : Who) → sym_kind (sym_op k who) ≡ Some k
 kind_of_named kinds.Ins who = refl
 kind_of_named kinds.Del who = refl
 kind_of_named kinds.Upd who = refl
@@ -168,7 +168,7 @@ stands_wider :
     → Stands (IsBelow 9) n sort p
 stands_wider m n sort p wider h = record { is = h.is; free = h.free; steady = h.steady; near = wider p.off h.near }
 
-op_wider :
+pub op_wider :
     (m n : ℕ) (o : SymOp) → ((off : ℤ) → IsNear m off → IsNear n off) → OpStands (IsBelow 9) m o → OpStands (IsBelow 9) n o
 op_wider m n o wider h = record {
   at = stands_wider m n Pos _ wider h.at;
@@ -179,10 +179,10 @@ op_wider m n o wider h = record {
 wider_0_200 : (off : ℤ) → IsNear 0 off → IsNear 200 off
 wider_0_200 off near = record { low = omega (arith, ints, near.low); high = omega (arith, ints, near.high) }
 
-wider_99_500 : (off : ℤ) → IsNear 99 off → IsNear 500 off
+pub wider_99_500 : (off : ℤ) → IsNear 99 off → IsNear 500 off
 wider_99_500 off near = record { low = omega (arith, ints, near.low); high = omega (arith, ints, near.high) }
 
-near_zero : IsNear 500 (pos 0)
+pub near_zero : IsNear 500 (pos 0)
 near_zero = record { low = omega (arith, ints); high = omega (arith, ints) }
 
 module _ (named : StandsNamed) (comparison : KeepsComparison) (guard : KeepsGuard) (allowed : KeepsAllowed) (asks_guard : AsksGuard) (asks_allowed : AsksAllowed)

@@ -11,5 +11,6 @@ pub mod CasesSoFar
 pub mod Near
 pub mod Wanted
 pub mod One
+pub mod Seeking
 pub mod Everywhere
 mod Examples

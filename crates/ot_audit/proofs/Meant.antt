@@ -1,5 +1,5 @@
 -- Which operations are meant: those whose positions are not negative, since some document is long enough.
-use Rattle.std.proofs.Common.{◌≡◌, ℕ, ◌+◌, ℤ, pos, negsuc, ◌≤ℤ◌, ◌≤◌, Bool, true, ◌&&◌, Option, Some, List, [], ◌∷◌, length, refl, sym, subst, ap, ◌∙◌, arith}
+use Rattle.std.proofs.Common.{◌≡◌, ℕ, ◌+◌, ℤ, pos, negsuc, ◌≤ℤ◌, ◌≤◌, true, Some, length, sym, subst, arith}
 use Rattle.std.specs.Prelude.{◌<ℤ◌, unsigned_abs, replicate}
 use Rattle.std.proofs.lemmas.Bool.{and_parts}
 use Rattle.std.proofs.lemmas.Int.{ints}

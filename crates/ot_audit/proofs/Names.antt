@@ -122,14 +122,14 @@ module _ (Q : Place → Type 0) (at_zero : Serves Q zero_place) where
     atom_places atom First near = compared_places atom.cmp (sym_thing atom.sort a) (plus (sym_thing atom.sort b) atom.k) (ha atom.sort).0 ((hb atom.sort).1 atom.k near)
     atom_places atom Second near = compared_places atom.cmp (sym_thing atom.sort b) (plus (sym_thing atom.sort a) atom.k) (hb atom.sort).0 ((ha atom.sort).1 atom.k near)
 
-    guard_places : (g : Formula) → HasNearAtoms g → PlacesOf Q (guard_form g a b)
+    pub guard_places : (g : Formula) → HasNearAtoms g → PlacesOf Q (guard_form g a b)
     guard_places guards.Always near = tt
     guard_places (guards.Compare atom) near = atom_places atom atom.left near
     guard_places (guards.And g h) near = (guard_places g near.0, guard_places h near.1)
     guard_places (guards.Or g h) near = (guard_places g near.0, guard_places h near.1)
     guard_places (guards.Not g) near = guard_places g near
 
-    result_by : (res : Res) → IsNear 99 (offset_of res) → Q (sym_at (sym_result res a b))
+    pub result_by : (res : Res) → IsNear 99 (offset_of res) → Q (sym_at (sym_result res a b))
     result_by (results.Keep First k) near = placed_at a (plus (sym_at a) k) ((ha Pos).1 k near)
     result_by (results.Keep Second k) near = placed_at a (plus (sym_at b) k) ((hb Pos).1 k near)
     result_by results.Nop near = at_zero.0
@@ -152,7 +152,7 @@ module _ (Q : Place → Type 0) (at_zero : Serves Q zero_place) where
     assumed_of true x y next hx hy h = differ_of x y next hx hy h
     assumed_of false x y next hx hy h = h
 
-    allowed_of : (head : Head) (next : GoalTree) → GoalOf Q next → GoalOf Q (if_allowed head a b next)
+    pub allowed_of : (head : Head) (next : GoalTree) → GoalOf Q next → GoalOf Q (if_allowed head a b next)
     allowed_of head next h =
         assumed_of head.sites_differ (sym_site a) (sym_site b) (if_assumed head.chars_differ (sym_char a) (sym_char b) next)
         (ha Site).0 (hb Site).0
@@ -178,14 +178,14 @@ module _ (Q : Place → Type 0) (at_zero : Serves Q zero_place) where
     target_of cs Open near = unless_true_of cs found near tt
 
     -- goes on with results of which it holds
-    with_result_of :
+    pub with_result_of :
         (cs : List GuardedCase) (go : Option SymOp → GoalTree) → AllByRecursion IsNearCase cs → GoalOf Q (go None)
         → ((r : SymOp) → Q (sym_at r) → GoalOf Q (go (Some r))) → GoalOf Q (with_result cs a b go)
     with_result_of [] go near none goes = none
     with_result_of (c ∷ cs) go near none goes =
         (guard_places c.guard near.0.0, goes (sym_result c.res a b) (result_by c.res near.0.1), with_result_of cs go near.1 none goes)
 
-    one_place_of : (j k : Option Kind) (at there : Place) → Q at → Q there → GoalOf Q (unless_one_place j k at there)
+    pub one_place_of : (j k : Option Kind) (at there : Place) → Q at → Q there → GoalOf Q (unless_one_place j k at there)
     one_place_of None None at there h g = tt
     one_place_of None (Some k) at there h g = tt
     one_place_of (Some j) None at there h g = tt
@@ -230,11 +230,11 @@ parts_small f k l (Choose case a b plan) h = absurd h
 parts_small f k l (Deliver o plan) h = absurd h
 parts_small f k l (Same left right) h = absurd h
 
-small_moved : (x : ℕ) (k : ℤ) → x < 9 → IsNear 99 k → IsSmallPlace (plus (place x (pos 0)) k)
+pub small_moved : (x : ℕ) (k : ℤ) → x < 9 → IsNear 99 k → IsSmallPlace (plus (place x (pos 0)) k)
 small_moved x k below near =
     record { name = below; near = record { low = omega (arith, ints, near.low); high = omega (arith, ints, near.high) } }
 
-small_name : (x : ℕ) → x < 9 → Serves IsSmallPlace (place x (pos 0))
+pub small_name : (x : ℕ) → x < 9 → Serves IsSmallPlace (place x (pos 0))
 small_name x below =
     (record { name = below; near = record { low = omega (arith, ints); high = omega (arith, ints) } }, λ k near. small_moved x k below near)
 

@@ -53,7 +53,7 @@ least_once w floors values others one other =
     (other.least (valuation_of values) one.zero_first one.met one.above x named))
 
 -- and so are the operations that they name
-ops_once : (k l : Kind) (w : List Lit) (a b c d : Op) → AreLeastOps k l w a b → AreLeastOps k l w c d → (a ≡ c) × (b ≡ d)
+pub ops_once : (k l : Kind) (w : List Lit) (a b c d : Op) → AreLeastOps k l w a b → AreLeastOps k l w c d → (a ≡ c) × (b ≡ d)
 ops_once k l w a b c d one other =
     let same : one.values ≡ other.values = least_once w (floors_of (obligations.Pair k l)) one.values other.values one.least other.least in (
       one.first ∙ ap (λ (values : List ℤ). op_at (valuation_of values) (sym_op k A)) same ∙ sym other.first,
@@ -75,7 +75,7 @@ no_end :
 no_end k l None a b none ops = ops
 no_end k l (Some e) a b none ops = absurd (cc)
 
-within_and_longer : (n budget : ℕ) → n ≤ budget → budget < n → ⊥
+pub within_and_longer : (n budget : ℕ) → n ≤ budget → budget < n → ⊥
 within_and_longer n budget within longer = omega arith
 
 told_once :

@@ -1,5 +1,5 @@
 -- The goals may be searched: they keep the limits, and no position is negative that answers to a failing end speak of.
-use Rattle.std.proofs.Common.{◌≡◌, ℕ, ◌<◌, ◌≤◌, ℤ, pos, ◌≤ℤ◌, true, Some, List, arith, lit<, lit≤}
+use Rattle.std.proofs.Common.{◌≡◌, ℕ, ◌≤◌, ℤ, pos, ◌≤ℤ◌, true, Some, List, arith, lit<, lit≤}
 use Rattle.std.specs.List.{AllByRecursion}
 use Rattle.std.proofs.lemmas.Int.{ints}
 use Rattle.diff_graph.specs.declared.lit.Lit.{Lit}
@@ -36,7 +36,7 @@ abbrev pub EndsThere : Type 0
 EndsThere = (v : ℕ → ℤ) (why : Why) (p : Plan Why) (w : List Lit) → LeadTo why p w → AreMet v w → end_of p v ≡ Some why
 
 -- a position is not negative
-abbrev NotNegative : (ℕ → ℤ) → ℕ → Type 0
+abbrev pub NotNegative : (ℕ → ℤ) → ℕ → Type 0
 NotNegative v x = sort_name x ≡ Pos → pos 0 ≤ℤ v x
 
 module _ (f : Function) (k l : Kind) (next : GoalTree) where

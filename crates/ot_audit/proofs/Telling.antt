@@ -1,5 +1,5 @@
 -- What the search of a goal says of all operations.
-use Rattle.std.proofs.Common.{◌≡◌, ℕ, ◌<◌, lit<, ℤ, pos, ◌≤ℤ◌, true, Option, Some, None, List, [], MatchOption, refl, sym, subst, arith}
+use Rattle.std.proofs.Common.{◌≡◌, ℕ, lit<, ℤ, pos, ◌≤ℤ◌, true, Option, Some, None, List, [], MatchOption, refl, sym, subst, arith}
 use Rattle.std.specs.Prelude.{is_none}
 use Rattle.std.proofs.lemmas.Int.{ints}
 use Rattle.diff_graph.specs.declared.lit.Lit.{Lit}
@@ -58,7 +58,7 @@ two_named names k l a b first second =
       record { zero = both.1.zero; first = both.1.operations A k first; second = both.1.operations B l second },
     )
 
-at_least_0 : (x m : ℤ) → pos 0 ≤ℤ m → m ≤ℤ x → pos 0 ≤ℤ x
+pub at_least_0 : (x m : ℤ) → pos 0 ≤ℤ m → m ≤ℤ x → pos 0 ≤ℤ x
 at_least_0 x m low high = omega (arith, ints)
 
 -- the least values name the operations that are read off them
@@ -80,12 +80,12 @@ least_named stand k l w a b ops =
     }
 
 -- a list without a failing end is of a plan that holds everywhere, and one with an end of a plan that fails there
-none_fails :
+pub none_fails :
     (tell : ListsTell) (p : Plan Why) (q : Questions Why) → QuestionList p [] q → q.failing ≡ None → HoldsEverywhere p
 none_fails tell p q list none =
     subst (λ (o : Option (FailingEnd Why)). MatchOption o (HoldsEverywhere p) (λ e. FailsAt p e)) none (tell p q list)
 
-ended : (o : Option Why) → is_none o ≡ true → o ≡ None
+pub ended : (o : Option Why) → is_none o ≡ true → o ≡ None
 ended None e = refl
 ended (Some x) e = absurd (cc)
 

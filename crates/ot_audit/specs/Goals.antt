@@ -1,6 +1,6 @@
 -- What is asked about the guards of a block, as goals: the positions of both operations, then what is assumed to
 -- differ, and then the guards in their order. An end that fails is what is sought.
-use Rattle.std.specs.Prelude.{◌<◌, ℕ, pos, List, [], ◌∷◌, take, length, slice_get, Option, Some, None}
+use Rattle.std.specs.Prelude.{◌<◌, ℕ, pos, List, [], ◌∷◌, take, slice_get, Option, Some, None}
 use Rattle.ot_model.specs.declared.op.Kind.{Kind}
 use Rattle.fn_rules.specs.declared.function.Head.{Head}
 use Rattle.fn_rules.specs.Functions.{Function, GuardedCase, cases_of}

@@ -1,5 +1,5 @@
 -- What a goal of a pair keeps, so that it may be searched.
-use Rattle.std.specs.Prelude.{◌≡◌, ℕ, ℤ, pos, IsTrue, List}
+use Rattle.std.specs.Prelude.{◌≡◌, ℕ, ℤ, pos, List}
 use Rattle.diff_graph.specs.declared.lit.Lit.{Lit}
 use Rattle.diff_graph.specs.Literals.{AreMet}
 use Rattle.ot_model.specs.declared.op.Kind.{Kind}

@@ -1,6 +1,24 @@
 //! What is found of two operations that are sought.
 use ot_model::Op;
 
+/// What the search of a goal of two operations comes to.
+#[derive(Clone, Copy, Debug, PartialEq, Eq)]
+pub enum Sought {
+    /// No end of the goal's plan fails.
+    Nowhere,
+
+    /// The length of a document, and the two operations: the least values of the first end that fails name them.
+    At {
+        /// How many cells the document has.
+        cells: u32,
+        a: Op,
+        b: Op,
+    },
+
+    /// There are more questions than the budget allows.
+    Spent,
+}
+
 /// What a search for two operations comes to.
 #[derive(Clone, Copy, Debug, PartialEq, Eq)]
 pub enum Found {

@@ -68,8 +68,8 @@ fn if_assumed<'a>(
     Ok(next)
 }
 
-// The goal, where the two operations differ in what is assumed to differ.
-fn if_allowed<'a>(
+/// The goal, where the two operations differ in what is assumed to differ. The error is want of memory.
+pub fn if_allowed<'a>(
     bump: &'a Bump,
     head: &Head,
     a: SymOp,
@@ -191,8 +191,13 @@ fn unless_same<'a>(
     }
 }
 
-// The same where both are there.
-fn unless_one_place<'a>(bump: &'a Bump, left: SymOp, right: SymOp) -> Result<&'a Goal<'a>, NoMemory>
+/// The same of two results of one operation that are there: it holds where both are nop, or both stand at one place. The
+/// error is want of memory.
+pub fn unless_one_place<'a>(
+    bump: &'a Bump,
+    left: SymOp,
+    right: SymOp,
+) -> Result<&'a Goal<'a>, NoMemory>
     ensures { IfOk result (λ r. goal_tree r.now
         ≡ goals.unless_one_place (sym_kind left) (sym_kind right) (sym_at left) (sym_at right)) }
 {

@@ -10,6 +10,7 @@ ghost use Rattle.fn_rules.specs.Validity.{is_valid};
 ghost use Rattle.ask_core.specs.Plans.{end_of};
 ghost use Rattle.ot_questions.specs.declared.why.Why.{Why};
 ghost use Rattle.ot_questions.specs.declared.why.Why.TheVariants.{Operations};
+ghost use Rattle.ot_terms.specs.Goals.{GoalTree};
 ghost use Rattle.ot_terms.specs.Standing.{ask_goal};
 ghost use Rattle.ot_audit.specs.declared.audits.Audit.{Audit};
 ghost use Rattle.ot_audit.specs.declared.audits.Same.{Same};
@@ -17,10 +18,11 @@ ghost use Rattle.ot_audit.specs.declared.audits.Same.TheVariants.{Everywhere};
 ghost use Rattle.ot_audit.specs.declared.found.Agree.{Agree as AgreeAnswer};
 ghost use Rattle.ot_audit.specs.declared.found.Found.{Found};
 ghost use Rattle.ot_audit.specs.declared.found.Found.TheVariants.{Never, Pair};
+ghost use Rattle.ot_audit.specs.declared.found.Sought.{Sought};
 ghost use Rattle.ot_audit.specs.declared.target.Target.{Target};
 ghost use Rattle.ot_audit.specs.Answers.{IsAgreedAs, IsReachedAs, TellsTarget};
 ghost use Rattle.ot_audit.specs.Audits.{IsAuditedAs, IsComparedAs};
-ghost use Rattle.ot_audit.specs.Findings.{IsFoundIn};
+ghost use Rattle.ot_audit.specs.Findings.{IsFoundIn, IsSoughtIn};
 ghost use Rattle.ot_audit.specs.Goals.{target_goal, difference_goal};
 ghost use Rattle.ot_audit.specs.Reached.{Agree, AreMeant};
 ghost use Rattle.ot_audit.specs.Searchable.{IsSearchable};
@@ -98,8 +100,10 @@ pub fn findings_tell_of_all_operations()
     any_operations_have_names();
 }
 
-/// What is answered is one: of a target of a block, of two functions on a block, of a whole function, and of two.
+/// What is answered is one: of a goal, of a target of a block, of two functions on a block, of a whole function, and of two.
 pub fn findings_are_one()
+    ensures sought { (f : Function) (k l : Kind) (g : GoalTree) (budget : ℕ) (one other : Sought)
+        → IsSoughtIn f k l g budget one → IsSoughtIn f k l g budget other → one ≡ other }
     ensures reached { (f : Function) (k l : Kind) (target : Target) (budget : ℕ) (one other : Found)
         → IsReachedAs f k l target budget one → IsReachedAs f k l target budget other → one ≡ other }
     ensures agreed { (f g : Function) (k l : Kind) (budget : ℕ) (one other : AgreeAnswer)

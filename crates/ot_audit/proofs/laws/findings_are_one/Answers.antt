@@ -1,5 +1,9 @@
 use Rattle.ot_audit.proofs.One.{reached_once, agreed_once, audited_once, compared_once}
+use Rattle.ot_audit.proofs.Seeking.{sought_once}
 use Rattle.ot_audit.proofs.laws.findings_are_one.Goals as goal
+
+pub returns-clause-sought : goal.returns-clause-sought
+returns-clause-sought c = sought_once c.plans_have_one_question_list.ensures.one
 
 pub returns-clause-reached : goal.returns-clause-reached
 returns-clause-reached c = reached_once c.plans_have_one_question_list.ensures.one

@@ -8,10 +8,10 @@ use Rattle.ot_prove.specs.Outcomes.{answered_by, IsDecided}
 use Rattle.ot_questions.specs.declared.why.Why.{Why}
 use Rattle.ot_terms.specs.Goals.{goal_tree}
 use Rattle.ot_audit.proofs.Wanted.{AreWanted, stopped_wanted}
-use Rattle.ot_audit.proofs.finding.find.Goals as goal
+use Rattle.ot_audit.proofs.finding.seek.Goals as goal
 
-pub least_ops-requires : goal.least_ops-requires
-least_ops-requires c =
+pub least_instance-requires : goal.least_instance-requires
+least_instance-requires c =
     let law = c.answers_lead_to_ends.ensures in
     let decided =
     subst (λ (p : Plan Why). IsDecided p c.args.budget c.in_ok-prove.field-0) c.over-asker.ensures.root c.in_ok-prove.ensures.decides in

@@ -1,0 +1,18 @@
+use Rattle.fn_rules.specs.Rules.{function_of}
+use Rattle.fn_rules.specs.Validity.{compares_chars}
+use Rattle.ot_audit.proofs.Asked.{near_cases}
+use Rattle.ot_reverse.proofs.Built.{built}
+use Rattle.ot_reverse.proofs.goals.reversal_goal.Goals as goal
+
+pub unless_taken_back-requires-clause-near : goal.unless_taken_back-requires-clause-near
+unless_taken_back-requires-clause-near c = near_cases (compares_chars c.args.first c.args.second) _ c.cases-cases.ensures.valid
+
+pub unless_taken_back-requires-clause-others_near : goal.unless_taken_back-requires-clause-others_near
+unless_taken_back-requires-clause-others_near c =
+    near_cases (compares_chars c.args.first c.args.second) _ c.cases-other_cases.ensures.valid
+
+pub returns : goal.returns
+returns c =
+    built (function_of c.args.rules.now) (function_of c.args.others.now) c.args.first c.args.second _ _ _ _ _ _ _ _
+    c.named-a.ensures.value c.named-b.ensures.value c.head.ensures.head c.cases-cases.ensures.cases c.cases-other_cases.ensures.cases
+    c.in_ok-taken_back.ensures c.in_ok-allowed.ensures c.in_ok-if_both_enabled.ensures
