@@ -8,5 +8,6 @@ pub mod HubTexts
 pub mod LevelTexts
 pub mod DrillTexts
 pub mod AuditTexts
+pub mod ReversalTexts
 pub mod BoundTexts
 pub mod Texts

@@ -8,7 +8,7 @@ use Rattle.ot_replies.specs.declared.reply.FileKind.TheVariants as files
 use Rattle.ot_replies.specs.declared.reply.Reply.{Reply}
 use Rattle.ot_replies.specs.declared.reply.Reply.TheVariants.{Proved, Broken, Spent, Accepted, Refused, FunctionRefused}
 use Rattle.ot_replies.specs.declared.reply.Reply.TheVariants.{CaseRefused, Integrated, Usage, TooLong, EventRefused, StuckAt, Replayed, Served, Audited, Compared, Drilled}
-use Rattle.ot_replies.specs.declared.reply.Reply.TheVariants.{Unbroken, Shortest, Certified, BoundTooLong, AtLeast}
+use Rattle.ot_replies.specs.declared.reply.Reply.TheVariants.{Reversed, Unlike, Unbroken, Shortest, Certified, BoundTooLong, AtLeast}
 use Rattle.ot_replies.specs.AuditTexts.{audit_status, audit_text, same_status, same_text, spent_text}
 use Rattle.ot_replies.specs.BoundTexts.{at_least_text, bound_limit_text, shortest_text, unbroken_text}
 use Rattle.ot_replies.specs.FaultTexts.{text_fault_text, case_fault_text, refusal_text}
@@ -17,6 +17,7 @@ use Rattle.ot_replies.specs.CounterTexts.{counter_text}
 use Rattle.ot_replies.specs.LevelTexts.{accepted_text}
 use Rattle.ot_replies.specs.DrillTexts.{drill_text}
 use Rattle.ot_replies.specs.HubTexts.{hub_text}
+use Rattle.ot_replies.specs.ReversalTexts.{reversal_status, reversal_text, unlike_text}
 use Rattle.ot_replies.specs.SessionTexts.{event_fault_text, sites_text, stuck_text}
 
 -- too much of a part is a limit, and every other fault is one of the case
@@ -39,6 +40,8 @@ status_of (Replayed ends differ) = differ_status differ
 status_of (Served end) = differ_status end.differ
 status_of (Audited audit) = audit_status audit
 status_of (Compared same) = same_status same
+status_of (Reversed back) = reversal_status back
+status_of Unlike = 1
 status_of Unbroken = 0
 status_of (Shortest counter cells) = 1
 status_of (Certified bytes) = 1
@@ -71,6 +74,8 @@ text_of (Replayed ends differ) = sites_text ends differ
 text_of (Served end) = hub_text end
 text_of (Audited audit) = audit_text audit
 text_of (Compared same) = same_text same
+text_of (Reversed back) = reversal_text back
+text_of Unlike = unlike_text
 text_of Unbroken = unbroken_text
 text_of (Shortest counter cells) = shortest_text counter cells
 text_of (Certified bytes) = bytes

@@ -7,6 +7,7 @@ use ot_counter::Counter;
 use ot_drill::Tally;
 use ot_integrate::End;
 use ot_model::Doc;
+use ot_reverse::Back;
 use ot_sections::Refusal;
 use plain_list::List;
 
@@ -165,6 +166,12 @@ pub enum Reply {
 
     /// Whether two functions are the same.
     Compared(Same),
+
+    /// Whether a second function takes back what the first one makes.
+    Reversed(Back),
+
+    /// The two functions are of different modes or for different kinds, so neither takes back what the other one makes.
+    Unlike,
 
     /// The function has both properties, so no document breaks one.
     Unbroken,

@@ -12,6 +12,7 @@ mod drills;
 mod faults;
 mod hubs;
 mod orders;
+mod reversals;
 mod sessions;
 
 use crate::reply::{FileKind, Reply};
@@ -25,6 +26,7 @@ use fn_rules::Level;
 use hubs::write_hub;
 use orders::write_ends;
 use ot_model::NoMemory;
+use reversals::{reversal_status, write_reversal};
 use sessions::{write_event_fault, write_sites, write_stuck};
 use std::alloc::Global;
 
@@ -63,6 +65,8 @@ pub fn status(reply: &Reply) -> u8
         Reply::Drilled(drilled) => differ_status(drilled.differ),
         Reply::Audited(audit) => audit_status(audit),
         Reply::Compared(same) => same_status(same),
+        Reply::Reversed(back) => reversal_status(back),
+        Reply::Unlike => 1,
         Reply::Unbroken => 0,
         Reply::Shortest(..) => 1,
         Reply::Certified(_) => 1,
@@ -140,6 +144,8 @@ fn written(alloc: Global, reply: &Reply) -> Result<Vec<u8>, NoMemory>
         Reply::Served(end) => write_hub(alloc, end, &mut text)?,
         Reply::Audited(audit) => write_audit(alloc, audit, &mut text)?,
         Reply::Compared(same) => write_same(alloc, same, &mut text)?,
+        Reply::Reversed(back) => write_reversal(alloc, back, &mut text)?,
+        Reply::Unlike => text.extend_from_slice(b"differ head\n")?,
         Reply::Unbroken => text.extend_from_slice(b"none\n")?,
         Reply::Shortest(counter, cells) => write_shortest(alloc, counter, *cells, &mut text)?,
         Reply::Certified(bytes) => text.extend_from_slice(bytes.as_slice())?,

@@ -13,7 +13,7 @@ use Rattle.ot_replies.specs.declared.reply.Subject.TheVariants.{Second}
 use Rattle.ot_replies.specs.Limits.{IsTooLong}
 use Rattle.ot_top.specs.Given.{IsReadFirst, IsReadSecond, HaveRead}
 use Rattle.ot_top.specs.Judgements.{IsReplyToCertificate}
-use Rattle.ot_top.specs.Replies.{Holds, IsFunctionRefusal, IsReadAs, IsReplyToFile, IsReplyToFunction, IsReplyToSecond}
+use Rattle.ot_top.specs.Replies.{Holds, IsFunctionRefusal, IsReadAs, IsReplyToFile, IsReplyToFunction}
 
 -- two openings are no single one
 twice_is_not_once :
@@ -129,10 +129,10 @@ file_told kind Gets told given agrees r (inr (bytes, holds, gets)) =
 
 -- the reply to the bytes that were given of a second function is that to those that are told
 pub second_told :
-    (f : Function) (told : Option (List ℕ)) (given : List ℕ) → ForSome told (λ bytes. bytes ≡ given) → (r : Reply)
-    → IsReplyToSecond f (Some given) r → IsReplyToSecond f told r
-second_told f told given agrees r (inl refused) = inl (refusal_told told given agrees Second r refused)
-second_told f told given agrees r (inr (g, read, gets)) = inr (g, read_told told given agrees (Ok g) read, gets)
+    (Gets : Function → Type 0) (told : Option (List ℕ)) (given : List ℕ) → ForSome told (λ bytes. bytes ≡ given) → (r : Reply)
+    → IsReplyToFunction Second (Some given) Gets r → IsReplyToFunction Second told Gets r
+second_told Gets told given agrees r (inl refused) = inl (refusal_told told given agrees Second r refused)
+second_told Gets told given agrees r (inr (g, read, gets)) = inr (g, read_told told given agrees (Ok g) read, gets)
 
 -- what is answered behind both files of a command
 module _ (old mid new : Reads) (first second : List ℕ) (opened : mid ≡ after_reading first mid.bytes old)

@@ -25,6 +25,7 @@ mod OneVerdict
 mod Proving
 mod ReadCertificate
 mod Refusing
+mod Reversed
 mod Running
 mod RunsBy
 mod Showing

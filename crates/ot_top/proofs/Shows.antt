@@ -24,6 +24,7 @@ use Rattle.ot_replies.specs.Texts.{status_of, text_of}
 use Rattle.ot_top.proofs.Audited.{audited, compared}
 use Rattle.ot_top.proofs.Bounded.{bound_judged}
 use Rattle.ot_top.proofs.Proving.{complete, proved}
+use Rattle.ot_top.proofs.Reversed.{reversed}
 use Rattle.ot_top.proofs.Showing.{shown}
 use Rattle.ot_top.proofs.Steady.{served, steady}
 use Rattle.ot_top.proofs.Told.{IsAnswered, gone_through, judged}
@@ -82,6 +83,7 @@ module _ (words : List (List ℕ)) (holds : List ℕ → Option (List ℕ)) (IsW
         unread = λ of_a_reply. unread is_read is_text words holds status IsWritten (answered of_a_reply);
         audited = λ of_a_reply. audited is_read words holds status IsWritten (answered of_a_reply);
         compared = λ of_a_reply. compared is_read words holds status IsWritten (answered of_a_reply);
+        reversed = λ of_a_reply. reversed is_read words holds status IsWritten (answered of_a_reply);
         sought =
             λ of_a_reply.
             let told = answered of_a_reply in

@@ -21,6 +21,7 @@ use Rattle.ot_words.specs.Commands.{Check, Drill}
 use Rattle.ot_top.specs.Drills.{IsDrilled, IsReplyToQuestions}
 use Rattle.ot_audit.specs.declared.audits.Audit.TheVariants as audits
 use Rattle.ot_audit.specs.declared.audits.Same.TheVariants as sames
+use Rattle.ot_reverse.specs.declared.back.Back.TheVariants as backs
 use Rattle.ot_replies.specs.AuditTexts.{is_total}
 use Rattle.ot_replies.specs.DrillTexts.{drill_text}
 use Rattle.ot_top.specs.Judgements.{IsReplyToCertificate, IsReplyToChecked, IsReplyToJudgement, Tells}
@@ -89,6 +90,10 @@ reply_named (replies.Compared sames.Everywhere) = omega arith
 reply_named (replies.Compared sames.Heads) = omega arith
 reply_named (replies.Compared (sames.Differ k l a b left right)) = omega arith
 reply_named (replies.Compared sames.Spent) = omega arith
+reply_named (replies.Reversed backs.Yes) = omega arith
+reply_named (replies.Reversed (backs.No doc a b there back)) = omega arith
+reply_named (replies.Reversed backs.Spent) = omega arith
+reply_named replies.Unlike = omega arith
 reply_named replies.Unbroken = omega arith
 reply_named (replies.Shortest counter cells) = omega arith
 reply_named (replies.Certified bytes) = omega arith

@@ -36,7 +36,7 @@ use Rattle.ot_replies.specs.declared.reply.Reply.{Reply}
 use Rattle.ot_replies.specs.declared.reply.Reply.TheVariants as replies
 use Rattle.ot_replies.specs.declared.reply.Subject.{Subject}
 use Rattle.ot_replies.specs.declared.reply.Subject.TheVariants.{First, Second}
-use Rattle.ot_words.specs.Commands.{Asked, Prove, Check, Integrate, Replay, Hub, Audit, Same, Least, Bound, Drill}
+use Rattle.ot_words.specs.Commands.{Asked, Prove, Check, Integrate, Replay, Hub, Audit, Same, Reverse, Least, Bound, Drill}
 use Rattle.ot_questions.specs.declared.why.Why.{Why}
 use Rattle.ot_decide.specs.Verdicts.{ObQuestions}
 use Rattle.std.specs.List.{list_all}
@@ -44,12 +44,15 @@ use Rattle.ot_audit.specs.declared.audits.Audit.{Audit as AnyAudit}
 use Rattle.ot_audit.specs.declared.audits.Audit.TheVariants as audits
 use Rattle.ot_audit.specs.declared.audits.Same.{Same as AnySame}
 use Rattle.ot_audit.specs.declared.audits.Same.TheVariants as sames
+use Rattle.ot_reverse.specs.declared.back.Back.{Back}
+use Rattle.ot_reverse.specs.declared.back.Back.TheVariants as backs
 use Rattle.ot_replies.specs.AuditTexts.{is_total}
 use Rattle.ot_top.specs.Audits.{IsReplyToTwo}
 use Rattle.ot_top.specs.Drills.{IsReplyToQuestions}
 use Rattle.ot_top.specs.Hubs.{IsDone, IsRefused, IsReplyToHub, IsReplyToHubScript, TellsHub}
 use Rattle.ot_top.specs.Judgements.{IsReplyToCertificate, Tells, at_least}
-use Rattle.ot_top.specs.Replies.{IsReplyTo, IsReplyToCase, IsReplyToFile, IsReplyToFunction, IsReplyToSecond, IsReplyToTrial, TellsOutcomes}
+use Rattle.ot_top.specs.Replies.{IsReplyTo, IsReplyToCase, IsReplyToFile, IsReplyToFunction, IsReplyToReverser, IsReplyToSecond, IsReplyToTrial, TellsOutcomes}
+use Rattle.ot_top.specs.Reversals.{IsReplyToReversal}
 use Rattle.ot_top.specs.Sessions.{IsReplyToScript, IsReplyToSession, Runs, TellsNotMade, TellsNotTaken, TellsSites}
 use Rattle.ot_top.specs.Shown.{IsUnread, IsUnreadFrom, function_names}
 use Rattle.ot_replies.specs.Texts.{differ_status, status_of}
@@ -191,6 +194,15 @@ functions_other sames.Heads r same = named_so r _ 1 same refl (λ e. omega (arit
 functions_other (sames.Differ k l a b left right) r same = named_so r _ 1 same refl (λ e. omega (arith, e))
 functions_other sames.Spent r same = named_so r _ 8 same refl (λ e. omega (arith, e))
 
+back_other : (back : Back) (r : Reply) → r ≡ replies.Reversed back → status_of r ≢ 3
+back_other backs.Yes r same = named_so r _ 0 same refl (λ e. omega (arith, e))
+back_other (backs.No doc a b there back) r same = named_so r _ 1 same refl (λ e. omega (arith, e))
+back_other backs.Spent r same = named_so r _ 8 same refl (λ e. omega (arith, e))
+
+reversal_other : (f e : Function) (r : Reply) → IsReplyToReversal f e r → status_of r ≢ 3
+reversal_other f e r (inl (unlike, same)) = named_so r replies.Unlike 1 same refl (λ e. omega (arith, e))
+reversal_other f e r (inr (back, alike, is, same)) = back_other back r same
+
 drilled_other : (n : ℕ) (lists : List (ObQuestions Why)) (r : Reply) → IsReplyToQuestions n lists r → status_of r ≢ 3
 drilled_other n lists r (inl spent) = named_so r replies.Spent 8 spent.1 refl (λ e. omega (arith, e))
 drilled_other n lists r (inr done) = λ is. differ_other done.1.0.differ (sym (ap (λ x. status_of x) done.1.2) ∙ is)
@@ -230,6 +242,9 @@ module _ (texts_are_read : (bytes : List ℕ) (f : Function) → IsTextOf bytes 
   unread_reply (Same name other) reply =
       read_or_not First name (other ∷ []) (λ f. IsReplyToSecond f (holds other) r)
       (λ f second. read_or_not Second other [] (λ g. IsReplyToTwo f g r) (λ g gets. functions_other gets.0 r gets.2) second) reply
+  unread_reply (Reverse name other) reply =
+      read_or_not First name (other ∷ []) (λ f. IsReplyToReverser f (holds other) r)
+      (λ f second. read_or_not Second other [] (λ e. IsReplyToReversal f e r) (λ e gets. reversal_other f e r gets) second) reply
   unread_reply (Least cert name) reply = read_or_not First name [] _ (λ f gets. short_other f cert gets.0 r gets.4) reply
   unread_reply (Bound name certificate) reply =
       read_or_not First name [] _

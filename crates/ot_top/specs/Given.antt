@@ -5,7 +5,7 @@ use Rattle.ot_outside.specs.Reads.{Reads, after_reading}
 use Rattle.fn_rules.specs.Functions.{Function}
 use Rattle.ot_replies.specs.declared.reply.Reply.{Reply}
 use Rattle.ot_replies.specs.declared.reply.Subject.TheVariants.{First}
-use Rattle.ot_words.specs.Commands.{Asked, Prove, Check, Integrate, Replay, Hub, Audit, Same, Least, Bound, Drill}
+use Rattle.ot_words.specs.Commands.{Asked, Prove, Check, Integrate, Replay, Hub, Audit, Same, Reverse, Least, Bound, Drill}
 use Rattle.ot_words.specs.Words.{asked_by}
 use Rattle.ot_top.specs.Replies.{IsReply, IsReplyTo, IsReplyToFunction}
 use Rattle.ot_top.specs.Steady.{AreSteady, IsSteadyReply}
@@ -38,6 +38,7 @@ HasRead old new (Replay function session) = HaveRead old new function session
 HasRead old new (Hub function hub) = HaveRead old new function hub
 HasRead old new (Audit function) = new ≡ after_reading function new.bytes old
 HasRead old new (Same function other) = HaveRead old new function other
+HasRead old new (Reverse function other) = HaveRead old new function other
 HasRead old new (Least cert function) = new ≡ after_reading function new.bytes old
 HasRead old new (Bound function certificate) = HaveRead old new function certificate
 HasRead old new (Drill number) = Unit {0}
@@ -65,6 +66,7 @@ TellsGiven old new holds (Replay function session) = TellBoth old new holds func
 TellsGiven old new holds (Hub function hub) = TellBoth old new holds function hub
 TellsGiven old new holds (Audit function) = ForSome (holds function) (IsReadFirst old new function)
 TellsGiven old new holds (Same function other) = TellBoth old new holds function other
+TellsGiven old new holds (Reverse function other) = TellBoth old new holds function other
 TellsGiven old new holds (Least cert function) = ForSome (holds function) (IsReadFirst old new function)
 TellsGiven old new holds (Bound function certificate) = TellBoth old new holds function certificate
 TellsGiven old new holds (Drill number) = Unit {0}

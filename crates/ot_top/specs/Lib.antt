@@ -5,6 +5,7 @@ pub mod Running
 pub mod Hubs
 pub mod Drills
 pub mod Audits
+pub mod Reversals
 pub mod Shortest
 pub mod Audited
 pub mod Replies

@@ -18,12 +18,13 @@ use Rattle.ot_replies.specs.declared.reply.Reply.{Reply}
 use Rattle.ot_replies.specs.declared.reply.Reply.TheVariants.{FunctionRefused, CaseRefused, Integrated, Usage}
 use Rattle.ot_replies.specs.declared.reply.Subject.{Subject}
 use Rattle.ot_replies.specs.declared.reply.Subject.TheVariants.{First, Second}
-use Rattle.ot_words.specs.Commands.{Asked, Prove, Check, Integrate, Replay, Hub, Audit, Same, Least, Bound, Drill}
+use Rattle.ot_words.specs.Commands.{Asked, Prove, Check, Integrate, Replay, Hub, Audit, Same, Reverse, Least, Bound, Drill}
 use Rattle.ot_top.specs.Audits.{IsReplyToAudit, IsReplyToTwo}
 use Rattle.ot_top.specs.Drills.{IsReplyToDrill}
 use Rattle.ot_top.specs.Hubs.{IsReplyToHub}
 use Rattle.ot_top.specs.Judgements.{IsReplyToBound, IsReplyToChecked}
 use Rattle.ot_replies.specs.Limits.{limit_of, IsTooLong}
+use Rattle.ot_top.specs.Reversals.{IsReplyToReversal}
 use Rattle.ot_top.specs.Sessions.{IsReplyToSession}
 use Rattle.ot_top.specs.Shortest.{IsReplyToLeast}
 use Rattle.ot_top.specs.Verdicts.{IsReplyToProof}
@@ -88,6 +89,10 @@ IsReplyToHubFile f told r = IsReplyToFile files.Case told (λ bytes. IsReplyToHu
 abbrev pub IsReplyToSecond : Function → Option (List ℕ) → Reply → Type 0
 IsReplyToSecond f told r = IsReplyToFunction Second told (λ g. IsReplyToTwo f g r) r
 
+-- the same where the second function is to take back what the first one makes
+abbrev pub IsReplyToReverser : Function → Option (List ℕ) → Reply → Type 0
+IsReplyToReverser f told r = IsReplyToFunction Second told (λ e. IsReplyToReversal f e r) r
+
 -- the reply to a command, where `holds` says what each name holds
 abbrev pub IsReplyTo : (List ℕ → Option (List ℕ)) → Asked → Reply → Type 0
 IsReplyTo holds (Prove level budget function) r =
@@ -104,6 +109,8 @@ IsReplyTo holds (Audit function) r =
     IsReplyToFunction First (holds function) (λ f. IsReplyToAudit f r) r
 IsReplyTo holds (Same function other) r =
     IsReplyToFunction First (holds function) (λ f. IsReplyToSecond f (holds other) r) r
+IsReplyTo holds (Reverse function other) r =
+    IsReplyToFunction First (holds function) (λ f. IsReplyToReverser f (holds other) r) r
 IsReplyTo holds (Least cert function) r =
     IsReplyToFunction First (holds function) (λ f. IsReplyToLeast f cert r) r
 IsReplyTo holds (Bound function certificate) r =
@@ -127,6 +134,7 @@ AreOffered holds Offered (Replay function session) = Offered function × (GoesOn
 AreOffered holds Offered (Hub function hub) = Offered function × (GoesOn (holds function) → Offered hub)
 AreOffered holds Offered (Audit function) = Offered function
 AreOffered holds Offered (Same function other) = Offered function × (GoesOn (holds function) → Offered other)
+AreOffered holds Offered (Reverse function other) = Offered function × (GoesOn (holds function) → Offered other)
 AreOffered holds Offered (Least cert function) = Offered function
 AreOffered holds Offered (Bound function certificate) = Offered function × (GoesOn (holds function) → Offered certificate)
 AreOffered holds Offered (Drill number) = Unit {0}

@@ -25,7 +25,7 @@ use Rattle.ot_replies.specs.declared.reply.FileKind.TheVariants as files
 use Rattle.ot_replies.specs.declared.reply.Reply.{Reply}
 use Rattle.ot_replies.specs.declared.reply.Drilled.{Drilled}
 use Rattle.ot_replies.specs.declared.reply.Reply.TheVariants.{Accepted, Spent}
-use Rattle.ot_words.specs.Commands.{Asked, Prove, Check, Integrate, Replay, Hub, Audit, Same, Least, Bound, Drill}
+use Rattle.ot_words.specs.Commands.{Asked, Prove, Check, Integrate, Replay, Hub, Audit, Same, Reverse, Least, Bound, Drill}
 use Rattle.ot_top.specs.Drills.{IsDrilled}
 use Rattle.ot_replies.specs.DrillTexts.{drill_text}
 use Rattle.ot_replies.specs.CounterTexts.{counter_text}
@@ -133,6 +133,7 @@ function_names (Replay name session) = name ∷ []
 function_names (Hub name hub) = name ∷ []
 function_names (Audit name) = name ∷ []
 function_names (Same name other) = name ∷ other ∷ []
+function_names (Reverse name other) = name ∷ other ∷ []
 function_names (Least cert name) = name ∷ []
 function_names (Bound name certificate_name) = name ∷ []
 function_names (Drill number) = []

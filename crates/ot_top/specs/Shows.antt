@@ -5,6 +5,7 @@ use Rattle.ot_top.specs.declared.program.TheConstants.{SHELF_FAULT, SINK_FAULT, 
 use Rattle.ot_top.specs.Audited.{IsAudited, IsCompared}
 use Rattle.ot_top.specs.Bounded.{IsBoundJudgedAs, IsBounded, IsSought}
 use Rattle.ot_top.specs.Given.{TellsGivenOf}
+use Rattle.ot_top.specs.Reversals.{IsReversed}
 use Rattle.ot_top.specs.Shown.{IsBroken, IsComplete, IsGoneThrough, IsJudgedAs, IsProved, IsShown, IsUnread}
 use Rattle.ot_top.specs.Steady.{IsServed, IsSteady}
 
@@ -15,8 +16,8 @@ IsOfReply status = (status ≢ SHELF_FAULT) × (status ≢ SINK_FAULT) × (statu
 -- what holds of the words where `holds` tells their files: what is accepted or proved has the properties that were written
 -- or asked, what is broken fails at the instance that was written, the statuses of `prove` and `check` are those that the
 -- questions and the judgement give, 3 comes where a function's file is reached that is the text of none, where a function makes
--- sites agree they are not found apart, nor clients and their server, `audit` and `same` write what is so of all operations, no
--- document is shorter than `least` and `bound` say, and no event of a workload is refused, no site of it is stuck, and no two
+-- sites agree they are not found apart, nor clients and their server, `audit`, `same` and `reverse` write what is so of all
+-- operations, no document is shorter than `least` and `bound` say, and no event of a workload is refused, no site of it is stuck, and no two
 -- sites of it differ
 pub record Shows (words : List (List ℕ)) (holds : List ℕ → Option (List ℕ)) (IsWritten : List ℕ → Type 0) (status : ℕ) : Type 0 where
   pub sound : status ≡ 0 → IsShown words holds IsWritten
@@ -29,6 +30,7 @@ pub record Shows (words : List (List ℕ)) (holds : List ℕ → Option (List �
   pub served : IsServed words holds status
   pub audited : IsOfReply status → IsAudited words holds IsWritten status
   pub compared : IsOfReply status → IsCompared words holds IsWritten status
+  pub reversed : IsOfReply status → IsReversed words holds IsWritten status
   pub sought : IsOfReply status → IsSought words holds IsWritten status
   pub bounded : status ≡ 0 → IsBounded words holds IsWritten
   pub bound_judged : IsOfReply status → IsBoundJudgedAs words holds status

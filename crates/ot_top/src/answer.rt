@@ -18,6 +18,7 @@ use crate::least::least;
 use crate::load::Stop;
 use crate::prove::prove;
 use crate::replay::replay;
+use crate::reverse::reverse;
 use crate::same::same;
 use ot_outside::Shelf;
 use ot_replies::Reply;
@@ -53,6 +54,7 @@ fn reply_to<H: Shelf>(alloc: Global, shelf: &mut H, command: &Command<'_>) -> Re
         } => hub(alloc, shelf, function, name),
         Command::Audit { function } => audit(alloc, shelf, function),
         Command::Same { function, other } => same(alloc, shelf, function, other),
+        Command::Reverse { function, other } => reverse(alloc, shelf, function, other),
         Command::Least { cert, function } => least(alloc, shelf, cert, function),
         Command::Bound {
             function,

@@ -2,7 +2,7 @@
 ghost use Rattle.std.specs.Prelude.{◌≡◌, ◌≢◌, ℕ, true, false, List, Option, Some};
 ghost use Rattle.fn_rules.specs.declared.function.Level.{Level};
 ghost use Rattle.fn_rules.specs.Functions.{Function};
-ghost use Rattle.ot_words.specs.Commands.{Prove, Check, Integrate, Replay, Hub, Audit, Same, Least, Bound, Drill};
+ghost use Rattle.ot_words.specs.Commands.{Prove, Check, Integrate, Replay, Hub, Audit, Same, Reverse, Least, Bound, Drill};
 ghost use Rattle.ot_top.specs.Hubs.{IsReplyToHub};
 ghost use Rattle.ot_top.specs.Replies.{IsReplyTo};
 ghost use Rattle.ot_top.specs.Sessions.{IsReplyToSession};
@@ -14,6 +14,7 @@ use ot_decide::obligations_have_one_question_list;
 use ot_judge::bytes_have_one_judgement;
 use ot_least::{bytes_have_one_low_judgement, functions_have_one_shortest_document};
 use ot_replies::Reply;
+use ot_reverse::answers_are_one;
 use ot_session::{makes_have_one_outcome, sessions_begin_as_one, takes_have_one_answer};
 
 /// The bytes of a session get one reply under a function: each event is done in one way or refused for one reason, so the
@@ -53,6 +54,9 @@ pub fn commands_have_one_reply()
     ensures same { (holds : List ℕ → Option (List ℕ)) (name other_name bytes contents : List ℕ) (one other : Reply)
         → holds name ≡ Some bytes → holds other_name ≡ Some contents
         → IsReplyTo holds (Same name other_name) one → IsReplyTo holds (Same name other_name) other → one ≡ other }
+    ensures reverse { (holds : List ℕ → Option (List ℕ)) (name other_name bytes contents : List ℕ) (one other : Reply)
+        → holds name ≡ Some bytes → holds other_name ≡ Some contents
+        → IsReplyTo holds (Reverse name other_name) one → IsReplyTo holds (Reverse name other_name) other → one ≡ other }
     ensures bound { (holds : List ℕ → Option (List ℕ)) (name certificate_name bytes certificate : List ℕ) (one other : Reply)
         → holds name ≡ Some bytes → holds certificate_name ≡ Some certificate
         → IsReplyTo holds (Bound name certificate_name) one → IsReplyTo holds (Bound name certificate_name) other → one ≡ other }
@@ -76,6 +80,7 @@ pub fn commands_have_one_reply()
     sessions_have_one_reply();
     hubs_have_one_reply();
     findings_are_one();
+    answers_are_one();
     bytes_have_one_low_judgement();
     functions_have_one_shortest_document();
 }

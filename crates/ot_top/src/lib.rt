@@ -9,6 +9,7 @@
 //! `hub FN HUB` runs the events of a hub, and compares its clients with its server.
 //! `audit FN` tells which cases of a function are ever taken, and which of its blocks are ever open.
 //! `same F G` tells whether two functions agree, or where they do not.
+//! `reverse F E` tells whether a second function takes back what the first one makes, or where it does not.
 //! `least FN` looks for the shortest document on which a function breaks a property, and certifies that none is shorter.
 //! `bound FN CERT` says whether a certificate shows that no document of fewer cells breaks a property.
 //! `drill N` generates a workload, and goes the whole way from its function to its sites.
@@ -33,6 +34,7 @@ mod load;
 mod program;
 mod prove;
 mod replay;
+mod reverse;
 mod same;
 
 pub use laws::{commands_have_one_reply, hubs_have_one_reply, sessions_have_one_reply};

@@ -8,11 +8,11 @@ use Rattle.clap.specs.ValueTests.{is_unsigned_in}
 use Rattle.clap.specs.Words.{Row, first_of}
 use Rattle.clap.specs.declared.builder.value_parser.ValueParser.TheVariants.{Unsigned}
 use Rattle.fn_rules.specs.declared.function.Level.{Level}
-use Rattle.ot_words.specs.Commands.{Asked, Prove, Check, Integrate, Replay, Hub, Audit, Same, Least, Bound, Drill}
+use Rattle.ot_words.specs.Commands.{Asked, Prove, Check, Integrate, Replay, Hub, Audit, Same, Reverse, Least, Bound, Drill}
 use Rattle.ot_drill.specs.declared.limits.TheConstants.{MOST_ROUNDS}
 use Rattle.clap_words.specs.Found.{found_by}
 use Rattle.ot_words.specs.Words.{IsWithinBounds, asked_by, audit_in, bound_in, check_in, drill_app, drill_by, drill_in, hub_in, integrate_in, is_given, least_app, least_by, least_in, level_by, most_questions}
-use Rattle.ot_words.specs.Words.{name_by, names_by, number_by, prove_app, prove_by, prove_in, replay_in, same_in}
+use Rattle.ot_words.specs.Words.{name_by, names_by, number_by, prove_app, prove_by, prove_in, replay_in, reverse_in, same_in}
 
 number_within : (most : ℕ) (text : List ℕ) (n : ℕ) → number_by most text ≡ Some n → n ≤ most
 number_within most text n is = go (is_unsigned_in 1 most text) refl is
@@ -133,7 +133,9 @@ within_bounds (word ∷ words) =
     (one_of (bytes_eq word (codes "audit")) (audit_in words) _ (names_are_within Audit (λ n. tt) (name_by (codes "audit") words))
     (one_of (bytes_eq word (codes "same")) (same_in words) _
     (names_are_within (λ n. Same n.0 n.1) (λ n. tt) (names_by (codes "same") words))
+    (one_of (bytes_eq word (codes "reverse")) (reverse_in words) _
+    (names_are_within (λ n. Reverse n.0 n.1) (λ n. tt) (names_by (codes "reverse") words))
     (one_of (bytes_eq word (codes "least")) (least_in words) _ (leasts_are_within words)
     (one_of (bytes_eq word (codes "bound")) (bound_in words) _
     (names_are_within (λ n. Bound n.0 n.1) (λ n. tt) (names_by (codes "bound") words))
-    (one_of (bytes_eq word (codes "drill")) (drill_in words) None (drills_are_within words) none_is_within)))))))))
+    (one_of (bytes_eq word (codes "drill")) (drill_in words) None (drills_are_within words) none_is_within))))))))))

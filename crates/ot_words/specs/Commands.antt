@@ -19,6 +19,8 @@ pub data Asked : Type 0 where
   Audit : List ℕ → Asked
   -- of two functions' files: the functions are compared
   Same : List ℕ → List ℕ → Asked
+  -- of two functions' files: whether the second one takes back what the first one makes
+  Reverse : List ℕ → List ℕ → Asked
   -- of a function's file: the shortest document is looked for on which it breaks a property, and a certificate that none is
   -- shorter is asked for, or not
   Least : Bool → List ℕ → Asked
@@ -35,6 +37,7 @@ asked_of (rust.Replay function session) = Replay function.now session.now
 asked_of (rust.Hub function hub) = Hub function.now hub.now
 asked_of (rust.Audit function) = Audit function.now
 asked_of (rust.Same function other) = Same function.now other.now
+asked_of (rust.Reverse function other) = Reverse function.now other.now
 asked_of (rust.Least cert function) = Least cert function.now
 asked_of (rust.Bound function certificate) = Bound function.now certificate.now
 asked_of (rust.Drill number) = Drill number

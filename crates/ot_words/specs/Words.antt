@@ -10,7 +10,7 @@ use Rattle.clap_words.specs.Found.{found_by}
 use Rattle.fn_rules.specs.declared.function.Level.{Level}
 use Rattle.fn_rules.specs.declared.function.Level.TheVariants.{Tp1, Tp2}
 use Rattle.ot_drill.specs.declared.limits.TheConstants.{MOST_ROUNDS}
-use Rattle.ot_words.specs.Commands.{Asked, Prove, Check, Integrate, Replay, Hub, Audit, Same, Least, Bound, Drill}
+use Rattle.ot_words.specs.Commands.{Asked, Prove, Check, Integrate, Replay, Hub, Audit, Same, Reverse, Least, Bound, Drill}
 
 -- the clap command of a name, with no option for help and no arguments
 abbrev pub bare_app : List ℕ → App
@@ -129,6 +129,9 @@ audit_in words = option_map Audit (name_by (codes "audit") words)
 abbrev pub same_in : List (List ℕ) → Option Asked
 same_in words = option_map (λ names. Same names.0 names.1) (names_by (codes "same") words)
 
+abbrev pub reverse_in : List (List ℕ) → Option Asked
+reverse_in words = option_map (λ names. Reverse names.0 names.1) (names_by (codes "reverse") words)
+
 abbrev pub bound_in : List (List ℕ) → Option Asked
 bound_in words = option_map (λ names. Bound names.0 names.1) (names_by (codes "bound") words)
 
@@ -143,10 +146,11 @@ asked_by (word ∷ words) =
     else (if bytes_eq word (codes "hub") then hub_in words
     else (if bytes_eq word (codes "audit") then audit_in words
     else (if bytes_eq word (codes "same") then same_in words
+    else (if bytes_eq word (codes "reverse") then reverse_in words
     else (if bytes_eq word (codes "least") then least_in words
     else (if bytes_eq word (codes "bound") then bound_in words
     else (if bytes_eq word (codes "drill") then drill_in words
-    else None)))))))))
+    else None))))))))))
 
 -- the number that is asked for is within its bounds
 abbrev pub IsWithinBounds : Asked → Type 0

@@ -67,6 +67,15 @@ pub enum Command<'a> {
         other: &'a str,
     },
 
+    /// It is looked for whether a second function takes back what the first one makes.
+    Reverse {
+        /// The name of the first function's file.
+        function: &'a str,
+
+        /// The name of the second function's file.
+        other: &'a str,
+    },
+
     /// The shortest document is looked for on which a function breaks a property.
     Least {
         /// Whether a certificate is asked for that none is shorter.

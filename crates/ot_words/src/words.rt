@@ -6,7 +6,7 @@ ghost use Rattle.ot_words.specs.Commands.{asked_of};
 ghost use Rattle.clap.specs.declared.builder.value_parser.ValueParser.TheVariants.{Unsigned};
 ghost use Rattle.ot_words.specs.Words.{asked_by, audit_in, bare_app, bound_in, budget_rule, check_in, drill_app, drill_by, drill_in, flag_rule, hub_in, integrate_in, is_given};
 ghost use Rattle.ot_words.specs.Words.{least_app, least_by, least_in, level_by, most_questions, name_by, names_by, number_by, number_rule, one_file, prove_app, prove_by, prove_in};
-ghost use Rattle.ot_words.specs.Words.{replay_in, required_rule, same_in, two_files, values_in};
+ghost use Rattle.ot_words.specs.Words.{replay_in, required_rule, reverse_in, same_in, two_files, values_in};
 
 use crate::command::Command;
 use clap::builder::ValueParser;
@@ -289,6 +289,16 @@ fn same_in<'a>(alloc: Global, words: &'a [String]) -> Result<Option<Command<'a>>
     }
 }
 
+// `reverse FUNCTION OTHER`
+fn reverse_in<'a>(alloc: Global, words: &'a [String]) -> Result<Option<Command<'a>>, NoMemory>
+    ensures { IfOk result (λ command. option_map asked_of command ≡ reverse_in (map string_bytes words.entry.now)) }
+{
+    match two_names(alloc, "reverse", words)? {
+        Some((function, other)) => Ok(Some(Command::Reverse { function, other })),
+        None => Ok(None),
+    }
+}
+
 // The option and the name that clap finds.
 fn least_by<'a>(matches: &ArgMatches<'a>) -> Option<Command<'a>>
     ensures { option_map asked_of result ≡ least_by (rows_of (found_of matches.now)) }
@@ -358,6 +368,7 @@ pub fn read_words<'a>(alloc: Global, words: &'a [String]) -> Result<Option<Comma
         "hub" => hub_in(alloc, arguments),
         "audit" => audit_in(alloc, arguments),
         "same" => same_in(alloc, arguments),
+        "reverse" => reverse_in(alloc, arguments),
         "least" => least_in(alloc, arguments),
         "bound" => bound_in(alloc, arguments),
         "drill" => drill_in(alloc, arguments),

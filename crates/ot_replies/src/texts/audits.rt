@@ -184,8 +184,8 @@ pub(crate) fn write_audit(alloc: Global, audit: &Audit, out: &mut Vec<u8>) -> Re
     }
 }
 
-// What a function gives.
-fn side_of(form: Option<Op>) -> Side
+/// What a function gives.
+pub(crate) fn side_of(form: Option<Op>) -> Side
     ensures { result ≡ operation_side form }
 {
     match form {

@@ -118,8 +118,8 @@ fn write_failure(alloc: Global, level: Level, why: Why, out: &mut Vec<u8>) -> Re
     Ok(())
 }
 
-// The line of the document.
-fn write_doc_line(doc: &Doc, out: &mut Vec<u8>) -> Result<(), NoMemory>
+/// Writes the line of the document.
+pub(crate) fn write_doc_line(doc: &Doc, out: &mut Vec<u8>) -> Result<(), NoMemory>
     ensures { OnOk result (out.new.items ≡ out.old.items ++ line_of (codes "doc " ++ document_text doc.now)) }
 {
     out.extend_from_slice(b"doc ")?;

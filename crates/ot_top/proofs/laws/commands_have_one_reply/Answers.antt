@@ -6,6 +6,7 @@ use Rattle.ot_top.proofs.OneAudit.{audit_replied_once, same_replied_once}
 use Rattle.ot_top.proofs.OneDrill.{drill_replied_once}
 use Rattle.ot_top.proofs.OneJudgement.{both_replied_once}
 use Rattle.ot_top.proofs.OneShortest.{certified_replied_once, least_replied_once}
+use Rattle.ot_top.proofs.Reversed.{reverse_replied_once}
 use Rattle.ot_top.specs.Hubs.{IsReplyToHub}
 use Rattle.ot_top.specs.Sessions.{IsReplyToSession}
 use Rattle.ot_top.proofs.OneOutcome.{file_replied_once, integrate_replied_once}
@@ -61,6 +62,11 @@ pub returns-clause-same : goal.returns-clause-same
 returns-clause-same c =
     λ holds name other_name bytes contents one other told other_told first second.
     same_replied_once c.findings_are_one.ensures.compared holds name other_name bytes contents one other told other_told first second
+
+pub returns-clause-reverse : goal.returns-clause-reverse
+returns-clause-reverse c =
+    λ holds name other_name bytes contents one other told other_told first second.
+    reverse_replied_once c.answers_are_one.ensures holds name other_name bytes contents one other told other_told first second
 
 pub returns-clause-prove : goal.returns-clause-prove
 returns-clause-prove c =

@@ -2,6 +2,7 @@
 use Rattle.std.proofs.Common.{inl, rules}
 use Rattle.fn_rules.specs.Rules.{function_of}
 use Rattle.ot_replies.specs.declared.reply.Subject.TheVariants.{First}
+use Rattle.ot_top.specs.Audits.{IsReplyToTwo}
 use Rattle.ot_top.specs.Replies.{IsReplyToSecond}
 use Rattle.ot_top.proofs.Behind.{then_gets}
 use Rattle.ot_top.proofs.Given.{have_read_both, refused_first, second_told, then_given}
@@ -36,7 +37,7 @@ returns-in_ok-reply_to_second-in-Ok-clause-given g c =
         then_given old mid new c.args.function.now c.args.other.now c.load_function.ensures.read c.reply_to_second.ensures.read
             (holds c.args.function.now) tells.0 (function_of c.in-Ok.rules) (search rules) First (holds c.args.other.now) tells.1
             (λ told f. IsReplyToSecond f told r) r
-            (λ agrees. second_told (function_of c.in-Ok.rules) (holds c.args.other.now) new.bytes agrees r)
+            (λ agrees. second_told (λ other. IsReplyToTwo (function_of c.in-Ok.rules) other r) (holds c.args.other.now) new.bytes agrees r)
             c.in_ok-reply_to_second-in-Ok.ensures.given,
         tt,
       ),
