@@ -13,6 +13,7 @@ mod HubEnding
 mod HubRunning
 mod HubStatus
 mod Judged
+mod NeverLong
 mod OneAudit
 mod OneDrill
 mod OneFile

@@ -1,18 +1,22 @@
 //! Laws of replies. Each is the contract of a function that does nothing.
-ghost use Rattle.std.specs.Prelude.{◌≡◌, ◌≢◌, ℕ, true, false, List, Option, Some};
+ghost use Rattle.std.specs.Prelude.{◌≡◌, ◌≢◌, ℕ, Bool, true, false, List, Option, Some};
 ghost use Rattle.fn_rules.specs.declared.function.Level.{Level};
 ghost use Rattle.fn_rules.specs.Functions.{Function};
 ghost use Rattle.ot_words.specs.Commands.{Prove, Check, Integrate, Replay, Hub, Audit, Same, Reverse, Least, Bound, Drill};
 ghost use Rattle.ot_top.specs.Hubs.{IsReplyToHub};
 ghost use Rattle.ot_top.specs.Replies.{IsReplyTo};
 ghost use Rattle.ot_top.specs.Sessions.{IsReplyToSession};
+ghost use Rattle.ot_replies.specs.declared.reply.Reply.TheVariants.{BoundTooLong};
 ghost use Rattle.ot_replies.specs.Texts.{status_of};
 
 use fn_text::what_is_read_is_in_the_grammar;
 use ot_audit::findings_are_one;
 use ot_decide::obligations_have_one_question_list;
 use ot_judge::bytes_have_one_judgement;
-use ot_least::{bytes_have_one_low_judgement, functions_have_one_shortest_document};
+use ot_least::{
+    bytes_have_one_low_judgement, first_documents_are_never_too_long,
+    functions_have_one_shortest_document,
+};
 use ot_replies::Reply;
 use ot_reverse::answers_are_one;
 use ot_session::{makes_have_one_outcome, sessions_begin_as_one, takes_have_one_answer};
@@ -83,4 +87,14 @@ pub fn commands_have_one_reply()
     answers_are_one();
     bytes_have_one_low_judgement();
     functions_have_one_shortest_document();
+}
+
+/// Where the function's file is told, no reply of `least` is that the document of the first counterexample has more than 1,000
+/// cells.
+pub fn least_is_never_too_long()
+    ensures { (holds : List ℕ → Option (List ℕ)) (cert : Bool) (name bytes : List ℕ) (reply : Reply) → holds name ≡ Some bytes
+        → IsReplyTo holds (Least cert name) reply → reply ≢ BoundTooLong }
+{
+    what_is_read_is_in_the_grammar();
+    first_documents_are_never_too_long();
 }
