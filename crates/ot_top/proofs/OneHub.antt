@@ -20,9 +20,9 @@ use Rattle.ot_replies.specs.declared.reply.ClientEnd.{ClientEnd}
 use Rattle.ot_replies.specs.declared.reply.HubEnd.{HubEnd}
 use Rattle.ot_replies.specs.declared.reply.Reply.{Reply}
 use Rattle.ot_replies.specs.declared.reply.Reply.TheVariants.{Served}
-use Rattle.ot_top.specs.Hubs.{IsFirstApart, IsEndOf, TellsHub, TellsNotEdited, TellsNotMoved, IsRefused, IsDone}
-use Rattle.ot_top.specs.Hubs.{IsReplyToHub, IsReplyToHubScript}
-use Rattle.ot_top.proofs.RunsBy.{runs_once}
+use Rattle.ot_commands.specs.Hubs.{IsFirstApart, IsEndOf, TellsHub, TellsNotEdited, TellsNotMoved, IsRefused, IsDone}
+use Rattle.ot_commands.specs.Hubs.{IsReplyToHub, IsReplyToHubScript}
+use Rattle.ot_commands.proofs.RunsBy.{runs_once}
 
 -- the first that is apart is one
 first_apart_one : (n : ℕ) (d : List Cell) (c : ℕ) (ends : List ClientEnd) (a b : Option ℕ) → IsFirstApart n d c ends a → IsFirstApart n d c ends b → a ≡ b

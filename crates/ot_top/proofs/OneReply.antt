@@ -19,7 +19,7 @@ use Rattle.ot_session.specs.Views.{View, data_in, IsBegun, HasMade, HasTaken}
 use Rattle.ot_replies.specs.declared.reply.Reply.{Reply}
 use Rattle.ot_replies.specs.declared.reply.Reply.TheVariants.{Replayed}
 use Rattle.ot_replies.specs.declared.reply.SiteEnd.{SiteEnd}
-use Rattle.ot_top.specs.Sessions.{IsFirstOther, IsFirstPair, end_of, TellsSites, CannotMake, TellsNotMade, TellsNotTaken, IsRefused, IsDone, Runs, IsReplyToScript, IsReplyToSession}
+use Rattle.ot_commands.specs.Sessions.{IsFirstOther, IsFirstPair, end_of, TellsSites, CannotMake, TellsNotMade, TellsNotTaken, IsRefused, IsDone, Runs, IsReplyToScript, IsReplyToSession}
 
 -- the first that differs from one is one
 first_other_one :

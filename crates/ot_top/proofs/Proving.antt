@@ -38,12 +38,12 @@ use Rattle.ot_replies.specs.declared.reply.Subject.{Subject}
 use Rattle.ot_replies.specs.declared.reply.Subject.TheVariants.{First}
 use Rattle.ot_replies.specs.declared.reply.Reply.TheVariants.{Proved, Broken, Accepted, Usage}
 use Rattle.ot_words.specs.Commands.{Asked, Prove}
-use Rattle.ot_top.specs.Judgements.{IsReplyToCertificate, IsReplyToChecked, IsReplyToJudgement}
+use Rattle.ot_commands.specs.Judgements.{IsReplyToCertificate, IsReplyToChecked, IsReplyToJudgement}
 use Rattle.ot_replies.specs.Limits.{limit_of}
-use Rattle.ot_top.specs.Replies.{IsReadAs, IsReply, IsReplyTo, IsReplyToFunction}
+use Rattle.ot_commands.specs.Replies.{IsReadAs, IsReply, IsReplyTo, IsReplyToFunction}
 use Rattle.ot_top.specs.Shown.{HasBefore, HasLevel, IsAcceptedAt, IsAskedAt, IsBroken, IsComplete, IsProved, status_by}
 use Rattle.ot_replies.specs.Texts.{status_of, text_of}
-use Rattle.ot_top.specs.Verdicts.{IsReplyToProof, TellsVerdict}
+use Rattle.ot_commands.specs.Verdicts.{IsReplyToProof, TellsVerdict}
 use Rattle.ot_words.specs.Words.{asked_by, most_questions}
 use Rattle.ot_top.proofs.Asking.{asked_at, asked_once}
 use Rattle.ot_top.proofs.Breaking.{IsBrokenBy, counter_breaks}

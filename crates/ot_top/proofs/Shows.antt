@@ -14,19 +14,19 @@ use Rattle.ot_sections.specs.Certificates.{IsCertificate}
 use Rattle.ot_judge.specs.Refusals.{IsJudgement}
 use Rattle.ot_outside.specs.Reads.{Reads}
 use Rattle.ot_replies.specs.declared.reply.Reply.{Reply}
-use Rattle.ot_top.specs.Given.{IsAnswerOfGiven}
+use Rattle.ot_commands.specs.Given.{IsAnswerOfGiven}
 use Rattle.ot_top.specs.Bounded.{IsBounded, IsSought}
-use Rattle.ot_top.specs.Replies.{IsReply}
+use Rattle.ot_commands.specs.Replies.{IsReply}
 use Rattle.ot_top.specs.Shown.{HasLevel, IsBroken, IsComplete}
 use Rattle.ot_top.specs.Shows.{AreKnown, IsOfReply, Shows}
-use Rattle.ot_top.specs.Steady.{AreSteady}
+use Rattle.ot_commands.specs.Steady.{AreSteady}
 use Rattle.ot_replies.specs.Texts.{status_of, text_of}
 use Rattle.ot_top.proofs.Audited.{audited, compared}
 use Rattle.ot_top.proofs.Bounded.{bound_judged}
 use Rattle.ot_top.proofs.Proving.{complete, proved}
 use Rattle.ot_top.proofs.Reversed.{reversed}
 use Rattle.ot_top.proofs.Showing.{shown}
-use Rattle.ot_top.proofs.Steady.{served, steady}
+use Rattle.ot_commands.proofs.Steady.{served, steady}
 use Rattle.ot_top.proofs.Told.{IsAnswered, gone_through, judged}
 use Rattle.ot_top.proofs.Unread.{unread}
 

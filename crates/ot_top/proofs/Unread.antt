@@ -47,20 +47,20 @@ use Rattle.ot_audit.specs.declared.audits.Same.TheVariants as sames
 use Rattle.ot_reverse.specs.declared.back.Back.{Back}
 use Rattle.ot_reverse.specs.declared.back.Back.TheVariants as backs
 use Rattle.ot_replies.specs.AuditTexts.{is_total}
-use Rattle.ot_top.specs.Audits.{IsReplyToTwo}
-use Rattle.ot_top.specs.Drills.{IsReplyToQuestions}
-use Rattle.ot_top.specs.Hubs.{IsDone, IsRefused, IsReplyToHub, IsReplyToHubScript, TellsHub}
-use Rattle.ot_top.specs.Judgements.{IsReplyToCertificate, Tells, at_least}
-use Rattle.ot_top.specs.Replies.{IsReplyTo, IsReplyToCase, IsReplyToFile, IsReplyToFunction, IsReplyToReverser, IsReplyToSecond, IsReplyToTrial, TellsOutcomes}
-use Rattle.ot_top.specs.Reversals.{IsReplyToReversal}
-use Rattle.ot_top.specs.Sessions.{IsReplyToScript, IsReplyToSession, Runs, TellsNotMade, TellsNotTaken, TellsSites}
+use Rattle.ot_commands.specs.Audits.{IsReplyToTwo}
+use Rattle.ot_commands.specs.Drills.{IsReplyToQuestions}
+use Rattle.ot_commands.specs.Hubs.{IsDone, IsRefused, IsReplyToHub, IsReplyToHubScript, TellsHub}
+use Rattle.ot_commands.specs.Judgements.{IsReplyToCertificate, Tells, at_least}
+use Rattle.ot_commands.specs.Replies.{IsReplyTo, IsReplyToCase, IsReplyToFile, IsReplyToFunction, IsReplyToReverser, IsReplyToSecond, IsReplyToTrial, TellsOutcomes}
+use Rattle.ot_commands.specs.Reversals.{IsReplyToReversal}
+use Rattle.ot_commands.specs.Sessions.{IsReplyToScript, IsReplyToSession, Runs, TellsNotMade, TellsNotTaken, TellsSites}
 use Rattle.ot_top.specs.Shown.{IsUnread, IsUnreadFrom, function_names}
 use Rattle.ot_replies.specs.Texts.{differ_status, status_of}
-use Rattle.ot_top.specs.Shortest.{TellsLeast, TellsShort}
-use Rattle.ot_top.specs.Verdicts.{TellsVerdict}
-use Rattle.ot_top.proofs.HubStatus.{refused_other}
+use Rattle.ot_commands.specs.Shortest.{TellsLeast, TellsShort}
+use Rattle.ot_commands.specs.Verdicts.{TellsVerdict}
+use Rattle.ot_commands.proofs.HubStatus.{refused_other}
 use Rattle.ot_top.proofs.Proving.{reply_to_asked}
-use Rattle.ot_top.proofs.RunsBy.{runs_other}
+use Rattle.ot_commands.proofs.RunsBy.{runs_other}
 use Rattle.ot_top.proofs.Told.{IsAnswered}
 
 -- a reply of another status

@@ -7,8 +7,8 @@ use Rattle.ot_outside.specs.Whole.{AppendsFront}
 use Rattle.ot_replies.specs.declared.reply.Reply.{Reply}
 use Rattle.ot_replies.specs.Texts.{status_of, text_of}
 use Rattle.ot_top.specs.declared.program.TheConstants.{SHELF_FAULT, SINK_FAULT, NO_MEMORY}
-use Rattle.ot_top.specs.Given.{IsAnswerOfGiven}
-use Rattle.ot_top.specs.Replies.{IsReply}
+use Rattle.ot_commands.specs.Given.{IsAnswerOfGiven}
+use Rattle.ot_commands.specs.Replies.{IsReply}
 use Rattle.ot_top.specs.Shows.{IsOfReply}
 
 -- what words and files are answered: each status that is none of a fault and none of want of memory is that of a reply, whose

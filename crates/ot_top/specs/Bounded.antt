@@ -21,7 +21,7 @@ use Rattle.ot_replies.specs.BoundTexts.{at_least_text, bound_limit_text, shortes
 use Rattle.ot_replies.specs.Limits.{limit_of}
 use Rattle.ot_words.specs.Commands.{Bound, Least}
 use Rattle.ot_words.specs.Words.{asked_by, most_questions}
-use Rattle.ot_top.specs.Replies.{IsReplyTo}
+use Rattle.ot_commands.specs.Replies.{IsReplyTo}
 use Rattle.ot_top.specs.Shown.{AreBothWays}
 
 -- no document of fewer cells breaks the level's property: at level tp1 the first one, and at level tp2 the second one, which says

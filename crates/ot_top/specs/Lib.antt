@@ -1,17 +1,5 @@
-pub mod Judgements
-pub mod Verdicts
-pub mod Sessions
-pub mod Running
-pub mod Hubs
-pub mod Drills
-pub mod Audits
-pub mod Reversals
-pub mod Shortest
 pub mod Audited
-pub mod Replies
-pub mod Given
 pub mod Shown
 pub mod Bounded
 pub mod Shows
 pub mod Answers
-pub mod Steady

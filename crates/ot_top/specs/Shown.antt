@@ -26,11 +26,11 @@ use Rattle.ot_replies.specs.declared.reply.Reply.{Reply}
 use Rattle.ot_replies.specs.declared.reply.Drilled.{Drilled}
 use Rattle.ot_replies.specs.declared.reply.Reply.TheVariants.{Accepted, Spent}
 use Rattle.ot_words.specs.Commands.{Asked, Prove, Check, Integrate, Replay, Hub, Audit, Same, Reverse, Least, Bound, Drill}
-use Rattle.ot_top.specs.Drills.{IsDrilled}
+use Rattle.ot_commands.specs.Drills.{IsDrilled}
 use Rattle.ot_replies.specs.DrillTexts.{drill_text}
 use Rattle.ot_replies.specs.CounterTexts.{counter_text}
 use Rattle.ot_replies.specs.Limits.{limit_of}
-use Rattle.ot_top.specs.Replies.{IsReplyTo}
+use Rattle.ot_commands.specs.Replies.{IsReplyTo}
 use Rattle.ot_replies.specs.LevelTexts.{accepted_text}
 use Rattle.ot_replies.specs.Texts.{text_of}
 use Rattle.ot_words.specs.Words.{asked_by}

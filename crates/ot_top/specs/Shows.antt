@@ -4,10 +4,10 @@ use Rattle.ot_outside.specs.Reads.{Reads}
 use Rattle.ot_top.specs.declared.program.TheConstants.{SHELF_FAULT, SINK_FAULT, NO_MEMORY}
 use Rattle.ot_top.specs.Audited.{IsAudited, IsCompared}
 use Rattle.ot_top.specs.Bounded.{IsBoundJudgedAs, IsBounded, IsSought}
-use Rattle.ot_top.specs.Given.{TellsGivenOf}
-use Rattle.ot_top.specs.Reversals.{IsReversed}
+use Rattle.ot_commands.specs.Given.{TellsGivenOf}
+use Rattle.ot_commands.specs.Reversals.{IsReversed}
 use Rattle.ot_top.specs.Shown.{IsBroken, IsComplete, IsGoneThrough, IsJudgedAs, IsProved, IsShown, IsUnread}
-use Rattle.ot_top.specs.Steady.{IsServed, IsSteady}
+use Rattle.ot_commands.specs.Steady.{IsServed, IsSteady}
 
 -- the status is that of a reply: neither the files nor the sink failed, and there was memory
 abbrev pub IsOfReply : ℕ → Type 0

@@ -3,9 +3,9 @@ ghost use Rattle.std.specs.Prelude.{◌≡◌, ◌≢◌, ℕ, Bool, true, false
 ghost use Rattle.fn_rules.specs.declared.function.Level.{Level};
 ghost use Rattle.fn_rules.specs.Functions.{Function};
 ghost use Rattle.ot_words.specs.Commands.{Prove, Check, Integrate, Replay, Hub, Audit, Same, Reverse, Least, Bound, Drill};
-ghost use Rattle.ot_top.specs.Hubs.{IsReplyToHub};
-ghost use Rattle.ot_top.specs.Replies.{IsReplyTo};
-ghost use Rattle.ot_top.specs.Sessions.{IsReplyToSession};
+ghost use Rattle.ot_commands.specs.Hubs.{IsReplyToHub};
+ghost use Rattle.ot_commands.specs.Replies.{IsReplyTo};
+ghost use Rattle.ot_commands.specs.Sessions.{IsReplyToSession};
 ghost use Rattle.ot_replies.specs.declared.reply.Reply.TheVariants.{BoundTooLong};
 ghost use Rattle.ot_replies.specs.Texts.{status_of};
 

@@ -1,0 +1,16 @@
+mod Agreeing
+mod Behind
+mod Drilling
+mod Ending
+mod Ends
+mod Feeding
+mod Given
+mod HubEnding
+mod HubRunning
+pub mod HubStatus
+mod Judged
+mod ReadCertificate
+mod Refusing
+mod Running
+pub mod RunsBy
+pub mod Steady

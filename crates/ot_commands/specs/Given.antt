@@ -1,0 +1,87 @@
+-- What a command is answered of the bytes that the calls on a shelf gave of its files.
+use Rattle.std.specs.Prelude.{◌≡◌, ◌⊎◌, ℕ, List, Option, IfSome}
+use Rattle.std.specs.Option.{ForSome}
+use Rattle.ot_outside.specs.Reads.{Reads, after_reading}
+use Rattle.fn_rules.specs.Functions.{Function}
+use Rattle.ot_replies.specs.declared.reply.Reply.{Reply}
+use Rattle.ot_replies.specs.declared.reply.Subject.TheVariants.{First}
+use Rattle.ot_words.specs.Commands.{Asked, Prove, Check, Integrate, Replay, Hub, Audit, Same, Reverse, Least, Bound, Drill}
+use Rattle.ot_words.specs.Words.{asked_by}
+use Rattle.ot_commands.specs.Replies.{IsReply, IsReplyTo, IsReplyToFunction}
+use Rattle.ot_commands.specs.Steady.{AreSteady, IsSteadyReply}
+
+-- In what follows `old` and `new` are what the calls had given before a command and behind it, and `holds` says what names
+-- hold.
+
+-- the first file that was opened has this name, and these bytes were given of it
+abbrev pub IsReadFirst : Reads → Reads → List ℕ → List ℕ → Type 0
+IsReadFirst old new name bytes =
+    (new ≡ after_reading name bytes old)
+    ⊎ ((other given : List ℕ) × (new ≡ after_reading other given (after_reading name bytes old)))
+
+-- the same of the second
+abbrev pub IsReadSecond : Reads → Reads → List ℕ → List ℕ → Type 0
+IsReadSecond old new name bytes = (first given : List ℕ) × (new ≡ after_reading name bytes (after_reading first given old))
+
+-- the first of two files was opened first, and behind it no other than the second, or none
+abbrev pub HaveRead : Reads → Reads → List ℕ → List ℕ → Type 0
+HaveRead old new first second =
+    (bytes : List ℕ)
+    × ((new ≡ after_reading first bytes old) ⊎ ((given : List ℕ) × (new ≡ after_reading second given (after_reading first bytes old))))
+
+-- a command has opened its files in their order, each once, the second one only behind the function's
+abbrev pub HasRead : Reads → Reads → Asked → Type 0
+HasRead old new (Prove level budget function) = new ≡ after_reading function new.bytes old
+HasRead old new (Check function certificate) = HaveRead old new function certificate
+HasRead old new (Integrate function case) = HaveRead old new function case
+HasRead old new (Replay function session) = HaveRead old new function session
+HasRead old new (Hub function hub) = HaveRead old new function hub
+HasRead old new (Audit function) = new ≡ after_reading function new.bytes old
+HasRead old new (Same function other) = HaveRead old new function other
+HasRead old new (Reverse function other) = HaveRead old new function other
+HasRead old new (Least cert function) = new ≡ after_reading function new.bytes old
+HasRead old new (Bound function certificate) = HaveRead old new function certificate
+HasRead old new (Drill number) = Unit {0}
+
+-- of two files `holds` tells nothing but the bytes that were given
+abbrev pub TellBoth : Reads → Reads → (List ℕ → Option (List ℕ)) → List ℕ → List ℕ → Type 0
+TellBoth old new holds first second =
+    ForSome (holds first) (IsReadFirst old new first) × ForSome (holds second) (IsReadSecond old new second)
+
+-- both files were read, the second one only behind a function, and this is the reply to them, whatever is told of what was given;
+-- `Gets` is the reply that a function gets, of what is told of the second file
+abbrev pub IsReplyOfBoth :
+    Reads → Reads → List ℕ → List ℕ → (Option (List ℕ) → Function → Reply → Type 0) → Reply → Type 0
+IsReplyOfBoth old new first second Gets r =
+    HaveRead old new first second
+    × ((holds : List ℕ → Option (List ℕ)) → TellBoth old new holds first second
+    → IsReplyToFunction First (holds first) (λ f. Gets (holds second) f r) r)
+
+-- of the files of a command `holds` tells nothing but the bytes that were given
+abbrev pub TellsGiven : Reads → Reads → (List ℕ → Option (List ℕ)) → Asked → Type 0
+TellsGiven old new holds (Prove level budget function) = ForSome (holds function) (IsReadFirst old new function)
+TellsGiven old new holds (Check function certificate) = TellBoth old new holds function certificate
+TellsGiven old new holds (Integrate function case) = TellBoth old new holds function case
+TellsGiven old new holds (Replay function session) = TellBoth old new holds function session
+TellsGiven old new holds (Hub function hub) = TellBoth old new holds function hub
+TellsGiven old new holds (Audit function) = ForSome (holds function) (IsReadFirst old new function)
+TellsGiven old new holds (Same function other) = TellBoth old new holds function other
+TellsGiven old new holds (Reverse function other) = TellBoth old new holds function other
+TellsGiven old new holds (Least cert function) = ForSome (holds function) (IsReadFirst old new function)
+TellsGiven old new holds (Bound function certificate) = TellBoth old new holds function certificate
+TellsGiven old new holds (Drill number) = Unit {0}
+
+-- the command has read its files, and this is the reply to it, whatever is told of what was given
+abbrev pub IsReplyOfGiven : Reads → Reads → Asked → Reply → Type 0
+IsReplyOfGiven old new asked r =
+    HasRead old new asked
+    × ((holds : List ℕ → Option (List ℕ)) → TellsGiven old new holds asked → IsReplyTo holds asked r × IsSteadyReply holds asked r)
+
+-- the same of words
+abbrev pub TellsGivenOf : List (List ℕ) → Reads → Reads → (List ℕ → Option (List ℕ)) → Type 0
+TellsGivenOf words old new holds = IfSome (asked_by words) (TellsGiven old new holds)
+
+abbrev pub IsAnswerOfGiven : List (List ℕ) → Reads → Reads → Reply → Type 0
+IsAnswerOfGiven words old new r =
+    IfSome (asked_by words) (HasRead old new)
+    × ((holds : List ℕ → Option (List ℕ)) → TellsGivenOf words old new holds → IsReply words holds r × AreSteady words holds r)

@@ -1,0 +1,12 @@
+pub mod Judgements
+pub mod Verdicts
+pub mod Sessions
+pub mod Running
+pub mod Hubs
+pub mod Drills
+pub mod Audits
+pub mod Reversals
+pub mod Shortest
+pub mod Replies
+pub mod Given
+pub mod Steady

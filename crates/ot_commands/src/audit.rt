@@ -1,0 +1,41 @@
+//! `audit FUNCTION`: what the guards of a function reach.
+ghost use Rattle.std.specs.Prelude.{IfOk, IsErrOf};
+ghost use Rattle.fn_rules.specs.Rules.{function_of};
+ghost use Rattle.ot_outside.specs.Faults.{Rose};
+ghost use Rattle.ot_outside.specs.Unchanged.{Unchanged};
+ghost use Rattle.ot_words.specs.Commands.{Audit};
+ghost use Rattle.ot_commands.specs.Audits.{IsReplyToAudit};
+ghost use Rattle.ot_commands.specs.Given.{IsReplyOfGiven};
+ghost use Rattle.ot_commands.specs.Replies.{IsReplyTo};
+
+use crate::load::{Stop, load_function};
+use fn_rules::Rules;
+use ot_audit::audit_all;
+use ot_model::NoMemory;
+use ot_outside::Shelf;
+use ot_replies::{Reply, Subject};
+use ot_words::MOST_QUESTIONS;
+use std::alloc::Global;
+
+// The reply to a function.
+fn reply_to_function(alloc: Global, rules: &Rules) -> Result<Reply, NoMemory>
+    ensures { IfOk result (IsReplyToAudit (function_of rules.now)) }
+{
+    let audit = audit_all(alloc, rules, MOST_QUESTIONS)?;
+    Ok(Reply::Audited(audit))
+}
+
+/// The reply to the command.
+pub fn audit<H: Shelf>(alloc: Global, shelf: &mut H, function: &str) -> Result<Reply, Stop>
+    requires { H.offered shelf.old function.now }
+
+    ensures ok { IfOk result (λ reply. IsReplyTo (H.holds shelf.old) (Audit function.now) reply) }
+    ensures given { IfOk result (IsReplyOfGiven (H.reads shelf.old) (H.reads shelf.new) (Audit function.now)) }
+    ensures shelf { IsErrOf result Stop.Shelf → Rose (H.faults shelf.old) (H.faults shelf.new) }
+    ensures unchanged { Unchanged H.holds H.offered H.faults shelf.old shelf.new }
+{
+    match load_function(alloc, shelf, Subject::First, function)? {
+        Ok(rules) => Ok(reply_to_function(alloc, &rules)?),
+        Err(reply) => Ok(reply),
+    }
+}

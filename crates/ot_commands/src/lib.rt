@@ -1,0 +1,34 @@
+//! The commands: each loads its files from a shelf, judges them in their order, and gives a reply.
+//!
+//! `prove FN` writes a certificate of the function, or a counterexample, or says that the questions are too many.
+//! `check FN CERT` says whether the certificate shows that the transformation function has TP1, or TP1 and
+//! TP2, and otherwise at which byte and why it is refused.
+//! `integrate FN CASE` integrates the operations of a case in each of its orders and compares the
+//! documents.
+//! `replay FN SESSION` runs the events of a session, and compares sites that have integrated the same operations.
+//! `hub FN HUB` runs the events of a hub, and compares its clients with its server.
+//! `audit FN` tells which cases of a function are ever taken, and which of its blocks are ever open.
+//! `same F G` tells whether two functions agree, or where they do not.
+//! `reverse F E` tells whether a second function takes back what the first one makes, or where it does not.
+//! `least FN` looks for the shortest document on which a function breaks a property, and certifies that none is shorter.
+//! `bound FN CERT` says whether a certificate shows that no document of fewer cells breaks a property.
+//! `drill N` generates a workload, and goes the whole way from its function to its sites.
+//!
+//! The crate above relies on one call a command, whose clauses say which reply comes, of what the shelf tells and of what
+//! its calls gave.
+#![tactic(auto)]
+
+pub mod audit;
+pub mod bound;
+mod certificate;
+pub mod check;
+pub mod drill;
+mod halt;
+pub mod hub;
+pub mod integrate;
+pub mod least;
+pub mod load;
+pub mod prove;
+pub mod replay;
+pub mod reverse;
+pub mod same;

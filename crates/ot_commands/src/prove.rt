@@ -1,0 +1,85 @@
+//! `prove [--tp1] [--budget N] FUNCTION`: a certificate of the function, or a counterexample.
+ghost use Rattle.std.specs.Prelude.{◌≡◌, IfOk, IsErrOf, IsTrue};
+ghost use Rattle.ask_core.specs.Plans.{Fails};
+ghost use Rattle.diff_graph.specs.Literals.{IsPossible};
+ghost use Rattle.fn_rules.specs.Obligations.{is_obligation};
+ghost use Rattle.fn_rules.specs.Rules.{function_of};
+ghost use Rattle.ot_counter.specs.Counters.{IsCounter};
+ghost use Rattle.ot_outside.specs.Faults.{Rose};
+ghost use Rattle.ot_outside.specs.Unchanged.{Unchanged};
+ghost use Rattle.ot_prove.specs.Outcomes.{AreAnswersTo, answered_by};
+ghost use Rattle.ot_questions.specs.Obligation.{plan_of};
+ghost use Rattle.ot_words.specs.Commands.{Prove};
+ghost use Rattle.ot_commands.specs.Given.{IsReplyOfGiven};
+ghost use Rattle.ot_commands.specs.Replies.{IsReplyTo};
+ghost use Rattle.ot_commands.specs.Verdicts.{IsReplyToProof};
+
+use crate::load::{Stop, load_function};
+use fn_rules::{Level, ObName, Rules};
+use ot_counter::{Counter, build};
+use ot_decide::{Verdict, prove_all};
+use ot_model::NoMemory;
+use ot_outside::Shelf;
+use ot_prove::{Answer, literals_of};
+use ot_questions::Why;
+use ot_replies::{Reply, Subject};
+use plain_list::List;
+use std::alloc::Global;
+
+/// The counterexample of answers that lead to a failing end.
+pub(crate) fn counter_of(
+    alloc: Global,
+    rules: &Rules,
+    ob: ObName,
+    answers: &[Answer],
+    why: Why,
+) -> Result<Counter, NoMemory>
+    requires declared { IsTrue (is_obligation (function_of rules.now).head ob) }
+    requires leads { AreAnswersTo (plan_of (function_of rules.now) ob) answers.now (Fails why) }
+    requires possible { IsPossible (answered_by answers.now) }
+    ensures { IfOk result (λ counter. IsCounter (function_of rules.now) ob (answered_by answers.now) why counter) }
+{
+    let literals = literals_of(alloc, answers)?;
+    let counter = build(alloc, rules, ob, &literals, why)?;
+    Ok(counter)
+}
+
+/// The reply to a function.
+pub(crate) fn reply_to_function(
+    alloc: Global,
+    rules: &Rules,
+    level: Level,
+    budget: u64,
+) -> Result<Reply, NoMemory>
+    ensures { IfOk result (IsReplyToProof (function_of rules.now) level budget) }
+{
+    match prove_all(alloc, rules, level, budget)? {
+        Verdict::Yes(bytes) => Ok(Reply::Proved(List::from_vec(bytes))),
+        Verdict::No { ob, answers, why } => {
+            let counter = counter_of(alloc, rules, ob, &answers, why)?;
+            Ok(Reply::Broken(counter))
+        }
+        Verdict::Spent => Ok(Reply::Spent),
+    }
+}
+
+/// The reply to the command.
+pub fn prove<H: Shelf>(
+    alloc: Global,
+    shelf: &mut H,
+    level: Level,
+    budget: u64,
+    function: &str,
+) -> Result<Reply, Stop>
+    requires { H.offered shelf.old function.now }
+
+    ensures ok { IfOk result (λ reply. IsReplyTo (H.holds shelf.old) (Prove level budget function.now) reply) }
+    ensures given { IfOk result (IsReplyOfGiven (H.reads shelf.old) (H.reads shelf.new) (Prove level budget function.now)) }
+    ensures shelf { IsErrOf result Stop.Shelf → Rose (H.faults shelf.old) (H.faults shelf.new) }
+    ensures unchanged { Unchanged H.holds H.offered H.faults shelf.old shelf.new }
+{
+    match load_function(alloc, shelf, Subject::First, function)? {
+        Ok(rules) => Ok(reply_to_function(alloc, &rules, level, budget)?),
+        Err(reply) => Ok(reply),
+    }
+}

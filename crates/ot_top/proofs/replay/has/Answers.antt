@@ -1,6 +1,0 @@
-use Rattle.std.proofs.Common.{◌∙◌}
-use Rattle.ot_top.proofs.Ending.{has-any}
-use Rattle.ot_top.proofs.replay.has.Goals as goal
-
-pub returns : goal.returns
-returns c = c.contains.ensures.value ∙ has-any c.args.number c.args.list.now
