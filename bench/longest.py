@@ -7,12 +7,16 @@ The plans are those of certificate.py. Of each obligation up to 4,000 places of 
 end there the least values that meet its answers; and of each function the first failing end. It shares no code with the
 program, which answers `limit bound` where the first failing end has more than 1,000 cells.
 """
+import os
+import random
 import sys
 from itertools import product
 
-from certificate import LENGTH, Ask, Fails, closed, obligations, plan_of, read_function
-from comparison import drawing_of
-from least import first_end, values_of
+TOP = os.path.dirname(os.path.dirname(os.path.abspath(__file__)))
+sys.path.insert(0, os.path.join(TOP, "reference"))
+
+from certificate import LENGTH, Ask, Fails, closed, obligations, plan_of, read_function  # noqa: E402
+from least import first_end, values_of  # noqa: E402
 
 PLACES = 4_000
 OFFSETS = ["", " + 98", " - 98", " + 99", " - 99", " - 99"]
@@ -62,7 +66,8 @@ def lengths(plan, names):
 
 
 def main():
-    draw, count = drawing_of(sys.argv[1:])
+    seed, count = (int(word) for word in (sys.argv[1:] + ["1", "400"][len(sys.argv) - 1 :]))
+    draw = random.Random(seed)
     longest = {"pair": 0, "triple": 0, "first": 0}
     for _ in range(count):
         f = read_function(drawn_text(draw))

@@ -3,7 +3,7 @@
 
 usage: reverse.py [--budget N] [--questions] F E
 
-The questions are those that docs/REVERSE.md lists, walked as bench/audit.py walks those of guards. An end that is
+The questions are those that docs/REVERSE.md lists, walked as reference/audit.py walks those of guards. An end that is
 reached by answers that some integers meet names a document of live cells `y` and two operations: the least values that
 meet the answers. Whatever the questions say, the answer is looked at again by the interpreter: a loss is one, and where
 the functions are said to be reversed, no operations on a document of up to 4 cells tell otherwise. It ends with status 0
