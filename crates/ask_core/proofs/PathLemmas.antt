@@ -1,6 +1,6 @@
 -- The places of a path after a question and after a close.
 use Rattle.std.proofs.Common.{◌≡◌, ℕ, ◌+◌, ◌<◌, ◌≤◌, List, [], ◌∷◌, ◌++◌, length, take, drop, set, map, reverse, Option, Some, None, true, false, arith, refl, ◌∙◌, ap}
-use Rattle.std.proofs.lemmas.List.{reverse-append, take-take, take-append-le, take_at, take-set-le, take_more_set, length-set, length-take}
+use Rattle.std.proofs.lemmas.List.{reverse-append, length-append, take-take, take-append-le, take_at, take-set-le, take_more_set, length-set, length-take}
 use Rattle.diff_graph.specs.declared.lit.Lit.{Lit}
 use Rattle.diff_graph.specs.Literals.{answered_of}
 use Rattle.ask_core.specs.declared.path.Waiting.{Waiting}
@@ -45,6 +45,27 @@ places_of-question (Some n) on_yes on_no l w waiting opened nested =
     waiting_places-same (length w) (w ++ answered_of l true ∷ []) w (reverse waiting)
     (λ k below. take-append-le k w (answered_of l true ∷ []) below) nested in
     cc)
+
+-- a question whose part for yes is closed puts the part for no first
+pub answered_no :
+    {N : Type 0} (current : Option N) (on_yes on_no : N) (l : Lit) (w u : List Lit) (waiting : List (Waiting N))
+    (places : List (OpenPlace N)) → places_of current w waiting ≡ places → 0 < length places → IsNested (length w) (reverse waiting)
+    → u ≡ w ++ answered_of l false ∷ []
+    → places_of (Some on_no) u waiting ≡ drop 1 (after_question l on_yes on_no places)
+answered_no None on_yes on_no l w u waiting places shown opened nested longer =
+    absurd (omega (arith, ap length shown))
+answered_no (Some n) on_yes on_no l w u waiting places shown opened nested longer =
+    let later =
+    waiting_places-same (length w) (w ++ answered_of l false ∷ []) w (reverse waiting)
+    (λ k below. take-append-le k w (answered_of l false ∷ []) below) nested in
+    rw (longer, ← shown, later) refl
+
+-- a longer path still nests what waits
+pub IsNested-longer :
+    {N : Type 0} (w u : List Lit) (l : Lit) (waiting : List (Waiting N)) → IsNested (length w) waiting → u ≡ w ++ l ∷ []
+    → IsNested (length u) waiting
+IsNested-longer w u l waiting nested longer =
+    IsNested-more (length w) (length u) waiting (rw (longer, length-append w (l ∷ [])) (omega arith)) nested
 
 -- where the innermost part that waits is next, the others still share fewer answers
 pub IsNested-close :

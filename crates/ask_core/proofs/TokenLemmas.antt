@@ -1,30 +1,19 @@
 -- The tokens of a tree behind one more, and the number of all of them.
-use Rattle.std.proofs.Common.{◌≡◌, ℕ, ◌≤◌, List, [], ◌∷◌, ◌++◌, length, drop, refl, ap, ◌∙◌, arith}
+use Rattle.std.proofs.Common.{◌≡◌, ℕ, ◌≤◌, List, [], ◌∷◌, ◌++◌, length, drop, refl, sym, ap, ◌∙◌, subst, arith}
 use Rattle.std.proofs.Math.Seq.{take-length}
-use Rattle.std.proofs.lemmas.List.{take-append-le, drop-append-le, length-append, drop_all}
+use Rattle.std.proofs.lemmas.List.{append-nil, take-append-le, drop-append-le, length-append, drop_all}
 use Rattle.ask_core.specs.declared.picks.TheConstants.{MAX_PICKS}
 use Rattle.ask_core.specs.declared.tree.Mark.{Mark}
 use Rattle.ask_core.specs.declared.tree.Mark.TheVariants as mark
 use Rattle.ask_core.specs.declared.tree.Tok.{Tok}
 use Rattle.ask_core.specs.declared.tree.Tok.TheVariants as token
-use Rattle.ask_core.specs.Tokens.{numbers_of, mark_of, number_count, token_of, tokens_by, HaveNumbers}
+use Rattle.ask_core.specs.Tokens.{number_count, token_of, tokens_by, HaveNumbers}
 
 -- a token whose numbers are there has the same ones where others stand behind them
 token_of-append : (m : Mark) (numbers more : List ℕ) → number_count m ≤ length numbers → token_of m (numbers ++ more) ≡ token_of m numbers
 token_of-append mark.Ask numbers more few = refl
 token_of-append mark.Holds numbers more few = refl
 token_of-append (mark.Cycle count) numbers more few = ap token.Cycle (take-append-le count numbers more few)
-
--- a mark and the numbers give the token
-token_of-mark_of : (t : Tok) → token_of (mark_of t) (numbers_of t) ≡ t
-token_of-mark_of token.Ask = refl
-token_of-mark_of token.Holds = refl
-token_of-mark_of (token.Cycle picks) = ap token.Cycle (take-length picks)
-
-number_count-mark_of : (t : Tok) → number_count (mark_of t) ≡ length (numbers_of t)
-number_count-mark_of token.Ask = refl
-number_count-mark_of token.Holds = refl
-number_count-mark_of (token.Cycle picks) = refl
 
 -- a further mark adds its token, where its numbers are put behind the others
 tokens_by-push :
@@ -47,15 +36,37 @@ HaveNumbers-push (x ∷ marks) numbers m more have count few = (
       (HaveNumbers-push marks (drop (number_count x) numbers) m more have.2 count few),
 )
 
--- a token was put at the end
-pub pushed :
-    (marks : List Mark) (numbers : List ℕ) (t : Tok) → HaveNumbers marks numbers
-    → tokens_by (marks ++ mark_of t ∷ []) (numbers ++ numbers_of t) ≡ tokens_by marks numbers ++ t ∷ []
-pushed marks numbers t have =
-    tokens_by-push marks numbers (mark_of t) (numbers_of t) have
-    ∙ ap (λ (u : Tok). tokens_by marks numbers ++ u ∷ []) (token_of-mark_of t)
+-- a mark without numbers was put at the end
+pub pushed_mark :
+    (marks new : List Mark) (numbers : List ℕ) (m : Mark) (tokens : List Tok) → HaveNumbers marks numbers
+    → tokens_by marks numbers ≡ tokens → new ≡ marks ++ m ∷ []
+    → tokens_by new numbers ≡ tokens ++ token_of m [] ∷ []
+pushed_mark marks new numbers m tokens have are longer =
+    ap (λ (l : List Mark). tokens_by l numbers) longer
+    ∙ ap (λ (l : List ℕ). tokens_by (marks ++ m ∷ []) l) (sym (append-nil numbers))
+    ∙ tokens_by-push marks numbers m [] have ∙ ap (λ (l : List Tok). l ++ token_of m [] ∷ []) are
 
-pub HaveNumbers-pushed :
-    (marks : List Mark) (numbers : List ℕ) (t : Tok) → HaveNumbers marks numbers → length (numbers_of t) ≤ MAX_PICKS
-    → HaveNumbers (marks ++ mark_of t ∷ []) (numbers ++ numbers_of t)
-HaveNumbers-pushed marks numbers t have few = HaveNumbers-push marks numbers (mark_of t) (numbers_of t) have (number_count-mark_of t) few
+pub HaveNumbers-pushed_mark :
+    (marks new : List Mark) (numbers : List ℕ) (m : Mark) → HaveNumbers marks numbers → number_count m ≡ 0
+    → new ≡ marks ++ m ∷ [] → HaveNumbers new numbers
+HaveNumbers-pushed_mark marks new numbers m have none longer =
+    rw longer
+    (subst (λ (l : List ℕ). HaveNumbers (marks ++ m ∷ []) l) (append-nil numbers)
+    (HaveNumbers-push marks numbers m [] have none (omega arith)))
+
+-- a cycle was put at the end
+pub pushed_cycle :
+    (marks new : List Mark) (numbers more : List ℕ) (longer : List ℕ) (tokens : List Tok) → HaveNumbers marks numbers
+    → tokens_by marks numbers ≡ tokens → new ≡ marks ++ mark.Cycle (length more) ∷ [] → longer ≡ numbers ++ more
+    → tokens_by new longer ≡ tokens ++ token.Cycle more ∷ []
+pushed_cycle marks new numbers more longer tokens have are is long =
+    rw (is, long)
+    (tokens_by-push marks numbers (mark.Cycle (length more)) more have
+    ∙ ap (λ (u : Tok). tokens_by marks numbers ++ u ∷ []) (ap token.Cycle (take-length more))
+    ∙ ap (λ (l : List Tok). l ++ token.Cycle more ∷ []) are)
+
+pub HaveNumbers-pushed_cycle :
+    (marks new : List Mark) (numbers more : List ℕ) (longer : List ℕ) → HaveNumbers marks numbers → length more ≤ MAX_PICKS
+    → new ≡ marks ++ mark.Cycle (length more) ∷ [] → longer ≡ numbers ++ more → HaveNumbers new longer
+HaveNumbers-pushed_cycle marks new numbers more longer have few is long =
+    rw (is, long) (HaveNumbers-push marks numbers (mark.Cycle (length more)) more have refl few)

@@ -12,12 +12,6 @@ numbers_of token.Ask = []
 numbers_of token.Holds = []
 numbers_of (token.Cycle picks) = picks
 
--- what is kept of a token besides its numbers
-abbrev pub mark_of : Tok → Mark
-mark_of token.Ask = mark.Ask
-mark_of token.Holds = mark.Holds
-mark_of (token.Cycle picks) = mark.Cycle (length picks)
-
 -- how many numbers the token of a mark has
 abbrev pub number_count : Mark → ℕ
 number_count mark.Ask = 0

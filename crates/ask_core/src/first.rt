@@ -9,7 +9,7 @@ use crate::path::Path;
 use crate::turn::Turn;
 
 /// The turn at the first open place of a path, whose nodes are the asker's own.
-#[inline]
+#[inline(always)]
 pub fn turn_at<A: Asker>(
     asker: &mut A,
     path: &Path<A::Node>,

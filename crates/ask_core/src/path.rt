@@ -51,6 +51,7 @@ impl<N: Copy> Path<N> {
     }
 
     /// Whether a place is open.
+    #[inline(always)]
     pub fn is_open(&self) -> bool
         ensures { IsTrue result ↔ (0 < length self.now) }
     {
@@ -58,6 +59,7 @@ impl<N: Copy> Path<N> {
     }
 
     /// The node to answer next.
+    #[inline(always)]
     pub fn node(&self) -> N
         requires { 0 < length self.now }
         ensures { option_map (λ p. p.node) (slice_get self.now 0) ≡ Some result }
@@ -66,6 +68,7 @@ impl<N: Copy> Path<N> {
     }
 
     /// The answers that lead to the node to answer next, the first one first.
+    #[inline(always)]
     pub fn answers(&self) -> &[Lit]
         requires { 0 < length self.now }
         ensures { result.now ≡ first_answers self.now }
@@ -76,6 +79,7 @@ impl<N: Copy> Path<N> {
 
     /// Asks the literal at the first place: the part for yes is next, and the part for no waits. Where
     /// memory is wanting the places stay as they were.
+    #[inline(always)]
     pub fn ask(&mut self, lit: Lit, yes: N, no: N) -> Result<(), NoMemory>
         requires { 0 < length self.old }
         ensures ok { OnOk result (self.new ≡ after_question lit yes no self.old) }
@@ -96,7 +100,21 @@ impl<N: Copy> Path<N> {
         Ok(())
     }
 
+    /// Asks the literal at the first place, whose part for yes is closed at once: the part for no is next.
+    /// Where memory is wanting the places stay as they were.
+    #[inline(always)]
+    pub fn ask_no(&mut self, lit: Lit, no: N) -> Result<(), NoMemory>
+        requires { 0 < length self.old }
+        ensures ok { OnOk result ((yes : N) → self.new ≡ drop 1 (after_question lit yes no self.old)) }
+        ensures err { OnErr result (self.new ≡ self.old) }
+    {
+        self.answers.push(answered(lit, false))?;
+        self.current = Some(no);
+        Ok(())
+    }
+
     /// Closes the first place: the innermost part that waits is next.
+    #[inline(always)]
     pub fn close(&mut self)
         requires { 0 < length self.old }
         ensures { self.new ≡ drop 1 self.old }

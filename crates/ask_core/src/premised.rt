@@ -70,7 +70,7 @@ impl<A: Asker> Asker for Premised<A> {
         Ok(PremisedNode::Premise)
     }
 
-    #[inline]
+    #[inline(always)]
     fn turn(
         &mut self,
         node: PremisedNode<A::Node>,

@@ -1,6 +1,8 @@
 //! Trees that answer a plan, as their tokens.
-ghost use Rattle.std.specs.Prelude.{◌≡◌, ◌≤◌, [], ◌∷◌, ◌++◌, length, MatchOption, OnOk, OnErr};
-ghost use Rattle.ask_core.specs.Tokens.{mark_of, numbers_of};
+ghost use Rattle.std.specs.Prelude.{◌≡◌, ◌≤◌, [], ◌∷◌, ◌++◌, length, MatchOption, IfSome, OnOk, OnErr};
+ghost use Rattle.ask_core.specs.declared.tree.Tok.TheVariants.{Ask, Holds, Cycle};
+ghost use Rattle.ask_core.specs.Tokens.{numbers_of};
+ghost use Rattle.ask_core.specs.Seen.{token_at};
 ghost use Rattle.ask_core.specs.declared.picks.TheConstants.{MAX_PICKS};
 
 use crate::NoMemory;
@@ -49,29 +51,6 @@ impl Model for Tree {
     ghost invariant = { λ t. HaveNumbers t.marks.items t.numbers.items };
 }
 
-// The numbers of a token; a token that is no cycle has none.
-fn numbers_of(tok: &Tok) -> &[u32]
-    ensures { result.now ≡ numbers_of tok.now }
-{
-    match tok {
-        Tok::Ask => &[],
-        Tok::Holds => &[],
-        Tok::Cycle(picks) => picks.as_slice(),
-    }
-}
-
-// What a tree keeps of a token besides its numbers.
-fn mark_of(tok: &Tok) -> Mark
-    ensures mark { result ≡ mark_of tok.now }
-    ensures few { length (numbers_of tok.now) ≤ MAX_PICKS }
-{
-    match tok {
-        Tok::Ask => Mark::Ask,
-        Tok::Holds => Mark::Holds,
-        Tok::Cycle(picks) => Mark::Cycle(picks.as_slice().len() as u8),
-    }
-}
-
 impl Tree {
     /// No tokens. The allocator is not asked for memory.
     pub fn new(alloc: Global) -> Tree
@@ -88,9 +67,43 @@ impl Tree {
         ensures ok { OnOk result (self.new ≡ self.old ++ tok ∷ []) }
         ensures err { OnErr result (self.new ≡ self.old) }
     {
+        match tok {
+            Tok::Ask => self.push_ask(),
+            Tok::Holds => self.push_holds(),
+            Tok::Cycle(picks) => self.push_cycle(picks.as_slice()),
+        }
+    }
+
+    /// Puts a question at the end. A tree that was refused memory is as it was.
+    #[inline(always)]
+    pub fn push_ask(&mut self) -> Result<(), NoMemory>
+        ensures ok { OnOk result (self.new ≡ self.old ++ Ask ∷ []) }
+        ensures err { OnErr result (self.new ≡ self.old) }
+    {
+        self.marks.push(Mark::Ask)?;
+        Ok(())
+    }
+
+    /// Puts an end at which the plan holds at the end. A tree that was refused memory is as it was.
+    #[inline(always)]
+    pub fn push_holds(&mut self) -> Result<(), NoMemory>
+        ensures ok { OnOk result (self.new ≡ self.old ++ Holds ∷ []) }
+        ensures err { OnErr result (self.new ≡ self.old) }
+    {
+        self.marks.push(Mark::Holds)?;
+        Ok(())
+    }
+
+    /// Puts a cycle with these numbers at the end. A tree that was refused memory is as it was.
+    #[inline(always)]
+    pub fn push_cycle(&mut self, numbers: &[u32]) -> Result<(), NoMemory>
+        requires { length numbers.now ≤ MAX_PICKS }
+        ensures ok { OnOk result (self.new ≡ self.old ++ Cycle numbers.now ∷ []) }
+        ensures err { OnErr result (self.new ≡ self.old) }
+    {
         self.marks.reserve(1)?;
-        self.numbers.extend_from_slice(numbers_of(&tok))?;
-        self.marks.push_reserved(mark_of(&tok));
+        self.numbers.extend_from_slice(numbers)?;
+        self.marks.push_reserved(Mark::Cycle(numbers.len() as u8));
         Ok(())
     }
 
@@ -136,20 +149,46 @@ fn cycle_of(alloc: Global, numbers: &[u32]) -> Picks
     picks
 }
 
+/// A token of a tree, the numbers of a cycle where the tree has them.
+#[derive(Clone, Copy, Debug)]
+pub enum TokRef<'a> {
+    /// `?`.
+    Ask,
+
+    /// `.`.
+    Holds,
+
+    /// `x`, with the numbers of a cycle.
+    Cycle(&'a [u32]),
+}
+
 impl<'a> Tokens<'a> {
     /// Takes the next token, if there is one. The allocator is not asked for memory.
     pub fn next(&mut self, alloc: Global) -> Option<Tok>
         ensures { MatchOption result ((self.old ≡ []) × (self.new ≡ [])) (λ tok. self.old ≡ tok ∷ self.new) }
     {
+        match self.next_ref()? {
+            TokRef::Ask => Some(Tok::Ask),
+            TokRef::Holds => Some(Tok::Holds),
+            TokRef::Cycle(numbers) => Some(Tok::Cycle(cycle_of(alloc, numbers))),
+        }
+    }
+
+    /// The same, of which nothing is copied.
+    #[inline]
+    pub fn next_ref(&mut self) -> Option<TokRef<'a>>
+        ensures token { MatchOption result ((self.old ≡ []) × (self.new ≡ [])) (λ tok. self.old ≡ token_at tok ∷ self.new) }
+        ensures few { IfSome result (λ tok. length (numbers_of (token_at tok)) ≤ MAX_PICKS) }
+    {
         let (first, rest) = self.marks.split_first()?;
         self.marks = rest;
         match *first {
-            Mark::Ask => Some(Tok::Ask),
-            Mark::Holds => Some(Tok::Holds),
+            Mark::Ask => Some(TokRef::Ask),
+            Mark::Holds => Some(TokRef::Holds),
             Mark::Cycle(count) => {
                 let (picked, others) = self.numbers.split_at(count as usize);
                 self.numbers = others;
-                Some(Tok::Cycle(cycle_of(alloc, picked)))
+                Some(TokRef::Cycle(picked))
             }
         }
     }

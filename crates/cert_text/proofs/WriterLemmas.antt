@@ -1,10 +1,12 @@
 -- Texts that are written piece by piece.
 use Rattle.std.proofs.Common.{◌≡◌, ℕ, ◌+◌, List, [], ◌∷◌, ◌++◌, length, take, Some, Result, Ok, Err, OnErr}
-use Rattle.std.proofs.Common.{arith, sym, ap, ◌∙◌, subst, append_assoc, length-append}
+use Rattle.std.proofs.Common.{arith, refl, sym, ap, ◌∙◌, subst, append_assoc, length-append}
+use Rattle.std.specs.Fmt.{decimal}
 use Rattle.std.proofs.lemmas.List.{append-nil, take-append-le}
 use Rattle.std.proofs.Math.Seq.{take-append-add}
 use Rattle.std.proofs.lemmas.Grind.{flat_map-append}
 use Rattle.ask_core.specs.declared.tree.Tok.{Tok}
+use Rattle.cert_text.specs.Numbers.{more_numbers_text}
 use Rattle.cert_text.specs.Spelling.{token_text, tokens_text}
 use Rattle.ot_outside.specs.Whole.{AppendsFront}
 
@@ -83,3 +85,31 @@ one_more_token written tok before between after is after_is =
     both_pieces before between after (tokens_text written) (token_text tok) is after_is
     ∙ ap (λ (l : List ℕ). before ++ l)
     (sym (flat_map-append token_text written (tok ∷ []) ∙ ap (λ (l : List ℕ). tokens_text written ++ l) (append-nil (token_text tok))))
+
+-- further numbers and others behind them
+more_numbers_text-append : (ns ms : List ℕ) → more_numbers_text (ns ++ ms) ≡ more_numbers_text ns ++ more_numbers_text ms
+more_numbers_text-append [] ms = refl
+more_numbers_text-append (n ∷ ns) ms =
+    ap (λ (l : List ℕ). 44 ∷ decimal n ++ l) (more_numbers_text-append ns ms)
+    ∙ ap (λ (l : List ℕ). 44 ∷ l) (sym (append_assoc (decimal n) (more_numbers_text ns) (more_numbers_text ms)))
+
+-- behind written numbers, a front of the next one
+pub more_numbers_front :
+    (numbers written rest : List ℕ) (n : ℕ) (before between after : List ℕ) → numbers ≡ written ++ n ∷ rest
+    → between ≡ before ++ more_numbers_text written → AppendsFront (Some between) (44 ∷ decimal n) (Some after)
+    → AppendsFront (Some before) (more_numbers_text numbers) (Some after)
+more_numbers_front numbers written rest n before between after are is h =
+    subst (λ (l : List ℕ). AppendsFront (Some before) l (Some after))
+    (sym (more_numbers_text-append written (n ∷ rest)) ∙ ap (λ (l : List ℕ). more_numbers_text l) (sym are))
+    (next_front before between after (more_numbers_text written) ((44 ∷ decimal n) ++ more_numbers_text rest) is
+    (first_front between after (44 ∷ decimal n) (more_numbers_text rest) h))
+
+-- one more number was written
+pub one_more_number :
+    (written : List ℕ) (n : ℕ) (before between after : List ℕ) → between ≡ before ++ more_numbers_text written
+    → after ≡ between ++ 44 ∷ decimal n → after ≡ before ++ more_numbers_text (written ++ n ∷ [])
+one_more_number written n before between after is after_is =
+    both_pieces before between after (more_numbers_text written) (44 ∷ decimal n) is after_is
+    ∙ ap (λ (l : List ℕ). before ++ l)
+    (sym (more_numbers_text-append written (n ∷ [])
+    ∙ ap (λ (l : List ℕ). more_numbers_text written ++ 44 ∷ l) (append-nil (decimal n))))

@@ -1,6 +1,7 @@
 //! Certificates, written part by part.
 ghost use Rattle.std.specs.Prelude.{◌≡◌, ◌+◌, ◌<◌, ◌∷◌, ◌++◌, [], OnOk, OnErr, Some};
 ghost use Rattle.std.specs.Fmt.{decimal};
+ghost use Rattle.ask_core.specs.Seen.{token_at};
 ghost use Rattle.ask_core.specs.Trees.{AnswerTree, tokens_of};
 ghost use Rattle.cert_text.specs.Numbers.{more_numbers_text, numbers_text};
 ghost use Rattle.cert_text.specs.Spelling.{AreSpellable, end_text, header_text, ob_text, token_text, tokens_text};
@@ -8,7 +9,8 @@ ghost use Rattle.cert_text.specs.Writing.{section_text};
 ghost use Rattle.ot_outside.specs.Whole.{AppendsFront};
 
 use crate::line::{end_line, header_line, ob_line};
-use crate::{NoMemory, Tok, Tree};
+use crate::{NoMemory, Tree};
+use ask_core::TokRef;
 use fn_rules::{Level, ObName};
 use itoa::Buffer;
 
@@ -51,7 +53,7 @@ fn append(bytes: &[u8], out: &mut Vec<u8>) -> Result<(), NoMemory>
 }
 
 // One byte, which needs no copy of a slice.
-#[inline]
+#[inline(always)]
 fn append_byte(byte: u8, out: &mut Vec<u8>) -> Result<(), NoMemory>
     ensures ok { OnOk result (out.new.items ≡ out.old.items ++ byte ∷ []) }
     ensures err { OnErr result (AppendsFront (Some out.old.items) (byte ∷ []) (Some out.new.items)) }
@@ -60,7 +62,7 @@ fn append_byte(byte: u8, out: &mut Vec<u8>) -> Result<(), NoMemory>
     Ok(())
 }
 
-#[inline]
+#[inline(always)]
 fn digit_of(value: u32) -> u8
     requires { value < 10 }
     ensures { result ≡ 48 + value }
@@ -68,77 +70,98 @@ fn digit_of(value: u32) -> u8
     b'0' + value as u8
 }
 
-// Most numbers have one digit or two.
+// Some bytes, of which there are so few that they are stored one by one.
+#[inline(always)]
+fn append_few<const N: usize>(bytes: [u8; N], out: &mut Vec<u8>) -> Result<(), NoMemory>
+    ensures ok { OnOk result (out.new.items ≡ out.old.items ++ bytes.entry) }
+    ensures err { OnErr result (AppendsFront (Some out.old.items) bytes.entry (Some out.new.items)) }
+{
+    out.extend_from_slice(&bytes[..])
+}
+
+// A number of any size.
 fn write_number(number: u32, out: &mut Vec<u8>) -> Result<(), NoMemory>
     ensures ok { OnOk result (out.new.items ≡ out.old.items ++ decimal number) }
     ensures err { OnErr result (AppendsFront (Some out.old.items) (decimal number) (Some out.new.items)) }
 {
-    if number < 10 {
-        return append_byte(digit_of(number), out);
-    }
-    if number < 100 {
-        append_byte(digit_of(number / 10), out)?;
-        return append_byte(digit_of(number % 10), out);
-    }
     let mut buffer = Buffer::new();
     append(buffer.format(number).as_bytes(), out)
 }
 
+// A byte and a number of more than two digits.
+#[inline(never)]
+fn write_long(lead: u8, number: u32, out: &mut Vec<u8>) -> Result<(), NoMemory>
+    ensures ok { OnOk result (out.new.items ≡ out.old.items ++ lead ∷ decimal number) }
+    ensures err { OnErr result (AppendsFront (Some out.old.items) (lead ∷ decimal number) (Some out.new.items)) }
+{
+    append_byte(lead, out)?;
+    write_number(number, out)
+}
+
+// A byte and a number. Most numbers have one digit or two.
+#[inline(always)]
+fn write_led(lead: u8, number: u32, out: &mut Vec<u8>) -> Result<(), NoMemory>
+    ensures ok { OnOk result (out.new.items ≡ out.old.items ++ lead ∷ decimal number) }
+    ensures err { OnErr result (AppendsFront (Some out.old.items) (lead ∷ decimal number) (Some out.new.items)) }
+{
+    if number < 10 {
+        return append_few([lead, digit_of(number)], out);
+    }
+    if number < 100 {
+        return append_few([lead, digit_of(number / 10), digit_of(number % 10)], out);
+    }
+    write_long(lead, number, out)
+}
+
+#[inline(always)]
 fn write_more_numbers(numbers: &[u32], out: &mut Vec<u8>) -> Result<(), NoMemory>
     ensures ok { OnOk result (out.new.items ≡ out.old.items ++ more_numbers_text numbers.now) }
     ensures err { OnErr result
         (AppendsFront (Some out.old.items) (more_numbers_text numbers.now) (Some out.new.items)) }
 {
-    let Some((first, rest)) = numbers.split_first() else {
-        return Ok(());
-    };
-    append_byte(b',', out)?;
-    write_number(*first, out)?;
-    write_more_numbers(rest, out)
+    let mut left = numbers;
+    while let Some((first, rest)) = left.split_first() {
+        write_led(b',', *first, out)?;
+        left = rest;
+    }
+    Ok(())
 }
 
+// The numbers of a cycle, behind their `x`.
+#[inline(always)]
 fn write_numbers(numbers: &[u32], out: &mut Vec<u8>) -> Result<(), NoMemory>
-    ensures ok { OnOk result (out.new.items ≡ out.old.items ++ numbers_text numbers.now) }
-    ensures err { OnErr result (AppendsFront (Some out.old.items) (numbers_text numbers.now) (Some out.new.items)) }
+    ensures ok { OnOk result (out.new.items ≡ out.old.items ++ 120 ∷ numbers_text numbers.now) }
+    ensures err { OnErr result (AppendsFront (Some out.old.items) (120 ∷ numbers_text numbers.now) (Some out.new.items)) }
 {
     let Some((first, rest)) = numbers.split_first() else {
-        return Ok(());
+        return append_byte(b'x', out);
     };
-    write_number(*first, out)?;
+    write_led(b'x', *first, out)?;
     write_more_numbers(rest, out)
 }
 
-fn write_token(tok: &Tok, out: &mut Vec<u8>) -> Result<(), NoMemory>
-    ensures ok { OnOk result (out.new.items ≡ out.old.items ++ token_text tok.now) }
-    ensures err { OnErr result (AppendsFront (Some out.old.items) (token_text tok.now) (Some out.new.items)) }
+#[inline(always)]
+fn write_token(tok: TokRef<'_>, out: &mut Vec<u8>) -> Result<(), NoMemory>
+    ensures ok { OnOk result (out.new.items ≡ out.old.items ++ token_text (token_at tok.entry)) }
+    ensures err { OnErr result (AppendsFront (Some out.old.items) (token_text (token_at tok.entry)) (Some out.new.items)) }
 {
     match tok {
-        Tok::Ask => append_byte(b'?', out),
-        Tok::Holds => append_byte(b'.', out),
-        Tok::Cycle(picks) => {
-            append_byte(b'x', out)?;
-            write_numbers(picks.as_slice(), out)?;
+        TokRef::Ask => append_byte(b'?', out),
+        TokRef::Holds => append_byte(b'.', out),
+        TokRef::Cycle(numbers) => {
+            write_numbers(numbers, out)?;
             append_byte(b';', out)
         }
     }
-}
-
-// Writes a token that was taken out of a tree.
-fn write_taken(tok: Tok, out: &mut Vec<u8>) -> Result<(), NoMemory>
-    ensures ok { OnOk result (out.new.items ≡ out.old.items ++ token_text tok) }
-    ensures err { OnErr result (AppendsFront (Some out.old.items) (token_text tok) (Some out.new.items)) }
-{
-    write_token(&tok, out)
 }
 
 fn write_tokens(tree: &Tree, out: &mut Vec<u8>) -> Result<(), NoMemory>
     ensures ok { OnOk result (out.new.items ≡ out.old.items ++ tokens_text tree.now) }
     ensures err { OnErr result (AppendsFront (Some out.old.items) (tokens_text tree.now) (Some out.new.items)) }
 {
-    let alloc = *out.allocator();
     let mut tokens = tree.tokens();
-    while let Some(tok) = tokens.next(alloc) {
-        write_taken(tok, out)?;
+    while let Some(tok) = tokens.next_ref() {
+        write_token(tok, out)?;
     }
     Ok(())
 }

@@ -1,5 +1,5 @@
 -- What a table of distances in arrays keeps, and what is read from it.
-use Rattle.std.specs.Prelude.{◌≡◌, ℕ, ◌≤◌, ℤ, ◌≤ℤ◌, Bool, List, length, Option, Some, None}
+use Rattle.std.specs.Prelude.{◌≡◌, ℕ, ◌<◌, ◌≤◌, ℤ, ◌+ℤ◌, ◌≤ℤ◌, Bool, List, length, slice_index_or, Option, Some, None}
 use Rattle.diff_graph.specs.declared.lit.Lit.{Lit}
 use Rattle.diff_graph.specs.declared.hop.Hop.{Hop}
 use Rattle.diff_graph.specs.Tables.{Numbered, literals_of, kept_of, StandsFor, AreSmall, Follows}
@@ -17,6 +17,19 @@ pub record AreBounds (n : ℕ) (rows : List (List (Option Hop))) : Type 0 where
 -- the literal leaves room for what the table keeps from its second name to its first
 abbrev pub has_room : (ℕ → ℕ → Option Hop) → Lit → Bool
 has_room t l = leaves_room (t l.y l.x) l.k
+
+-- a way that is gone on by a rest is no lower than what is kept
+abbrev pub IsNoLower : Option Hop → Option Hop → Option Hop → Type 0
+IsNoLower None rest kept = Unit {0}
+IsNoLower (Some way) None kept = Unit {0}
+IsNoLower (Some way) (Some rest) None = ⊥
+IsNoLower (Some way) (Some rest) (Some kept) = kept.k ≤ℤ (way.k +ℤ rest.k)
+
+-- where the way of the first name goes on no lower than what its row keeps, none does
+abbrev pub IsLed : List (Option Hop) → ℕ → ℕ → List (Option Hop) → Type 0
+IsLed ways first from row =
+    IsNoLower (slice_index_or ways first None) (slice_index_or row from None) (slice_index_or row first None)
+    → (x : ℕ) → x < length row → IsNoLower (slice_index_or ways x None) (slice_index_or row from None) (slice_index_or row x None)
 
 -- the least offset for which `x <= y + k` follows from the list, or none where none follows
 abbrev pub IsTightest : List Lit → ℕ → ℕ → Option ℤ → Type 0

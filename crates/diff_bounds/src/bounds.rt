@@ -41,7 +41,7 @@ impl<const N: usize> Bounds<N> {
     }
 
     /// Whether some integers meet the literals added so far and `lit`.
-    #[inline]
+    #[inline(always)]
     pub fn allows(&self, lit: Lit) -> bool
         requires named { IsNamed N lit }
         requires small { IsSmall lit }
@@ -93,7 +93,7 @@ impl<const N: usize> Bounds<N> {
 
     /// The same, written into `picks` in place of what it held, so that a vector that is used again takes
     /// memory once.
-    #[inline]
+    #[inline(always)]
     pub fn write_why_not(&self, picks: &mut Vec<u32>, lit: Lit, number: u32) -> Result<(), NoMemory>
         requires named { IsNamed N lit }
         requires small { IsSmall lit }

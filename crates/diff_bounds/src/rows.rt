@@ -1,8 +1,8 @@
 //! The rows of a table in arrays. The row of a name keeps what is known from each name to it.
-ghost use Rattle.std.specs.Prelude.{◌≡◌, ℕ, ◌<◌, ◌≤◌, true, List, [], ◌∷◌, ◌++◌, length, slice_index_or, Option, Some, None, OnOk};
+ghost use Rattle.std.specs.Prelude.{◌≡◌, ℕ, ◌<◌, ◌≤◌, true, false, List, [], ◌∷◌, ◌++◌, length, slice_index_or, Option, Some, None, OnOk};
 ghost use Rattle.diff_graph.specs.Tables.{IsNamed, IsSmall, Numbered, kept_of, StandsFor, IsAtMost};
 ghost use Rattle.diff_graph.specs.Steps.{added, keeps, numbers_along, IsModest, IsNewRow, AreNewRows, IsSquare, AreModest, IsLowered};
-ghost use Rattle.diff_bounds.specs.Kept.{has_room};
+ghost use Rattle.diff_bounds.specs.Kept.{has_room, IsLed, IsNoLower};
 
 use diff_graph::table::{begin_ways, keeps, leaves_room, lower_row, push_chain};
 use diff_graph::{Hop, Lit, NoMemory, lowered_rows_keep_the_step, tables_stand_for_what_is_added};
@@ -35,6 +35,7 @@ fn keep_own(row: &mut [Option<Hop>], own: u8)
 }
 
 /// What is kept from `x` to `y`.
+#[inline(always)]
 pub fn kept<const N: usize>(rows: &[[Option<Hop>; N]], x: u8, y: u8) -> Option<Hop>
     requires x_below { x < length rows.now }
     requires y_below { y < length rows.now }
@@ -46,6 +47,7 @@ pub fn kept<const N: usize>(rows: &[[Option<Hop>; N]], x: u8, y: u8) -> Option<H
 }
 
 /// Whether the literal closes no negative cycle.
+#[inline(always)]
 pub fn allows<const N: usize>(rows: &[[Option<Hop>; N]], lit: Lit) -> bool
     requires square { IsSquare rows.now }
     requires modest { AreModest rows.now }
@@ -57,6 +59,7 @@ pub fn allows<const N: usize>(rows: &[[Option<Hop>; N]], lit: Lit) -> bool
 }
 
 /// Whether the literal already follows, so that adding it changes nothing.
+#[inline(always)]
 fn follows<const N: usize>(rows: &[[Option<Hop>; N]], lit: Lit) -> bool
     requires square { IsSquare rows.now }
     requires named { IsNamed (length rows.now) lit }
@@ -73,6 +76,7 @@ pub fn insert<const N: usize>(rows: &mut [[Option<Hop>; N]], lit: Lit, number: u
     requires named { IsNamed (length rows.old) lit }
     requires small { IsSmall lit }
     requires allowed { has_room (kept_of rows.old) lit ≡ true }
+    requires stands { (ps : List Numbered) × StandsFor (length rows.old) (kept_of rows.old) ps }
     ensures square { IsSquare rows.new }
     ensures stands { (ps : List Numbered) → StandsFor (length rows.old) (kept_of rows.old) ps
         → StandsFor (length rows.old) (kept_of rows.new) (ps ++ record { number = number; lit = lit } ∷ []) }
@@ -92,34 +96,81 @@ fn add<const N: usize>(rows: &mut [[Option<Hop>; N]], lit: Lit, number: u32)
     requires modest { AreModest rows.old }
     requires named { IsNamed (length rows.old) lit }
     requires small { IsSmall lit }
+    requires stands { (ps : List Numbered) × StandsFor (length rows.old) (kept_of rows.old) ps }
     ensures square { IsSquare rows.new }
     ensures added { (x y : ℕ) → kept_of rows.new x y ≡ added (kept_of rows.old) number lit x y }
 {
     let mut ways = rows[lit.x as usize];
     begin_ways(&mut ways, lit, number);
-    lower_rows(rows, &ways, lit.y);
+    lower_rows(rows, &ways, lit.x, lit.y);
     lowered_rows_keep_the_step();
 }
 
-/// Lowers each row by the ways to `from`, each gone on by what the row keeps from there.
-fn lower_rows<const N: usize>(rows: &mut [[Option<Hop>; N]], ways: &[Option<Hop>], from: u8)
+/// Lowers each row by the ways to `from`, each gone on by what the row keeps from there. Where the way of `first` goes on
+/// no lower, none does.
+fn lower_rows<const N: usize>(
+    rows: &mut [[Option<Hop>; N]],
+    ways: &[Option<Hop>],
+    first: u8,
+    from: u8,
+)
+    requires first_below { first < length rows.old }
     requires from_below { from < length rows.old }
     requires square { IsSquare rows.old }
     requires same_length { length ways.now ≡ length rows.old }
     requires modest_ways { (x : ℕ) → x < length ways.now → IsModest 2000000 (slice_index_or ways.now x None) }
     requires modest { AreModest rows.old }
+    requires led { (y : ℕ) → y < length rows.old → IsLed ways.now first from (slice_index_or rows.old y []) }
     ensures { (y : ℕ) → y < length rows.old
         → IsLowered ways.now from (slice_index_or rows.old y []) (slice_index_or rows.new y []) }
 {
     lowered_rows_keep_the_step();
     for y in 0..rows.len() {
-        lower_row(&mut rows[y][..], ways, from);
+        lower_led(&mut rows[y][..], ways, first, from);
+    }
+}
+
+/// Lowers the row of a name by the ways to `from`, each gone on by what the row keeps from there.
+fn lower_led(row: &mut [Option<Hop>], ways: &[Option<Hop>], first: u8, from: u8)
+    requires first_below { first < length row.old }
+    requires from_below { from < length row.old }
+    requires same_length { length ways.now ≡ length row.old }
+    requires modest_ways { (x : ℕ) → x < length ways.now → IsModest 2000000 (slice_index_or ways.now x None) }
+    requires modest_rest { IsModest 1000000 (slice_index_or row.old from None) }
+    requires led { IsLed ways.now first from row.old }
+    ensures { IsLowered ways.now from row.old row.new }
+{
+    if goes_lower(
+        ways[first as usize],
+        row[from as usize],
+        row[first as usize],
+    ) {
+        lower_row(row, ways, from);
+    }
+}
+
+/// Whether a way goes on lower than what is kept.
+#[inline(always)]
+fn goes_lower(way: Option<Hop>, rest: Option<Hop>, kept: Option<Hop>) -> bool
+    requires modest_way { IsModest 2000000 way }
+    requires modest_rest { IsModest 1000000 rest }
+    ensures { result ≡ false → IsNoLower way rest kept }
+{
+    let Some(way) = way else {
+        return false;
+    };
+    let Some(rest) = rest else {
+        return false;
+    };
+    match kept {
+        None => true,
+        Some(kept) => way.k + rest.k < kept.k,
     }
 }
 
 /// Writes the numbers of the negative cycle that a literal closes which is not allowed, in place of what
 /// was held.
-#[inline]
+#[inline(always)]
 pub fn write_cycle<const N: usize>(
     picks: &mut Vec<u32>,
     rows: &[[Option<Hop>; N]],

@@ -55,7 +55,7 @@ fn placed_cell<'a>(bump: &'a Bump, cell: CellT<'a>) -> Result<&'a CellT<'a>, NoM
 
 impl<'a> Front<'a> {
     /// The goal, held at its front.
-    #[inline]
+    #[inline(always)]
     pub fn of(goal: &'a Goal<'a>) -> Front<'a>
         ensures { front_tree result ≡ goal_tree goal.now }
     {

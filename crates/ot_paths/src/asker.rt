@@ -26,7 +26,7 @@ use ot_rewrite::front_of;
 use ot_terms::{Form, Goal, Place, Why, first_goals_stand_for_obligations};
 
 // Whether nothing is left to be rewritten at the goal's front, as where its questions are laid out.
-#[inline]
+#[inline(always)]
 fn is_settled(goal: &Goal<'_>) -> bool
     ensures { IsTrue result → IsTrue (is_at_front (goal_tree goal.now)) }
 {
@@ -42,7 +42,7 @@ fn is_settled(goal: &Goal<'_>) -> bool
 }
 
 // The literal of the question whether the first place is at most the second.
-#[inline]
+#[inline(always)]
 fn literal(x: Place, y: Place) -> Lit
     requires x_near { IsNear 1000 x.off }
     requires y_near { IsNear 1000 y.off }
@@ -115,7 +115,7 @@ impl<'a> PathAsker<'a> {
     }
 
     // How the plan of a question begins, with a goal for each answer.
-    #[inline]
+    #[inline(always)]
     fn asked(&self, form: Form<'a>, yes: &'a Goal<'a>, no: &'a Goal<'a>) -> Turn<&'a Goal<'a>, Why>
         requires node { IsNode (function_of self.now.rules.now) self.now.ob (If (form_tree form) (goal_tree yes.now) (goal_tree no.now)) }
         requires question { IsTrue (is_question (form_tree form)) }
@@ -140,7 +140,7 @@ impl<'a> PathAsker<'a> {
 
     // How the plan of a goal begins at whose front nothing is left to be rewritten.
     #[tactic(auto, using(crate::proofs::Questions::ask_goal_holds, crate::proofs::Questions::ask_goal_fails))]
-    #[inline]
+    #[inline(always)]
     fn turn_at(&self, front: Front<'a>) -> Turn<&'a Goal<'a>, Why>
         requires node { IsNode (function_of self.now.rules.now) self.now.ob (front_tree front) }
         requires at_front { IsTrue (is_at_front (front_tree front)) }
@@ -193,7 +193,7 @@ impl<'a> Asker for PathAsker<'a> {
         }
     }
 
-    #[inline]
+    #[inline(always)]
     fn turn(&mut self, node: &'a Goal<'a>) -> Result<Turn<&'a Goal<'a>, Why>, NoMemory> {
         if is_settled(node) {
             return Ok(self.turn_at(Front::of(node)));

@@ -119,7 +119,7 @@ module _ {N W : Type 0} where
         (count : ℕ) (first : N) (possible : Bool) (cycles : List (Option (List ℕ))) (tables : List Rows)
         → is_own first × (plan first ≡ root) → IsFine count (plan first) → (possible ≡ true) × (cycles ≡ [])
         → (length tables ≡ 1) × IsTableOf [] (get_or tables 0 [])
-        → IsSearching is_own plan root budget (record { node = first; answers = [] } ∷ []) (known_by possible (reverse cycles))
+        → IsSearching is_own plan root budget (record { node = first; answers = [] } ∷ []) (known_by possible cycles)
         (reverse tables) [] 0
     IsSearching-begun count first possible cycles [] begins fine cycles_are tables_are = absurd (omega (arith, tables_are.0))
     IsSearching-begun count first possible cycles (rows ∷ other ∷ tables) begins fine cycles_are tables_are =
@@ -129,7 +129,7 @@ module _ {N W : Type 0} where
       short = (omega (arith, fine.paths), tt);
       reached = (sym begins.1, tt);
       judged =
-          subst (λ (b : Bool). AreJudged ([] ∷ []) (known_by b (reverse cycles)) (reverse (rows ∷ []))) (sym cycles_are.0)
+          subst (λ (b : Bool). AreJudged ([] ∷ []) (known_by b cycles) (reverse (rows ∷ []))) (sym cycles_are.0)
           (tables_are.1, tt);
       so_far = [];
       come = subst (λ (p : Plan W). HasCome root [] [] (record { plan = p; answers = [] } ∷ [])) (sym begins.1) (HasCome-begun root);

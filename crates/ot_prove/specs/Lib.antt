@@ -1,3 +1,4 @@
 pub mod Sides
 pub mod Outcomes
+pub mod Waiting
 pub mod Searching

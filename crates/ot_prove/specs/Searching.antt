@@ -104,7 +104,7 @@ known_by true cycles = None ∷ cycles
 known_by false cycles = cycles
 
 abbrev pub known_of : {N : Type 0} → Search N → List (Option (List ℕ))
-known_of s = known_by s.possible (reverse s.cycles.items)
+known_of s = known_by s.possible s.cycles
 
 -- the same of a search, whose last table is that of the first place that some integers meet
 abbrev pub IsUnderWay : {N W : Type 0} → (N → Type 0) → (N → Plan W) → Plan W → ℕ → Search N → Type 0
@@ -126,10 +126,10 @@ GoesOn OnlyNo numbers places cycles tree new_places new_cycles new_tree =
 abbrev pub HasAsked : {N : Type 0} → Lit → N → N → Search N → Search N → Type 0
 HasAsked l on_yes on_no before after =
     (room : Room) × (numbers : List ℕ)
-    × JudgesSides l (length (first_answers before.path)) (reverse before.cycles.items) (reverse before.tables.items)
-    (cycles_of room numbers (reverse before.cycles.items)) (reverse after.tables.items)
-    × GoesOn room numbers (after_question l on_yes on_no before.path) (reverse before.cycles.items) (before.tree ++ token.Ask ∷ [])
-    after.path (reverse after.cycles.items) after.tree
+    × JudgesSides l (length (first_answers before.path)) before.cycles (reverse before.tables.items)
+    (cycles_of room numbers before.cycles) (reverse after.tables.items)
+    × GoesOn room numbers (after_question l on_yes on_no before.path) before.cycles (before.tree ++ token.Ask ∷ [])
+    after.path after.cycles after.tree
 
 -- the first place had a cycle and is closed with it, or some integers meet its answers
 abbrev pub HasClosed : {N : Type 0} → Search N → Search N → Bool → Type 0

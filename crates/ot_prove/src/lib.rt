@@ -10,6 +10,7 @@
 #![tactic(auto)]
 
 mod answers;
+mod cycles;
 mod laws;
 mod outcome;
 mod proving;

@@ -4,15 +4,17 @@ ghost use Rattle.diff_graph.specs.Tables.{IsNamed, StandsFor, kept_of};
 ghost use Rattle.diff_graph.specs.declared.lit.Lit.{Lit};
 ghost use Rattle.ask_core.specs.Askers.{SamePlans};
 ghost use Rattle.ask_core.specs.Paths.{OpenPlace, first_answers};
+ghost use Rattle.ask_core.specs.declared.tree.Tok.TheVariants.{Holds};
 ghost use Rattle.ot_prove.specs.declared.split.TheConstants.{MAX_NAMES};
 ghost use Rattle.ot_prove.specs.Sides.{IsAsked, StandsForSome, last_rows};
 ghost use Rattle.ot_prove.specs.Searching.{HasAsked, HasClosed, IsUnderWay, IsUnderWayOr, WeighsLess, known_of};
 
 use crate::NoMemory;
 use crate::answers::answers_along;
+use crate::cycles::Cycles;
 use crate::outcome::Outcome;
-use crate::split::{MAX_NAMES, Room, judge_sides, picks_of};
-use ask_core::{Asker, Path, Picks, Tok, Tree, Turn, turn_at};
+use crate::split::{MAX_NAMES, Room, judge_sides};
+use ask_core::{Asker, Path, Tree, Turn, turn_at};
 use diff_bounds::Bounds;
 use diff_graph::{Lit, negative_cycles_are_never_met};
 use std::alloc::Global;
@@ -25,7 +27,7 @@ use std::alloc::Global;
 pub struct Search<N: Copy> {
     pub path: Path<N>,
     pub possible: bool,
-    pub cycles: Vec<Option<Picks>>,
+    pub cycles: Cycles,
     pub tables: Vec<Bounds<MAX_NAMES>>,
     pub tree: Tree,
     pub asked: u64,
@@ -36,7 +38,7 @@ impl<N: Copy> Search<N> {
     /// A search with one open place, to which no answers lead.
     pub fn begin(alloc: Global, first: N) -> Result<Search<N>, NoMemory>
         ensures path { IfOk result (λ s. s.path ≡ record { node = first; answers = [] } ∷ []) }
-        ensures cycles { IfOk result (λ s. (s.possible ≡ true) × (s.cycles.items ≡ [])) }
+        ensures cycles { IfOk result (λ s. (s.possible ≡ true) × (s.cycles ≡ [])) }
         ensures tables { IfOk result (λ s. (length s.tables.items ≡ 1) × StandsFor MAX_NAMES (kept_of (slice_index_or s.tables.items 0 [])) []) }
         ensures nothing { IfOk result (λ s. (s.tree ≡ []) × (s.asked ≡ 0)) }
     {
@@ -45,7 +47,7 @@ impl<N: Copy> Search<N> {
         Ok(Search {
             path: Path::new(alloc, first),
             possible: true,
-            cycles: Vec::new(alloc),
+            cycles: Cycles::new(alloc),
             tables,
             tree: Tree::new(alloc),
             asked: 0,
@@ -53,12 +55,13 @@ impl<N: Copy> Search<N> {
         })
     }
 
-    /// Closes the first place with a token.
-    pub fn close(&mut self, tok: Tok) -> Result<(), NoMemory>
+    /// Closes the first place, at which the plan holds.
+    #[inline(always)]
+    pub fn close_holds(&mut self) -> Result<(), NoMemory>
         requires { 0 < length self.old.path }
-        ensures { OnOk result (self.new ≡ record self.old { path = drop 1 self.old.path; tree = self.old.tree ++ tok ∷ [] }) }
+        ensures { OnOk result (self.new ≡ record self.old { path = drop 1 self.old.path; tree = self.old.tree ++ Holds ∷ [] }) }
     {
-        self.tree.push(tok)?;
+        self.tree.push_holds()?;
         self.path.close();
         Ok(())
     }
@@ -66,7 +69,7 @@ impl<N: Copy> Search<N> {
     /// Asks a literal at the first place, which some integers meet. A side for yes that none meet is closed at
     /// once.
     #[inline(always)]
-    pub fn ask(&mut self, alloc: Global, lit: Lit, yes: N, no: N) -> Result<(), NoMemory>
+    pub fn ask(&mut self, lit: Lit, yes: N, no: N) -> Result<(), NoMemory>
         requires opened { 0 < length self.old.path }
         requires few { length (first_answers self.old.path) < 2 ^ 32 }
         requires fits { self.old.asked + 1 < 2 ^ 64 }
@@ -80,22 +83,22 @@ impl<N: Copy> Search<N> {
     {
         let number = self.path.answers().len() as u32;
         let room = judge_sides(&mut self.numbers, &mut self.tables, lit, number)?;
-        self.path.ask(lit, yes, no)?;
-        self.tree.push(Tok::Ask)?;
+        self.tree.push_ask()?;
         self.asked += 1;
         match room {
             Room::Both => {
-                self.cycles.push(None)?;
+                self.path.ask(lit, yes, no)?;
+                self.cycles.push_possible()?;
                 Ok(())
             }
             Room::OnlyYes => {
-                let picks = picks_of(alloc, self.numbers.as_slice());
-                self.cycles.push(Some(picks))?;
+                self.path.ask(lit, yes, no)?;
+                self.cycles.push_cycle(self.numbers.as_slice())?;
                 Ok(())
             }
             Room::OnlyNo => {
-                let picks = picks_of(alloc, self.numbers.as_slice());
-                self.close(Tok::Cycle(picks))?;
+                self.path.ask_no(lit, no)?;
+                self.tree.push_cycle(self.numbers.as_slice())?;
                 Ok(())
             }
         }
@@ -112,16 +115,12 @@ impl<N: Copy> Search<N> {
         if self.possible {
             return Ok(false);
         }
-        match next_cycle(&mut self.cycles) {
-            Some(picks) => {
-                self.close(Tok::Cycle(picks))?;
-                Ok(true)
-            }
-            None => {
-                self.possible = true;
-                Ok(false)
-            }
+        if self.cycles.take(&mut self.tree)? {
+            self.path.close();
+            return Ok(true);
         }
+        self.possible = true;
+        Ok(false)
     }
 }
 
@@ -149,30 +148,19 @@ fn take_turn<A: Asker>(
             if search.asked == budget {
                 return Ok(Some(Outcome::Spent));
             }
-            search.ask(alloc, lit, yes, no)?;
+            search.ask(lit, yes, no)?;
             Ok(None)
         }
         Turn::Holds => {
             search.tables.pop();
             search.possible = false;
-            search.close(Tok::Holds)?;
+            search.close_holds()?;
             Ok(None)
         }
         Turn::Fails(why) => {
             let answers = answers_along(alloc, asker, search.path.answers())?;
             Ok(Some(Outcome::No { answers, why }))
         }
-    }
-}
-
-/// Takes what is known of the first place.
-fn next_cycle(cycles: &mut Vec<Option<Picks>>) -> Option<Picks>
-    requires { 0 < length cycles.old.items }
-    ensures { cycles.old.items ≡ cycles.new.items ++ result ∷ [] }
-{
-    match cycles.pop() {
-        Some(cycle) => cycle,
-        None => None,
     }
 }
 

@@ -1,16 +1,13 @@
 //! The two sides of a question at a place that some integers meet.
-ghost use Rattle.std.specs.Prelude.{◌≡◌, ℕ, ◌<◌, ◌≤◌, true, false, List, Option, length, IfOk, OnOk, reverse};
+ghost use Rattle.std.specs.Prelude.{◌≡◌, ℕ, ◌<◌, true, false, List, Option, length, IfOk, OnOk, reverse};
 ghost use Rattle.diff_graph.specs.Literals.{answered_of};
 ghost use Rattle.diff_graph.specs.Tables.{IsNamed, kept_of};
 ghost use Rattle.diff_bounds.specs.Kept.{has_room};
-ghost use Rattle.ask_core.specs.declared.picks.TheConstants.{MAX_PICKS};
 ghost use Rattle.ot_prove.specs.Sides.{AddsAnswer, HasFew, HasRoom, HasSplit, IsAsked, JudgesSides, StandsForSome, cycles_of, last_rows};
 
 use crate::NoMemory;
-use ask_core::Picks;
 use diff_bounds::Bounds;
 use diff_graph::{Lit, answered, tables_stand_for_what_is_added, tables_tell_what_is_possible};
-use std::alloc::Global;
 
 /// The most names of an asker whose plan is searched.
 pub const MAX_NAMES: usize = 12;
@@ -26,19 +23,6 @@ pub enum Room {
 
     /// No alone.
     OnlyNo,
-}
-
-/// The picks with these numbers.
-#[inline(always)]
-pub fn picks_of(alloc: Global, numbers: &[u32]) -> Picks
-    requires { length numbers.now ≤ MAX_PICKS }
-    ensures { result ≡ numbers.now }
-{
-    let mut picks = Picks::new(alloc);
-    for number in numbers {
-        picks.push(*number);
-    }
-    picks
 }
 
 /// Which sides of a literal a table has room for, under the number of answers there. Of a side for which it

@@ -25,7 +25,7 @@ places-init g c =
           (subst (λ (p : Plan g.row.A-Why.Denot). IsFine (A.name_count now) p) (begins.1 ∙ c.start.ensures.root_kept) fine);
       searching =
           rw (at.path, at.nothing.0, at.nothing.1)
-          (IsSearching-begun (A.is_own now) (A.plan now) (A.root now) c.args.budget (A.name_count now) first search.possible search.cycles.items
+          (IsSearching-begun (A.is_own now) (A.plan now) (A.root now) c.args.budget (A.name_count now) first search.possible search.cycles
           search.tables.items begins fine at.cycles at.tables);
     }
 

@@ -27,7 +27,7 @@ returns-then-search-budget-clause-step g c =
     let kept = c.turn_at.ensures in
     let s = c.args.search.now in
     let begins = rw c.in-Ask.is at c.in_ok-lit.ensures.begins in
-    spent_at_first (A.is_own now) (A.plan now) (A.root now) c.args.budget s.path (reverse s.cycles.items) s.tables.items s.tree
+    spent_at_first (A.is_own now) (A.plan now) (A.root now) c.args.budget s.path s.cycles s.tables.items s.tree
     s.asked c.in-Ask.lit (A.plan now c.in-Ask.yes) (A.plan now c.in-Ask.no)
     (IsSearching-same (known_first s.possible c.requires.possible c.requires.searching) kept.own kept.branches kept.root_kept) begins.2 c.if-search-budget.true
 
@@ -52,7 +52,7 @@ ask-requires-clause-some g c =
     let A = g.A.Asker in
     let was = c.args.asker.now in
     let s = c.args.search.now in
-    (first_has_table (A.is_own was) (A.plan was) (A.root was) c.args.budget s.path (reverse s.cycles.items)
+    (first_has_table (A.is_own was) (A.plan was) (A.root was) c.args.budget s.path s.cycles
     s.tables.items s.tree s.asked c.requires.opened (known_first s.possible c.requires.possible c.requires.searching)).0
 
 pub ask-requires-clause-stands : goal.ask-requires-clause-stands
@@ -60,7 +60,7 @@ ask-requires-clause-stands g c =
     let A = g.A.Asker in
     let was = c.args.asker.now in
     let s = c.args.search.now in
-    (first_has_table (A.is_own was) (A.plan was) (A.root was) c.args.budget s.path (reverse s.cycles.items)
+    (first_has_table (A.is_own was) (A.plan was) (A.root was) c.args.budget s.path s.cycles
     s.tables.items s.tree s.asked c.requires.opened (known_first s.possible c.requires.possible c.requires.searching)).1
 
 pub returns-in_ok-ask-in-Ask-clause-step : goal.returns-in_ok-ask-in-Ask-clause-step
@@ -73,8 +73,8 @@ returns-in_ok-ask-in-Ask-clause-step g c =
     let after = c.in_ok-ask-in-Ask.ensures in
     let judged = after.judged in
     rw (after.possible, c.requires.possible, after.asked)
-    (IsSearching-asked (A.is_own now) (A.plan now) (A.root now) c.args.budget s.path c.ask.new.self.path (reverse s.cycles.items)
-    (reverse c.ask.new.self.cycles.items) s.tables.items (reverse c.ask.new.self.tables.items) s.tree c.ask.new.self.tree s.asked
+    (IsSearching-asked (A.is_own now) (A.plan now) (A.root now) c.args.budget s.path c.ask.new.self.path s.cycles
+    c.ask.new.self.cycles s.tables.items (reverse c.ask.new.self.tables.items) s.tree c.ask.new.self.tree s.asked
     c.in-Ask.lit c.in-Ask.yes c.in-Ask.no judged.0 judged.1 c.requires.opened c.negative_cycles_are_never_met.ensures
     (IsSearching-same (known_first s.possible c.requires.possible c.requires.searching) kept.own kept.branches kept.root_kept)
     begins c.if-search-budget.false judged.2 judged.3)
@@ -87,28 +87,28 @@ returns-in_ok-ask-in-Ask-clause-falls g c =
     let begins = rw c.in-Ask.is at c.in_ok-lit.ensures.begins in
     let judged = c.in_ok-ask-in-Ask.ensures.judged in
     let falls =
-    weight_of-asked (A.plan now) judged.0 judged.1 s.path c.ask.new.self.path (reverse s.cycles.items)
-    (reverse c.ask.new.self.cycles.items) (s.tree ++ token.Ask ∷ []) c.ask.new.self.tree c.in-Ask.lit c.in-Ask.yes c.in-Ask.no
+    weight_of-asked (A.plan now) judged.0 judged.1 s.path c.ask.new.self.path s.cycles
+    c.ask.new.self.cycles (s.tree ++ token.Ask ∷ []) c.ask.new.self.tree c.in-Ask.lit c.in-Ask.yes c.in-Ask.no
     c.requires.opened begins.2 judged.3 in
     rw (← c.turn_at.ensures.branches) falls
 
-pub returns-in_ok-close-in-Holds-clause-step : goal.returns-in_ok-close-in-Holds-clause-step
-returns-in_ok-close-in-Holds-clause-step g c =
+pub returns-in_ok-close_holds-in-Holds-clause-step : goal.returns-in_ok-close_holds-in-Holds-clause-step
+returns-in_ok-close_holds-in-Holds-clause-step g c =
     let A = g.A.Asker in
     let now = c.turn_at.new.asker in
     let kept = c.turn_at.ensures in
     let s = c.args.search.now in
     let begins = rw c.in-Holds.is at c.in_ok-lit.ensures.begins in
     let less = without_last s.tables.items c.pop.new.self.items s.tables.len s.tables.ok.0 c.pop.ensures.rest in
-    rw c.in_ok-close-in-Holds.ensures
-    (IsSearching-holds (A.is_own now) (A.plan now) (A.root now) c.args.budget s.path (reverse s.cycles.items) s.tables.items
+    rw c.in_ok-close_holds-in-Holds.ensures
+    (IsSearching-holds (A.is_own now) (A.plan now) (A.root now) c.args.budget s.path s.cycles s.tables.items
     c.pop.new.self.items s.tree s.asked c.requires.opened
     (IsSearching-same (known_first s.possible c.requires.possible c.requires.searching) kept.own kept.branches kept.root_kept) begins less)
 
-pub returns-in_ok-close-in-Holds-clause-falls : goal.returns-in_ok-close-in-Holds-clause-falls
-returns-in_ok-close-in-Holds-clause-falls g c =
+pub returns-in_ok-close_holds-in-Holds-clause-falls : goal.returns-in_ok-close_holds-in-Holds-clause-falls
+returns-in_ok-close_holds-in-Holds-clause-falls g c =
     let falls = weight_of-close (g.A.Asker.plan c.turn_at.new.asker) c.args.search.now.path c.requires.opened in
-    rw (c.in_ok-close-in-Holds.ensures, ← c.turn_at.ensures.branches) falls
+    rw (c.in_ok-close_holds-in-Holds.ensures, ← c.turn_at.ensures.branches) falls
 
 pub answers_along-requires : goal.answers_along-requires
 answers_along-requires g c =
@@ -133,7 +133,7 @@ returns-in_ok-answers-in-Fails-clause-step g c q list =
     let same_root : A.root last ≡ A.root now = c.answers_along.ensures.root in
     let searching = IsSearching-same (known_first s.possible c.requires.possible c.requires.searching) kept.own kept.branches kept.root_kept in
     let found =
-    failing_at_first (A.is_own now) (A.plan now) (A.root now) c.args.budget s.path (reverse s.cycles.items) s.tables.items s.tree
+    failing_at_first (A.is_own now) (A.plan now) (A.root now) c.args.budget s.path s.cycles s.tables.items s.tree
     s.asked c.in-Fails.why q searching begins
     (subst (λ (p : Plan g.row.A-Why.Denot). QuestionList p [] q) same_root list) in
     let reached =

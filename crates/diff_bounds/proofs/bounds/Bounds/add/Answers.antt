@@ -15,7 +15,7 @@ insert-requires g c = (
         AreModest-from_bounds g.row.N c.self.inside.rows c.self.invariant c.tables_tell_what_is_possible.ensures.modest,
         (
           IsNamed-from_bounds g.row.N c.self.inside.rows c.self.invariant c.args.lit c.requires.named,
-          (c.requires.small, search rules),
+          (c.requires.small, (search rules, search rules)),
         ),
       ),
     ),

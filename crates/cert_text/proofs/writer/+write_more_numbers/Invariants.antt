@@ -1,5 +1,0 @@
-use Rattle.std.proofs.Common.{length}
-use Rattle.cert_text.proofs.writer.+write_more_numbers.Given as goal
-
-abbrev pub decreases-write_more_numbers : goal.decreases-write_more_numbers
-decreases-write_more_numbers l = length l.numbers.now

@@ -1,0 +1,69 @@
+-- Ways through a literal: where that of its first name goes on no lower than what is kept, none does.
+use Rattle.std.proofs.Common.{◌≡◌, ℕ, ◌<◌, ℤ, pos, ◌+ℤ◌, ◌≤ℤ◌, List, [], length, get_or, Option, Some, None, arith, refl, sym, ap, ◌∙◌, subst}
+use Rattle.std.proofs.lemmas.Int.{ints}
+use Rattle.diff_graph.specs.declared.lit.Lit.{Lit}
+use Rattle.diff_graph.specs.declared.hop.Hop.{Hop}
+use Rattle.diff_graph.specs.Tables.{Numbered, literals_of, kept_of, StandsFor, IsAtMost, IsNamed, Follows}
+use Rattle.diff_graph.specs.Steps.{way_of, joined, lower_of, IsLowered, IsSquare}
+use Rattle.diff_bounds.specs.Kept.{IsLed, IsNoLower}
+
+-- what is kept stays where the way goes on no lower
+lower_of-no_lower : (way rest kept : Option Hop) → IsNoLower way rest kept → kept ≡ lower_of kept (joined way rest)
+lower_of-no_lower None rest kept high = refl
+lower_of-no_lower (Some way) None kept high = refl
+lower_of-no_lower (Some way) (Some rest) None high = absurd high
+lower_of-no_lower (Some way) (Some rest) (Some kept) high = grind (arith, ints)
+
+-- so a row by which no way goes on lower is lowered already
+pub IsLowered-led :
+    (ways : List (Option Hop)) (first from : ℕ) (row : List (Option Hop)) → IsLed ways first from row
+    → IsNoLower (get_or ways first None) (get_or row from None) (get_or row first None) → IsLowered ways from row row
+IsLowered-led ways first from row led high = record {
+  len = refl;
+  at = λ x below. lower_of-no_lower (get_or ways x None) (get_or row from None) (get_or row x None) (led high x below);
+}
+
+module _ (n : ℕ) (t : ℕ → ℕ → Option Hop) (ps : List Numbered) (stands : StandsFor n t ps) where
+  -- two offsets that are kept one after the other
+  at_most_both :
+      (x y z : ℕ) → x < n → y < n → z < n → (h i : Hop) → t x y ≡ Some h → t y z ≡ Some i → IsAtMost (t x z) (h.k +ℤ i.k)
+  at_most_both x y z xn yn zn h i is_h is_i =
+      let first : Follows (literals_of ps) x y h.k = (stands.tight x y xn yn h.k).0 (rw is_h (omega (arith, ints))) in
+      let second : Follows (literals_of ps) y z i.k = (stands.tight y z yn zn i.k).0 (rw is_i (omega (arith, ints))) in
+      (stands.tight x z xn zn (h.k +ℤ i.k)).1
+      (λ v met. let a = first v met in let b = second v met in omega (arith, ints, a, b))
+
+  no_lower_between :
+      (l : Lit) (number x y : ℕ) → IsNamed n l → x < n → y < n → (front rest led kept : Option Hop)
+      → t x l.x ≡ front → t l.y y ≡ rest → t l.x y ≡ led → t x y ≡ kept
+      → (own : Hop) → own.k ≡ pos 0 → IsNoLower (way_of number l l.x (Some own)) rest led
+      → IsNoLower (way_of number l x front) rest kept
+  no_lower_between l number x y named xn yn None rest led kept is_front is_rest is_led is_kept own zero high = tt
+  no_lower_between l number x y named xn yn (Some front) None led kept is_front is_rest is_led is_kept own zero high = tt
+  no_lower_between l number x y named xn yn (Some front) (Some rest) None kept is_front is_rest is_led is_kept own zero high = absurd high
+  no_lower_between l number x y named xn yn (Some front) (Some rest) (Some led) None is_front is_rest is_led is_kept own zero high =
+      let most : IsAtMost None (front.k +ℤ led.k) = rw is_kept at (at_most_both x l.x y xn named.0 yn front led is_front is_led) in
+      absurd most
+  no_lower_between l number x y named xn yn (Some front) (Some rest) (Some led) (Some kept) is_front is_rest is_led is_kept own zero
+      high =
+      let most : kept.k ≤ℤ (front.k +ℤ led.k) =
+      rw is_kept at (at_most_both x l.x y xn named.0 yn front led is_front is_led) in
+      omega (arith, ints, most, high, zero)
+
+-- so it is of the ways through a literal, in a table that stands for a list
+pub IsLed-through :
+    (rows : List (List (Option Hop))) (ways : List (Option Hop)) (number : ℕ) (l : Lit) (ps : List Numbered)
+    → StandsFor (length rows) (kept_of rows) ps → IsSquare rows → IsNamed (length rows) l
+    → ((x : ℕ) → x < length rows → get_or ways x None ≡ way_of number l x (kept_of rows x l.x))
+    → (y : ℕ) → y < length rows → IsLed ways l.x l.y (get_or rows y [])
+IsLed-through rows ways number l ps stands square named are y yn high x below =
+    let n : ℕ = length rows in
+    let own = stands.own l.x named.0 in
+    let long : length (get_or rows y []) ≡ n = square y yn in
+    let xn : x < n = omega (arith, long, below) in
+    let first : get_or ways l.x None ≡ way_of number l l.x (Some own.0) =
+    are l.x named.0 ∙ ap (λ (o : Option Hop). way_of number l l.x o) own.1 in
+    subst (λ (way : Option Hop). IsNoLower way (kept_of rows l.y y) (kept_of rows x y)) (sym (are x xn))
+    (no_lower_between n (kept_of rows) ps stands l number x y named xn yn (kept_of rows x l.x) (kept_of rows l.y y)
+    (kept_of rows l.x y) (kept_of rows x y) refl refl refl refl own.0 own.2
+    (subst (λ (way : Option Hop). IsNoLower way (kept_of rows l.y y) (kept_of rows l.x y)) first high))
