@@ -1,0 +1,7 @@
+pub mod Agreement
+pub mod Alike
+pub mod After
+pub mod Conditions
+pub mod Nears
+pub mod Joined
+mod Examples

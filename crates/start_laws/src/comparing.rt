@@ -1,0 +1,185 @@
+//! The conditions under which two starts have one value.
+ghost use Rattle.std.specs.Prelude.{◌≡◌, ◌≤◌, ◌-ℤ◌, IfOk, Some, ◌&&◌, nat_eq, length};
+ghost use Rattle.std.specs.List.{AllByRecursion};
+ghost use Rattle.std.specs.Option.{option_eq};
+ghost use Rattle.std.specs.Cmp.Lexicographic.{pointwise};
+ghost use Rattle.ot_model.specs.Kinds.{is_same_kind};
+ghost use Rattle.ot_questions.specs.Nears.{IsNear, IsNearOp};
+ghost use Rattle.start_laws.specs.Begun.{IsBegun, start_after};
+ghost use Rattle.start_laws.specs.Starts as starts;
+
+use crate::start::StartAt;
+use ask_core::NoMemory;
+use diff_graph::Lit;
+use fn_rules::ObName;
+use ot_model::Kind;
+use ot_terms::{Place, SymOp};
+use plain_list::List;
+use std::alloc::Global;
+
+fn is_same_ob(left: ObName, right: ObName) -> bool
+    ensures { result ≡ starts.is_same_ob left right }
+{
+    match (left, right) {
+        (ObName::Pair(j, k), ObName::Pair(l, m)) => j.same(l) && k.same(m),
+        (ObName::Triple(i, j, k), ObName::Triple(l, m, n)) => i.same(l) && j.same(m) && k.same(n),
+        _ => false,
+    }
+}
+
+fn are_same_kinds(left: Option<Kind>, right: Option<Kind>) -> bool
+    ensures { result ≡ option_eq is_same_kind left right }
+{
+    match (left, right) {
+        (Some(k), Some(l)) => k.same(l),
+        (None, None) => true,
+        _ => false,
+    }
+}
+
+fn is_same_but_position(left: SymOp, right: SymOp) -> bool
+    ensures { result ≡ starts.is_same_but_position left right }
+{
+    are_same_kinds(left.kind(), right.kind())
+        && left.site() == right.site()
+        && left.ch() == right.ch()
+}
+
+fn is_same_op(left: SymOp, right: SymOp) -> bool
+    ensures { result ≡ starts.is_same_op left right }
+{
+    is_same_but_position(left, right) && left.at() == right.at()
+}
+
+fn are_same_ops(left: &[SymOp], right: &[SymOp]) -> bool
+    ensures { result ≡ pointwise starts.is_same_op left.now right.now }
+{
+    match (left, right) {
+        ([], []) => true,
+        ([first, others @ ..], [other, rest @ ..]) => is_same_op(*first, *other)
+            && are_same_ops(others, rest),
+        _ => false,
+    }
+}
+
+fn still_read(ob: ObName, got: &[SymOp]) -> &[SymOp]
+    ensures { result.now ≡ starts.still_read ob got.now }
+{
+    match ob {
+        ObName::Pair(..) => got,
+        ObName::Triple(..) => match got {
+            [_, _, rest @ ..] if !rest.is_empty() => rest,
+            _ => got,
+        },
+    }
+}
+
+// The first place is at most the second one.
+fn at_most(x: Place, y: Place) -> Lit
+    requires x_near { IsNear 1000 x.off }
+    requires y_near { IsNear 1000 y.off }
+    ensures { result ≡ record { x = x.var; y = y.var; k = y.off -ℤ x.off } }
+{
+    Lit {
+        x: x.var,
+        y: y.var,
+        k: y.off - x.off,
+    }
+}
+
+fn with_places(found: List<Lit>, there: Place, here: Place) -> Result<Option<List<Lit>>, NoMemory>
+    requires there_near { IsNear 1000 there.off }
+    requires here_near { IsNear 1000 here.off }
+    ensures { IfOk result (λ r. r ≡ starts.all_conditions (Some found) (starts.conditions_at there here)) }
+{
+    if there.var == here.var {
+        if there.off == here.off {
+            return Ok(Some(found));
+        }
+        return Ok(None);
+    }
+    let mut both = found;
+    both.push(at_most(here, there))?;
+    both.push(at_most(there, here))?;
+    Ok(Some(both))
+}
+
+fn with_results(found: List<Lit>, there: SymOp, here: SymOp) -> Result<Option<List<Lit>>, NoMemory>
+    requires there_near { IsNearOp 1000 there }
+    requires here_near { IsNearOp 1000 here }
+    ensures { IfOk result (λ r. r ≡ starts.all_conditions (Some found) (starts.conditions_of there here)) }
+{
+    if is_same_but_position(there, here) {
+        return Ok(with_places(found, there.at(), here.at())?);
+    }
+    Ok(None)
+}
+
+// The conditions so far, and then those between each result and the one beside it.
+fn with_each(
+    found: List<Lit>,
+    there: &[SymOp],
+    here: &[SymOp],
+) -> Result<Option<List<Lit>>, NoMemory>
+    requires there_near { AllByRecursion (IsNearOp 1000) there.now }
+    requires here_near { AllByRecursion (IsNearOp 1000) here.now }
+    ensures { IfOk result (λ r. r ≡ starts.all_conditions (Some found) (starts.conditions_of_each there.now here.now)) }
+{
+    match there {
+        [] => {
+            if here.is_empty() {
+                return Ok(Some(found));
+            }
+            Ok(None)
+        }
+        [first, others @ ..] => match here {
+            [] => Ok(None),
+            [other, rest @ ..] => {
+                let Some(more) = with_results(found, *first, *other)? else {
+                    return Ok(None);
+                };
+                Ok(with_each(more, others, rest)?)
+            }
+        },
+    }
+}
+
+fn conditions(
+    alloc: Global,
+    lemma: &StartAt<'_>,
+    there: &[SymOp],
+    here: &StartAt<'_>,
+    got: &[SymOp],
+) -> Result<Option<List<Lit>>, NoMemory>
+    requires there_near { AllByRecursion (IsNearOp 1000) there.now }
+    requires here_near { AllByRecursion (IsNearOp 1000) got.now }
+    ensures { IfOk result (λ r. r ≡ starts.compare_starts
+        (record { ob = lemma.now.plan.now.ob; ops = lemma.now.plan.now.ops; got = there.now })
+        (record { ob = here.now.plan.now.ob; ops = here.now.plan.now.ops; got = got.now })) }
+{
+    if there.len() == got.len()
+        && is_same_ob(lemma.plan.ob, here.plan.ob)
+        && are_same_ops(&lemma.plan.ops, &here.plan.ops)
+    {
+        let read = still_read(lemma.plan.ob, there);
+        return Ok(with_each(List::new(alloc), read, still_read(here.plan.ob, got))?);
+    }
+    Ok(None)
+}
+
+/// The conditions under which a lemma of the one start serves at the other one, or none where the starts do not
+/// compare. It takes memory for conditions alone.
+pub fn compare(
+    alloc: Global,
+    lemma: &StartAt<'_>,
+    here: &StartAt<'_>,
+) -> Result<Option<List<Lit>>, NoMemory>
+    requires lemma_begun { IsBegun lemma.now.plan.now lemma.now.last }
+    requires here_begun { IsBegun here.now.plan.now here.now.last }
+    ensures { IfOk result (λ found. found
+        ≡ starts.compare_starts (start_after lemma.now.plan.now lemma.now.last) (start_after here.now.plan.now here.now.last)) }
+{
+    let there = lemma.results();
+    let got = here.results();
+    Ok(conditions(alloc, lemma, there.as_slice(), here, got.as_slice())?)
+}
