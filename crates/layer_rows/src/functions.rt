@@ -1,5 +1,5 @@
 //! Functions that several rows speak of.
-use fn_rules::{Block, Case, Guard, Head, Res, Rules, Side, is_within_limits};
+use fn_rules::{Atom, Block, Case, Cmp, Guard, Head, Res, Rules, Side, Sort, is_within_limits};
 use ot_model::{KINDS, Kind, Mode};
 use std::alloc::Global;
 use std::process::Abort;
@@ -51,6 +51,34 @@ pub(crate) fn without_cases(rt: &impl Abort, alloc: Global) -> Result<Rules, Fai
         first: Kind::Del,
         second: Kind::Del,
         cases: Vec::new(alloc),
+    };
+    Ok(built(rt, MARKS, vec![in alloc; block]?))
+}
+
+/// A function on deletions whose cases ask which one is first, and leave the operation where it is in both.
+pub(crate) fn asking(rt: &impl Abort, alloc: Global) -> Result<Rules, Fail> {
+    let stays = Res::Keep {
+        base: Side::First,
+        k: 0,
+    };
+    let before = Guard::Atom(Atom {
+        sort: Sort::Pos,
+        left: Side::First,
+        cmp: Cmp::Lt,
+        k: 0,
+    });
+    let asked = Case {
+        guard: before,
+        res: stays,
+    };
+    let otherwise = Case {
+        guard: Guard::True,
+        res: stays,
+    };
+    let block = Block {
+        first: Kind::Del,
+        second: Kind::Del,
+        cases: vec![in alloc; asked, otherwise]?,
     };
     Ok(built(rt, MARKS, vec![in alloc; block]?))
 }

@@ -20,4 +20,6 @@ mod sessions;
 #[cfg(test)]
 mod splits;
 #[cfg(test)]
+mod starts;
+#[cfg(test)]
 mod two_names;

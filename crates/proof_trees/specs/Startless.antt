@@ -17,12 +17,12 @@ abbrev pub no_starts : {N W : Type 0} → (N → Plan W) → Plan W → Starts N
 no_starts plan root =
     record { marked = λ n. startless (plan n); root = startless root; compare = λ s here. None; meaning = λ s. plain.Holds }
 
-unmarked-startless : {W : Type 0} (S : Type 0) (p : Plan W) → unmarked (startless {S = S} p) ≡ p
+pub unmarked-startless : {W : Type 0} (S : Type 0) (p : Plan W) → unmarked (startless {S = S} p) ≡ p
 unmarked-startless S (plain.Ask l on_yes on_no) = rw (unmarked-startless S on_yes, unmarked-startless S on_no) refl
 unmarked-startless S plain.Holds = refl
 unmarked-startless S (plain.Fails why) = refl
 
-IsMarkedBy-startless : {S W : Type 0} (meaning : S → Plan W) (p : Plan W) → IsMarkedBy meaning (startless p)
+pub IsMarkedBy-startless : {S W : Type 0} (meaning : S → Plan W) (p : Plan W) → IsMarkedBy meaning (startless p)
 IsMarkedBy-startless meaning (plain.Ask l on_yes on_no) =
     (tt, IsMarkedBy-startless meaning on_yes, IsMarkedBy-startless meaning on_no)
 IsMarkedBy-startless meaning plain.Holds = tt

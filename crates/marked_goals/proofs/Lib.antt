@@ -1,0 +1,4 @@
+pub mod Unmarked
+pub mod StartsKept
+pub mod RuleMarks
+pub mod Begins

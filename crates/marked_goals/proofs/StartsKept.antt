@@ -1,0 +1,125 @@
+-- Each start of a goal's plan stands for the plan that is there.
+use Rattle.std.proofs.Common.{◌≡◌, ℕ, zero, suc, ◌+◌, ◌-◌, negsuc, Bool, true, false, nat_eq, int_le, Option, Some, None, List, [], ◌∷◌, ◌++◌, drop, IsTrue, refl, sym, subst, ◌∙◌}
+use Rattle.ot_model.specs.declared.op.Kind.{Kind}
+use Rattle.fn_rules.specs.declared.function.ObName.{ObName}
+use Rattle.fn_rules.specs.Functions.{Function, GuardedCase}
+use Rattle.fn_rules.specs.Obligations.{is_obligation}
+use Rattle.proof_trees.specs.Starts.{Ask, Holds, Fails, unmarked, IsMarkedBy}
+use Rattle.proof_trees.specs.Startless.{IsMarkedBy-startless}
+use Rattle.ot_questions.specs.declared.place.Place.{Place}
+use Rattle.ot_questions.specs.declared.place.SymOp.{SymOp}
+use Rattle.ot_questions.specs.Places.{plus, sym_kind, sym_result}
+use Rattle.ot_terms.specs.declared.goal.Progress.{Progress}
+use Rattle.ot_terms.specs.Belonging.{IsGoalOf, HasParts, IsChoiceOf, next_operands}
+use Rattle.ot_terms.specs.Forms as forms
+use Rattle.ot_terms.specs.Forms.{FormTree}
+use Rattle.ot_terms.specs.Goals as goals
+use Rattle.ot_terms.specs.Goals.{GoalTree}
+use Rattle.ot_terms.specs.Placing.{guard_form}
+use Rattle.ot_terms.specs.Standing.{ask_after, ask_goal, results_of}
+use Rattle.ot_terms.specs.Starting.{start_of}
+use Rattle.ot_terms.specs.Weights.{transforms_of}
+use Rattle.ot_terms.proofs.StartParts.{start_of_belongs}
+use Rattle.start_laws.specs.Begun.{start_after}
+use Rattle.start_laws.specs.Starts.{Start, meaning}
+use Rattle.marked_goals.specs.Marking.{Marked, with_start, marked_le, marked_form, marked_cases, marked_by_kinds, marked_transform, marked_next, marked_after, marked_with, begun, marked_goal, marked_plan}
+use Rattle.marked_goals.proofs.Unmarked.{unmarked-transform, unmarked-choice, unmarked-after, next_asks}
+
+module _ (f : Function) where
+  abbrev AreLawful : Marked → Type 0
+  AreLawful p = IsMarkedBy (meaning f) p
+
+  with_start-kept : (s : Start) (p : Marked) → unmarked p ≡ meaning f s → AreLawful p → AreLawful (with_start (Some s) p)
+  with_start-kept s (Ask other l on_yes on_no) e h = (e, h.1, h.2)
+  with_start-kept s (Holds other) e h = e
+  with_start-kept s (Fails other why) e h = e
+
+  le_by_tests :
+      (x y : Place) (p q : Marked) (b c : Bool) → nat_eq x.var y.var ≡ b → int_le x.off y.off ≡ c → AreLawful p → AreLawful q
+      → AreLawful (marked_le x y p q)
+  unfolding marked_le
+  le_by_tests x y p q true true e o hp hq = rw e (rw o hp)
+  le_by_tests x y p q true false e o hp hq = rw e (rw o hq)
+  le_by_tests x y p q false c e o hp hq = rw e (tt, hp, hq)
+
+  le-kept : (x y : Place) (p q : Marked) → AreLawful p → AreLawful q → AreLawful (marked_le x y p q)
+  le-kept x y p q hp hq = le_by_tests x y p q (nat_eq x.var y.var) (int_le x.off y.off) refl refl hp hq
+
+  form-kept : (g : FormTree) (p q : Marked) → AreLawful p → AreLawful q → AreLawful (marked_form g p q)
+  unfolding marked_form
+  form-kept forms.True p q hp hq = hp
+  form-kept (forms.Le x y) p q hp hq = le-kept x y p q hp hq
+  form-kept (forms.Lt x y) p q hp hq = le-kept x (plus y (negsuc 0)) p q hp hq
+  form-kept (forms.Eq x y) p q hp hq = le-kept x y (marked_le y x p q) q (le-kept y x p q hp hq) hq
+  form-kept (forms.And g h) p q hp hq = form-kept g (marked_form h p q) q (form-kept h p q hp hq) hq
+  form-kept (forms.Or g h) p q hp hq = form-kept g p (marked_form h p q) hp (form-kept h p q hp hq)
+  form-kept (forms.Not g) p q hp hq = form-kept g q p hq hp
+
+  module _ (a b : SymOp) (go : SymOp → Marked) (each : (r : SymOp) → AreLawful (go r)) where
+    cases-kept : (cs : List GuardedCase) → AreLawful (marked_cases cs a b go)
+    unfolding marked_cases
+    cases-kept [] = tt
+    cases-kept (c ∷ cs) =
+        form-kept (guard_form c.guard a b) (go (sym_result c.res a b)) (marked_cases cs a b go) (each (sym_result c.res a b))
+        (cases-kept cs)
+
+    by_kinds-kept : (case : ℕ) (k l : Option Kind) → AreLawful (marked_by_kinds f case a b k l go)
+    unfolding marked_by_kinds
+    by_kinds-kept case None l = each _
+    by_kinds-kept case (Some k) None = each _
+    by_kinds-kept case (Some k) (Some l) = cases-kept (drop case (f.cases k l))
+
+    transform-kept : (case : ℕ) → AreLawful (marked_transform f case a b go)
+    transform-kept case = by_kinds-kept case (sym_kind a) (sym_kind b)
+
+  next-kept :
+      (s : Start) (next : Option (SymOp × SymOp)) (go : SymOp → Marked) → next_operands s.ob s.ops s.got ≡ next
+      → ((r : SymOp) → unmarked (go r) ≡ ask_after f s.ob s.ops (s.got ++ r ∷ [])) → ((r : SymOp) → AreLawful (go r))
+      → AreLawful (marked_next f s next go)
+  unfolding marked_next
+  next-kept s None go e same each = IsMarkedBy-startless (meaning f) (ask_after f s.ob s.ops s.got)
+  next-kept s (Some next) go e same each =
+      with_start-kept s (marked_transform f 0 next.0 next.1 go)
+      (unmarked-transform next.0 next.1 go (λ r. ask_after f s.ob s.ops (s.got ++ r ∷ [])) same f 0 ∙ next_asks f s next e)
+      (transform-kept next.0 next.1 go each 0)
+
+  after-kept : (most : ℕ) (ob : ObName) (os got : List SymOp) → AreLawful (marked_after most f ob os got)
+  unfolding marked_after
+  after-kept zero ob os got = IsMarkedBy-startless (meaning f) (ask_after f ob os got)
+  after-kept (suc most) ob os got =
+      next-kept (record { ob = ob; ops = os; got = got }) (next_operands ob os got)
+      (λ r. marked_after most f ob os (got ++ r ∷ [])) refl (λ r. unmarked-after f most ob os (got ++ r ∷ []))
+      (λ r. after-kept most ob os (got ++ r ∷ []))
+
+  with-kept : (plan : Progress) (r : SymOp) → AreLawful (marked_with f plan r)
+  with-kept plan r = after-kept (transforms_of plan.ob - (1 + plan.count)) plan.ob plan.ops (results_of plan ++ r ∷ [])
+
+  choice-kept : (case : ℕ) (a b : SymOp) (plan : Progress) → AreLawful (marked_transform f case a b (marked_with f plan))
+  choice-kept case a b plan = transform-kept a b (marked_with f plan) (with-kept plan) case
+
+  begun-kept :
+      (ob : ObName) (case : ℕ) (a b : SymOp) (plan : Progress) → IsChoiceOf f ob case a b plan
+      → AreLawful (begun case plan (marked_transform f case a b (marked_with f plan)))
+  begun-kept ob zero a b plan h =
+      with_start-kept (start_after plan None) (marked_transform f 0 a b (marked_with f plan))
+      (unmarked-choice f 0 a b plan ∙ next_asks f (start_after plan None) (a, b)
+      (subst (λ o. next_operands o plan.ops (results_of plan) ≡ Some (a, b)) (sym h.progress.same) h.next))
+      (choice-kept 0 a b plan)
+  begun-kept ob (suc case) a b plan h = choice-kept (suc case) a b plan
+
+  parts-kept : (ob : ObName) (g : GoalTree) → HasParts f ob g → AreLawful (marked_goal f g)
+  unfolding marked_goal
+  parts-kept ob goals.Holds h = tt
+  parts-kept ob (goals.Fails why) h = tt
+  parts-kept ob (goals.If g on_yes on_no) h =
+      form-kept g (marked_goal f on_yes) (marked_goal f on_no) (parts-kept ob on_yes h.1) (parts-kept ob on_no h.2)
+  parts-kept ob (goals.Choose case a b plan) h = begun-kept ob case a b plan h
+  parts-kept ob (goals.Deliver o plan) h = with-kept plan o
+  parts-kept ob (goals.Same left right) h = IsMarkedBy-startless (meaning f) (ask_goal f (goals.Same left right))
+
+  pub starts_kept : (ob : ObName) (g : GoalTree) → IsGoalOf f ob g → IsMarkedBy (meaning f) (marked_goal f g)
+  starts_kept ob g h = parts-kept ob g h.parts
+
+  pub plan_starts_kept :
+      (ob : ObName) → IsTrue (is_obligation f.head ob) → IsMarkedBy (meaning f) (marked_plan f ob)
+  plan_starts_kept ob declared = starts_kept ob (start_of f.head ob) (start_of_belongs f ob declared)

@@ -1,0 +1,2 @@
+pub mod SettledGoals
+pub mod Turns

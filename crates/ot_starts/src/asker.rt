@@ -1,0 +1,156 @@
+//! The asker of one obligation, with its starts.
+ghost use Rattle.std.specs.Prelude.{◌≡◌, IsTrue, IfOk};
+ghost use Rattle.fn_rules.specs.Obligations.{is_obligation};
+ghost use Rattle.fn_rules.specs.Rules.{function_of};
+ghost use Rattle.ask_core.specs.Askers.{Begins};
+ghost use Rattle.proof_trees.specs.Starts.{IsLawful};
+ghost use Rattle.proof_trees.specs.Starters.{BeginsAt};
+ghost use Rattle.ot_questions.specs.Names as names;
+ghost use Rattle.ot_questions.specs.Obligation.{plan_of};
+ghost use Rattle.ot_terms.specs.Goals.{goal_tree};
+ghost use Rattle.ot_terms.specs.Standing.{ask_goal};
+ghost use Rattle.start_laws.specs.Starts.{compare_starts, meaning};
+ghost use Rattle.marked_goals.specs.Marking.{marked_goal, marked_plan};
+ghost use Rattle.ot_starts.specs.Nodes.{IsStop, starts_of};
+
+use crate::begun::Begun;
+use crate::fronts::{compared, is_begun};
+use crate::settling::settled;
+use crate::walking::turn_of;
+use ask_core::{Asker, NoMemory, Turn};
+use bumpalo::Bump;
+use diff_graph::Lit;
+use first_goals::start_goal;
+use fn_rules::{ObName, Rules};
+use marked_goals::{marked_plans_are_plans, rules_keep_starts};
+use ot_questions::plans_keep_limits;
+use ot_terms::{Goal, Why, first_goals_stand_for_obligations};
+use plain_list::List;
+use proof_trees::Starter;
+use start_laws::starts_have_one_value;
+use std::alloc::Global;
+
+// What an obligation begins with, as far as to its first question.
+fn first_stop<'a>(bump: &'a Bump, rules: &Rules, ob: ObName) -> Result<&'a Goal<'a>, NoMemory>
+    requires { IsTrue (is_obligation (function_of rules.now).head ob) }
+    ensures stop { IfOk result (λ g. IsStop (function_of rules.now) ob (goal_tree g.now)) }
+    ensures plan { IfOk result (λ g. ask_goal (function_of rules.now) (goal_tree g.now) ≡ plan_of (function_of rules.now) ob) }
+    ensures marked { IfOk result (λ g. marked_goal (function_of rules.now) (goal_tree g.now) ≡ marked_plan (function_of rules.now) ob) }
+{
+    plans_keep_limits();
+    first_goals_stand_for_obligations();
+    let _head = rules.head();
+    let start = start_goal(bump, rules, ob)?;
+    Ok(settled(bump, rules, start)?)
+}
+
+/// What an obligation of a function asks, with a start wherever a transformation begins. Its nodes are goals in an arena
+/// that stands outside.
+#[derive(Drop)]
+pub struct StartAsker<'a> {
+    bump: &'a Bump,
+    rules: &'a Rules,
+    ob: ObName,
+    ghost listed: { IsTrue (is_obligation (function_of rules.now).head ob) },
+    ghost lawful: { IsLawful compare_starts (meaning (function_of rules.now)) },
+}
+
+impl<'a> StartAsker<'a> {
+    /// The asker of an obligation that is one of the function's. It takes no memory.
+    pub fn new(bump: &'a Bump, rules: &'a Rules, ob: ObName) -> StartAsker<'a>
+        requires { IsTrue (is_obligation (function_of rules.now).head ob) }
+        ensures root { ⟦<StartAsker<'a> as Asker>⟧.root result ≡ plan_of (function_of rules.now) ob }
+        ensures count { ⟦<StartAsker<'a> as Asker>⟧.name_count result ≡ names.name_count ob }
+        ensures starts { ⟦<StartAsker<'a> as Starter>⟧.starts result ≡ starts_of (function_of rules.now) ob }
+    {
+        starts_have_one_value();
+        StartAsker { bump, rules, ob }
+    }
+
+    // How the plan of a node begins, with its starts and without them.
+    fn walked(&self, node: &'a Goal<'a>) -> Result<Turn<&'a Goal<'a>, Why>, NoMemory>
+        requires { IsStop (function_of self.now.rules.now) self.now.ob (goal_tree node.now) }
+        ensures marked { IfOk result (λ t. BeginsAt (λ n. IsStop (function_of self.now.rules.now) self.now.ob (goal_tree n.now))
+            (λ n. marked_goal (function_of self.now.rules.now) (goal_tree n.now)) t
+            (marked_goal (function_of self.now.rules.now) (goal_tree node.now))) }
+        ensures plain { IfOk result (λ t. Begins (λ n. IsStop (function_of self.now.rules.now) self.now.ob (goal_tree n.now))
+            (λ n. ask_goal (function_of self.now.rules.now) (goal_tree n.now)) t
+            (ask_goal (function_of self.now.rules.now) (goal_tree node.now))) }
+    {
+        marked_plans_are_plans();
+        Ok(turn_of(self.bump, self.rules, node)?)
+    }
+}
+
+impl<'a> Asker for StartAsker<'a> {
+    ghost use Rattle.fn_rules.specs.Rules.{function_of};
+    ghost use Rattle.ot_questions.specs.Names as names;
+    ghost use Rattle.ot_questions.specs.Obligation.{plan_of};
+    ghost use Rattle.ot_terms.specs.Goals.{goal_tree};
+    ghost use Rattle.ot_terms.specs.Standing.{ask_goal};
+    ghost use Rattle.ot_starts.specs.Nodes.{IsStop};
+
+    type Node = &'a Goal<'a>;
+
+    type Why = Why;
+
+    ghost is_own = { λ a n. IsStop (function_of a.rules.now) a.ob (goal_tree n.now) };
+
+    ghost plan = { λ a n. ask_goal (function_of a.rules.now) (goal_tree n.now) };
+
+    ghost root = { λ a. plan_of (function_of a.rules.now) a.ob };
+
+    ghost name_count = { λ a. names.name_count a.ob };
+
+    fn names(&self) -> u8 {
+        match self.ob {
+            ObName::Pair(..) => 9,
+            ObName::Triple(..) => 12,
+        }
+    }
+
+    fn start(&mut self) -> Result<&'a Goal<'a>, NoMemory> {
+        Ok(first_stop(self.bump, self.rules, self.ob)?)
+    }
+
+    fn turn(&mut self, node: &'a Goal<'a>) -> Result<Turn<&'a Goal<'a>, Why>, NoMemory> {
+        Ok(self.walked(node)?)
+    }
+
+    ghost fine = { λ a n own. own.node.fine };
+}
+
+impl<'a> Starter for StartAsker<'a> {
+    ghost use Rattle.fn_rules.specs.Rules.{function_of};
+    ghost use Rattle.ot_starts.specs.Nodes.{starts_of};
+    ghost use Rattle.ot_starts.specs.Whole.{IsWhole-starts};
+
+    type Start = Begun;
+
+    ghost starts = { λ a. starts_of (function_of a.rules.now) a.ob };
+
+    fn first(&mut self) -> Result<&'a Goal<'a>, NoMemory> {
+        Ok(first_stop(self.bump, self.rules, self.ob)?)
+    }
+
+    fn follow(&mut self, node: &'a Goal<'a>) -> Result<Turn<&'a Goal<'a>, Why>, NoMemory> {
+        Ok(self.walked(node)?)
+    }
+
+    fn begins(&self, node: &'a Goal<'a>) -> bool {
+        rules_keep_starts();
+        is_begun(node)
+    }
+
+    fn compare(
+        &mut self,
+        alloc: Global,
+        lemma: &'a Goal<'a>,
+        here: &'a Goal<'a>,
+    ) -> Result<Option<List<Lit>>, NoMemory> {
+        rules_keep_starts();
+        Ok(compared(alloc, self.rules, lemma, here)?)
+    }
+
+    ghost whole = { λ a. IsWhole-starts (function_of a.rules.now) a.ob a.listed a.lawful };
+}

@@ -1,0 +1,59 @@
+//! Goals as far as to where something is asked or begins.
+ghost use Rattle.std.specs.Prelude.{◌≡◌, ◌<◌, IsTrue, false, IfOk};
+ghost use Rattle.fn_rules.specs.declared.function.ObName.{ObName};
+ghost use Rattle.fn_rules.specs.Rules.{function_of};
+ghost use Rattle.ot_terms.specs.Belonging.{IsGoalOf};
+ghost use Rattle.ot_terms.specs.Goals.{goal_tree};
+ghost use Rattle.ot_terms.specs.Weights.{goal_weight};
+ghost use Rattle.marked_goals.specs.Settled as marks;
+ghost use Rattle.marked_goals.specs.Settled.{StandsMarked};
+
+use crate::fronts::{is_at_front, start_at};
+use ask_core::NoMemory;
+use bumpalo::Bump;
+use fn_rules::Rules;
+use marked_goals::rules_keep_starts;
+use ot_rewrite::step;
+use ot_terms::Goal;
+
+// Whether the goal is one that an asker stops at.
+#[inline]
+fn is_settled(goal: &Goal<'_>) -> bool
+    ensures { result ≡ marks.is_settled (goal_tree goal.now) }
+{
+    rules_keep_starts();
+    start_at(goal).is_some() || is_at_front(goal)
+}
+
+// The goal after one rule, which is not one that an asker stops at.
+fn next_of<'a>(bump: &'a Bump, rules: &Rules, goal: &'a Goal<'a>) -> Result<&'a Goal<'a>, NoMemory>
+    requires goal { (ob : ObName) × IsGoalOf (function_of rules.now) ob (goal_tree goal.now) }
+    requires open { marks.is_settled (goal_tree goal.now) ≡ false }
+    ensures alike { IfOk result (λ r. StandsMarked (function_of rules.now) (goal_tree goal.now) (goal_tree r.now)) }
+    ensures lighter { IfOk result (λ r. goal_weight (function_of rules.now) (goal_tree r.now) < goal_weight (function_of rules.now) (goal_tree goal.now)) }
+{
+    rules_keep_starts();
+    let _head = rules.head();
+    match step(bump, rules, goal)? {
+        Some(next) => Ok(next),
+        None => Ok(goal),
+    }
+}
+
+/// The goal as far as to its first question, to its end, or to where a transformation begins. It stands for the same
+/// plan with the same starts.
+pub(crate) fn settled<'a>(
+    bump: &'a Bump,
+    rules: &Rules,
+    goal: &'a Goal<'a>,
+) -> Result<&'a Goal<'a>, NoMemory>
+    requires { (ob : ObName) × IsGoalOf (function_of rules.now) ob (goal_tree goal.now) }
+    ensures alike { IfOk result (λ r. StandsMarked (function_of rules.now) (goal_tree goal.now) (goal_tree r.now)) }
+    ensures settled { IfOk result (λ r. IsTrue (marks.is_settled (goal_tree r.now))) }
+{
+    if is_settled(goal) {
+        return Ok(goal);
+    }
+    let next = next_of(bump, rules, goal)?;
+    Ok(settled(bump, rules, next)?)
+}

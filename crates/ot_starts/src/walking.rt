@@ -1,0 +1,107 @@
+//! How the plan of a goal begins, with the goals after its first question.
+ghost use Rattle.std.specs.Prelude.{◌≡◌, IsTrue, IfOk};
+ghost use Rattle.fn_rules.specs.declared.function.ObName.{ObName};
+ghost use Rattle.fn_rules.specs.Rules.{function_of};
+ghost use Rattle.ot_questions.specs.Nears.{IsNear};
+ghost use Rattle.ot_terms.specs.Belonging.{IsGoalOf};
+ghost use Rattle.ot_terms.specs.Forms.{form_tree};
+ghost use Rattle.ot_terms.specs.Goals.{goal_tree, If};
+ghost use Rattle.ot_rewrite.specs.Fronts as fronts;
+ghost use Rattle.goal_rules.specs.Steps.{front_tree};
+ghost use Rattle.ot_paths.specs.Nodes as nodes;
+ghost use Rattle.marked_goals.specs.Settled.{Opens};
+ghost use Rattle.ot_starts.specs.Turns.{TurnsAs};
+
+use crate::fronts::question;
+use crate::settling::settled;
+use ask_core::{NoMemory, Turn};
+use bumpalo::Bump;
+use diff_graph::Lit;
+use fn_rules::Rules;
+use goal_rules::Front;
+use marked_goals::rules_keep_starts;
+use ot_rewrite::{front_of, rules_keep_what_is_asked};
+use ot_terms::{Form, Goal, Place, Why};
+
+// The literal of the question whether the first place is at most the second.
+#[inline]
+fn literal(x: Place, y: Place) -> Lit
+    requires x_near { IsNear 1000 x.off }
+    requires y_near { IsNear 1000 y.off }
+    ensures { result ≡ nodes.literal x y }
+{
+    Lit {
+        x: x.var,
+        y: y.var,
+        k: y.off - x.off,
+    }
+}
+
+// How the plan of a question begins, with a goal for each answer.
+fn asked<'a>(
+    bump: &'a Bump,
+    rules: &Rules,
+    form: Form<'a>,
+    yes: &'a Goal<'a>,
+    no: &'a Goal<'a>,
+) -> Result<Turn<&'a Goal<'a>, Why>, NoMemory>
+    requires goal { (ob : ObName) × IsGoalOf (function_of rules.now) ob (If (form_tree form) (goal_tree yes.now) (goal_tree no.now)) }
+    requires question { IsTrue (fronts.is_question (form_tree form)) }
+    ensures { IfOk result (λ t. TurnsAs (function_of rules.now) (If (form_tree form.entry) (goal_tree yes.now) (goal_tree no.now)) t) }
+{
+    let Some((x, y)) = question(form) else {
+        return Ok(Turn::Holds);
+    };
+    let on_yes = settled(bump, rules, yes)?;
+    let on_no = settled(bump, rules, no)?;
+    Ok(Turn::Ask {
+        lit: literal(x, y),
+        yes: on_yes,
+        no: on_no,
+    })
+}
+
+/// How the plan of a goal begins at whose front nothing is left to be rewritten.
+pub(crate) fn turn_at<'a>(
+    bump: &'a Bump,
+    rules: &Rules,
+    front: Front<'a>,
+) -> Result<Turn<&'a Goal<'a>, Why>, NoMemory>
+    requires goal { (ob : ObName) × IsGoalOf (function_of rules.now) ob (front_tree front) }
+    requires at_front { IsTrue (fronts.is_at_front (front_tree front)) }
+    ensures { IfOk result (λ t. TurnsAs (function_of rules.now) (front_tree front.entry) t) }
+{
+    match front {
+        Front::Holds => Ok(Turn::Holds),
+        Front::Fails(why) => Ok(Turn::Fails(why)),
+        Front::If { form, yes, no } => Ok(asked(bump, rules, form, yes, no)?),
+        Front::Choose { .. } => Ok(Turn::Holds),
+        Front::Deliver { .. } => Ok(Turn::Holds),
+        Front::Same { .. } => Ok(Turn::Holds),
+    }
+}
+
+// The goal after rules until a question or an end stands at its front.
+fn opened<'a>(bump: &'a Bump, rules: &Rules, goal: &'a Goal<'a>) -> Result<Front<'a>, NoMemory>
+    requires { (ob : ObName) × IsGoalOf (function_of rules.now) ob (goal_tree goal.now) }
+    ensures opens { IfOk result (λ r. Opens (function_of rules.now) (goal_tree goal.now) (front_tree r)) }
+    ensures at_front { IfOk result (λ r. IsTrue (fronts.is_at_front (front_tree r))) }
+{
+    rules_keep_what_is_asked();
+    rules_keep_starts();
+    let _head = rules.head();
+    Ok(front_of(bump, rules, goal)?)
+}
+
+/// How the plan of a goal begins.
+pub(crate) fn turn_of<'a>(
+    bump: &'a Bump,
+    rules: &Rules,
+    goal: &'a Goal<'a>,
+) -> Result<Turn<&'a Goal<'a>, Why>, NoMemory>
+    requires { (ob : ObName) × IsGoalOf (function_of rules.now) ob (goal_tree goal.now) }
+    ensures { IfOk result (λ t. TurnsAs (function_of rules.now) (goal_tree goal.now) t) }
+{
+    let front = opened(bump, rules, goal)?;
+    Ok(turn_at(bump, rules, front)?)
+}
