@@ -217,7 +217,22 @@ def differ(f, one, two, go):
     return eq((one.site, 0), (two.site, 0), Holds, chars) if f.sites else chars()
 
 
-def converge(f, a, b):
+# The transformations of a pair and of a triple, in their order: the operation and the one that it is transformed over,
+# counted among the operations and then the results.
+STEPS = {2: [(1, 0), (0, 1)], 3: [(1, 0), (2, 0), (4, 3), (0, 1), (2, 1), (7, 6)]}
+
+
+def transformed(f, ops, begin, go, results=()):
+    """All transformations from the next one on, and then what goes on with the results. Each of them begins by `begin`,
+    which is given the results before it."""
+    if len(results) == len(STEPS[len(ops)]):
+        return go(*results)
+    one, two = ((ops + results)[place] for place in STEPS[len(ops)][len(results)])
+    onward = lambda result: transformed(f, ops, begin, go, (*results, result))
+    return begin(results, lambda: transform(f, one, two, onward))
+
+
+def converge(f, a, b, begin):
     def both(b1, a1):
         left, right = growth(f, a) + growth(f, b1), growth(f, b) + growth(f, a1)
 
@@ -232,23 +247,19 @@ def converge(f, a, b):
         out = lambda: Fails("out of range")
         return enabled(b1, growth(f, a), lambda: enabled(a1, growth(f, b), compare, out), out)
 
-    return transform(f, b, a, lambda b1: transform(f, a, b, lambda a1: both(b1, a1)))
+    return transformed(f, (a, b), begin, both)
 
 
-def behind(f, a, b, c, go):
-    return transform(f, b, a, lambda b1: transform(f, c, a, lambda c1: transform(f, c1, b1, go)))
-
-
-def commute(f, a, b, c):
-    def compare(left, right):
+def commute(f, a, b, c, begin):
+    def compare(b1, c1, left, a1, c2, right):
         if left is None or right is None:
             return Holds() if left is right else Fails("operations")
         return eq(left.at, right.at, Holds, lambda: Fails("operations"))
 
-    return behind(f, a, b, c, lambda left: behind(f, b, a, c, lambda right: compare(left, right)))
+    return transformed(f, (a, b, c), begin, compare)
 
 
-def plan_of(f, kinds):
+def plan_of(f, kinds, begin=lambda results, go: go()):
     ops = [Op(kind, (3 + 3 * i, 0), 5 + 3 * i, 4 + 3 * i) for i, kind in enumerate(kinds)]
     pairs = [(i, j) for i in range(len(ops)) for j in range(i + 1, len(ops))]
 
@@ -259,7 +270,7 @@ def plan_of(f, kinds):
 
     def all_differ(i):
         if i == len(pairs):
-            return converge(f, *ops) if len(ops) == 2 else commute(f, *ops)
+            return converge(f, *ops, begin) if len(ops) == 2 else commute(f, *ops, begin)
         return differ(f, ops[pairs[i][0]], ops[pairs[i][1]], lambda: all_differ(i + 1))
 
     return le((ZERO, 0), (LENGTH, 0), lambda: all_enabled(0), Holds)

@@ -1,0 +1,324 @@
+#!/usr/bin/env python3
+"""Writes a proof with lemmas of a function at a level, or says where an obligation fails.
+
+usage: settle.py [--tp1] [--questions] FN > PROOF
+
+It searches an obligation depth first. Where a transformation begins it tries to show what follows under no literals at
+all, as a lemma; each end that fails there, and cannot be reached from around the lemma, adds literals to it that shut
+the end out. A second walk writes the proof. It ends with status 1 where an obligation fails at answers that some
+integers meet, and tells these. With --questions it writes how many questions the search asked to the standard error.
+Nothing of the program is used, and nothing of the program rests on it.
+"""
+import sys
+from collections import namedtuple
+
+from certificate import Ask, Fails, closed, obligations, read_function
+from least import values_of
+from proof import READ, conditions, marked_plan, negated, reached
+
+NEWEST, MOST_LITERALS, MOST_OFFSET = 64, 24, 1000
+BUDGET = 30_000_000
+
+
+class Spent(Exception):
+    pass
+
+
+# Tables of distances, as those of certificate.py: what literals give, each with its number.
+
+def empty_table(names):
+    return [[(0, ()) if x == y else None for y in range(names)] for x in range(names)]
+
+
+def table_of(names, literals):
+    """The closed table of literals; or None where no integers meet them."""
+    table = empty_table(names)
+    for number, lit in enumerate(literals):
+        table = with_literal(table, lit, number)[0]
+        if table is None:
+            return None
+    return table
+
+
+def implies(table, lit):
+    x, y, k = lit
+    return table[x][y] is not None and table[x][y][0] <= k
+
+
+def with_literal(table, lit, number):
+    """The table with a literal, or None and the numbers of a negative cycle."""
+    return (table, None) if implies(table, lit) else closed(table, *lit, number)
+
+
+def why(table, lit, number):
+    """The negative cycle that shows a literal which the table implies, by its negation under this number. It begins at
+    its least number."""
+    cycle = closed(table, *negated(lit), number)[1]
+    least = cycle.index(min(cycle))
+    return cycle[least:] + cycle[:least]
+
+
+# Starts. Lemmas are kept by their start: how many results there are, and where those stand that are still read.
+
+def key_of(count, results):
+    return len(results), tuple(op and op.at for op in (results[number] for number in READ[count][len(results)]))
+
+
+def alike(results, table):
+    """The results, each told by its own operation's position where the table has the two equal up to a constant."""
+
+    def moved(op):
+        own = op.site - 1
+        there, back = table[op.at[0]][own], table[own][op.at[0]]
+        if there is None or back is None or there[0] + back[0] != 0:
+            return op
+        return op._replace(at=(own, op.at[1] + there[0]))
+
+    return tuple(op and moved(op) for op in results)
+
+
+Lemma = namedtuple("Lemma", "results literals")
+
+
+class Lemmas:
+    def __init__(self, count):
+        self.count, self.kept = count, {}
+
+    def add(self, lemma):
+        self.kept.setdefault(key_of(self.count, lemma.results), []).append(lemma)
+
+    def of(self, results):
+        """The newest lemmas of a start, newest first, but for those of too many literals."""
+        newest = self.kept.get(key_of(self.count, results), [])[: -NEWEST - 1 : -1]
+        return [lemma for lemma in newest if len(lemma.literals) <= MOST_LITERALS]
+
+    def serving(self, results, table):
+        """Those lemmas of a start and of the start alike whose literals and conditions follow."""
+        for lemma in self.of(results) + self.of(alike(results, table)):
+            under = conditions(self.count, lemma.results, results)
+            if all(implies(table, lit) for lit in [*lemma.literals, *under]):
+                yield lemma
+
+
+# The search.
+
+class Level:
+    """A lemma that is being shown: its literals so far, and how much waited and was answered when it began."""
+
+    def __init__(self, results, waiting, answers):
+        self.results, self.waiting, self.answers, self.offsets = results, waiting, answers, {}
+
+    def literals(self):
+        return [(x, y, k) for (x, y), k in self.offsets.items()]
+
+    def assume(self, lit):
+        """One more literal. Of two on the same names the stronger one stays."""
+        x, y, k = lit
+        self.offsets[x, y] = min(k, self.offsets.get((x, y), k))
+
+
+class Search:
+    def __init__(self, plan, count, budget):
+        self.plan, self.count, self.names, self.left = plan, count, 3 + 3 * count, budget
+        self.lemmas, self.levels, self.waiting, self.answers = Lemmas(count), [Level(None, 0, 0)], [], []
+        # what the innermost level's literals and the answers since it began give
+        self.table = empty_table(self.names)
+
+    def run(self):
+        """Whether the plan holds. Where it does not, `answers` lead to an end that fails."""
+        go = self.plan
+        while go:
+            results, plan = reached(go)
+            if isinstance(plan, Fails) and not self.blame():
+                return False
+            if not isinstance(plan, Ask) or results is not None and any(self.lemmas.serving(results, self.table)):
+                go = self.close()
+                continue
+            if results is not None:
+                self.levels.append(Level(results, len(self.waiting), len(self.answers)))
+                self.table = empty_table(self.names)
+            go = self.ask(plan)
+        return True
+
+    def ask(self, plan):
+        if self.left == 0:
+            raise Spent
+        self.left -= 1
+        if implies(self.table, plan.lit):
+            return plan.yes
+        if implies(self.table, negated(plan.lit)):
+            return plan.no
+        self.waiting.append((plan.no, len(self.answers), negated(plan.lit)))
+        self.answers.append(plan.lit)
+        self.table = with_literal(self.table, plan.lit, None)[0]
+        return plan.yes
+
+    def close(self):
+        """The next part that waits and that some integers lead to. A level in which none waits has shown its lemma."""
+        while True:
+            level = self.levels[-1]
+            if len(self.waiting) > level.waiting:
+                go, answers, lit = self.waiting.pop()
+                self.answers[answers:] = [lit]
+                self.table = table_of(self.names, level.literals() + self.answers[level.answers:])
+                if self.table:
+                    return go
+            elif len(self.levels) == 1:
+                return None
+            else:
+                self.levels.pop()
+                del self.answers[level.answers:]
+                self.lemmas.add(Lemma(level.results, level.literals()))
+
+    def around(self, number):
+        """What is known where a level begins."""
+        before, level = self.levels[number - 1 : number + 1]
+        return before.literals() + self.answers[before.answers:level.answers]
+
+    def excuse(self, number):
+        """Literals from around a level that shut out the end that was reached, if there are any: those of one negative
+        cycle, the oldest one weakened where the cycle has room for it."""
+        level = self.levels[number]
+        literals = level.literals() + self.answers[level.answers:]
+        own, table = len(literals), table_of(self.names, literals)
+        for lit in self.around(number):
+            table, cycle = with_literal(table, lit, len(literals))
+            literals.append(lit)
+            if cycle:
+                oldest, *others = (literals[pick] for pick in sorted(cycle) if pick >= own)
+                x, y, k = oldest
+                room = sum(literals[pick][2] for pick in cycle) < -1 and k < MOST_OFFSET
+                return [(x, y, k + 1) if room else oldest, *others]
+        return None
+
+    def blame(self):
+        """Shuts the end that was reached out of the levels from the innermost one on that can; false where none can."""
+        first = len(self.levels) - 1
+        while first > 0 and self.excuse(first) is None:
+            first -= 1
+        if first == 0:
+            return False
+        for number in range(first, len(self.levels)):
+            level = self.levels[number]
+            if number > first and table_of(self.names, self.around(number)) is None:
+                del self.levels[number:], self.waiting[level.waiting:], self.answers[level.answers:]
+                return True
+            for lit in self.excuse(number):
+                level.assume(lit)
+        return True
+
+    def failing_end(self):
+        """The least integers that meet the answers, walked: the answers to the end that fails, and its cause."""
+        values, answers, plan = values_of(self.answers, self.names), [], reached(self.plan)[1]
+        while isinstance(plan, Ask):
+            x, y, k = plan.lit
+            met = values[x] <= values[y] + k
+            answers.append(plan.lit if met else negated(plan.lit))
+            plan = reached(plan.yes if met else plan.no)[1]
+        if not isinstance(plan, Fails):
+            raise Spent
+        return answers, plan.why
+
+
+# The writer. A place that waits has a list of literals with its table, and the literal that is answered there.
+
+Place = namedtuple("Place", "go table length lit opened")
+
+
+def cycle_text(cycle):
+    return "x" + ",".join(map(str, cycle)) + ";"
+
+
+class Writer:
+    def __init__(self, search):
+        self.search, self.tokens, self.written = search, [], {}
+        self.left = BUDGET
+
+    def write(self):
+        waiting = [Place(self.search.plan, empty_table(self.search.names), 0, None, False)]
+        while waiting:
+            place = waiting.pop()
+            if isinstance(place, Lemma):
+                self.written[id(place)] = len(self.written)
+                continue
+            if place.lit:
+                if implies(place.table, negated(place.lit)):
+                    self.tokens.append(cycle_text(why(place.table, negated(place.lit), place.length)))
+                    continue
+                table = with_literal(place.table, place.lit, place.length)[0]
+                place = place._replace(table=table, length=place.length + 1, lit=None)
+            waiting += self.parts(place)
+        return "".join(self.tokens)
+
+    def parts(self, place):
+        """Writes what stands at a place, and gives the places that it leaves, the next one last."""
+        results, plan = reached(place.go)
+        if results is not None and not place.opened:
+            serving = list(self.search.lemmas.serving(results, place.table))
+            for lemma in serving:
+                if id(lemma) in self.written:
+                    self.cite(lemma, results, place)
+                    return []
+            own = {id(lemma) for lemma in self.search.lemmas.of(results)}
+            for lemma in serving:
+                if id(lemma) in own:
+                    return self.begin(lemma, place)
+        if not isinstance(plan, Ask):
+            self.end(plan)
+            return []
+        if self.left == 0:
+            raise Spent
+        self.left -= 1
+        self.tokens.append("?")
+        place = place._replace(opened=False)
+        return [place._replace(go=plan.no, lit=negated(plan.lit)), place._replace(go=plan.yes, lit=plan.lit)]
+
+    def end(self, plan):
+        if isinstance(plan, Fails):
+            raise Spent
+        self.tokens.append(".")
+
+    def cite(self, lemma, results, place):
+        self.tokens.append(f"c{self.written[id(lemma)]};")
+        for lit in lemma.literals + conditions(self.search.count, lemma.results, results):
+            self.tokens.append(cycle_text(why(place.table, lit, place.length)))
+
+    def begin(self, lemma, place):
+        self.tokens.append("l" + "/".join(f"{x},{y},{k}" for x, y, k in lemma.literals) + ";")
+        table = table_of(self.search.names, lemma.literals)
+        return [place, lemma, Place(place.go, table, len(lemma.literals), None, True)]
+
+
+def settle(f, tp2, budget=BUDGET):
+    """The text of a proof and the number of questions; or None for it, and the obligation that fails, its cause and the
+    answers that lead there."""
+    parts, left = [f"otproof 1 {'tp2' if tp2 else 'tp1'}\n"], budget
+    for kinds in obligations(f, tp2):
+        search = Search(lambda: marked_plan(f, kinds), len(kinds), left)
+        holds = search.run()
+        left = search.left
+        if not holds:
+            answers, cause = search.failing_end()
+            return None, budget - left, (kinds, cause, answers)
+        parts.append("ob " + " ".join(kinds) + "\n" + Writer(search).write() + "\n")
+    return "".join(parts) + "end\n", budget - left, None
+
+
+def main():
+    sys.setrecursionlimit(100_000)
+    words = sys.argv[1:]
+    with open([word for word in words if not word.startswith("--")][0], encoding="utf-8") as file:
+        f = read_function(file.read())
+    text, questions, failure = settle(f, "--tp1" not in words)
+    if "--questions" in words:
+        print(f"{questions} questions", file=sys.stderr)
+    if failure:
+        kinds, cause, answers = failure
+        print(f"no {'tp1' if len(kinds) == 2 else 'tp2'} {cause}: {' '.join(kinds)}", file=sys.stderr)
+        print("".join(f"{x} <= {y} {'-' if k < 0 else '+'} {abs(k)}\n" for x, y, k in answers), end="", file=sys.stderr)
+        sys.exit(1)
+    sys.stdout.write(text)
+
+
+if __name__ == "__main__":
+    main()
