@@ -1,13 +1,16 @@
 #!/usr/bin/env python3
-"""Measures `otp prove` and then `otp check` of what it wrote: seconds, questions a second, peak memory, bytes.
+"""Measures `otp prove` and then `otp check` of what it wrote, and gives the same obligations to z3 and cvc5.
 
 usage: prove.py [RUNS]      (after `otp`, or `rt run` in crates/otp; the least of RUNS runs is shown, 5 where none is
                             given; OTP=PROGRAM in the environment names another program to measure)
 
-The peak of the prover is shown beside the bytes of its certificate, which it holds whole before it writes them. Where
-z3 or cvc5 is installed, the same obligations are given to them too: each failing end of the plan that
-reference/certificate.py walks through has to be met by no integers.
+Shown are questions a second of `prove`, its peak memory a question beside the certificate, which it holds whole before it
+writes it, MB a second of `check`, and how often as long the faster of the solvers takes as `prove`. Each is the time of a
+whole process; that of a process that does nothing, and of `otp` with no words, stands first. The solvers are given the
+obligations in their own words (bench/smt.py), and before any time is shown they have to answer as `otp` does on the
+functions in examples/functions. A solver that is not installed is named.
 """
+import glob
 import os
 import shutil
 import subprocess
@@ -16,25 +19,38 @@ import tempfile
 
 from measure import TOP, measure
 
-from certificate import Ask, Holds, obligations, plan_of, read_function
+from certificate import read_function
+from smt import script
 
 PROGRAM = os.environ.get("OTP") or os.path.join(TOP, "crates/otp/out/otp")
 SHIPPED = os.path.join(TOP, "examples/functions")
+SOLVERS = {"z3": ["z3"], "cvc5": ["cvc5", "--incremental"]}
+
+
+def with_cases(further):
+    """ttf.ot with further cases in each of its blocks, which a later one implies."""
+    lines = ["otfn 1", "text tomb", "kinds ins del", "assume sites differ", "block ins ins"]
+    lines += further[0] + ["case p1 < p2 : ins p1", "case p1 = p2 and s1 < s2 : ins p1", "case true : ins p1 + 1"]
+    lines += ["block ins del"] + further[1] + ["case true : ins p1"]
+    lines += ["block del ins"] + further[2] + ["case p1 < p2 : del p1", "case true : del p1 + 1"]
+    lines += ["block del del"] + further[3] + ["case true : del p1", "end"]
+    return "\n".join(lines) + "\n"
 
 
 def with_tombstones(more):
-    """ttf.ot with so many further cases in each of its blocks, which a later one implies; no two have one offset."""
+    """ttf.ot with so many further cases in each of its blocks; no two have one offset."""
     offsets = iter(range(sum(more), 0, -1))
+    kinds = ["ins", "ins", "del", "del"]
+    return with_cases([[f"case p1 < p2 - {next(offsets)} : {kind} p1" for _ in range(count)] for kind, count in zip(kinds, more)])
 
-    def further_cases(count, kind):
-        return [f"case p1 < p2 - {next(offsets)} : {kind} p1" for _ in range(count)]
 
-    lines = ["otfn 1", "text tomb", "kinds ins del", "assume sites differ", "block ins ins"]
-    lines += further_cases(more[0], "ins") + ["case p1 < p2 : ins p1", "case p1 = p2 and s1 < s2 : ins p1", "case true : ins p1 + 1"]
-    lines += ["block ins del"] + further_cases(more[1], "ins") + ["case true : ins p1"]
-    lines += ["block del ins"] + further_cases(more[2], "del") + ["case p1 < p2 : del p1", "case true : del p1 + 1"]
-    lines += ["block del del"] + further_cases(more[3], "del") + ["case true : del p1", "end"]
-    return "\n".join(lines) + "\n"
+def nested(count):
+    """ttf.ot with so many further cases of insertions, each with a guard in a guard in a guard."""
+
+    def case(k):
+        return f"case p1 < p2 - {3 * k} and (s1 < s2 or not (p1 < p2 - {3 * k + 1} and (s2 < s1 or p1 < p2 - {3 * k + 2}))) : ins p1"
+
+    return with_cases([[case(k) for k in range(count, 0, -1)], [], [], []])
 
 
 def shipped(name):
@@ -46,49 +62,59 @@ def least(runs, words):
     return min((measure(words) for _ in range(runs)), key=lambda run: run[2])
 
 
-# The same obligations for a solver of linear integer arithmetic.
-
-def formula(plan):
-    if isinstance(plan, Ask):
-        x, y, k = plan.lit
-        return f"(ite (<= v{x} (+ v{y} {k if k >= 0 else f'(- {-k})'})) {formula(plan.yes())} {formula(plan.no())})"
-    return "true" if isinstance(plan, Holds) else "false"
-
-
-def script(f, tp2):
-    lines = ["(set-logic QF_IDL)"] + [f"(declare-const v{name} Int)" for name in range(12)] + ["(assert (= v0 0))"]
-    for kinds in obligations(f, tp2):
-        lines += ["(push)", f"(assert (not {formula(plan_of(f, kinds))}))", "(check-sat)", "(pop)"]
-    return "\n".join(lines) + "\n"
+def solve(folder, solver, text, tp2):
+    """What a solver answers of each obligation, and its seconds."""
+    path = os.path.join(folder, "obligations.smt2")
+    with open(path, "w") as file:
+        file.write(script(read_function(text), tp2))
+    answer, _, seconds, _ = measure([*SOLVERS[solver], path])
+    return answer.split(), seconds
 
 
-def report_solvers(folder, text, tp2, seconds):
-    for solver in ["z3", "cvc5"]:
-        if shutil.which(solver):
-            path = os.path.join(folder, "obligations.smt2")
-            with open(path, "w") as file:
-                file.write(script(read_function(text), tp2))
-            words = [solver] + (["--incremental"] if solver == "cvc5" else []) + [path]
-            answer, _, taken, _ = measure(words)
-            wrong = [line for line in answer.split() if line != "unsat"]
-            print(f"    {solver}: {taken:.3f} s, {taken / seconds:.1f} times as long" + (f", answers {wrong}" if wrong else ""))
+def installed():
+    found = [solver for solver in SOLVERS if shutil.which(solver)]
+    for solver in SOLVERS:
+        if solver not in found:
+            print(f"{solver} is not installed, so nothing is compared with it")
+    return found
 
 
-def report(folder, runs, name, text, options):
+def require_agreement(folder, solvers):
+    """Ends where a solver answers otherwise than `otp` on a shipped function."""
+    for path in sorted(glob.glob(os.path.join(SHIPPED, "*.ot"))):
+        for tp2 in [False, True]:
+            _, status, _, _ = measure([PROGRAM, "prove", *([] if tp2 else ["--tp1"]), path])
+            for solver in solvers:
+                answers, _ = solve(folder, solver, shipped(os.path.basename(path)), tp2)
+                if set(answers) - {"sat", "unsat"} or (status == 0) != (set(answers) == {"unsat"}):
+                    sys.exit(f"{os.path.basename(path)}: otp ends with {status}, and {solver} answers {answers}")
+
+
+def report(folder, runs, solvers, name, text):
     function, certificate = os.path.join(folder, "function.ot"), os.path.join(folder, "certificate")
     with open(function, "w") as file:
         file.write(text)
-    output, status, seconds, peak = least(runs, [PROGRAM, "prove", *options, function])
+    output, status, seconds, peak = least(runs, [PROGRAM, "prove", function])
     if status != 0:
         print(f"{name}: status {status} in {seconds:.3f} s, {peak} KiB at the peak: {output.splitlines()[0]}")
         return
     with open(certificate, "w") as file:
         file.write(output + "\n")
     asked, size = output.count("?"), os.path.getsize(certificate)
-    print(f"{name}: {asked} questions in {seconds:.3f} s, {asked / seconds / 1e6:.2f} million a second, {peak} KiB at the peak, {size} bytes")
+    beside = max(0, peak * 1024 - size) / asked
+    print(f"{name}: {asked} questions in {1e3 * seconds:.1f} ms, {asked / seconds / 1e6:.2f} million a second")
+    print(f"    {peak} KiB at the peak: {beside:.0f} bytes a question beside the certificate of {size} bytes")
     answer, _, checked, check_peak = least(runs, [PROGRAM, "check", function, certificate])
-    print(f"    check: {checked:.3f} s, {size / checked / 1e6:.0f} MB a second, {check_peak} KiB at the peak: {answer}")
-    report_solvers(folder, text, "--tp1" not in options, seconds)
+    print(f"    check: {1e3 * checked:.1f} ms, {size / checked / 1e6:.0f} MB a second, {check_peak} KiB at the peak: {answer}")
+    times = {}
+    for solver in solvers:
+        answers, times[solver] = solve(folder, solver, text, True)
+        if set(answers) != {"unsat"}:
+            sys.exit(f"{name}: {solver} answers {answers}")
+    if times:
+        faster = min(times, key=times.get)
+        told = ", ".join(f"{solver} {taken:.3f} s" for solver, taken in times.items())
+        print(f"    {told}: the faster one, {faster}, takes {times[faster] / seconds:.1f} times as long as prove")
 
 
 def main():
@@ -96,14 +122,16 @@ def main():
     # Builds the program where that is needed, so that it is not measured.
     if "OTP" not in os.environ:
         subprocess.run([os.path.join(TOP, "otp")], stdout=subprocess.DEVNULL, check=False)
+    empty, idle = least(runs, ["/bin/true"]), least(runs, [PROGRAM])
+    print(f"an empty process: {1e3 * empty[2]:.1f} ms; otp with no words: {1e3 * idle[2]:.1f} ms, {idle[3]} KiB at the peak")
+    solvers = installed()
     with tempfile.TemporaryDirectory() as folder:
-        report(folder, runs, "ttf", shipped("ttf.ot"), [])
-        report(folder, runs, "ttfu", shipped("ttfu.ot"), [])
-        report(folder, runs, "sites", shipped("sites.ot"), ["--tp1"])
-        report(folder, runs, "4 further cases", with_tombstones([4, 0, 0, 0]), [])
-        report(folder, runs, "16 further cases", with_tombstones([16, 0, 0, 0]), [])
-        report(folder, runs, "12 cases a block", with_tombstones([9, 11, 10, 11]), [])
-        report(folder, runs, "14 cases a block", with_tombstones([11, 13, 12, 13]), [])
+        require_agreement(folder, solvers)
+        report(folder, runs, solvers, "16 further cases", with_tombstones([16, 0, 0, 0]))
+        report(folder, runs, solvers, "12 cases a block", with_tombstones([9, 11, 10, 11]))
+        report(folder, runs, solvers, "14 cases a block", with_tombstones([11, 13, 12, 13]))
+        report(folder, runs, solvers, "8 nested cases", nested(8))
+        report(folder, runs, solvers, "ttf", shipped("ttf.ot"))
 
 
 if __name__ == "__main__":

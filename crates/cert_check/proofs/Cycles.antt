@@ -3,14 +3,8 @@ use Rattle.std.proofs.Common.{◌≡◌, ℕ, ℤ, pos, ◌+ℤ◌, ◌<ℤ◌, 
 use Rattle.std.proofs.lemmas.Int.{ints}
 use Rattle.std.proofs.lemmas.Bool.{eq-eqb}
 use Rattle.diff_graph.specs.declared.lit.Lit.{Lit}
-use Rattle.diff_graph.specs.Cycles.{is_walk, picked, pick_verdict, weight}
-
--- picks that are still to come lead from a name to another one, and bring a sum below 0
-pub record Closes (lits : List Lit) (name to : ℕ) (sum : ℤ) (picks : List ℕ) : Type 0 where
-  pub lits_of : List Lit
-  pub named : picked lits picks ≡ Some lits_of
-  pub walk : is_walk name lits_of to ≡ true
-  pub negative : (sum +ℤ weight lits_of) <ℤ pos 0
+use Rattle.diff_graph.specs.Cycles.{pick_verdict, weight}
+use Rattle.cert_check.specs.Walks.{Closes}
 
 -- none is still to come
 pub closes_there : (lits : List Lit) (name to : ℕ) (sum : ℤ) → name ≡ to → sum <ℤ pos 0 → Closes lits name to sum []

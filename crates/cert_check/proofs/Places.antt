@@ -1,12 +1,12 @@
 -- What a token does at the first place, by the plan there. The branches before are those of the plans before the
 -- turn, which are the same.
-use Rattle.std.proofs.Common.{◌≡◌, ℕ, ◌<◌, List, [], ◌∷◌, length, drop, Ok, Err, arith}
+use Rattle.std.proofs.Common.{◌≡◌, ℕ, ◌<◌, List, [], ◌∷◌, length, drop, Ok, Err, arith, refl}
 use Rattle.diff_graph.specs.declared.lit.Lit.{Lit}
 use Rattle.diff_graph.specs.Cycles.{pick_verdict}
 use Rattle.ask_core.specs.declared.tree.Tok.TheVariants as token
 use Rattle.ask_core.specs.Plans.{Plan, Ask, Holds, Fails}
 use Rattle.ask_core.specs.Trees.{Branch}
-use Rattle.ask_core.specs.Paths.{OpenPlace, branches_at, after_question, first_answers, first_plan}
+use Rattle.ask_core.specs.Paths.{OpenPlace, AreOwn, branches_at, after_question, first_answers, first_plan}
 use Rattle.cert_check.specs.declared.verdict.CheckError.TheVariants as end
 use Rattle.cert_check.specs.Steps.{after}
 
@@ -38,3 +38,19 @@ module _ {N W : Type 0} (plan : N → Plan W) where
         → after token.Holds before ≡ Err end.GoalFails
     end_at_failed [] why same failed = absurd (cc)
     end_at_failed (p ∷ places) why same failed = rw (← same, failed)
+
+-- a cycle closes the first place
+pub cycle_taken :
+    {N W : Type 0} (plan : N → Plan W) (places next : List (OpenPlace N)) (picks : List ℕ) → 0 < length places → next ≡ drop 1 places
+    → pick_verdict (first_answers places) picks ≡ Ok tt
+    → after (token.Cycle picks) (branches_at plan places) ≡ Ok (branches_at plan next)
+cycle_taken plan [] next picks some is cycle = absurd (omega arith)
+cycle_taken plan (p ∷ places) next picks some is cycle =
+    let same : next ≡ places = is in rw (same, cycle) refl
+
+-- the places behind the first one are own ones too
+pub own_behind :
+    {N : Type 0} (is_own : N → Type 0) (places next : List (OpenPlace N)) → next ≡ drop 1 places → AreOwn is_own places → AreOwn is_own next
+own_behind is_own [] next is own = rw is tt
+own_behind is_own (p ∷ places) next is own =
+    let same : next ≡ places = is in rw same own.1

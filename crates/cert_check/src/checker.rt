@@ -1,5 +1,9 @@
 //! The checker of trees over any asker.
-ghost use Rattle.std.specs.Prelude.{◌≡◌, ◌≢◌, ℕ, ℤ, ◌<◌, ◌≤◌, true, [], ◌∷◌, length, Some, None, Ok, Err, OnErr, IfOk, IfErr};
+ghost use Rattle.std.specs.Prelude.{◌≡◌, ◌≢◌, ◌↔◌, ℕ, ℤ, ◌<◌, ◌≤◌, true, false, List, [], ◌∷◌, length, Some, None, Ok, Err, OnErr, IfOk, IfErr, IsTrue};
+ghost use Rattle.diff_graph.specs.Cycles.{pick_verdict};
+ghost use Rattle.ask_core.specs.declared.picks.TheConstants.{MAX_PICKS};
+ghost use Rattle.ask_core.specs.declared.tree.Tok.TheVariants as token;
+ghost use Rattle.ask_core.specs.Paths.{first_answers};
 ghost use Rattle.ask_core.specs.Plans.{value};
 ghost use Rattle.cert_check.specs.declared.verdict.CheckError.TheVariants as end;
 ghost use Rattle.cert_check.specs.declared.verdict.Progress.TheVariants as progress;
@@ -9,6 +13,7 @@ ghost use Rattle.cert_check.specs.Judging.{open_branches, IsStep, BeginsNothing,
 use crate::token::take_token;
 use crate::verdict::{CheckError, Progress};
 use ask_core::{Asker, NoMemory, Path, Tok, fitting_trees_hold, trees_are_judged_token_by_token};
+use diff_graph::Lit;
 use std::alloc::Global;
 use std::marker::Model;
 
@@ -113,5 +118,54 @@ impl<A: Asker> Checker<A> {
                 Err(end)
             }
         }
+    }
+
+    /// Whether a place is open.
+    #[inline(always)]
+    pub fn is_open(&self) -> bool
+        ensures { IsTrue result ↔ (0 < length self.now.places) }
+    {
+        self.path.is_open()
+    }
+
+    /// The answers that lead to the first open place.
+    #[inline(always)]
+    pub fn answers(&self) -> &[Lit]
+        requires { 0 < length self.now.places }
+        ensures { result.now ≡ first_answers self.now.places }
+    {
+        self.path.answers()
+    }
+
+    /// Takes the next token where it may stand at the first open place and there is memory: whether it did. Otherwise all
+    /// is as it was, and `judge` says why. It is for a checker that has not refused.
+    #[inline(always)]
+    pub fn takes(&mut self, tok: &Tok) -> bool
+        requires { 0 < length self.old.places }
+        ensures taken { IsTrue result → after tok.now (open_branches A.plan self.old) ≡ Ok (open_branches A.plan self.new) }
+        ensures not_taken { result ≡ false → self.new.places ≡ self.old.places }
+        ensures same { result ≡ false → open_branches A.plan self.new ≡ open_branches A.plan self.old }
+        ensures refusal { self.new.refusal ≡ self.old.refusal }
+        ensures root { A.root self.new.asker ≡ A.root self.old.asker }
+    {
+        trees_are_judged_token_by_token::<A::Why>();
+        match take_token(&mut self.asker, &mut self.path, tok) {
+            Ok(()) => true,
+            Err(_) => false,
+        }
+    }
+
+    /// Takes a cycle that some picks are known to name among the answers of the first open place.
+    #[inline(always)]
+    pub fn close(&mut self)
+        requires open { 0 < length self.old.places }
+        requires cycle { (picks : List ℕ) × (length picks ≤ MAX_PICKS) × (pick_verdict (first_answers self.old.places) picks ≡ Ok tt) }
+        ensures taken { (picks : List ℕ) → pick_verdict (first_answers self.old.places) picks ≡ Ok tt
+            → after (token.Cycle picks) (open_branches A.plan self.old) ≡ Ok (open_branches A.plan self.new) }
+        ensures refusal { self.new.refusal ≡ self.old.refusal }
+        ensures root { A.root self.new.asker ≡ A.root self.old.asker }
+    {
+        trees_are_judged_token_by_token::<A::Why>();
+        self.path.close();
     }
 }

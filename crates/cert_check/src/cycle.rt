@@ -1,7 +1,9 @@
 //! Cycles in one pass.
-ghost use Rattle.std.specs.Prelude.{◌≡◌, ◌≤◌, true, length, Ok};
+ghost use Rattle.std.specs.Prelude.{◌≡◌, ◌≤◌, ℕ, true, List, [], ◌∷◌, ◌++◌, length, Ok, IfSome};
+ghost use Rattle.diff_graph.specs.declared.lit.Lit.{Lit};
 ghost use Rattle.ask_core.specs.declared.picks.TheConstants.{MAX_PICKS};
 ghost use Rattle.diff_graph.specs.Cycles.{pick_verdict};
+ghost use Rattle.cert_check.specs.Walks.{IsWalkOf};
 
 use diff_graph::Lit;
 
@@ -32,4 +34,52 @@ pub(crate) fn is_plain_cycle(lits: &[Lit], picks: &[u32]) -> bool
         sum += i64::from(k);
     }
     name == start && sum < 0
+}
+
+/// A walk along literals, of which picks named some: it needs no list of them.
+#[derive(Clone, Copy, Debug, PartialEq, Eq)]
+pub struct Walk {
+    start: u8,
+    name: u8,
+    sum: i64,
+}
+
+impl Walk {
+    /// The walk along the literal that a pick names, if it names one.
+    #[inline(always)]
+    pub fn along(lits: &[Lit], pick: u32) -> Option<Walk>
+        ensures { IfSome result (IsWalkOf lits.now (pick ∷ [])) }
+    {
+        let lit = lits.get(pick as usize)?;
+        let Lit {
+            x: start,
+            y: name,
+            k,
+        } = *lit;
+        let sum = i64::from(k);
+        Some(Walk { start, name, sum })
+    }
+
+    /// The walk with one more literal, if the pick names one that begins where the walk ends.
+    #[inline(always)]
+    pub fn further(self, lits: &[Lit], pick: u32) -> Option<Walk>
+        ensures { (picks : List ℕ) → IsWalkOf lits.now picks self → IfSome result (IsWalkOf lits.now (picks ++ pick ∷ [])) }
+    {
+        let lit = lits.get(pick as usize)?;
+        let Lit { x, y: name, k } = *lit;
+        if x != self.name {
+            return None;
+        }
+        let sum = self.sum.checked_add(i64::from(k))?;
+        let start = self.start;
+        Some(Walk { start, name, sum })
+    }
+
+    /// Whether it ends where it began, below 0.
+    #[inline(always)]
+    pub fn is_negative_cycle(self) -> bool
+        ensures { (lits : List Lit) (picks : List ℕ) → IsWalkOf lits picks self → result ≡ true → pick_verdict lits picks ≡ Ok tt }
+    {
+        self.name == self.start && self.sum < 0
+    }
 }

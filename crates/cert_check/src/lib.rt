@@ -17,5 +17,6 @@ mod token;
 mod verdict;
 
 pub use checker::{Checker, MAX_NAMES};
+pub use cycle::Walk;
 pub use laws::tokens_are_taken_one_by_one;
 pub use verdict::{CheckError, Progress};

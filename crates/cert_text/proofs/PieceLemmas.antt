@@ -139,6 +139,15 @@ front_grows bytes i b text longer within byte text_is longer_is =
     longer_is ∙ ap (λ (l : List ℕ). l ++ b ∷ []) text_is
     ∙ ap (λ (l : List ℕ). 120 ∷ l) (subst (λ (x : ℕ). take i bytes ++ x ∷ [] ≡ take (i + 1) bytes) byte (sym (take_more bytes i 0 within)))
 
+-- digits of a number grow by the next byte
+pub digits_grow :
+    (bytes : List ℕ) (i b : ℕ) (text longer : List ℕ) → i < length bytes → get_or bytes i 0 ≡ b → text ≡ take i bytes
+    → 120 ∷ longer ≡ 120 ∷ (text ++ b ∷ []) → longer ≡ take (i + 1) bytes
+digits_grow bytes i b text longer within byte text_is longer_is =
+    let same : longer ≡ text ++ b ∷ [] = cc in
+    same ∙ ap (λ (l : List ℕ). l ++ b ∷ []) text_is
+    ∙ subst (λ (x : ℕ). take i bytes ++ x ∷ [] ≡ take (i + 1) bytes) byte (sym (take_more bytes i 0 within))
+
 -- a whole token ends at a reader that stands between tokens in a tree
 pub token_ends :
     (tp1 tp2 : List ObName) (at : Stage) (level : Level) (came branches behind offset taken : ℕ) (b : Begun) (line : List ℕ)

@@ -1,6 +1,7 @@
 pub mod Certificates
 pub mod Cycles
 pub mod Numbers
+pub mod Passing
 pub mod Pieces
 pub mod Places
 pub mod Readers

@@ -25,5 +25,6 @@ pub use laws::{
     all_bytes_are_read, parts_are_told_apart, read_certificates_are_written,
     written_certificates_are_read,
 };
+pub use piece::number_front;
 pub use reader::Reader;
 pub use writer::{write_end, write_header, write_ob};

@@ -1,7 +1,8 @@
 //! Whole tokens at the front of a piece of bytes, with the number and its digits at hand.
 ghost use Rattle.std.specs.Prelude.{◌≡◌, ◌≤◌, ◌<◌, ◌^◌, [], ◌∷◌, length, take, IfSome};
+ghost use Rattle.std.specs.Fmt.{decimal};
 ghost use Rattle.ask_core.specs.declared.tree.Tok.TheVariants as token;
-ghost use Rattle.cert_text.specs.Numbers.{IsSpellableCycle};
+ghost use Rattle.cert_text.specs.Numbers.{IsSpellableCycle, PICK_LIMIT};
 ghost use Rattle.cert_text.specs.Places.{open_after};
 ghost use Rattle.cert_text.specs.Spelling.{IsSpellable, token_text};
 
@@ -77,4 +78,28 @@ pub(crate) fn branches_behind(branches: u64, tok: &Tok) -> u64
         Tok::Holds => branches - 1,
         Tok::Cycle(_) => branches - 1,
     }
+}
+
+/// The number of a cycle at the front of the bytes, and how many digits it has. Where the digits of no such number stand
+/// there, or the bytes end with them, there is none.
+#[inline(always)]
+pub fn number_front(bytes: &[u8]) -> Option<(u32, usize)>
+    ensures { IfSome result (λ x. (x.0 < PICK_LIMIT) × (x.1 < length bytes.now) × (decimal x.0 ≡ take x.1 bytes.now)) }
+{
+    if bytes.is_empty() {
+        return None;
+    }
+    let first = bytes[0];
+    if first < b'0' || b'9' < first {
+        return None;
+    }
+    let mut number = number_with_digit(None, first)?;
+    for i in 1..bytes.len() {
+        let byte = bytes[i];
+        if byte < b'0' || b'9' < byte {
+            return Some((number, i));
+        }
+        number = number_with_digit(Some(number), byte)?;
+    }
+    None
 }

@@ -6,6 +6,7 @@ ghost use Rattle.cert_text.specs.Places.{Line, Start};
 ghost use Rattle.cert_text.specs.Stages.{refusal_of};
 ghost use Rattle.cert_text.specs.Reading.{Gives, Reading, Reads, ReadsOn, fed_to};
 ghost use Rattle.cert_text.specs.Pieces.{GivesOf, IsUnderWay};
+ghost use Rattle.cert_text.specs.Passing.{IsPassed, open_in, passed};
 
 use crate::line::LineBytes;
 use crate::piece::{branches_behind, whole_token};
@@ -163,6 +164,33 @@ impl Reader {
                 Some((offset, taken))
             }
             _ => None,
+        }
+    }
+
+    /// How many branches are open in the tree where the reader stands; in none there is no open one.
+    #[inline(always)]
+    pub fn open_branches(&self) -> u64
+        ensures value { result ≡ open_in self.now }
+        ensures few { result ≤ fed_to self.now }
+    {
+        match (self.refused, self.stage) {
+            (None, Stage::Tree(_, _, branches)) => branches,
+            _ => 0,
+        }
+    }
+
+    /// Passes whole tokens of a tree that the caller took itself, behind which so many branches are open, where nothing of
+    /// the first one came before. What is behind them is read as if they had been fed.
+    #[inline(always)]
+    pub fn pass(&mut self, bytes: &[u8], branches: u64)
+        requires room { fed_to self.old + length bytes.now ≤ 2 ^ 63 }
+        requires few { branches ≤ fed_to self.old + length bytes.now }
+        requires tokens { IsPassed self.old bytes.now branches }
+        ensures { self.new ≡ passed self.old (length bytes.now) branches }
+    {
+        if let Stage::Tree(level, came, _) = self.stage {
+            self.stage = Stage::Tree(level, came, branches);
+            self.offset += bytes.len() as u64;
         }
     }
 

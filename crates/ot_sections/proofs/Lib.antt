@@ -7,5 +7,6 @@ mod Listed
 mod Only
 mod Premises
 mod SectionRun
+mod Taking
 mod Tokens
 mod TreeRun

@@ -1,7 +1,6 @@
 -- A tree that is judged token by token.
-use Rattle.std.proofs.Common.{◌≡◌, ℕ, List, [], length, Ok, arith, refl, sym, ap, subst, ◌∙◌}
+use Rattle.std.proofs.Common.{◌≡◌, ◌↔◌, ℕ, ◌<◌, Bool, true, false, IsTrue, List, [], ◌∷◌, length, Ok, arith, refl, sym, ap, subst}
 use Rattle.std.proofs.lemmas.List.{length-map}
-use Rattle.fn_rules.specs.declared.function.ObName.{ObName}
 use Rattle.ask_core.specs.declared.tree.Tok.{Tok}
 use Rattle.ask_core.specs.Plans.{Plan}
 use Rattle.ask_core.specs.Trees.{Branch}
@@ -28,6 +27,12 @@ module _ {N W : Type 0} (plan : N → Plan W) where
 
   pub no_branch : (places : List (OpenPlace N)) → places ≡ [] → branches_at plan places ≡ []
   no_branch places none = ap (λ (p : List (OpenPlace N)). branches_at plan p) none
+
+-- no place is open
+pub none_open : {N : Type 0} (test : Bool) (places : List (OpenPlace N)) → test ≡ false → (IsTrue test ↔ (0 < length places)) → places ≡ []
+none_open test [] closed opened = refl
+none_open test (p ∷ places) closed opened =
+    let one : 0 < length (p ∷ places) = omega arith in let e : test ≡ true = opened.1 one in absurd (cc)
 
 -- a place in a tree, by its open branches
 pub tree_is : (place : Place) (count : ℕ) → IsTreeOf count place → place ≡ tree_with count place

@@ -1,12 +1,15 @@
 //! The tree of an obligation, judged token by token.
-ghost use Rattle.std.specs.Prelude.{◌≡◌, ℕ, ◌+◌, ◌^◌, ◌<◌, ◌≤◌, [], IfErr, IfOk, OnOk, IsTrue};
+ghost use Rattle.std.specs.Prelude.{◌≡◌, ℕ, ◌+◌, ◌^◌, ◌<◌, ◌≤◌, [], Ok, length, take, IfErr, IfNone, IfOk, IfSome, OnOk, IsTrue};
 ghost use Rattle.ask_core.specs.Askers.{has_fine_literals, is_fine_literal, longest_path};
 ghost use Rattle.ask_core.specs.Plans.{premised};
+ghost use Rattle.cert_check.specs.Judging.{open_branches};
 ghost use Rattle.cert_text.specs.Reading.{fed_to};
 ghost use Rattle.ot_sections.specs.Parts.{end_of_token};
 ghost use Rattle.ot_sections.specs.Feeding.{Leaves, fed};
 ghost use Rattle.ot_sections.specs.Stands.{Came, IsBetween, IsMisspeltBehind, IsRefusedAnyway, IsTreeOf, LeadsAnyway, opened, place_of, stand, tree_with};
+ghost use Rattle.ot_sections.specs.Taking.{AreTaken, IsTakenFront};
 
+use crate::cycle::cycle_front;
 use crate::part::expect_part;
 use crate::refusal::{JudgeError, Refusal};
 use ask_core::{Asker, MAX_QUESTIONS, Premised, Tok};
@@ -74,6 +77,80 @@ fn next_token<F: Feed>(reader: &mut Reader, feed: &mut F, tok: &mut Tok) -> Resu
     Ok(offset)
 }
 
+// Takes the token at the front of some bytes where it stands there whole and may be taken: how many bytes it has, and how
+// many branches are open behind it.
+#[inline(always)]
+fn take_front<A: Asker>(
+    checker: &mut Checker<A>,
+    branches: u64,
+    bytes: &[u8],
+) -> Option<(usize, u64)>
+    requires some { 0 < length checker.old.places }
+    requires count { branches ≡ length (open_branches A.plan checker.old) }
+    requires few { branches < 2 ^ 63 }
+    ensures taken { IfSome result (λ x. IsTakenFront (open_branches A.plan checker.old) (open_branches A.plan checker.new) bytes.now x.0) }
+    ensures more { IfSome result (λ x. 0 < x.0) }
+    ensures count { IfSome result (λ x. x.1 ≡ length (open_branches A.plan checker.new)) }
+    ensures none { IfNone result (open_branches A.plan checker.new ≡ open_branches A.plan checker.old) }
+    ensures refusal { checker.new.refusal ≡ checker.old.refusal }
+{
+    let (first, rest) = bytes.split_first()?;
+    match *first {
+        b'?' if checker.takes(&Tok::Ask) => Some((1, branches + 1)),
+        b'.' if checker.takes(&Tok::Holds) => Some((1, branches - 1)),
+        b'x' => {
+            let len = cycle_front(checker.answers(), rest)?;
+            checker.close();
+            Some((len + 1, branches - 1))
+        }
+        _ => None,
+    }
+}
+
+// Takes the tokens at the front of some bytes, up to the last one of the tree or the first that does not stand there whole
+// or may not be taken: how many bytes they have, and how many branches are open behind them.
+fn take_tokens<A: Asker>(checker: &mut Checker<A>, branches: u64, bytes: &[u8]) -> (usize, u64)
+    requires count { branches ≡ length (open_branches A.plan checker.old) }
+    requires few { branches + length bytes.now < 2 ^ 63 }
+    ensures within { result.0 ≤ length bytes.now }
+    ensures taken { AreTaken (take result.0 bytes.now) (open_branches A.plan checker.old) (open_branches A.plan checker.new) }
+    ensures count { result.1 ≡ length (open_branches A.plan checker.new) }
+    ensures few { result.1 ≤ branches + result.0 }
+    ensures refusal { checker.new.refusal ≡ checker.old.refusal }
+{
+    let mut at = 0;
+    let mut left = branches;
+    'tokens: while left > 0 {
+        match take_front(checker, left, &bytes[at..]) {
+            Some((len, behind)) => {
+                at += len;
+                left = behind;
+            }
+            None => break,
+        }
+    }
+    (at, left)
+}
+
+// Takes the tokens at hand of the feed.
+fn take_at_hand<A: Asker, F: Feed>(checker: &mut Checker<A>, reader: &mut Reader, feed: &mut F)
+    requires between { IsBetween reader.old }
+    requires tree { IsTreeOf (length (open_branches A.plan checker.old)) (place_of reader.old) }
+    requires room { fed_to reader.old + F.bound feed.old < 2 ^ 63 }
+    ensures between { IsBetween reader.new }
+    ensures tree { IsTreeOf (length (open_branches A.plan checker.new)) (place_of reader.new) }
+    ensures same_tree { tree_with 0 (place_of reader.new) ≡ tree_with 0 (place_of reader.old) }
+    ensures leads { LeadsAnyway F.Feed (stand (fed reader.old feed.old) (open_branches A.plan checker.old))
+        (stand (fed reader.new feed.new) (open_branches A.plan checker.new)) }
+    ensures leaves { Leaves {T = Unit {0}} F.Feed (fed reader.old feed.old) (fed reader.new feed.new) (Ok tt) }
+    ensures refusal { checker.new.refusal ≡ checker.old.refusal }
+{
+    let bytes = feed.at_hand();
+    let (taken, behind) = take_tokens(checker, reader.open_branches(), bytes);
+    reader.pass(&bytes[..taken], behind);
+    feed.consume(taken);
+}
+
 /// Judges the tree of an obligation, which answers what the asker asks: it takes its tokens up to the last one.
 pub(crate) fn judge_tree<A: Asker, F: Feed>(
     alloc: Global,
@@ -102,6 +179,10 @@ pub(crate) fn judge_tree<A: Asker, F: Feed>(
             Ok(Progress::More) => {}
             Ok(Progress::Done) => return Ok(()),
             Err(end) => return Err(end_at(offset, end)),
+        }
+        take_at_hand(&mut checker, reader, feed);
+        if !checker.is_open() {
+            return Ok(());
         }
     }
 }

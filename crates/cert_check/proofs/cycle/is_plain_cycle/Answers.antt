@@ -3,7 +3,8 @@ use Rattle.std.proofs.lemmas.Int.{ints}
 use Rattle.std.proofs.lemmas.List.{drop_more, drop_all}
 use Rattle.std.proofs.lemmas.Option.{slice_get_read}
 use Rattle.diff_graph.specs.Cycles.{pick_verdict}
-use Rattle.cert_check.proofs.Cycles.{Closes, closes_all, closes_before, closes_there}
+use Rattle.cert_check.specs.Walks.{Closes}
+use Rattle.cert_check.proofs.Cycles.{closes_all, closes_before, closes_there}
 use Rattle.cert_check.proofs.cycle.is_plain_cycle.Goals as goal
 
 pub loop-pick-init : goal.loop-pick-init

@@ -1,6 +1,6 @@
 use Rattle.std.proofs.Common.{◌≡◌, ◌+◌, ◌*◌, ◌^◌, ◌<◌, pos, neg_ℤ, ◌≤ℤ◌, Ok, length, drop}
 use Rattle.diff_graph.specs.Cycles.{pick_verdict}
-use Rattle.cert_check.proofs.Cycles.{Closes}
+use Rattle.cert_check.specs.Walks.{Closes}
 use Rattle.cert_check.proofs.cycle.is_plain_cycle.Given as goal
 
 -- where the picks that are still to come close the cycle, all of them are one

@@ -1,12 +1,13 @@
 -- Each token that is taken leads behind it; the first one that is not is refused.
-use Rattle.std.proofs.Common.{◌≡◌, ℕ, [], length, Ok, sym, subst, ap, ◌∙◌}
+use Rattle.std.proofs.Common.{◌≡◌, ℕ, List, [], length, Ok, sym, subst, ap, ◌∙◌}
 use Rattle.std.proofs.lemmas.Result.{err_from_is_err_and}
+use Rattle.ask_core.specs.Trees.{Branch}
 use Rattle.cert_check.specs.Judging.{open_branches}
 use Rattle.ot_sections.specs.Feeding.{fed}
-use Rattle.ot_sections.specs.Stands.{IsTreeOf, opened, place_of, stand}
-use Rattle.ot_sections.proofs.Leading.{behind_token, between_parts}
+use Rattle.ot_sections.specs.Stands.{IsTreeOf, Leads, opened, place_of, stand}
+use Rattle.ot_sections.proofs.Leading.{behind_token, between_parts, leads_on}
 use Rattle.ot_sections.proofs.Leaving.{goes_on_by, leaves_as, leaves_on, leaves_with, token_no_failure, token_not_early}
-use Rattle.ot_sections.proofs.TreeRun.{counted, leads_token, no_branch, refused_bytes, refused_token, tree_is}
+use Rattle.ot_sections.proofs.TreeRun.{counted, leads_token, no_branch, none_open, refused_bytes, refused_token, tree_is}
 use Rattle.ot_sections.proofs.tree.judge_tree.Goals as goal
 
 pub returns-in_err-offset-clause-refused : goal.returns-in_err-offset-clause-refused
@@ -31,20 +32,49 @@ loop-tok-preserved g c =
     let behind = behind_token g.F.Feed (fed c.loop-tok.reader c.loop-tok.feed) (fed c.next_token.new.reader c.next_token.new.feed) c.in_ok-offset.offset c.next_token.new.tok (open_branches g.A.Asker.plan c.loop-tok.checker) (open_branches g.A.Asker.plan c.judge.new.self) c.in_ok-offset.ensures.token here
     c.in-Ok-More.ensures.step in
     record {
-      between = between_parts g.F.Feed (fed c.loop-tok.reader c.loop-tok.feed) (fed c.next_token.new.reader c.next_token.new.feed) _ c.in_ok-offset.ensures.token;
+      between = c.take_at_hand.ensures.between;
       tree =
-          subst (λ (n : ℕ). IsTreeOf n (place_of c.next_token.new.reader))
-          (counted (g.A.Asker.plan c.judge.new.self.asker) c.judge.new.self.places) behind.0;
-      some = c.in-Ok-More.ensures.open (cc);
-      same_tree = behind.1 ∙ c.loop-tok.invariant.same_tree;
-      unrefused = c.in-Ok-More.ensures.none_before.1;
-      leads =
-          leads_token g.F.Feed (stand (fed c.args.reader.now c.args.feed.now) (opened (g.A.Asker.root c.args.asker))) (fed c.loop-tok.reader c.loop-tok.feed) (open_branches g.A.Asker.plan c.loop-tok.checker) c.loop-tok.invariant.leads (fed c.next_token.new.reader c.next_token.new.feed) c.in_ok-offset.offset c.next_token.new.tok (open_branches g.A.Asker.plan c.judge.new.self)
-          c.in_ok-offset.ensures.token c.in-Ok-More.ensures.step;
+          subst (λ (n : ℕ). IsTreeOf n (place_of c.take_at_hand.new.reader))
+          (counted (g.A.Asker.plan c.take_at_hand.new.checker.asker) c.take_at_hand.new.checker.places) c.take_at_hand.ensures.tree;
+      some = c.is_open.ensures.0 c.if-not-is_open.false;
+      same_tree = c.take_at_hand.ensures.same_tree ∙ behind.1 ∙ c.loop-tok.invariant.same_tree;
+      unrefused = c.take_at_hand.ensures.refusal ∙ c.in-Ok-More.ensures.none_before.1;
+      leads = λ plan.
+          leads_on g.F.Feed plan (stand (fed c.args.reader.now c.args.feed.now) (opened (g.A.Asker.root c.args.asker)))
+          (stand (fed c.next_token.new.reader c.next_token.new.feed) (open_branches g.A.Asker.plan c.judge.new.self))
+          (stand (fed c.take_at_hand.new.reader c.take_at_hand.new.feed) (open_branches g.A.Asker.plan c.take_at_hand.new.checker))
+          (leads_token g.F.Feed (stand (fed c.args.reader.now c.args.feed.now) (opened (g.A.Asker.root c.args.asker))) (fed c.loop-tok.reader c.loop-tok.feed) (open_branches g.A.Asker.plan c.loop-tok.checker) c.loop-tok.invariant.leads (fed c.next_token.new.reader c.next_token.new.feed) c.in_ok-offset.offset c.next_token.new.tok (open_branches g.A.Asker.plan c.judge.new.self)
+          c.in_ok-offset.ensures.token c.in-Ok-More.ensures.step plan)
+          (c.take_at_hand.ensures.leads plan);
       leaves =
-          leaves_on g.F.Feed (fed c.args.reader.now c.args.feed.now) (fed c.loop-tok.reader c.loop-tok.feed) (fed c.next_token.new.reader c.next_token.new.feed) (Ok tt) c.loop-tok.invariant.leaves
-          (goes_on_by g.F.Feed (fed c.loop-tok.reader c.loop-tok.feed) (fed c.next_token.new.reader c.next_token.new.feed) _ (rw c.in_ok-offset.was at c.next_token.ensures.leaves));
+          leaves_on g.F.Feed (fed c.args.reader.now c.args.feed.now) (fed c.next_token.new.reader c.next_token.new.feed) (fed c.take_at_hand.new.reader c.take_at_hand.new.feed) (Ok tt)
+          (leaves_on g.F.Feed (fed c.args.reader.now c.args.feed.now) (fed c.loop-tok.reader c.loop-tok.feed) (fed c.next_token.new.reader c.next_token.new.feed) (Ok tt) c.loop-tok.invariant.leaves
+          (goes_on_by g.F.Feed (fed c.loop-tok.reader c.loop-tok.feed) (fed c.next_token.new.reader c.next_token.new.feed) _ (rw c.in_ok-offset.was at c.next_token.ensures.leaves)))
+          c.take_at_hand.ensures.leaves;
     }
+
+pub returns-then-not-is_open-clause-leads : goal.returns-then-not-is_open-clause-leads
+returns-then-not-is_open-clause-leads g c =
+    let none =
+    no_branch (g.A.Asker.plan c.take_at_hand.new.checker.asker) c.take_at_hand.new.checker.places
+    (none_open c.is_open.result c.take_at_hand.new.checker.places c.if-not-is_open.true c.is_open.ensures) in
+    λ plan.
+    subst
+    (λ (b : List (Branch _)). Leads g.F.Feed plan (stand (fed c.args.reader.now c.args.feed.now) (opened (g.A.Asker.root c.args.asker)))
+    (stand (fed c.take_at_hand.new.reader c.take_at_hand.new.feed) b)) none
+    (leads_on g.F.Feed plan (stand (fed c.args.reader.now c.args.feed.now) (opened (g.A.Asker.root c.args.asker)))
+    (stand (fed c.next_token.new.reader c.next_token.new.feed) (open_branches g.A.Asker.plan c.judge.new.self))
+    (stand (fed c.take_at_hand.new.reader c.take_at_hand.new.feed) (open_branches g.A.Asker.plan c.take_at_hand.new.checker))
+    (leads_token g.F.Feed (stand (fed c.args.reader.now c.args.feed.now) (opened (g.A.Asker.root c.args.asker))) (fed c.loop-tok.reader c.loop-tok.feed) (open_branches g.A.Asker.plan c.loop-tok.checker) c.loop-tok.invariant.leads (fed c.next_token.new.reader c.next_token.new.feed) c.in_ok-offset.offset c.next_token.new.tok (open_branches g.A.Asker.plan c.judge.new.self)
+    c.in_ok-offset.ensures.token c.in-Ok-More.ensures.step plan)
+    (c.take_at_hand.ensures.leads plan))
+
+pub returns-then-not-is_open-clause-leaves : goal.returns-then-not-is_open-clause-leaves
+returns-then-not-is_open-clause-leaves g c =
+    leaves_on g.F.Feed (fed c.args.reader.now c.args.feed.now) (fed c.next_token.new.reader c.next_token.new.feed) (fed c.take_at_hand.new.reader c.take_at_hand.new.feed) (Ok tt)
+    (leaves_on g.F.Feed (fed c.args.reader.now c.args.feed.now) (fed c.loop-tok.reader c.loop-tok.feed) (fed c.next_token.new.reader c.next_token.new.feed) (Ok tt) c.loop-tok.invariant.leaves
+    (goes_on_by g.F.Feed (fed c.loop-tok.reader c.loop-tok.feed) (fed c.next_token.new.reader c.next_token.new.feed) _ (rw c.in_ok-offset.was at c.next_token.ensures.leaves)))
+    c.take_at_hand.ensures.leaves
 
 pub returns-in-Ok-Done-clause-closed : goal.returns-in-Ok-Done-clause-closed
 returns-in-Ok-Done-clause-closed g c =

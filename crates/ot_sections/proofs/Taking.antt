@@ -1,0 +1,266 @@
+-- Tokens that are taken where they are read.
+use Rattle.std.proofs.Common.{◌≡◌, ℕ, ◌+◌, ◌-◌, ◌≤◌, ◌<◌, List, [], ◌∷◌, ◌++◌, length, get_or, take, drop, take-add, add-one, add-zero, Result, Ok, refl, sym, ap, subst, ◌∙◌, arith, append_assoc, length-append, length-drop}
+use Rattle.std.specs.Fmt.{decimal}
+use Rattle.std.proofs.lemmas.List.{append-nil, take_more}
+use Rattle.std.proofs.Math.Seq.{take-length}
+use Rattle.fn_rules.specs.declared.function.ObName.{ObName}
+use Rattle.ask_core.specs.declared.tree.Tok.{Tok}
+use Rattle.ask_core.specs.declared.tree.Tok.TheVariants as token
+use Rattle.ask_core.specs.Plans.{Plan}
+use Rattle.ask_core.specs.Trees.{Branch}
+use Rattle.cert_check.specs.Steps.{after}
+use Rattle.cert_text.specs.declared.item.Part.TheVariants as part
+use Rattle.cert_text.specs.Numbers.{AreShort, PICK_LIMIT, more_numbers_text, numbers_text}
+use Rattle.cert_text.specs.Spelling.{AreSpellable, IsSpellable, token_text, tokens_text}
+use Rattle.cert_text.specs.Places.{Place, Start, Line, Tree, Finish, open_after}
+use Rattle.cert_text.specs.Passing.{AreOpen, IsPassed, open_in, passed}
+use Rattle.cert_text.specs.Reading.{Progress, Reading, Refused, fed_to}
+use Rattle.ot_outside.specs.declared.feed.Feed.{Ghosts}
+use Rattle.ot_sections.specs.declared.refusal.JudgeError.{JudgeError}
+use Rattle.ot_sections.specs.Feeding.{Fed, fed}
+use Rattle.ot_sections.specs.Parts.{IsJudged, Point}
+use Rattle.ot_sections.specs.Stands.{IsBetween, IsTreeOf, LeadsAnyway, offset_of, place_of, point_of, stand, tree_with}
+use Rattle.ot_sections.specs.Taking.{AreTaken, IsTakenFront, LeaveOpen}
+use Rattle.ot_sections.proofs.Coming.{Consumes, IsAsked, Took, given_of, took_of}
+use Rattle.ot_sections.proofs.Fitting.{judged_behind}
+use Rattle.ot_sections.proofs.Leaving.{GoesOn, KeepsFeed}
+use Rattle.ot_sections.proofs.Tokens.{open_as_counted}
+
+-- a further number of a cycle
+more_numbers_grow :
+    (picks : List ℕ) (n : ℕ) → more_numbers_text (picks ++ n ∷ []) ≡ more_numbers_text picks ++ 44 ∷ decimal n
+more_numbers_grow [] n = ap (λ (l : List ℕ). 44 ∷ l) (append-nil (decimal n))
+more_numbers_grow (m ∷ picks) n =
+    ap (λ (l : List ℕ). 44 ∷ (decimal m ++ l)) (more_numbers_grow picks n)
+    ∙ ap (λ (l : List ℕ). 44 ∷ l) (sym (append_assoc (decimal m) (more_numbers_text picks) (44 ∷ decimal n)))
+
+pub numbers_grow :
+    (picks : List ℕ) (n : ℕ) → 0 < length picks → numbers_text (picks ++ n ∷ []) ≡ numbers_text picks ++ 44 ∷ decimal n
+numbers_grow [] n some = absurd (omega arith)
+numbers_grow (m ∷ picks) n some =
+    ap (λ (l : List ℕ). decimal m ++ l) (more_numbers_grow picks n)
+    ∙ sym (append_assoc (decimal m) (more_numbers_text picks) (44 ∷ decimal n))
+
+pub short_with : (picks : List ℕ) (n : ℕ) → AreShort picks → n < PICK_LIMIT → AreShort (picks ++ n ∷ [])
+short_with [] n all last = (last, tt)
+short_with (m ∷ picks) n all last = (all.0, short_with picks n all.1 last)
+
+-- the bytes up to the next number, and up to the end
+pub next_byte :
+    (bytes text : List ℕ) (at b : ℕ) → at < length bytes → get_or bytes at 0 ≡ b → text ≡ take at bytes
+    → text ++ b ∷ [] ≡ take (at + 1) bytes
+next_byte bytes text at b within byte text_is =
+    ap (λ (l : List ℕ). l ++ b ∷ []) text_is
+    ∙ subst (λ (x : ℕ). take at bytes ++ x ∷ [] ≡ take (at + 1) bytes) byte (sym (take_more bytes at 0 within))
+
+pub next_number :
+    (bytes text digits : List ℕ) (at len : ℕ) → at < length bytes → get_or bytes at 0 ≡ 44 → text ≡ take at bytes
+    → digits ≡ take len (drop (at + 1) bytes) → text ++ 44 ∷ digits ≡ take (at + 1 + len) bytes
+next_number bytes text digits at len within comma text_is digits_is =
+    sym (append_assoc text (44 ∷ []) digits) ∙ ap (λ (l : List ℕ). l ++ digits) (next_byte bytes text at 44 within comma text_is)
+    ∙ ap (λ (l : List ℕ). take (at + 1) bytes ++ l) digits_is ∙ sym (take-add (at + 1) len bytes)
+
+-- the bytes from a place on
+pub bytes_from : (bytes : List ℕ) (at : ℕ) → take (length bytes - at) (drop at bytes) ≡ drop at bytes
+bytes_from bytes at = rw (← length-drop at bytes) (take-length (drop at bytes))
+
+pub first_byte : (bytes rest : List ℕ) (b : ℕ) → bytes ≡ b ∷ rest → b ∷ [] ≡ take 1 bytes
+first_byte bytes rest b is = rw is refl
+
+pub first_bytes : (bytes rest text : List ℕ) (b len : ℕ) → bytes ≡ b ∷ rest → text ≡ b ∷ take len rest → text ≡ take (len + 1) bytes
+first_bytes bytes rest text b len is text_is = rw (is, add-one len) text_is
+
+-- a token opens one branch at most
+open_after_few : (n : ℕ) (t : Tok) → open_after n t ≤ n + 1
+open_after_few n token.Ask = omega arith
+open_after_few n token.Holds = omega arith
+open_after_few n (token.Cycle picks) = omega arith
+
+-- one more token
+tokens_text-push : (tokens : List Tok) (t : Tok) → tokens_text (tokens ++ t ∷ []) ≡ tokens_text tokens ++ token_text t
+tokens_text-push [] t = append-nil (token_text t)
+tokens_text-push (s ∷ tokens) t =
+    ap (λ (l : List ℕ). token_text s ++ l) (tokens_text-push tokens t)
+    ∙ sym (append_assoc (token_text s) (tokens_text tokens) (token_text t))
+
+AreSpellable-push : (tokens : List Tok) (t : Tok) → AreSpellable tokens → IsSpellable t → AreSpellable (tokens ++ t ∷ [])
+AreSpellable-push [] t all last = (last, tt)
+AreSpellable-push (s ∷ tokens) t all last = (all.0, AreSpellable-push tokens t all.1 last)
+
+module _ {W : Type 0} where
+  LeaveOpen-push :
+      (tokens : List Tok) (t : Tok) (old between new : List (Branch W)) → LeaveOpen tokens old between → after t between ≡ Ok new
+      → LeaveOpen (tokens ++ t ∷ []) old new
+  LeaveOpen-push [] t old between new leave taken =
+      (new, subst (λ (b : List (Branch W)). after t b ≡ Ok new) leave taken, refl)
+  LeaveOpen-push (s ∷ tokens) t old between new leave taken =
+      (leave.0, leave.1, LeaveOpen-push tokens t leave.0 between new leave.2 taken)
+
+  -- none is taken yet
+  pub none_taken : (bytes : List ℕ) (old new : List (Branch W)) → bytes ≡ [] → new ≡ old → AreTaken bytes old new
+  none_taken bytes old new none same = ([], tt, sym none, same)
+
+  -- one more is
+  pub one_more_taken :
+      (front more bytes : List ℕ) (len : ℕ) (old between new : List (Branch W)) → AreTaken front old between
+      → IsTakenFront between new more len → bytes ≡ front ++ take len more → AreTaken bytes old new
+  one_more_taken front more bytes len old between new (tokens, spellable, text, leave) (within, (t, fine, t_text, taken)) is = (
+    tokens ++ t ∷ [],
+    AreSpellable-push tokens t spellable fine,
+    tokens_text-push tokens t ∙ ap (λ (l : List ℕ). l ++ token_text t) text ∙ ap (λ (l : List ℕ). front ++ l) t_text ∙ sym is,
+    LeaveOpen-push tokens t old between new leave taken,
+  )
+
+  -- a token is taken only where a branch is open
+  some_open : (t : Tok) (branches next : List (Branch W)) → after t branches ≡ Ok next → 0 < length branches
+  some_open t [] next taken = absurd (cc)
+  some_open t (b ∷ branches) next taken = omega arith
+
+  -- so does one that is taken
+  pub one_more_open : (t : Tok) (old new : List (Branch W)) → after t old ≡ Ok new → length new ≤ length old + 1
+  one_more_open t old new taken = omega (arith, open_as_counted t old new taken, open_after_few (length old) t)
+
+  -- tokens that are taken may stand there
+  pub taken_are_open :
+      (tokens : List Tok) (old new : List (Branch W)) → AreSpellable tokens → LeaveOpen tokens old new
+      → AreOpen (length old) tokens (length new)
+  taken_are_open [] old new spellable leave = ap length leave
+  taken_are_open (t ∷ tokens) old new spellable leave =
+      let next = leave.0 in (
+        some_open t old next leave.1,
+        spellable.0,
+        subst (λ (n : ℕ). AreOpen n tokens (length new)) (open_as_counted t old next leave.1)
+            (taken_are_open tokens next new spellable.1 leave.2),
+      )
+
+  pub taken_passed :
+      (reader : Progress) (bytes : List ℕ) (old new : List (Branch W)) → IsBetween reader → IsTreeOf (length old) (place_of reader)
+      → AreTaken bytes old new → IsPassed reader bytes (length new)
+  taken_passed (Reading (Tree came names branches) offset begun) bytes old new between tree (tokens, spellable, text, leave) = (
+    (cc),
+    (tokens, subst (λ (n : ℕ). AreOpen n tokens (length new)) (sym tree) (taken_are_open tokens old new spellable leave), text),
+  )
+  taken_passed (Reading (Start tp1 tp2) offset begun) bytes old new between tree taken = absurd tree
+  taken_passed (Reading (Line came names) offset begun) bytes old new between tree taken = absurd tree
+  taken_passed (Reading Finish offset begun) bytes old new between tree taken = absurd tree
+  taken_passed (Refused e) bytes old new between tree taken = absurd tree
+
+-- the open branches of a reader in a tree
+pub open_there : (reader : Progress) (count : ℕ) → IsTreeOf count (place_of reader) → open_in reader ≡ count
+open_there (Reading (Tree came names branches) offset begun) count tree = tree
+open_there (Reading (Start tp1 tp2) offset begun) count tree = absurd tree
+open_there (Reading (Line came names) offset begun) count tree = absurd tree
+open_there (Reading Finish offset begun) count tree = absurd tree
+open_there (Refused e) count tree = absurd tree
+
+-- a reader that passed tokens is behind them in the same tree
+pub behind_passed :
+    (reader now : Progress) (len old new : ℕ) → IsBetween reader → IsTreeOf old (place_of reader) → now ≡ passed reader len new
+    → now ≡ Reading (tree_with new (place_of reader)) (offset_of reader + len) []
+behind_passed (Reading (Tree came names branches) offset begun) now len old new between tree is =
+    let none : begun ≡ [] = cc in is ∙ ap (λ (l : List ℕ). Reading (Tree came names new) (offset + len) l) none
+behind_passed (Reading (Start tp1 tp2) offset begun) now len old new between tree is = absurd tree
+behind_passed (Reading (Line came names) offset begun) now len old new between tree is = absurd tree
+behind_passed (Reading Finish offset begun) now len old new between tree is = absurd tree
+behind_passed (Refused e) now len old new between tree is = absurd tree
+
+pub tree_there : (place : Place) (old new : ℕ) → IsTreeOf old place → IsTreeOf new (tree_with new place) × (tree_with 0 (tree_with new place) ≡ tree_with 0 place)
+tree_there (Tree came names branches) old new is = (refl, refl)
+tree_there (Start tp1 tp2) old new is = absurd is
+tree_there (Line came names) old new is = absurd is
+tree_there Finish old new is = absurd is
+
+module _ {W : Type 0} (plan : ObName → Plan W) (end : Result (Unit {0}) JudgeError) where
+  point_at : Place → ℕ → List (Branch W) → Point W
+  point_at place offset branches = record { place = place; offset = offset; branches = branches }
+
+  -- what is judged behind tokens that are taken is judged of them and what is behind them
+  judged_tokens :
+      (tokens : List Tok) (came : ℕ) (names : List ObName) (branches offset : ℕ) (old new : List (Branch W)) (rest : List ℕ)
+      → branches ≡ length old → AreSpellable tokens → LeaveOpen tokens old new
+      → IsJudged plan end (record { place = Tree came names (length new); offset = offset + length (tokens_text tokens); branches = new }) rest
+      → IsJudged plan end (record { place = Tree came names branches; offset = offset; branches = old }) (tokens_text tokens ++ rest)
+  judged_tokens [] came names branches offset old new rest is spellable leave judged =
+      let here =
+      subst (λ (b : List (Branch W)). IsJudged plan end (record { place = Tree came names (length b); offset = offset + 0; branches = b }) rest)
+      leave judged in
+      subst (λ (n : ℕ). IsJudged plan end (record { place = Tree came names n; offset = offset; branches = old }) rest) (sym is)
+      (subst (λ (n : ℕ). IsJudged plan end (record { place = Tree came names (length old); offset = n; branches = old }) rest)
+      (add-zero offset) here)
+  judged_tokens (t ∷ tokens) came names branches offset old new rest is spellable leave judged =
+      let next = leave.0 in
+      let counted : open_after branches t ≡ length next = rw is (sym (open_as_counted t old next leave.1)) in
+      let offset_is : offset + length (tokens_text (t ∷ tokens)) ≡ (offset + length (token_text t)) + length (tokens_text tokens) =
+      omega (arith, length-append (token_text t) (tokens_text tokens)) in
+      let behind =
+      judged_tokens tokens came names (open_after branches t) (offset + length (token_text t)) next new rest counted spellable.1 leave.2
+      (subst (λ (n : ℕ). IsJudged plan end (record { place = Tree came names (length new); offset = n; branches = new }) rest) offset_is judged) in
+      let some : 0 < branches = rw is (some_open t old next leave.1) in
+      rw (append_assoc (token_text t) (tokens_text tokens) rest)
+      (judged_behind plan end (record { place = Tree came names branches; offset = offset; branches = old }) (part.Tok t)
+      (token_text t ++ (tokens_text tokens ++ rest)) (tokens_text tokens ++ rest) next (some, spellable.0) refl leave.1 behind)
+
+  judged_at :
+      (place : Place) (offset : ℕ) (bytes rest : List ℕ) (old new : List (Branch W)) → IsTreeOf (length old) place
+      → AreTaken bytes old new
+      → IsJudged plan end (record { place = tree_with (length new) place; offset = offset + length bytes; branches = new }) rest
+      → IsJudged plan end (record { place = place; offset = offset; branches = old }) (bytes ++ rest)
+  judged_at (Tree came names branches) offset bytes rest old new tree (tokens, spellable, text, leave) judged =
+      subst (λ (l : List ℕ). IsJudged plan end (record { place = Tree came names branches; offset = offset; branches = old }) (l ++ rest)) text
+      (judged_tokens tokens came names branches offset old new rest tree spellable leave
+      (subst (λ (l : List ℕ). IsJudged plan end (record { place = Tree came names (length new); offset = offset + length l; branches = new }) rest)
+      (sym text) judged))
+  judged_at (Start tp1 tp2) offset bytes rest old new tree taken judged = absurd tree
+  judged_at (Line came names) offset bytes rest old new tree taken judged = absurd tree
+  judged_at Finish offset bytes rest old new tree taken judged = absurd tree
+
+module _ {F W : Type 0} (feeds : Ghosts F) (was now : Fed F) (bytes : List ℕ) (old new : List (Branch W)) where
+  -- tokens that are taken of a feed lead behind them
+  pub leads_taken :
+      IsTreeOf (length old) (place_of was.reader) → Took feeds was.feed now.feed bytes → AreTaken bytes old new
+      → now.reader ≡ Reading (tree_with (length new) (place_of was.reader)) (offset_of was.reader + length bytes) []
+      → LeadsAnyway feeds (stand was old) (stand now new)
+  leads_taken tree took taken there plan all rest may = (
+    bytes ++ rest,
+    given_of feeds was.feed now.feed bytes took all rest may,
+    λ end judged.
+        judged_at plan end (place_of was.reader) (offset_of was.reader) bytes rest old new tree taken
+        (subst (λ (r : Progress). IsJudged plan end (point_of (stand (fed r now.feed) new)) rest) there judged),
+  )
+
+module _ {F W : Type 0} (feeds : Ghosts F) (was now : Fed F) (old new : List (Branch W)) where
+  -- a reader and its feed behind tokens that were taken at hand
+  pub record IsBehindTokens : Type 0 where
+    pub between : IsBetween now.reader
+    pub tree : IsTreeOf (length new) (place_of now.reader)
+    pub same_tree : tree_with 0 (place_of now.reader) ≡ tree_with 0 (place_of was.reader)
+    pub leads : LeadsAnyway feeds (stand was old) (stand now new)
+    pub leaves : GoesOn feeds was now
+
+  pub behind_tokens :
+      (bytes : List ℕ) (count behind : ℕ) → IsBetween was.reader → IsTreeOf (length old) (place_of was.reader)
+      → (bytes ≡ feeds.hand was.feed) × (count ≤ length bytes) → Consumes feeds was.feed now.feed count → KeepsFeed feeds was.feed now.feed
+      → AreTaken (take count bytes) old new → behind ≡ length new → now.reader ≡ passed was.reader (length (take count bytes)) behind
+      → IsBehindTokens
+  behind_tokens bytes count behind between tree at_hand consumes kept taken counted is =
+      let there =
+      behind_passed was.reader now.reader (length (take count bytes)) (length old) (length new) between tree
+      (is ∙ ap (λ (n : ℕ). passed was.reader (length (take count bytes)) n) counted) in
+      let same : IsAsked feeds was.feed was.feed = record { left = refl; bound = refl; gave = refl } in
+      let took = took_of feeds was.feed was.feed now.feed bytes count at_hand same consumes in
+      let place : place_of now.reader ≡ tree_with (length new) (place_of was.reader) = ap place_of there in
+      let in_tree = tree_there (place_of was.reader) (length old) (length new) tree in
+      let fed_was : fed_to was.reader ≡ offset_of was.reader + 0 = ap fed_to between in
+      let fed_now : fed_to now.reader ≡ (offset_of was.reader + length (take count bytes)) + 0 = ap fed_to there in
+      record {
+        between = there ∙ ap (λ (r : Progress). Reading (place_of r) (offset_of r) []) (sym there);
+        tree = subst (λ (p : Place). IsTreeOf (length new) p) (sym place) in_tree.0;
+        same_tree = ap (tree_with 0) place ∙ in_tree.1;
+        leads = leads_taken feeds was now (take count bytes) old new tree took taken there;
+        leaves = record {
+          kept = kept;
+          room = omega (arith, fed_was, fed_now, took.bound);
+          spent = tt;
+          failed = tt;
+        };
+      }
