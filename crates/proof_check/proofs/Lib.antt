@@ -1,4 +1,6 @@
 pub mod Completing
 pub mod PlaceLemmas
 pub mod Standings
+pub mod Keeping
+pub mod Taking
 mod Examples

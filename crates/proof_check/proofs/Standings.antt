@@ -1,5 +1,5 @@
 -- The changes of open places are those of the tokens, for nodes with their plans.
-use Rattle.std.proofs.Common.{◌≡◌, ℕ, ◌<◌, List, [], ◌∷◌, ◌++◌, length, map, Option, Some, Ok, true, false, arith, refl, sym, ◌∙◌, ap, subst, nat_lt}
+use Rattle.std.proofs.Common.{◌≡◌, ℕ, ◌<◌, List, [], ◌∷◌, ◌++◌, length, map, drop, Option, Some, None, Ok, true, false, arith, refl, sym, ◌∙◌, ap, subst, nat_lt}
 use Rattle.std.specs.Prelude.{slice_get}
 use Rattle.std.proofs.lemmas.List.{map-append, length-map}
 use Rattle.std.proofs.lemmas.Option.{slice_get-map}
@@ -8,14 +8,15 @@ use Rattle.diff_graph.specs.declared.lit.Lit.{Lit}
 use Rattle.diff_graph.specs.Cycles.{pick_verdict}
 use Rattle.ask_core.specs.Trees.{with_answer}
 use Rattle.proof_trees.specs.declared.limits.TheConstants.{MAX_LEMMAS}
+use Rattle.proof_trees.specs.declared.token.ProofTok.{ProofTok}
 use Rattle.proof_trees.specs.declared.token.ProofTok.TheVariants as token
 use Rattle.proof_trees.specs.Starts.{MarkedPlan, Ask, Holds, start_of, Comparison, conditions_between}
 use Rattle.proof_trees.specs.Proofs.{Learned}
 use Rattle.proof_trees.specs.Tokens.{Wanted, wanted_cycles}
 use Rattle.proof_trees.specs.Tokens as plan
 use Rattle.proof_check.specs.declared.places.Known.{Known}
-use Rattle.proof_check.specs.Places.{WantedAt, Tree, Cycle, Learn, OpenProof, first_node, first_list, asked, closed, begun, cited, cycles_at, settled_at, wanted_of, learned_of, standing_of}
-use Rattle.proof_check.specs.Steps.{settled, IsTaken}
+use Rattle.proof_check.specs.Places.{WantedAt, Tree, Cycle, Learn, OpenProof, IsSettled, first_node, first_list, asked, closed, begun, cited, cycles_at, settled_at, wanted_of, learned_of, standing_of}
+use Rattle.proof_check.specs.Steps.{settled, IsTaken, after, after_at_cycle, after_at_tree}
 
 module _ {N S W : Type 0} (marked : N → MarkedPlan S W) where
   abbrev open_at : List (Known N) → List (WantedAt N) → OpenProof N
@@ -66,14 +67,14 @@ module _ {N S W : Type 0} (marked : N → MarkedPlan S W) where
     end_taken (Learn m ls ∷ wanted) n start first begins = absurd (cc)
 
     pub cycle_taken :
-        (wanted : List (WantedAt N)) (n : N) (picks : List ℕ) → first_node wanted ≡ Some n
+        (wanted : List (WantedAt N)) (picks : List ℕ) → IsSettled wanted → 0 < length wanted
         → pick_verdict (first_list wanted) picks ≡ Ok tt
         → IsTaken compare (token.Cycle picks) (standing_of marked (open_at known wanted))
         (standing_of marked (closed (open_at known wanted)))
-    cycle_taken [] n picks first is = absurd (cc)
-    cycle_taken (Tree m w ∷ wanted) n picks first is = rw is (ap Ok (standing_of-settled known wanted))
-    cycle_taken (Cycle w ∷ wanted) n picks first is = rw is (ap Ok (standing_of-settled known wanted))
-    cycle_taken (Learn m ls ∷ wanted) n picks first is = absurd (cc)
+    cycle_taken [] picks settled some is = absurd (omega arith)
+    cycle_taken (Tree m w ∷ wanted) picks settled some is = rw is (ap Ok (standing_of-settled known wanted))
+    cycle_taken (Cycle w ∷ wanted) picks settled some is = rw is (ap Ok (standing_of-settled known wanted))
+    cycle_taken (Learn m ls ∷ wanted) picks settled some is = absurd settled
 
     pub lemma_taken :
         (wanted : List (WantedAt N)) (n : N) (s : S) (ls : List Lit) → first_node wanted ≡ Some n
@@ -107,3 +108,24 @@ module _ {N S W : Type 0} (marked : N → MarkedPlan S W) where
         ∙ standing_of-settled known (cycles_at w (k.literals ++ es) ++ wanted)))
     citation_taken (Cycle w ∷ wanted) n s number k es first begins found compared = absurd (cc)
     citation_taken (Learn m ls ∷ wanted) n s number k es first begins found compared = absurd (cc)
+
+    -- any token at the first place, where a tree is wanted there
+    pub after_first_tree :
+        (wanted : List (WantedAt N)) (tok : ProofTok) (n : N) → first_node wanted ≡ Some n
+        → after compare tok (map (learned_of marked) known) (map (wanted_of marked) wanted)
+        ≡ after_at_tree compare tok (map (learned_of marked) known) (marked n) (first_list wanted)
+        (drop 1 (map (wanted_of marked) wanted))
+    after_first_tree [] tok n first = absurd (cc)
+    after_first_tree (Tree m w ∷ wanted) tok n first = let same : m ≡ n = cc in rw same refl
+    after_first_tree (Cycle w ∷ wanted) tok n first = absurd (cc)
+    after_first_tree (Learn m ls ∷ wanted) tok n first = absurd (cc)
+
+    -- and where a cycle is wanted
+    pub after_first_cycle :
+        (wanted : List (WantedAt N)) (tok : ProofTok) → IsSettled wanted → 0 < length wanted → first_node wanted ≡ None
+        → after compare tok (map (learned_of marked) known) (map (wanted_of marked) wanted)
+        ≡ after_at_cycle tok (map (learned_of marked) known) (first_list wanted) (drop 1 (map (wanted_of marked) wanted))
+    after_first_cycle [] tok settled some none = absurd (omega arith)
+    after_first_cycle (Tree m w ∷ wanted) tok settled some none = absurd (cc)
+    after_first_cycle (Cycle w ∷ wanted) tok settled some none = refl
+    after_first_cycle (Learn m ls ∷ wanted) tok settled some none = absurd settled

@@ -1,4 +1,5 @@
 pub mod Steps
 pub mod Places
 pub mod Parts
+pub mod Judging
 pub use Rattle.proof_trees.specs.Tokens

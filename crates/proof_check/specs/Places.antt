@@ -59,6 +59,13 @@ first_node (Tree n w ∷ wanted) = Some n
 first_node (Cycle w ∷ wanted) = None
 first_node (Learn n ls ∷ wanted) = None
 
+-- the first place takes a token: no lemma whose tree has ended stands first
+abbrev pub IsSettled : {N : Type 0} → List (WantedAt N) → Type 0
+IsSettled [] = ⊤
+IsSettled (Tree n w ∷ wanted) = ⊤
+IsSettled (Cycle w ∷ wanted) = ⊤
+IsSettled (Learn n ls ∷ wanted) = ⊥
+
 -- a lemma whose tree has ended is known
 abbrev pub settled_at : {N : Type 0} → List (Known N) → List (WantedAt N) → OpenProof N
 settled_at known [] = record { known = known; wanted = [] }

@@ -14,7 +14,7 @@ use proof_trees::shown_plans_hold;
 
 /// Tokens complete what is wanted exactly where the first is taken and the others complete what it leaves. One
 /// that is refused begins no tokens that complete it.
-pub fn proof_tokens_are_taken_one_by_one<S: Copy, W: Copy>()
+pub fn proof_tokens_are_taken_one_by_one<S, W: Copy>()
     ensures taken { (compare : Comparison S) (tok : ProofTok) (tokens : List ProofTok) (known : List (Learned S W))
         (wanted : List (Wanted S W)) (next : Standing S W) → HasFew tok → after compare tok known wanted ≡ Ok next
         → (Completes compare (tok ∷ tokens) wanted known ↔ Completes compare tokens next.wanted next.known) }
@@ -25,7 +25,7 @@ pub fn proof_tokens_are_taken_one_by_one<S: Copy, W: Copy>()
 
 /// Of any lawful comparison: where tokens complete a plan, and no lemmas are known before, each valuation leads
 /// through the plan to an end that holds.
-pub fn completed_plans_hold<S: Copy, W: Copy>()
+pub fn completed_plans_hold<S, W: Copy>()
     ensures { (compare : Comparison S) (meaning : S → Plan W) (tokens : List ProofTok) (p : MarkedPlan S W)
         → IsLawful compare meaning → IsMarkedBy meaning p → Completes compare tokens (Tree p [] ∷ []) []
         → HoldsUnder [] (unmarked p) }

@@ -1,8 +1,9 @@
 //! The open places of a proof.
-ghost use Rattle.std.specs.Prelude.{◌≡◌, ◌↔◌, IsTrue, ◌<◌, List, [], ◌∷◌, ◌++◌, Some, length, slice_get, reverse, map, OnOk, OnErr};
+ghost use Rattle.std.specs.Prelude.{◌≡◌, ◌↔◌, IsTrue, ◌<◌, ◌≤◌, List, [], ◌∷◌, ◌++◌, Some, length, slice_get, reverse, map, OnOk, OnErr};
 ghost use Rattle.diff_graph.specs.declared.lit.Lit.{Lit};
 ghost use Rattle.std.specs.Option.{option_map};
-ghost use Rattle.proof_check.specs.Places.{OpenProof, Tree, first_list, first_node, closed, asked, begun, cited, literals_at};
+ghost use Rattle.proof_trees.specs.declared.limits.TheConstants.{MAX_LITERALS};
+ghost use Rattle.proof_check.specs.Places.{OpenProof, Tree, IsSettled, first_list, first_node, closed, asked, begun, cited, literals_at};
 ghost use Rattle.proof_check.specs.Parts.{cycle_part};
 
 use ask_core::NoMemory;
@@ -89,7 +90,8 @@ impl<N: Copy> Places<N> {
 
     /// The node at the first place, where a tree is wanted there.
     pub fn node(&self) -> Option<N>
-        ensures { result ≡ first_node self.now.wanted }
+        ensures value { result ≡ first_node self.now.wanted }
+        ensures settled { IsSettled self.now.wanted }
     {
         match self.current {
             Some(At::Tree(node)) => Some(node),
@@ -101,7 +103,8 @@ impl<N: Copy> Places<N> {
     /// The literals at the first place.
     pub fn list(&self) -> &[Lit]
         requires { 0 < length self.now.wanted }
-        ensures { result.now ≡ first_list self.now.wanted }
+        ensures value { result.now ≡ first_list self.now.wanted }
+        ensures settled { IsSettled self.now.wanted }
     {
         &self.list[self.base..]
     }
@@ -154,7 +157,8 @@ impl<N: Copy> Places<N> {
     /// Begins a lemma at the first place: its tree is next, under the literals alone, and the place waits.
     pub fn begin(&mut self, node: N, literals: &Literals) -> Result<(), NoMemory>
         requires { 0 < length self.old.wanted }
-        ensures { OnOk result (self.new ≡ begun node literals.now self.old) }
+        ensures ok { OnOk result (self.new ≡ begun node literals.now self.old) }
+        ensures few { length literals.now ≤ MAX_LITERALS }
     {
         let depth = self.list.len();
         append(&mut self.list, literals.as_slice())?;

@@ -12,7 +12,7 @@ use diff_graph::negative_cycles_are_never_met;
 /// A law and no code, of any lawful comparison: where a proof tree shows a plan after literals, and the
 /// lemmas that were known are true, each valuation that meets the literals leads through the plan to
 /// `Holds`, and all lemmas that are known afterwards are true. Nothing is asked of the literals of a lemma.
-pub fn shown_plans_hold<S: Copy, W: Copy>()
+pub fn shown_plans_hold<S, W: Copy>()
     ensures whole { (compare : Comparison S) (meaning : S → Plan W) (t : ProofTree) (p : MarkedPlan S W)
         → IsLawful compare meaning → IsMarkedBy meaning p → Shows compare t p [] [] → HoldsUnder [] (unmarked p) }
 

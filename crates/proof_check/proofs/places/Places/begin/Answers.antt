@@ -8,8 +8,8 @@ invariant_of-self-in_err-push g c =
     (appended_path c.self.inside.base c.self.inside.list.items c.append.new.list.items c.args.literals.now
     c.self.inside.waiting.items c.self.invariant (rw c.as_slice.ensures.value at c.in_ok-append.ensures.ok))
 
-pub returns : goal.returns
-returns g c =
+pub returns-clause-ok : goal.returns-clause-ok
+returns-clause-ok g c =
     let long : c.len-depth.result ≡ length c.self.inside.list.items = c.len-depth.ensures ∙ c.self.inside.list.ok.0 in
     rw long
     (begun_places c.self.inside.known.items c.self.inside.current c.self.inside.base c.self.inside.list.items

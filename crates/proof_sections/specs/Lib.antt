@@ -1,0 +1,3 @@
+pub mod Judgement
+pub use Rattle.proof_check.specs.Judging
+pub use Rattle.proof_text.specs.Answers

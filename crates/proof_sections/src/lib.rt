@@ -1,0 +1,18 @@
+//! How the bytes of a proof are judged, part by part from the front: whether they are a tree that shows its plan, and
+//! where and why not. The plans with their starts, and how starts compare, are given.
+//!
+//! The layers above rely on one definition, `proof_judged`, which computes the judgement of any bytes: the level of a
+//! proof, or the offset of what is refused first and its cause; and on `judge_tree`, which answers so of a tree.
+//!
+//! Who judges takes nothing from who searches.
+#![tactic(auto)]
+
+mod laws;
+mod line;
+mod refusal;
+mod tree;
+
+pub use laws::accepted_proofs_hold;
+pub use line::{judge_end, judge_header, judge_line_end, judge_ob};
+pub use refusal::{ConfirmError, ProofRefusal};
+pub use tree::{judge_tree, unread_part};

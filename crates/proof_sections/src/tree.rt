@@ -1,0 +1,103 @@
+//! The tree of an obligation, judged token by token.
+ghost use Rattle.std.specs.Prelude.{◌≡◌, ◌<◌, ◌≤◌, length, drop, None, IfOk, IfErr};
+ghost use Rattle.proof_check.specs.Judging.{standing_at};
+ghost use Rattle.proof_sections.specs.declared.refusal.ConfirmError.TheVariants as confirm;
+ghost use Rattle.proof_sections.specs.Judgement.{Judges, LeadsTo, opened, refused_at, tree_judged, unread_at};
+
+use crate::refusal::{ConfirmError, ProofRefusal};
+use proof_check::{CheckError, Progress, ProofChecker, ProofError};
+use proof_text::{Unread, read_token, tokens_are_found_exactly};
+use proof_trees::{ProofTok, Starter};
+use std::alloc::Global;
+
+// The refusal of a token at an offset.
+fn refusal_at(offset: usize, refusal: ProofError) -> ConfirmError
+    ensures { result ≡ refused_at offset refusal }
+{
+    let why = match refusal {
+        ProofError::Tree(CheckError::NotAQuestion) => ProofRefusal::NotAQuestion,
+        ProofError::Tree(CheckError::NotDone) => ProofRefusal::NotDone,
+        ProofError::Tree(CheckError::GoalFails) => ProofRefusal::GoalFails,
+        ProofError::Tree(CheckError::BadPick) => ProofRefusal::BadPick,
+        ProofError::Tree(CheckError::NotACycle) => ProofRefusal::NotACycle,
+        ProofError::Tree(CheckError::NotNegative) => ProofRefusal::NotNegative,
+        ProofError::Tree(CheckError::NoMemory) => return ConfirmError::NoMemory,
+        ProofError::NoStart => ProofRefusal::NoStart,
+        ProofError::TooManyLemmas => ProofRefusal::TooManyLemmas,
+        ProofError::UnknownLemma => ProofRefusal::UnknownLemma,
+        ProofError::OtherStart => ProofRefusal::OtherStart,
+    };
+    ConfirmError::Refused {
+        offset: offset as u64,
+        why,
+    }
+}
+
+/// What ends a judgement where no part is read at an offset of so many bytes.
+pub fn unread_part(total: usize, offset: usize, unread: Unread) -> ConfirmError
+    ensures { result ≡ unread_at total offset unread }
+{
+    match unread {
+        Unread::Misspelt => ConfirmError::Refused {
+            offset: offset as u64,
+            why: ProofRefusal::Token,
+        },
+        Unread::Cut => ConfirmError::Refused {
+            offset: total as u64,
+            why: ProofRefusal::Truncated,
+        },
+    }
+}
+
+// Judges the token at a place: how many bytes stand before what comes after it, and whether the tree goes on.
+fn judge_token<A: Starter>(
+    alloc: Global,
+    checker: &mut ProofChecker<A>,
+    bytes: &[u8],
+    at: usize,
+    tok: &mut ProofTok,
+) -> Result<(Progress, usize), ConfirmError>
+    requires place { at ≤ length bytes.now }
+    requires open { 0 < length checker.old.places.wanted }
+    requires fresh { checker.old.refusal ≡ None }
+    ensures place { IfOk result (λ r. (at < r.1) × (r.1 ≤ length bytes.now)) }
+    ensures leads { IfOk result (λ r. LeadsTo (A.starts checker.old.asker).compare bytes.now r.0
+        (standing_at A.starts checker.old) at (standing_at A.starts checker.new) r.1) }
+    ensures open { IfOk result (λ r. r.0 ≡ Progress.More → 0 < length checker.new.places.wanted) }
+    ensures fresh { IfOk result (λ r. checker.new.refusal ≡ None) }
+    ensures compare { (A.starts checker.new.asker).compare ≡ (A.starts checker.old.asker).compare }
+    ensures refused { IfErr result (λ e. Judges bytes.now
+        (tree_judged (A.starts checker.old.asker).compare (length bytes.now) (standing_at A.starts checker.old) (drop at bytes.now)) (Err e)) }
+{
+    tokens_are_found_exactly();
+    match read_token(alloc, bytes, at, tok) {
+        Ok(next) => match checker.judge(tok) {
+            Ok(progress) => Ok((progress, next)),
+            Err(refusal) => Err(refusal_at(at, refusal)),
+        },
+        Err(unread) => Err(unread_part(bytes.len(), at, unread)),
+    }
+}
+
+/// Judges a tree of the asker's plan, from a place of the bytes on: how many bytes stand before what comes after it.
+pub fn judge_tree<A: Starter>(
+    alloc: Global,
+    asker: A,
+    bytes: &[u8],
+    start: usize,
+) -> Result<usize, ConfirmError>
+    requires { start ≤ length bytes.now }
+    ensures { Judges bytes.now
+        (tree_judged (A.starts asker).compare (length bytes.now) (opened (A.starts asker).root) (drop start bytes.now)) result }
+{
+    let mut checker = ProofChecker::new(alloc, asker)?;
+    let mut tok = ProofTok::Holds;
+    let mut at = start;
+    loop {
+        match judge_token(alloc, &mut checker, bytes, at, &mut tok) {
+            Ok((Progress::More, next)) => at = next,
+            Ok((Progress::Done, next)) => return Ok(next),
+            Err(end) => return Err(end),
+        }
+    }
+}
