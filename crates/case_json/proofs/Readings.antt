@@ -113,6 +113,7 @@ IsLimited trial = (length trial.doc ≤ MAX_CELLS) × (length trial.ops ≤ MAX_
 abbrev of_parts : List Cell → List Op → List (List ℕ) → Trial
 of_parts doc ops orders = record { doc = doc; ops = ops; orders = orders }
 
+-- a trial whose parts are within the limits is within them
 parts-few : (doc : Result (List Cell) CaseFault) (ops : Result (List Op) CaseFault) (orders : Result (List (List ℕ)) CaseFault)
     (trial : Trial)
     → ((cells : List Cell) → doc ≡ Ok cells → length cells ≤ MAX_CELLS)
@@ -141,6 +142,7 @@ pub case_in-few : (bytes : List ℕ) (trial : Trial) → case_in bytes ≡ Ok tr
 case_in-few bytes trial is = case_in-limited (ok_or (json_in bytes) Json) trial is
 
 module _ (decide : TestsDecide) (f : Function) where
+  -- a trial that was read and has no fault is ready
   tested-ready : (reading : Result Trial CaseFault) (trial : Trial) → ((parts : Trial) → reading ≡ Ok parts → IsLimited parts)
       → and_then reading (λ parts. tested (fault_of f parts) parts) ≡ Ok trial → IsReady f trial
   tested-ready (Err fault) trial few is = cc

@@ -1,5 +1,6 @@
 -- The reading of a case: what its bytes are read as, a trial or the first fault in the order of the tests.
-use Rattle.std.specs.Prelude.{ℕ, nat_le, if◌then◌else◌, List, length, Option, Some, None, Result, Ok, Err, ok_or, option_and_then}
+use Rattle.std.specs.Prelude.{ℕ, nat_le, if◌then◌else◌, List, length, Option, Some, None, Result, Ok, Err, ok_or}
+use Rattle.std.specs.Prelude.{option_and_then}
 use Rattle.std.specs.Prelude.{codes, chars}
 use Rattle.serde_json.specs.Data.{Data}
 use Rattle.serde_json.specs.Find.{get, as_str}

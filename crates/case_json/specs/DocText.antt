@@ -89,7 +89,8 @@ with_first cell (Ok cells) = Ok (cell ∷ cells)
 with_first cell (Err fault) = Err fault
 
 -- a first cell, and then the reading of what is behind it
-abbrev pub with_cells_behind : Option (Cell × List ℕ) → (List ℕ → Result (List Cell) CaseFault) → Result (List Cell) CaseFault
+abbrev pub with_cells_behind : Option (Cell × List ℕ) → (List ℕ → Result (List Cell) CaseFault)
+    → Result (List Cell) CaseFault
 with_cells_behind None reading = Err (Field Doc)
 with_cells_behind (Some first) reading = with_first first.0 (reading first.1)
 

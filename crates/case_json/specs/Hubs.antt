@@ -1,5 +1,5 @@
--- The reading of the script of a hub: what its bytes are read as, a script or the first fault in the order of the tests. It has
--- the parts of a session's script; the number under `sites` is that of the clients.
+-- The reading of the script of a hub: what its bytes are read as, a script or the first fault in the order of the
+-- tests. It has the parts of a session's script; the number under `sites` is that of the clients.
 use Rattle.std.specs.Prelude.{ℕ, if◌then◌else◌, List, [], ◌∷◌, Option, None, Result, Ok}
 use Rattle.std.specs.Prelude.{codes, option_and_then}
 use Rattle.std.specs.Option.{option_map}

@@ -1,5 +1,6 @@
--- Operations as JSON: `["ins", AT, CH, SITE]`, `["del", AT, SITE]` and `["upd", AT, CH, SITE]`. A kind has a row in two definitions, for
--- its word and for its operations; whether it has a character says how many values stand behind the word.
+-- Operations as JSON: `["ins", AT, CH, SITE]`, `["del", AT, SITE]` and `["upd", AT, CH, SITE]`. A kind has a row in two
+-- definitions, for its word and for its operations; whether it has a character says how many values stand behind the
+-- word.
 use Rattle.std.specs.Prelude.{ℕ, ℤ, pos, List, [], ◌∷◌, Option, Some, None, if◌then◌else◌, codes}
 use Rattle.std.specs.List.{find}
 use Rattle.std.specs.Option.{option_map, option_and_then}

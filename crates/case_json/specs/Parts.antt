@@ -1,5 +1,5 @@
--- The parts that each script has: a document, a number of sites, and events, of whatever kind; and what an event says of an
--- operation at a site.
+-- The parts that each script has: a document, a number of sites, and events, of whatever kind; and what an event says
+-- of an operation at a site.
 use Rattle.std.specs.Prelude.{ℕ, ◌≤◌, nat_eq, nat_le, if◌then◌else◌, List, length, Option, Some, None, Result, Ok, Err}
 use Rattle.std.specs.Prelude.{codes, ok_or, option_and_then}
 use Rattle.std.specs.Option.{option_map}

@@ -1,4 +1,5 @@
--- The reading of the script of a session: what its bytes are read as, a script or the first fault in the order of the tests.
+-- The reading of the script of a session: what its bytes are read as, a script or the first fault in the order of the
+-- tests.
 use Rattle.std.specs.Prelude.{ℕ, if◌then◌else◌, List, [], ◌∷◌, Option, None, Result, Ok}
 use Rattle.std.specs.Prelude.{codes, option_and_then}
 use Rattle.std.specs.Option.{option_map}

@@ -18,7 +18,8 @@ use std::alloc::Global;
 /// (`Limit(Cells)`) it answers the one that comes first in the text.
 pub fn doc_read(alloc: Global, text: &str) -> Result<Doc, CaseError>
     ensures reading { Reads result (cells_within MAX_CELLS (chars text.now)) }
-    ensures written { (doc : List CellValue) → length doc ≤ MAX_CELLS → chars text.now ≡ doc_text doc → Reads result (Ok doc) }
+    ensures written { (doc : List CellValue) → length doc ≤ MAX_CELLS → chars text.now ≡ doc_text doc
+        → Reads result (Ok doc) }
 {
     let mut doc = Doc::new(alloc);
     let mut rest = text;

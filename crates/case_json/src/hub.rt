@@ -3,7 +3,8 @@ ghost use Rattle.std.specs.Prelude.{◌≡◌, IfOk, map};
 ghost use Rattle.serde_json.specs.View.{view};
 ghost use Rattle.case_json.specs.Faults.{Reads};
 ghost use Rattle.case_json.specs.Json.{is_word};
-ghost use Rattle.case_json.specs.Hubs.{hub_event_in, hub_event_from, edit_from, move_from, hub_script_in, IsHubPlayable};
+ghost use Rattle.case_json.specs.Hubs.{hub_event_in, hub_event_from, edit_from, move_from, hub_script_in};
+ghost use Rattle.case_json.specs.Hubs.{IsHubPlayable};
 
 use crate::json::{Element, elements, number};
 use crate::limits::MAX_NUMBER;

@@ -23,7 +23,8 @@ fn by_place<'a>(
     there: CellT<'a>,
     behind: &'a CellT<'a>,
 ) -> Result<CellT<'a>, NoMemory>
-    ensures { IfOk result (λ r. cell_tree r ≡ trees.If (forms.Lt j at) (cell_tree before.now) (trees.If (forms.Le j at) (cell_tree there.entry) (cell_tree behind.now))) }
+    ensures { IfOk result (λ r. cell_tree r ≡ trees.If (forms.Lt j at) (cell_tree before.now)
+        (trees.If (forms.Le j at) (cell_tree there.entry) (cell_tree behind.now))) }
 {
     let there = placed(bump, there)?;
     let here = Form::le(bump, j, at)?;

@@ -1,19 +1,23 @@
 -- Literals added one after another, and what the table then stands for.
-use Rattle.std.proofs.Common.{◌≡◌, ◌↔◌, ◌⊎◌, ltb, if◌then◌else◌, ℕ, zero, suc, ◌+◌, ◌-◌, ◌<◌, ◌≤◌, ◌==◌, ℤ, pos, neg_ℤ, ◌+ℤ◌, ◌-ℤ◌, ◌≤ℤ◌, true, false, List, [], ◌∷◌, ◌++◌, length, take, get_or, Option, Some, None, slice_get, Ok, arith, refl, sym, ap, ◌∙◌, subst, inl, inr}
+use Rattle.std.proofs.Common.{◌≡◌, ◌↔◌, ◌⊎◌, ltb, if◌then◌else◌, ℕ, zero, suc, ◌+◌, ◌-◌, ◌<◌, ◌≤◌, ◌==◌, ℤ, pos, neg_ℤ, ◌+ℤ◌, ◌-ℤ◌, ◌≤ℤ◌, true, false, List, []}
+use Rattle.std.proofs.Common.{◌∷◌, ◌++◌, length, take, get_or, Option, Some, None, slice_get, Ok, arith, refl, sym, ap, ◌∙◌, subst, inl, inr}
 use Rattle.std.specs.List.{AllByRecursion}
 use Rattle.std.proofs.lemmas.Int.{ints}
 use Rattle.std.proofs.lemmas.Bool.{cases_eq, cases_lt, cases_Bool, eqb-true, eq-eqb, ne_eqb, lt-ltb, le-ltb}
-use Rattle.std.proofs.lemmas.List.{take_more, length-take-le, append_assoc, append-nil, map-append, length_push, get_or_push, get_or_append_left, get_or_at, take_at, length-append}
+use Rattle.std.proofs.lemmas.List.{take_more, length-take-le, append_assoc, append-nil, map-append, length_push, get_or_push, get_or_append_left, get_or_at}
+use Rattle.std.proofs.lemmas.List.{take_at, length-append}
 use Rattle.diff_graph.specs.declared.lit.Lit.{Lit}
 use Rattle.diff_graph.specs.declared.hop.Hop.{Hop}
 use Rattle.diff_graph.specs.Literals.{AreMet}
 use Rattle.diff_graph.specs.Cycles.{literal_at, picked, pick_verdict}
-use Rattle.diff_graph.specs.Tables.{IsNamed, AreNamed, IsSmall, AreSmall, Numbered, literals_of, numbered_from, IsAmong, AreAmong, IsAtMost, kept_of, StandsFor, IsCycleOf}
+use Rattle.diff_graph.specs.Tables.{IsNamed, AreNamed, IsSmall, AreSmall, Numbered, literals_of, numbered_from, IsAmong, AreAmong, IsAtMost, kept_of, StandsFor}
+use Rattle.diff_graph.specs.Tables.{IsCycleOf}
 use Rattle.diff_graph.specs.Steps.{leaves_room, low_of, value_in, own_only, added, numbers_along, AreNewRows, IsSquare, IsModest}
 use Rattle.diff_graph.specs.Solutions.{valuation_of, AreSolution, IsUnsatisfiable, HasNegativeCycle}
 use Rattle.diff_graph.proofs.Walks.{no_values_on_picks}
 use Rattle.diff_graph.proofs.Closed.{IsWithin-value_in, IsWithin-shifted, low_of-reached}
-use Rattle.diff_graph.proofs.Stands.{IsClosed-from_stands, AreMet-from_within, IsModest-from_stands, StandsFor-new, StandsFor-added, allowed-from_room, back-from_no_room, LeadsBack, IsCycleOf-from_back}
+use Rattle.diff_graph.proofs.Stands.{IsClosed-from_stands, AreMet-from_within, IsModest-from_stands, StandsFor-new, StandsFor-added, allowed-from_room}
+use Rattle.diff_graph.proofs.Stands.{back-from_no_room, LeadsBack, IsCycleOf-from_back}
 use Rattle.diff_graph.proofs.RowSteps.{kept_past_row, kept_past_rows}
 
 -- ---- literals under their places
@@ -74,6 +78,7 @@ pub record IsAdding (n : ℕ) (initial rows : List (List (Option Hop))) (ls : Li
   pub square : IsSquare rows
   pub stands : (ps : List Numbered) → StandsFor n (kept_of initial) ps → StandsFor n (kept_of rows) (ps ++ numbered_from 0 (take place ls))
 
+-- one literal more is added, where the new rows stand for it and those before
 pub IsAdding-more :
     (n m : ℕ) (initial rows new : List (List (Option Hop))) (ls : List Lit) (place : ℕ) → IsAdding n initial rows ls place
     → place < length ls → length new ≡ length rows → IsSquare new → m ≡ n
@@ -104,6 +109,7 @@ AreModest-adding n initial rows ls place so_far few ps stands small_before small
 pub IsSquare-new : (n : ℕ) (rows : List (List (Option Hop))) → AreNewRows n n rows → IsSquare rows
 IsSquare-new n rows new y below = (new.1 y (omega (arith, new.0))).0 ∙ sym new.0
 
+-- rows that keep no more than a zero from each name to itself stand for no literal
 pub StandsFor-new_rows : (n : ℕ) (rows : List (List (Option Hop))) → AreNewRows n n rows → StandsFor n (kept_of rows) []
 StandsFor-new_rows n rows new =
     StandsFor-new n (kept_of rows)
@@ -171,6 +177,7 @@ slice_get-take (x ∷ xs) zero i l got = absurd (let none : None ≡ Some l = go
 slice_get-take (x ∷ xs) (suc count) zero l got = got
 slice_get-take (x ∷ xs) (suc count) (suc i) l got = slice_get-take xs count i l got
 
+-- a numbered literal of a list is in the list at its number
 place_of :
     (place : ℕ) (ls : List Lit) (number : ℕ) (l : Lit) → IsAmong (numbered_from place ls) number l
     → (place ≤ number) × (slice_get ls (number - place) ≡ Some l)
@@ -228,6 +235,7 @@ one_more_value f values x z so_far is_z = (
       ],
 )
 
+-- the values that a table gives are a solution of the literals that it stands for
 pub AreSolution-from_stands :
     (n m : ℕ) (t : ℕ → ℕ → Option Hop) (ls : List Lit) (values : List ℤ) → StandsFor n t (numbered_from 0 ls) → m ≡ n → 0 < n
     → length values ≡ m → ((x : ℕ) → x < m → get_or values x (pos 0) ≡ value_in m t x -ℤ value_in m t 0) → AreSolution n ls values
@@ -242,6 +250,7 @@ AreSolution-from_stands n m t ls values stands same some len is_value =
     nothing_left : (z : ℤ) → z -ℤ z ≡ pos 0
     nothing_left z = omega (arith, ints)
 
+-- a literal that leaves no room closes a negative cycle of no more literals than there are names
 pub cycle-from_stands :
     (n m : ℕ) (t : ℕ → ℕ → Option Hop) (ls : List Lit) (place : ℕ) (picks : List ℕ) → StandsFor n t (numbered_from 0 (take place ls))
     → m ≡ n → AreNamed n ls → place < length ls
@@ -279,6 +288,7 @@ AreNamed-bound_of (l ∷ ls) =
 abbrev fresh : ℕ → ℕ → ℕ → Option Hop
 fresh n x y = if ltb x n then own_only y x else None
 
+-- the fresh table stands for no literal
 StandsFor-fresh : (n : ℕ) → StandsFor n (fresh n) []
 StandsFor-fresh n =
     StandsFor-new n (fresh n)
@@ -333,6 +343,7 @@ stands_or_cycle n (l ∷ rest) done t stands named_all named =
     from_zero : (k : ℕ) → k ≡ 0 + k
     from_zero k = omega arith
 
+-- literals are unsatisfiable exactly where they have a negative cycle
 pub unsatisfiable_iff_cycle : (ls : List Lit) → IsUnsatisfiable ls ↔ HasNegativeCycle ls
 unsatisfiable_iff_cycle ls = (
   λ none.

@@ -73,6 +73,7 @@ pub record Parts (l : Lit) (front rest : Option Hop) (k : ℤ) : Type 0 where
   pub rest_at_most : IsAtMost rest after
   pub room : (before +ℤ l.k +ℤ after) ≤ℤ k
 
+-- an offset that goes by the literal is made of an offset to it and one from it
 pub joined-parts :
     (number : ℕ) (l : Lit) (x : ℕ) (front rest : Option Hop) (k : ℤ) → IsAtMost (joined (way_of number l x front) rest) k
     → Parts l front rest k
@@ -113,6 +114,7 @@ module _ (n : ℕ) (t : ℕ → ℕ → Option Hop) (closed : IsClosed n t) (num
       let least : pos 0 ≤ℤ (j +ℤ i +ℤ l.k) = allowed (j +ℤ i) round in
       omega (arith, ints)
 
+  -- offsets one after the other join in the new table, by the literal or without it
   added-along :
       (x y z : ℕ) → x < n → y < n → z < n → (i j : ℤ) → IsAtMost (added t number l x y) i → IsAtMost (added t number l y z) j
       → IsAtMost (added t number l x z) (i +ℤ j)
@@ -236,6 +238,7 @@ pub record Reached (row : ℕ → Option Hop) (n : ℕ) (low : ℤ) : Type 0 whe
   pub below : name < n
   pub at_most : IsAtMost (row name) low
 
+-- the least value of a row is 0, or one of its offsets reaches it
 pub low_of-reached : (row : ℕ → Option Hop) (n : ℕ) → (low_of row n ≡ pos 0) ⊎ Reached row n (low_of row n)
 low_of-reached row zero = inl refl
 low_of-reached row (suc n) =

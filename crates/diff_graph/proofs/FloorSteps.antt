@@ -1,5 +1,6 @@
 -- Least values: what a table keeps from name 0, and floors as literals.
-use Rattle.std.proofs.Common.{◌≡◌, ℕ, zero, suc, ◌+◌, ◌<◌, ◌≤◌, ℤ, pos, negsuc, ◌+ℤ◌, ◌-ℤ◌, ◌≤ℤ◌, false, List, [], ◌∷◌, ◌++◌, length, take, get_or, Option, Some, None, arith, refl, sym, ap, ◌∙◌, subst, inl, inr}
+use Rattle.std.proofs.Common.{◌≡◌, ℕ, zero, suc, ◌+◌, ◌<◌, ◌≤◌, ℤ, pos, negsuc, ◌+ℤ◌, ◌-ℤ◌, ◌≤ℤ◌, false, List, [], ◌∷◌, ◌++◌, length, take, get_or, Option}
+use Rattle.std.proofs.Common.{Some, None, arith, refl, sym, ap, ◌∙◌, subst, inl, inr}
 use Rattle.std.specs.List.{AllByRecursion}
 use Rattle.std.proofs.lemmas.Int.{ints}
 use Rattle.std.proofs.lemmas.List.{take_more, length-take-le, map-append}
@@ -11,7 +12,8 @@ use Rattle.diff_graph.specs.Tables.{IsNamed, AreNamed, AreSmall, Numbered, liter
 use Rattle.diff_graph.specs.Steps.{leaves_room, AreNewRows}
 use Rattle.diff_graph.specs.Solutions.{valuation_of, MeetsFloors, AreLeast, AreFloors, floors_from, least_of, AreLeastMeeting, HasLiteral, IsBoundedBelow}
 use Rattle.diff_graph.proofs.Closed.{IsClosed}
-use Rattle.diff_graph.proofs.Stands.{IsClosed-from_stands, IsWithin-from_met, AreMet-from_within, allowed-from_possible, back-from_no_room, not_allowed-from_back}
+use Rattle.diff_graph.proofs.Stands.{IsClosed-from_stands, IsWithin-from_met, AreMet-from_within, allowed-from_possible, back-from_no_room}
+use Rattle.diff_graph.proofs.Stands.{not_allowed-from_back}
 use Rattle.diff_graph.proofs.AddingSteps.{StandsFor-new_rows, literals_of-numbered_from, All-at, All-take, All-append, All-with}
 
 -- the first and the second of two lists of which all holds
@@ -175,6 +177,7 @@ floors-from_met floors v at_zero met x inside =
     (has_floor_at floors x inside) in
     omega (arith, ints)
 
+-- a valuation with 0 at name 0 that is at least the floors meets them as literals
 met-from_floors :
     (x : ℕ) (floors : List ℤ) (v : ℕ → ℤ) → v 0 ≡ pos 0 → ((y : ℕ) → y < length floors → get_or floors y (pos 0) ≤ℤ v (x + y))
     → AreMet v (floors_from x floors)

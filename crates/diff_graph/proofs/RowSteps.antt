@@ -1,5 +1,6 @@
 -- Rows of a table: an element-wise change of a row, as far as it has come.
-use Rattle.std.proofs.Common.{◌≡◌, ◌≢◌, ℕ, suc, ◌+◌, ◌-◌, ◌<◌, ◌≤◌, List, [], ◌∷◌, ◌++◌, length, get_or, set, take, Option, Some, None, ◌==◌, true, false, arith, refl, sym, ap, ◌∙◌, subst, inl, inr, if◌then◌else◌, pos, negsuc, ◌≤ℤ◌}
+use Rattle.std.proofs.Common.{◌≡◌, ◌≢◌, ℕ, suc, ◌+◌, ◌-◌, ◌<◌, ◌≤◌, List, [], ◌∷◌, ◌++◌, length, get_or, set, take, Option, Some, None, ◌==◌, true, false}
+use Rattle.std.proofs.Common.{arith, refl, sym, ap, ◌∙◌, subst, inl, inr, if◌then◌else◌, pos, negsuc, ◌≤ℤ◌}
 use Rattle.std.proofs.lemmas.Int.{ints}
 use Rattle.std.proofs.lemmas.Bool.{cases_eq, cases_lt, ne_eqb}
 use Rattle.std.proofs.lemmas.List.{take_at, get_or_past, append-nil, append_assoc, get_or-set_same, get_or-set_other, length-set}
@@ -14,6 +15,7 @@ pub record DoneBelow (change : ℕ → Option Hop → Option Hop) (old new : Lis
   pub done : (x : ℕ) → x < place → get_or new x None ≡ change x (get_or old x None)
   pub left : (x : ℕ) → place ≤ x → get_or new x None ≡ get_or old x None
 
+-- the element at the place is changed too
 pub DoneBelow-more :
     (change : ℕ → Option Hop → Option Hop) (old new : List (Option Hop)) (place : ℕ) (hop : Option Hop) → DoneBelow change old new place
     → place < length old → hop ≡ change place (get_or new place None) → DoneBelow change old (set new place hop) (place + 1)

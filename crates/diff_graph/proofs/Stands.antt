@@ -1,5 +1,6 @@
 -- What it is for a table to stand for a list, before and after a literal is added.
-use Rattle.std.proofs.Common.{◌≡◌, ℕ, zero, suc, ◌<◌, ◌≤◌, ◌==◌, ◌*◌, ℤ, pos, neg_ℤ, ◌+ℤ◌, ◌-ℤ◌, ◌≤ℤ◌, ◌<ℤ◌, true, false, nat_eq, List, [], ◌∷◌, ◌++◌, length, Option, Some, None, arith, refl, sym, ap, ◌∙◌, subst, inl, inr}
+use Rattle.std.proofs.Common.{◌≡◌, ℕ, zero, suc, ◌<◌, ◌≤◌, ◌==◌, ◌*◌, ℤ, pos, neg_ℤ, ◌+ℤ◌, ◌-ℤ◌, ◌≤ℤ◌, ◌<ℤ◌, true, false, nat_eq, List, [], ◌∷◌, ◌++◌, length}
+use Rattle.std.proofs.Common.{Option, Some, None, arith, refl, sym, ap, ◌∙◌, subst, inl, inr}
 use Rattle.std.specs.List.{AllByRecursion}
 use Rattle.std.proofs.lemmas.Int.{ints}
 use Rattle.std.proofs.lemmas.Bool.{eq-eqb, ne_eqb, and_from, true≢false, false≢true}
@@ -7,10 +8,12 @@ use Rattle.diff_graph.specs.declared.lit.Lit.{Lit}
 use Rattle.diff_graph.specs.declared.hop.Hop.{Hop}
 use Rattle.diff_graph.specs.Literals.{Meets, AreMet}
 use Rattle.diff_graph.specs.Cycles.{is_walk, weight}
-use Rattle.diff_graph.specs.Tables.{IsNamed, AreNamed, AreSmall, Numbered, literals_of, IsAmong, AreAmong, IsAtMost, Leads, StandsFor, IsPossibleWith, IsCycleOf}
+use Rattle.diff_graph.specs.Tables.{IsNamed, AreNamed, AreSmall, Numbered, literals_of, IsAmong, AreAmong, IsAtMost, Leads, StandsFor, IsPossibleWith}
+use Rattle.diff_graph.specs.Tables.{IsCycleOf}
 use Rattle.diff_graph.specs.Steps.{way_of, joined, lower_of, added, leaves_room, keeps, numbers_along, value_in, IsModest}
 use Rattle.diff_graph.proofs.Walks.{negative_verdict}
-use Rattle.diff_graph.proofs.Closed.{IsWithin, IsClosed, IsAllowed, IsClosed-added, IsWithin-added, IsWithin-from_added, Meets-from_added, IsWithin-value_in, at_most-from_within, own_hop, IsAtMost-weaker}
+use Rattle.diff_graph.proofs.Closed.{IsWithin, IsClosed, IsAllowed, IsClosed-added, IsWithin-added, IsWithin-from_added, Meets-from_added, IsWithin-value_in}
+use Rattle.diff_graph.proofs.Closed.{at_most-from_within, own_hop, IsAtMost-weaker}
 use Rattle.diff_graph.proofs.Chains.{AreKept, IsAmong-append, IsAmong-last, Leads-short, Leads-small, chains-added, Leads-longer}
 
 -- ---- what holds of each literal of a list
@@ -46,6 +49,7 @@ All-last P (p ∷ ps) number l all = All-last P ps number l all.1
 
 -- ---- what a table that stands for a list keeps
 module _ (n : ℕ) (t : ℕ → ℕ → Option Hop) (ps : List Numbered) (stands : StandsFor n t ps) where
+  -- a table that stands for a list is closed
   pub IsClosed-from_stands : IsClosed n t
   IsClosed-from_stands = record {
     along = λ x y z xn yn zn i j first onward.

@@ -1,5 +1,6 @@
 -- Walks along literals: what picks name, and why a negative cycle leaves no values.
-use Rattle.std.proofs.Common.{◌≡◌, ℕ, zero, suc, ◌+◌, ◌<◌, ◌≤◌, ℤ, pos, ◌+ℤ◌, ◌≤ℤ◌, ◌<ℤ◌, true, false, nat_eq, int_lt, List, [], ◌∷◌, length, get_or, drop, Option, Some, None, is_some, option_and_then, slice_get, Ok, Err, arith, refl, sym, ap, ◌∙◌, subst, inl, inr}
+use Rattle.std.proofs.Common.{◌≡◌, ℕ, zero, suc, ◌+◌, ◌<◌, ◌≤◌, ℤ, pos, ◌+ℤ◌, ◌≤ℤ◌, ◌<ℤ◌, true, false, nat_eq, int_lt, List, [], ◌∷◌, length, get_or, drop}
+use Rattle.std.proofs.Common.{Option, Some, None, is_some, option_and_then, slice_get, Ok, Err, arith, refl, sym, ap, ◌∙◌, subst, inl, inr}
 use Rattle.std.proofs.lemmas.Int.{ints}
 use Rattle.std.proofs.lemmas.Bool.{false≢true, cases_lt, cases_Bool, and_parts, eqb-true}
 use Rattle.std.proofs.lemmas.Option.{slice_get_past, slice_get-get_or}

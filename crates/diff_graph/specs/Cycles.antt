@@ -1,6 +1,7 @@
 -- Walks along literals, and the cycles that show that no integers meet them. That difference
 -- constraints have no solution exactly where their graph has a negative cycle is textbook knowledge.
-use Rattle.std.specs.Prelude.{ℕ, ℤ, pos, ◌+ℤ◌, Bool, false, ◌&&◌, if◌then◌else◌, nat_eq, int_lt, List, [], ◌∷◌, Option, Some, None, Result, Ok, Err, slice_get, slice_index_or, map}
+use Rattle.std.specs.Prelude.{ℕ, ℤ, pos, ◌+ℤ◌, Bool, false, ◌&&◌, if◌then◌else◌, nat_eq, int_lt, List, [], ◌∷◌, Option}
+use Rattle.std.specs.Prelude.{Some, None, Result, Ok, Err, slice_get, slice_index_or, map}
 use Rattle.std.specs.Option.{option_and_then}
 use Rattle.diff_graph.specs.declared.lit.Lit.{Lit}
 use Rattle.diff_graph.specs.declared.lit.PickError.{PickError}

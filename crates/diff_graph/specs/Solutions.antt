@@ -1,6 +1,7 @@
 -- What it is to solve a list of literals: values that meet it, or a negative cycle.
 use Rattle.std.specs.List.{AllByRecursion}
-use Rattle.std.specs.Prelude.{◌≡◌, ℕ, ◌≤◌, ℤ, pos, Bool, true, false, List, length, slice_index_or, Ok, [], ◌∷◌, ◌+◌, neg_ℤ, ◌-ℤ◌, Some, None, Option, ◌<◌, ◌≤ℤ◌, ◌⊎◌}
+use Rattle.std.specs.Prelude.{◌≡◌, ℕ, ◌≤◌, ℤ, pos, Bool, true, false, List, length, slice_index_or, Ok, [], ◌∷◌, ◌+◌}
+use Rattle.std.specs.Prelude.{neg_ℤ, ◌-ℤ◌, Some, None, Option, ◌<◌, ◌≤ℤ◌, ◌⊎◌}
 use Rattle.diff_graph.specs.declared.lit.Lit.{Lit}
 use Rattle.diff_graph.specs.declared.lit.TheConstants.{MAX_LITERAL_OFFSET}
 use Rattle.diff_graph.specs.declared.hop.Hop.{Hop}
@@ -49,7 +50,8 @@ pub record AreLeast (ls : List Lit) (floors : List ℤ) (values : List ℤ) : Ty
   pub zero_first : valuation_of values 0 ≡ pos 0
   pub met : AreMet (valuation_of values) ls
   pub above : MeetsFloors floors (valuation_of values)
-  pub least : (v : ℕ → ℤ) → v 0 ≡ pos 0 → AreMet v ls → MeetsFloors floors v → (x : ℕ) → x < length floors → valuation_of values x ≤ℤ v x
+  pub least : (v : ℕ → ℤ) → v 0 ≡ pos 0 → AreMet v ls → MeetsFloors floors v → (x : ℕ) → x < length floors
+      → valuation_of values x ≤ℤ v x
 
 -- each floor is as far from 0 as the offset of a literal that is asked
 abbrev pub IsFloor : ℤ → Type 0

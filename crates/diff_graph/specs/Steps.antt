@@ -1,5 +1,7 @@
 -- One step of a closed table: what it keeps once a literal is added to it.
-use Rattle.std.specs.Prelude.{take, ◌≡◌, ◌<◌, length, slice_index_or, ℕ, zero, suc, ◌≤◌, ◌==◌, ℤ, pos, neg_ℤ, ◌+ℤ◌, ◌-ℤ◌, ◌≤ℤ◌, Bool, true, false, int_lt, int_le, List, [], ◌∷◌, ◌++◌, Option, Some, None, if◌then◌else◌}
+use Rattle.std.specs.Prelude.{take, ◌≡◌, ◌<◌, length, slice_index_or, ℕ, zero, suc, ◌≤◌, ◌==◌, ℤ, pos, neg_ℤ, ◌+ℤ◌}
+use Rattle.std.specs.Prelude.{◌-ℤ◌, ◌≤ℤ◌, Bool, true, false, int_lt, int_le, List, [], ◌∷◌, ◌++◌, Option, Some, None}
+use Rattle.std.specs.Prelude.{if◌then◌else◌}
 use Rattle.std.specs.Option.{option_map_or}
 use Rattle.diff_graph.specs.declared.lit.Lit.{Lit}
 use Rattle.diff_graph.specs.declared.hop.Hop.{Hop}
@@ -75,7 +77,8 @@ pub record IsLowered (ways : List (Option Hop)) (from : ℕ) (old new : List (Op
       ≡ lower_of (slice_index_or old x None) (joined (slice_index_or ways x None) (slice_index_or old from None))
 
 -- below a place each row is lowered, and from there on it is as it was
-pub record AreLowered (ways : List (Option Hop)) (from : ℕ) (old new : List (List (Option Hop))) (place : ℕ) : Type 0 where
+pub record AreLowered (ways : List (Option Hop)) (from : ℕ) (old new : List (List (Option Hop))) (place : ℕ) : Type 0
+    where
   pub len : length new ≡ length old
   pub done : (y : ℕ) → y < place → IsLowered ways from (slice_index_or old y []) (slice_index_or new y [])
   pub left : (y : ℕ) → place ≤ y → slice_index_or new y [] ≡ slice_index_or old y []

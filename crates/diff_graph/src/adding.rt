@@ -1,7 +1,9 @@
 //! Literals added one after another.
-ghost use Rattle.std.specs.Prelude.{◌≡◌, ℕ, ◌<◌, ◌≤◌, ◌^◌, true, false, List, [], ◌∷◌, ◌++◌, length, slice_index_or, Option, Some, None, IfSome};
+ghost use Rattle.std.specs.Prelude.{◌≡◌, ℕ, ◌<◌, ◌≤◌, ◌^◌, true, false, List, [], ◌∷◌, ◌++◌, length, slice_index_or};
+ghost use Rattle.std.specs.Prelude.{Option, Some, None, IfSome};
 ghost use Rattle.diff_graph.specs.Cycles.{literal_at};
-ghost use Rattle.diff_graph.specs.Tables.{IsNamed, AreNamed, IsSmall, AreSmall, Numbered, literals_of, numbered_from, kept_of, StandsFor};
+ghost use Rattle.diff_graph.specs.Tables.{IsNamed, AreNamed, IsSmall, AreSmall, Numbered, literals_of, numbered_from};
+ghost use Rattle.diff_graph.specs.Tables.{kept_of, StandsFor};
 ghost use Rattle.diff_graph.specs.Steps.{leaves_room, IsSquare, AreModest, before_stop};
 
 use crate::hop::Hop;

@@ -1,9 +1,11 @@
 //! Least values above floors.
-ghost use Rattle.std.specs.Prelude.{◌≡◌, ◌↔◌, ℕ, ◌<◌, ◌≤◌, ◌^◌, ℤ, pos, negsuc, ◌-ℤ◌, ◌≤ℤ◌, List, ◌++◌, length, slice_index_or, Option, None, IfOk, IfSome, IsNone};
+ghost use Rattle.std.specs.Prelude.{◌≡◌, ◌↔◌, ℕ, ◌<◌, ◌≤◌, ◌^◌, ℤ, pos, negsuc, ◌-ℤ◌, ◌≤ℤ◌, List, ◌++◌, length};
+ghost use Rattle.std.specs.Prelude.{slice_index_or, Option, None, IfOk, IfSome, IsNone};
 ghost use Rattle.diff_graph.specs.Literals.{IsPossible};
 ghost use Rattle.diff_graph.specs.Tables.{IsNamed, AreNamed, AreSmall, kept_of};
 ghost use Rattle.diff_graph.specs.Steps.{AreNewRows, IsSquare, AreModest, IsModest};
-ghost use Rattle.diff_graph.specs.Solutions.{AreLeast, IsPossibleAbove, AreFloors, IsFloor, floors_from, least_of, AreLeastMeeting, IsBoundedBelow};
+ghost use Rattle.diff_graph.specs.Solutions.{AreLeast, IsPossibleAbove, AreFloors, IsFloor, floors_from, least_of};
+ghost use Rattle.diff_graph.specs.Solutions.{AreLeastMeeting, IsBoundedBelow};
 
 use crate::NoMemory;
 use crate::adding::add_all;

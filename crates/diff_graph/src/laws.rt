@@ -1,12 +1,15 @@
 //! Laws of literals, and of tables that stand for lists of them. A law is a clause and no code: a caller
 //! whose proof needs it calls it.
-ghost use Rattle.std.specs.Prelude.{◌≡◌, ◌↔◌, ℕ, ℤ, ◌≤◌, List, [], ◌∷◌, ◌++◌, length, slice_index_or, slice_set, ◌<◌, ◌+◌, true, false, IsTrue, Ok, Option, None};
+ghost use Rattle.std.specs.Prelude.{◌≡◌, ◌↔◌, ℕ, ℤ, ◌≤◌, List, [], ◌∷◌, ◌++◌, length, slice_index_or, slice_set, ◌<◌};
+ghost use Rattle.std.specs.Prelude.{◌+◌, true, false, IsTrue, Ok, Option, None};
 ghost use Rattle.diff_graph.specs.declared.hop.Hop.{Hop};
 ghost use Rattle.diff_graph.specs.declared.lit.Lit.{Lit};
 ghost use Rattle.diff_graph.specs.Literals.{AreMet};
 ghost use Rattle.diff_graph.specs.Cycles.{pick_verdict};
-ghost use Rattle.diff_graph.specs.Tables.{Numbered, AreSmall, IsCycleOf, IsNamed, IsPossibleWith, StandsFor, kept_of, literals_of};
-ghost use Rattle.diff_graph.specs.Steps.{AreLowered, AreNewRows, IsLowered, IsModest, IsSquare, added, way_of, keeps, leaves_room, numbers_along};
+ghost use Rattle.diff_graph.specs.Tables.{Numbered, AreSmall, IsCycleOf, IsNamed, IsPossibleWith, StandsFor, kept_of};
+ghost use Rattle.diff_graph.specs.Tables.{literals_of};
+ghost use Rattle.diff_graph.specs.Steps.{AreLowered, AreNewRows, IsLowered, IsModest, IsSquare, added, way_of, keeps};
+ghost use Rattle.diff_graph.specs.Steps.{leaves_room, numbers_along};
 ghost use Rattle.diff_graph.specs.Solutions.{IsUnsatisfiable, HasNegativeCycle};
 
 /// A list of literals is unsatisfiable over the integers exactly where its graph has a negative
@@ -41,8 +44,10 @@ pub fn tables_stand_for_what_is_added()
 
 /// Rows that are lowered one after another keep what the step says.
 pub fn lowered_rows_keep_the_step()
-    ensures one_more { (ways : List (Option Hop)) (from : ℕ) (old new : List (List (Option Hop))) (place : ℕ) (row : List (Option Hop))
-        → AreLowered ways from old new place → place < length old → IsLowered ways from (slice_index_or new place []) row
+    ensures one_more { (ways : List (Option Hop)) (from : ℕ) (old new : List (List (Option Hop))) (place : ℕ)
+        (row : List (Option Hop))
+        → AreLowered ways from old new place → place < length old
+        → IsLowered ways from (slice_index_or new place []) row
         → AreLowered ways from old (slice_set new place row) (place + 1) }
     ensures added { (old new : List (List (Option Hop))) (ways : List (Option Hop)) (number : ℕ) (l : Lit)
         → IsSquare old → IsNamed (length old) l → length new ≡ length old
@@ -59,7 +64,8 @@ pub fn tables_tell_what_is_possible()
         → (IsTrue (leaves_room (t l.y l.x) l.k) ↔ IsPossibleWith (literals_of ps) l) }
     ensures cycle { (n : ℕ) (t : ℕ → ℕ → Option Hop) (ps : List Numbered) (number : ℕ) (l : Lit)
         → StandsFor n t ps → IsNamed n l → leaves_room (t l.y l.x) l.k ≡ false
-        → IsCycleOf n (ps ++ record { number = number; lit = l } ∷ []) (number ∷ numbers_along (λ x. t x l.x) n l.y l.x) }
+        → IsCycleOf n (ps ++ record { number = number; lit = l } ∷ [])
+        (number ∷ numbers_along (λ x. t x l.x) n l.y l.x) }
     ensures modest { (n : ℕ) (t : ℕ → ℕ → Option Hop) (ps : List Numbered)
         → StandsFor n t ps → AreSmall (literals_of ps) → n ≤ 256 → (x y : ℕ) → IsModest 1000000 (t x y) }
 {}

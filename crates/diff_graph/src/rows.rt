@@ -1,7 +1,8 @@
 //! A closed table of distances over a number of names that is known when it is made.
 ghost use Rattle.std.specs.Prelude.{◌≡◌, ℕ, ◌<◌, ◌≤◌, List, length, slice_index_or, Option, Some, None, IfOk, [], ◌∷◌};
 ghost use Rattle.diff_graph.specs.Tables.{IsNamed, IsSmall, kept_of};
-ghost use Rattle.diff_graph.specs.Steps.{way_of, joined, lower_of, added, leaves_room, keeps, numbers_along, own_only, IsModest, IsNewRow, AreNewRows, IsSquare, AreModest, IsLowered};
+ghost use Rattle.diff_graph.specs.Steps.{way_of, joined, lower_of, added, leaves_room, keeps, numbers_along, own_only};
+ghost use Rattle.diff_graph.specs.Steps.{IsModest, IsNewRow, AreNewRows, IsSquare, AreModest, IsLowered};
 
 use crate::NoMemory;
 use crate::hop::Hop;

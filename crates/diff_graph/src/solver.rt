@@ -1,5 +1,6 @@
 //! The solver.
-ghost use Rattle.std.specs.Prelude.{◌≡◌, ◌↔◌, ℕ, ◌<◌, ◌≤◌, ◌^◌, ℤ, pos, neg_ℤ, ◌-ℤ◌, ◌≤ℤ◌, IsTrue, List, length, slice_index_or, Option, None, IfOk};
+ghost use Rattle.std.specs.Prelude.{◌≡◌, ◌↔◌, ℕ, ◌<◌, ◌≤◌, ◌^◌, ℤ, pos, neg_ℤ, ◌-ℤ◌, ◌≤ℤ◌, IsTrue, List, length};
+ghost use Rattle.std.specs.Prelude.{slice_index_or, Option, None, IfOk};
 ghost use Rattle.diff_graph.specs.Literals.{IsPossible};
 ghost use Rattle.diff_graph.specs.Tables.{AreNamed, AreSmall, kept_of};
 ghost use Rattle.diff_graph.specs.Steps.{AreNewRows, IsSquare, AreModest, lower_by, low_of, value_in, IsModest};

@@ -1,8 +1,10 @@
 //! One step of a closed table of distances, row by row. The row of a name keeps what is known from
 //! each name to it. A table of any kind of rows can be kept by these functions.
-ghost use Rattle.std.specs.Prelude.{◌≡◌, ℕ, ◌<◌, ◌≤◌, ◌^◌, ℤ, pos, negsuc, ◌≤ℤ◌, ◌++◌, length, slice_index_or, Option, Some, None, IfSome, IsNone, IfOk, OnOk, OnErr};
+ghost use Rattle.std.specs.Prelude.{◌≡◌, ℕ, ◌<◌, ◌≤◌, ◌^◌, ℤ, pos, negsuc, ◌≤ℤ◌, ◌++◌, length, slice_index_or, Option};
+ghost use Rattle.std.specs.Prelude.{Some, None, IfSome, IsNone, IfOk, OnOk, OnErr};
 ghost use Rattle.diff_graph.specs.Tables.{IsNamed, IsSmall, IsSmallOffset};
-ghost use Rattle.diff_graph.specs.Steps.{way_of, joined, lower_of, leaves_room, keeps, numbers_along, AppendsFirst, IsLowered, IsModest};
+ghost use Rattle.diff_graph.specs.Steps.{way_of, joined, lower_of, leaves_room, keeps, numbers_along, AppendsFirst};
+ghost use Rattle.diff_graph.specs.Steps.{IsLowered, IsModest};
 
 use crate::NoMemory;
 use crate::hop::Hop;

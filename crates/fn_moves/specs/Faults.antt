@@ -11,8 +11,10 @@ use Rattle.fn_tokens.specs.declared.token.Word.{Word}
 use Rattle.fn_tokens.specs.declared.token.Word.TheVariants as words
 use Rattle.fn_tokens.specs.declared.token.Placed.{Placed}
 use Rattle.fn_moves.specs.declared.control.Region.{Region}
-use Rattle.fn_moves.specs.declared.control.Region.TheVariants.{Elsewhere, AtVersion, AtLine, AtBlockFirst, AtBlockSecond, AtBlockEnd}
-use Rattle.fn_moves.specs.declared.control.Region.TheVariants.{AtOperand, InAtom, AtRight, AtNumber, BehindOperand, InResult}
+use Rattle.fn_moves.specs.declared.control.Region.TheVariants.{Elsewhere, AtVersion, AtLine, AtBlockFirst}
+use Rattle.fn_moves.specs.declared.control.Region.TheVariants.{AtBlockSecond, AtBlockEnd}
+use Rattle.fn_moves.specs.declared.control.Region.TheVariants.{AtOperand, InAtom, AtRight, AtNumber, BehindOperand}
+use Rattle.fn_moves.specs.declared.control.Region.TheVariants.{InResult}
 use Rattle.fn_moves.specs.declared.control.Region.TheVariants.{AtResultNumber, BehindResult}
 use Rattle.fn_moves.specs.declared.control.Want.{Want}
 use Rattle.fn_moves.specs.declared.control.Want.TheVariants as wants

@@ -41,5 +41,6 @@ at_block_first c _ = None
 
 -- a kind that is declared, and makes a pair that has no block
 abbrev pub at_block_second : Control → Kind → Token → Option Move
-at_block_second c k (Known (words.Kind l)) = allowed (is_declared c.head l && not (has_seen c.seen k l)) (moves.BeginBlock k l)
+at_block_second c k (Known (words.Kind l)) = allowed (is_declared c.head l && not (has_seen c.seen k l))
+    (moves.BeginBlock k l)
 at_block_second c k _ = None

@@ -1,8 +1,10 @@
 //! The cause for which a token that cannot go on is refused.
 
 ghost use Rattle.std.specs.Prelude.{◌≡◌};
-ghost use Rattle.fn_moves.specs.Faults.{region_of, number_fault, operand_fault, side_fault, is_behind_kinds, thing_fault, end_fault};
-ghost use Rattle.fn_moves.specs.Faults.{case_fault, declared_fault, kept_fault, kind_fault, nested_fault, nesting_fault, word_fault};
+ghost use Rattle.fn_moves.specs.Faults.{region_of, number_fault, operand_fault, side_fault, is_behind_kinds};
+ghost use Rattle.fn_moves.specs.Faults.{thing_fault, end_fault};
+ghost use Rattle.fn_moves.specs.Faults.{case_fault, declared_fault, kept_fault, kind_fault, nested_fault};
+ghost use Rattle.fn_moves.specs.Faults.{nesting_fault, word_fault};
 ghost use Rattle.fn_moves.specs.Faults.{cause_in, placed_fault, fault_of};
 
 use crate::control::{Control, Region, Want};

@@ -127,6 +127,7 @@ puzzle_other_way = refl
 same_transformed : (c d e f g : Op) → c ≡ d → e ≡ f → transform_of sites d f ≡ Some g → transform_of sites c e ≡ Some g
 same_transformed c d e f g first second is = rw (first, second) is
 
+-- the third operation is at 1 after the first two in one order, and at 2 in the other
 the_puzzle_breaks_tp2 : CommutesAt sites (x_at 2 1) (del_at 1 2) (y_at 1 3) → ⊥
 the_puzzle_breaks_tp2 both =
     let c_after_a : y_at 1 3 ≡ both.c_after_a = cc in
@@ -229,7 +230,8 @@ far_is_valid = refl
 marks_is_valid : is_valid marks ≡ true
 marks_is_valid = refl
 
-no_kind_is_not_valid : is_valid (function_from (record { mode = Plain; ins = false; del = false; upd = false; sites_differ = false; chars_differ = false }) []) ≡ false
+no_kind_is_not_valid : is_valid (function_from (record { mode = Plain; ins = false; del = false; upd = false; sites_differ = false; chars_differ = false }) [])
+    ≡ false
 no_kind_is_not_valid = refl
 
 cases_of_an_undeclared_pair_are_not_valid : is_valid (function_from ties.head (block kinds.Del kinds.Del stays ∷ [])) ≡ false

@@ -18,7 +18,8 @@ use Rattle.fn_rules.specs.declared.function.Head.{Head}
 use Rattle.fn_rules.specs.declared.limits.TheConstants.{MAX_CASES, MAX_ATOMS, MAX_NESTING}
 use Rattle.fn_rules.specs.Formulas.{Formula, Always, Compare, And, Or, Not}
 use Rattle.fn_rules.specs.Functions.{Function, GuardedCase, case_of, cases_of, is_declared, is_declared_pair}
-use Rattle.fn_rules.specs.Validity.{is_offset_for, has_valid_atoms, atoms_of, nesting_of, is_valid_res, is_valid_case, are_valid_cases, compares_chars, is_valid_block, is_valid}
+use Rattle.fn_rules.specs.Validity.{is_offset_for, has_valid_atoms, atoms_of, nesting_of, is_valid_res, is_valid_case, are_valid_cases, compares_chars}
+use Rattle.fn_rules.specs.Validity.{is_valid_block, is_valid}
 use Rattle.fn_rules.specs.Building.{PairCases, cases_in, function_from, has_own_blocks, is_buildable}
 use Rattle.fn_rules.specs.Conditions.{is_char, has_char_atoms, both_have_chars, IsReadyFor}
 use Rattle.fn_rules.specs.declared.guard.Tightness.TheVariants.{Loose}

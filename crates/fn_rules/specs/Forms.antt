@@ -15,7 +15,8 @@ use Rattle.fn_rules.specs.Properties.{ConvergesAt, CommutesAt}
 -- not depend on their order
 pub record KeepsForms (f : Function) : Type 0 where
   pub made : (o : Op) → HasDeclaredKind f.head (kind_of o) → IsForKind f.head (kind_of o)
-  pub declared : (a b form : Op) → transform_of f a b ≡ Some form → IsForKind f.head (kind_of a) → IsForKind f.head (kind_of form)
+  pub declared : (a b form : Op) → transform_of f a b ≡ Some form → IsForKind f.head (kind_of a)
+      → IsForKind f.head (kind_of form)
   pub allowed : (a b form other : Op) → transform_of f a b ≡ Some form → IsAllowed f a other → IsAllowed f form other
   pub allowed_back : (a b : Op) → IsAllowed f a b → IsAllowed f b a
   pub enabled_is_tested : (n : ℕ) (o : Op) → IsEnabled o n → is_enabled o n ≡ true
@@ -31,5 +32,6 @@ ConvergesOnForms f =
 pub record CarriesForms (f : Function) : Type 0 where
   pub keeps : KeepsForms f
   pub converging : ConvergesOnForms f
-  pub commuting : (d : List Cell) (a b c : Op) → IsIntegrable f (length d) a → IsIntegrable f (length d) b → IsIntegrable f (length d) c
+  pub commuting : (d : List Cell) (a b c : Op) → IsIntegrable f (length d) a → IsIntegrable f (length d) b
+      → IsIntegrable f (length d) c
       → IsAllowed f a b → IsAllowed f a c → IsAllowed f b c → CommutesAt f a b c

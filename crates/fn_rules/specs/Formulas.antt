@@ -52,7 +52,8 @@ is_compared Eq x y = int_eq x y
 -- the truth of an atom at two operations
 abbrev pub atom_holds : Atom → Op → Op → Bool
 atom_holds atom a b =
-    is_compared atom.cmp (thing_of atom.sort (of_side atom.left a b)) (thing_of atom.sort (of_side (other_side atom.left) a b) +ℤ atom.k)
+    is_compared atom.cmp (thing_of atom.sort (of_side atom.left a b))
+        (thing_of atom.sort (of_side (other_side atom.left) a b) +ℤ atom.k)
 
 -- the truth of a guard at two operations
 abbrev pub holds_of : Formula → Op → Op → Bool

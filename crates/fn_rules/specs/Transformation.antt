@@ -1,5 +1,6 @@
 -- What an operation becomes when another one, made on the same document, was executed before it.
-use Rattle.std.specs.Prelude.{◌≡◌, ◌≢◌, ℕ, ◌+ℤ◌, Bool, true, not, ◌&&◌, ◌||◌, nat_eq, if◌then◌else◌, List, [], ◌∷◌, Option, Some, None}
+use Rattle.std.specs.Prelude.{◌≡◌, ◌≢◌, ℕ, ◌+ℤ◌, Bool, true, not, ◌&&◌, ◌||◌, nat_eq, if◌then◌else◌, List, [], ◌∷◌}
+use Rattle.std.specs.Prelude.{Option, Some, None}
 use Rattle.ot_model.specs.declared.op.Op.{Op}
 use Rattle.ot_model.specs.declared.op.Op.TheVariants.{Nop}
 use Rattle.ot_model.specs.declared.op.Kind.{Kind}

@@ -26,7 +26,8 @@ pub fn allowed_is_symmetric()
 pub fn tests_decide_their_facts()
     ensures allowed { (f : Function) (a b : Op) → (is_allowed f a b ≡ true) ↔ IsAllowed f a b }
     ensures enabled { (cells : ℕ) (o : Op) → (is_enabled o cells ≡ true) ↔ IsEnabled o cells }
-    ensures integrable { (f : Function) (cells : ℕ) (o : Op) → (is_integrable f cells o ≡ true) ↔ IsIntegrable f cells o }
+    ensures integrable { (f : Function) (cells : ℕ) (o : Op)
+        → (is_integrable f cells o ≡ true) ↔ IsIntegrable f cells o }
     ensures once { (count : ℕ) (order : List ℕ) → names_each_once count order ≡ true → NamesEachOnce count order }
 {}
 
@@ -58,22 +59,26 @@ pub fn transform_keeps_allowed()
 
 /// A position moves by at most 99 from one of the two positions.
 pub fn transform_stays_near()
-    ensures { (f : Function) (a b c : Op) (m : ℕ) → IsTrue (is_valid f) → IsWithin m a → IsWithin m b → transform_of f a b ≡ Some c → IsWithin (m + 99) c }
+    ensures { (f : Function) (a b c : Op) (m : ℕ) → IsTrue (is_valid f) → IsWithin m a → IsWithin m b
+        → transform_of f a b ≡ Some c → IsWithin (m + 99) c }
 {}
 
 /// The cases of a valid function are valid in their block.
 pub fn cases_are_valid()
-    ensures { (f : Function) (k l : Kind) → IsTrue (is_valid f) → IsTrue (are_valid_cases (compares_chars k l) (cases_of f k l)) }
+    ensures { (f : Function) (k l : Kind) → IsTrue (is_valid f)
+        → IsTrue (are_valid_cases (compares_chars k l) (cases_of f k l)) }
 {}
 
 /// A valid function has no cases for kinds that it is not for.
 pub fn undeclared_pairs_have_no_cases()
-    ensures { (f : Function) (k l : Kind) → IsTrue (is_valid f) → is_declared_pair f.head k l ≡ false → cases_of f k l ≡ [] }
+    ensures { (f : Function) (k l : Kind) → IsTrue (is_valid f) → is_declared_pair f.head k l ≡ false
+        → cases_of f k l ≡ [] }
 {}
 
 /// A valid case compares characters only where its block may.
 pub fn characters_are_compared_where_they_are()
-    ensures { (chars : Bool) (c : GuardedCase) → IsTrue (is_valid_case chars c) → IsTrue (has_char_atoms c.guard) → IsTrue chars }
+    ensures { (chars : Bool) (c : GuardedCase) → IsTrue (is_valid_case chars c) → IsTrue (has_char_atoms c.guard)
+        → IsTrue chars }
 {}
 
 /// Functions are equal that have one head and the same cases for each pair of kinds.
@@ -84,11 +89,14 @@ pub fn functions_are_equal_by_their_cases()
 /// The obligations of a level speak of declared kinds alone, and of all of them: of each pair in one of
 /// its two orders, and of each triple in one of the two orders of its first two kinds.
 pub fn obligations_are_those_of_the_kinds()
-    ensures declared { (head : Head) (level : Level) → list_all (is_obligation head) (obligations_of head level) ≡ true }
+    ensures declared { (head : Head) (level : Level) → list_all (is_obligation head) (obligations_of head level)
+        ≡ true }
     ensures pairs { (head : Head) (k l : Kind) → is_declared head k ≡ true → is_declared head l ≡ true
         → Contains (pairs_of (declared_kinds head)) (Pair k l) ⊎ Contains (pairs_of (declared_kinds head)) (Pair l k) }
-    ensures triples { (head : Head) (k l m : Kind) → is_declared head k ≡ true → is_declared head l ≡ true → is_declared head m ≡ true
-        → Contains (triples_of (declared_kinds head)) (Triple k l m) ⊎ Contains (triples_of (declared_kinds head)) (Triple l k m) }
+    ensures triples { (head : Head) (k l m : Kind) → is_declared head k ≡ true → is_declared head l ≡ true
+        → is_declared head m ≡ true
+        → Contains (triples_of (declared_kinds head)) (Triple k l m)
+        ⊎ Contains (triples_of (declared_kinds head)) (Triple l k m) }
 {}
 
 /// A level has at most 24 obligations: three kinds have six pairs and eighteen triples.

@@ -3,7 +3,8 @@ ghost use Rattle.std.specs.Prelude.{◌≡◌, ◌^◌, ◌-◌, min, map};
 ghost use Rattle.std.specs.List.{list_all};
 ghost use Rattle.fn_rules.specs.Formulas.{formula_of};
 ghost use Rattle.fn_rules.specs.Functions.{case_of};
-ghost use Rattle.fn_rules.specs.Validity.{is_offset, is_offset_for, has_valid_atoms, atoms_of, nesting_of, is_valid_res, is_valid_case, are_valid_cases};
+ghost use Rattle.fn_rules.specs.Validity.{is_offset, is_offset_for, has_valid_atoms, atoms_of, nesting_of};
+ghost use Rattle.fn_rules.specs.Validity.{is_valid_res, is_valid_case, are_valid_cases};
 
 use crate::function::{Case, Res};
 use crate::guard::{Atom, Guard, Sort, Tightness};

@@ -3,7 +3,8 @@ ghost use Rattle.std.specs.Prelude.{◌≡◌, ◌++◌, map, filter, OnOk, IfOk
 ghost use Rattle.std.specs.List.{flat_map};
 ghost use Rattle.fn_rules.specs.Functions.{is_declared_of};
 ghost use Rattle.fn_rules.specs.declared.function.ObName.TheVariants.{Pair};
-ghost use Rattle.fn_rules.specs.Obligations.{declared_kinds, declared_pairs, pairs_of, with_third, with_thirds, triples_of, obligations_of};
+ghost use Rattle.fn_rules.specs.Obligations.{declared_kinds, declared_pairs, pairs_of, with_third, with_thirds};
+ghost use Rattle.fn_rules.specs.Obligations.{triples_of, obligations_of};
 
 use crate::NoMemory;
 use crate::function::{Head, Level, ObName};
@@ -28,7 +29,8 @@ fn push_blocks_of(
     kinds: &[Kind],
     blocks: &mut Vec<(Kind, Kind)>,
 ) -> Result<(), NoMemory>
-    ensures { OnOk result (blocks.new.items ≡ blocks.old.items ++ filter (is_declared_of head.now) (map (λ l. (first, l)) kinds.now)) }
+    ensures { OnOk result (blocks.new.items ≡ blocks.old.items
+        ++ filter (is_declared_of head.now) (map (λ l. (first, l)) kinds.now)) }
 {
     for second in kinds {
         if head.declares_pair(first, *second) {
@@ -40,7 +42,8 @@ fn push_blocks_of(
 
 // Puts the declared pairs with these first kinds at the end.
 fn push_blocks(head: &Head, firsts: &[Kind], blocks: &mut Vec<(Kind, Kind)>) -> Result<(), NoMemory>
-    ensures { OnOk result (blocks.new.items ≡ blocks.old.items ++ filter (is_declared_of head.now) (flat_map (λ k. map (λ l. (k, l)) KINDS) firsts.now)) }
+    ensures { OnOk result (blocks.new.items ≡ blocks.old.items
+        ++ filter (is_declared_of head.now) (flat_map (λ k. map (λ l. (k, l)) KINDS) firsts.now)) }
 {
     match firsts {
         [] => Ok(()),

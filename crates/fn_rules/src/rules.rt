@@ -5,7 +5,8 @@ ghost use Rattle.std.specs.List.{list_all, list_any};
 ghost use Rattle.ot_model.specs.Kinds.{each_pair};
 ghost use Rattle.fn_rules.specs.Functions.{case_of, cases_of, is_declared, is_declared_pair};
 ghost use Rattle.fn_rules.specs.Validity.{are_valid_cases, compares_chars, is_valid, is_valid_block};
-ghost use Rattle.fn_rules.specs.Building.{block_of, is_for, cases_in, function_from, has_own_block, has_own_blocks, is_buildable};
+ghost use Rattle.fn_rules.specs.Building.{block_of, is_for, cases_in, function_from, has_own_block, has_own_blocks};
+ghost use Rattle.fn_rules.specs.Building.{is_buildable};
 
 use crate::NoMemory;
 use crate::function::{Block, Case, Head};

@@ -5,7 +5,8 @@ ghost use Rattle.fn_rules.specs.Formulas.{of_side};
 ghost use Rattle.fn_rules.specs.Functions.{case_of, IsForKind};
 ghost use Rattle.fn_rules.specs.Validity.{is_valid_res, are_valid_cases};
 ghost use Rattle.fn_rules.specs.Rules.{function_of};
-ghost use Rattle.fn_rules.specs.Transformation.{result_of, first_result, transform_of, differ, Differ, is_allowed, IsAllowed};
+ghost use Rattle.fn_rules.specs.Transformation.{result_of, first_result, transform_of, differ, Differ, is_allowed};
+ghost use Rattle.fn_rules.specs.Transformation.{IsAllowed};
 ghost use Rattle.fn_rules.specs.Conditions.{IsInRange, both_have_chars, is_integrable, IsIntegrable};
 
 use crate::function::{Case, Res};

@@ -52,7 +52,8 @@ fn is_true_at(atom: &Atom, a: &Op, b: &Op) -> bool
 fn compare_things(atom: &Atom, left: &Op, right: &Op) -> bool
     requires left_in_range { IsInRange left.now }
     requires right_in_range { IsInRange right.now }
-    ensures { result ≡ is_compared atom.now.cmp (thing_of atom.now.sort left.now) (thing_of atom.now.sort right.now +ℤ atom.now.k) }
+    ensures { result ≡ is_compared atom.now.cmp (thing_of atom.now.sort left.now)
+        (thing_of atom.now.sort right.now +ℤ atom.now.k) }
 {
     let x = thing(atom.sort, left);
     let y = thing(atom.sort, right);

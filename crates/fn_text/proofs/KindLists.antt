@@ -109,6 +109,7 @@ second_behind seconds Upd Ins = refl
 second_behind seconds Upd Del = refl
 second_behind seconds Upd Upd = refl
 
+-- setting the second kinds of one first kind leaves those of the others
 seconds_behind : (seen : Pairs) (a k : Kind) (seconds : Seconds) →
     seconds_of (with_seconds seen a seconds) k ≡ cond (is_same_kind a k) seconds (seconds_of seen k)
 seconds_behind seen Ins Ins seconds = refl

@@ -1,6 +1,7 @@
--- The causes for which a token is refused, a definition for each row of the table: what the row says of the wrong token and of
--- the tokens before it, which stand nearest first.
-use Rattle.std.specs.Prelude.{ℕ, Bool, true, false, not, ◌&&◌, ◌||◌, if◌then◌else◌, nat_le, List, [], ◌∷◌, map, Option, Some, None}
+-- The causes for which a token is refused, a definition for each row of the table: what the row says of the wrong token
+-- and of the tokens before it, which stand nearest first.
+use Rattle.std.specs.Prelude.{ℕ, Bool, true, false, not, ◌&&◌, ◌||◌, if◌then◌else◌, nat_le, List, [], ◌∷◌, map, Option}
+use Rattle.std.specs.Prelude.{Some, None}
 use Rattle.std.specs.Option.{is_none}
 use Rattle.ot_model.specs.declared.op.Kind.{Kind}
 use Rattle.fn_rules.specs.declared.guard.Sort.{Sort}
@@ -17,9 +18,12 @@ use Rattle.fn_moves.specs.declared.fault.FaultKind.TheVariants as faults
 use Rattle.fn_moves.specs.Meaning.{is_offset_number, may_compare}
 use Rattle.fn_moves.specs.Meaning.{is_same_side, is_same_sort}
 use Rattle.fn_moves.specs.Languages.{language_numbered}
-use Rattle.fn_text.specs.Counting.{speaks, is_behind_line_end, is_behind_sign, is_behind_otfn, is_in_block_line, is_in_guard, is_in_result}
-use Rattle.fn_text.specs.Counting.{declares, first_of_block, is_behind_pair, blocks_before, has_block, lacks_some_pair, this_block}
-use Rattle.fn_text.specs.Counting.{may_name_chars, transforms, cases_before, atoms_before, is_before_operand, thing_compared}
+use Rattle.fn_text.specs.Counting.{speaks, is_behind_line_end, is_behind_sign, is_behind_otfn, is_in_block_line}
+use Rattle.fn_text.specs.Counting.{is_in_guard, is_in_result}
+use Rattle.fn_text.specs.Counting.{declares, first_of_block, is_behind_pair, blocks_before, has_block, lacks_some_pair}
+use Rattle.fn_text.specs.Counting.{this_block}
+use Rattle.fn_text.specs.Counting.{may_name_chars, transforms, cases_before, atoms_before, is_before_operand}
+use Rattle.fn_text.specs.Counting.{thing_compared}
 use Rattle.fn_text.specs.Counting.{nesting_before, is_behind_result}
 
 -- byte: a byte that begins no token

@@ -1,5 +1,6 @@
 -- Which tokens can go on: some file begins with them.
-use Rattle.std.specs.Prelude.{◌≡◌, ℕ, ◌+◌, ◌≤◌, Bool, false, true, not, ◌&&◌, ◌||◌, if◌then◌else◌, nat_le, nat_lt, nat_eq, IsTrue}
+use Rattle.std.specs.Prelude.{◌≡◌, ℕ, ◌+◌, ◌≤◌, Bool, false, true, not, ◌&&◌, ◌||◌, if◌then◌else◌, nat_le, nat_lt}
+use Rattle.std.specs.Prelude.{nat_eq, IsTrue}
 use Rattle.std.specs.Prelude.{count_by, List, ◌++◌, length, map, Ok}
 use Rattle.std.specs.List.{flat_map, list_all}
 use Rattle.fn_rules.specs.declared.function.Head.{Head}
@@ -20,21 +21,25 @@ use Rattle.fn_moves.specs.Kinds.{declares_some}
 use Rattle.fn_moves.specs.Controls.{lacks_with, lacks_block}
 use Rattle.fn_text.specs.Reader.{State, first_state}
 use Rattle.fn_text.specs.Theorems.{state_behind}
-use Rattle.fn_text.specs.Grammar.{WrittenCase, WrittenBlock, atoms_in, nesting_in, is_allowed, is_allowed_result, file_written_as}
+use Rattle.fn_text.specs.Grammar.{WrittenCase, WrittenBlock, atoms_in, nesting_in, is_allowed, is_allowed_result}
+use Rattle.fn_text.specs.Grammar.{file_written_as}
 use Rattle.fn_text.specs.Grammar.{block_made}
 
 -- the limits of the grammar, with so many atoms in a case
 abbrev pub is_allowed_case_with : ℕ → Bool → WrittenCase → Bool
 is_allowed_case_with atoms chars c =
-    is_allowed chars c.guard && nat_le (atoms_in c.guard) atoms && nat_le (nesting_in c.guard) MAX_NESTING && is_allowed_result c.result
+    is_allowed chars c.guard && nat_le (atoms_in c.guard) atoms && nat_le (nesting_in c.guard) MAX_NESTING &&
+        is_allowed_result c.result
 
 abbrev pub is_allowed_block_with : ℕ → WrittenBlock → Bool
 is_allowed_block_with atoms block =
-    nat_le (length block.cases) MAX_CASES && list_all (is_allowed_case_with atoms (compares_chars block.first block.second)) block.cases
+    nat_le (length block.cases) MAX_CASES && list_all (is_allowed_case_with atoms
+        (compares_chars block.first block.second)) block.cases
 
 abbrev pub is_allowed_file_with : ℕ → Language → Head → List WrittenBlock → Bool
 is_allowed_file_with atoms language head blocks =
-    declares_some head && has_own_blocks head (map (block_made to_formulas) blocks) && list_all (is_allowed_block_with atoms) blocks
+    declares_some head && has_own_blocks head (map (block_made to_formulas) blocks) && list_all
+        (is_allowed_block_with atoms) blocks
     && has_words language head
 
 -- the cases of blocks that have more atoms than a case may have

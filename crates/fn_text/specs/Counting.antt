@@ -1,5 +1,6 @@
 -- What is counted over the tokens before one. They stand nearest first, so that the token just before it comes first.
-use Rattle.std.specs.Prelude.{ℕ, ◌+◌, Bool, true, false, not, ◌&&◌, if◌then◌else◌, List, [], ◌∷◌, drop, length, Option, Some, None}
+use Rattle.std.specs.Prelude.{ℕ, ◌+◌, Bool, true, false, not, ◌&&◌, if◌then◌else◌, List, [], ◌∷◌, drop, length, Option}
+use Rattle.std.specs.Prelude.{Some, None}
 use Rattle.std.specs.List.{list_any}
 use Rattle.ot_model.specs.declared.op.Kind.{Kind}
 use Rattle.ot_model.specs.declared.op.TheConstants.{KINDS}
@@ -32,7 +33,8 @@ is_behind_otfn _ = false
 abbrev pub language_before : List Token → Language
 language_before [] = One
 language_before (Number n ∷ before) =
-    if is_behind_otfn before then elim (language_numbered n) [ Some language ↦ language | None ↦ One ] else language_before before
+    if is_behind_otfn before then elim (language_numbered n) [ Some language ↦ language | None ↦ One ]
+        else language_before before
 language_before (token ∷ before) = language_before before
 
 -- the kind has a word in it
@@ -163,7 +165,8 @@ thing_compared _ = None
 -- an operand has just become whole: `true`, an atom, a number behind an atom, or parentheses
 abbrev pub is_behind_operand : List Token → Bool
 is_behind_operand (Known words.True ∷ before) = true
-is_behind_operand (Known (words.Thing sort side) ∷ before) = elim (thing_compared before) [ Some first ↦ true | None ↦ false ]
+is_behind_operand (Known (words.Thing sort side) ∷ before) = elim (thing_compared before)
+    [ Some first ↦ true | None ↦ false ]
 is_behind_operand (Number n ∷ before) = true
 is_behind_operand (Close ∷ before) = true
 is_behind_operand _ = false
@@ -173,8 +176,8 @@ abbrev pub without_nots : List Token → List Token
 without_nots (Known words.Not ∷ opened) = without_nots opened
 without_nots opened = opened
 
--- the `(` and `not` that were opened and not closed when the last operand was begun, the innermost first; `and`, `or` and `)`
--- come behind a whole operand
+-- the `(` and `not` that were opened and not closed when the last operand was begun, the innermost first; `and`, `or`
+-- and `)` come behind a whole operand
 abbrev pub opened_before : List Token → List Token
 opened_before [] = []
 opened_before (Open ∷ before) = Open ∷ opened_before before

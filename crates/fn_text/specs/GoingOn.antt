@@ -1,6 +1,7 @@
 -- Which tokens can go on, told without a reader: those with which some file begins, and a few more behind which a wrong
 -- token is still judged. They stand nearest first.
-use Rattle.std.specs.Prelude.{◌≡◌, ◌&&◌, ◌||◌, Bool, false, not, if◌then◌else◌, nat_eq, nat_lt, IsTrue, List, ◌∷◌, reverse}
+use Rattle.std.specs.Prelude.{◌≡◌, ◌&&◌, ◌||◌, Bool, false, not, if◌then◌else◌, nat_eq, nat_lt, IsTrue, List, ◌∷◌}
+use Rattle.std.specs.Prelude.{reverse}
 use Rattle.std.specs.Prelude.{Option, Some, None, ◌⊎◌}
 use Rattle.ot_model.specs.declared.op.Kind.{Kind}
 use Rattle.fn_rules.specs.declared.limits.TheConstants.{MAX_ATOMS, MAX_NESTING}
@@ -8,7 +9,8 @@ use Rattle.fn_tokens.specs.declared.token.Token.{Token}
 use Rattle.fn_tokens.specs.declared.token.Token.TheVariants.{Known, Open, Close, Colon}
 use Rattle.fn_tokens.specs.declared.token.Word.TheVariants as words
 use Rattle.fn_text.specs.Continuing.{Begins}
-use Rattle.fn_text.specs.Counting.{declares, is_behind_block, first_of_block, lacks_pair_with, lacks_some_pair, atoms_before}
+use Rattle.fn_text.specs.Counting.{declares, is_behind_block, first_of_block, lacks_pair_with, lacks_some_pair}
+use Rattle.fn_text.specs.Counting.{atoms_before}
 use Rattle.fn_text.specs.Counting.{is_before_operand, nesting_before}
 
 -- some file of the grammar begins with these tokens
@@ -20,8 +22,8 @@ abbrev pub EndsOperand : List Token → Type 0
 EndsOperand before = BeginsFile (Close ∷ before) ⊎ BeginsFile (Colon ∷ before)
 
 -- the last token is taken so that what stands behind it is judged, whether some file begins so or not: `and` and `or`
--- behind a whole operand; `not` and `(` behind such tokens where an operand comes next, inside fewer than 32 others; the
--- word `block` where the file can end; and a declared kind behind the word `block`
+-- behind a whole operand; `not` and `(` behind such tokens where an operand comes next, inside fewer than 32 others;
+-- the word `block` where the file can end; and a declared kind behind the word `block`
 abbrev pub IsTakenAlso : List Token → Type 0
 IsTakenAlso (Known words.And ∷ before) = EndsOperand before
 IsTakenAlso (Known words.Or ∷ before) = EndsOperand before

@@ -17,7 +17,8 @@ use Rattle.fn_rules.specs.Building.{function_from, has_own_blocks}
 use Rattle.fn_rules.specs.declared.limits.TheConstants.{MAX_CASES, MAX_ATOMS, MAX_NESTING}
 use Rattle.fn_tokens.specs.declared.token.Word.TheVariants as words
 use Rattle.fn_tokens.specs.declared.token.Token.{Token}
-use Rattle.fn_tokens.specs.declared.token.Token.TheVariants.{Known, Number, Comparison, Open, Close, Colon, LineEnd, FileEnd}
+use Rattle.fn_tokens.specs.declared.token.Token.TheVariants.{Known, Number, Comparison, Open, Close, Colon, LineEnd}
+use Rattle.fn_tokens.specs.declared.token.Token.TheVariants.{FileEnd}
 use Rattle.fn_tokens.specs.declared.token.Token.TheVariants as tokens
 use Rattle.fn_tokens.specs.declared.token.Sign.{Sign}
 use Rattle.fn_moves.specs.declared.control.Written.{Written}
@@ -49,7 +50,8 @@ written_as Always = Known words.True ∷ []
 written_as (Compare sort left cmp) =
     Known (words.Thing sort left) ∷ Comparison cmp ∷ Known (words.Thing sort (other_side left)) ∷ []
 written_as (Shifted left cmp sign n) =
-    Known (words.Thing Pos left) ∷ Comparison cmp ∷ Known (words.Thing Pos (other_side left)) ∷ tokens.Sign sign ∷ Number n ∷ []
+    Known (words.Thing Pos left) ∷ Comparison cmp ∷ Known (words.Thing Pos (other_side left)) ∷ tokens.Sign sign
+        ∷ Number n ∷ []
 written_as (Negated u) = Known words.Not ∷ written_as u
 written_as (Round d) = Open ∷ (written_as d ++ Close ∷ [])
 written_as (One u) = written_as u
@@ -150,14 +152,16 @@ is_allowed_result (written.Moved side sign n) = is_offset_number n
 
 abbrev pub is_allowed_case : Bool → WrittenCase → Bool
 is_allowed_case chars c =
-    is_allowed chars c.guard && nat_le (atoms_in c.guard) MAX_ATOMS && nat_le (nesting_in c.guard) MAX_NESTING && is_allowed_result c.result
+    is_allowed chars c.guard && nat_le (atoms_in c.guard) MAX_ATOMS && nat_le (nesting_in c.guard) MAX_NESTING &&
+        is_allowed_result c.result
 
 abbrev pub is_allowed_block : WrittenBlock → Bool
 is_allowed_block block =
-    nat_le (length block.cases) MAX_CASES && list_all (is_allowed_case (compares_chars block.first block.second)) block.cases
+    nat_le (length block.cases) MAX_CASES && list_all (is_allowed_case (compares_chars block.first block.second))
+        block.cases
 
--- at least one kind, one block for each ordered pair of kinds and no other, each within the limits, and a word of the language
--- for each kind
+-- at least one kind, one block for each ordered pair of kinds and no other, each within the limits, and a word of the
+-- language for each kind
 abbrev pub is_allowed_file : Language → Head → List WrittenBlock → Bool
 is_allowed_file language head blocks =
     declares_some head && has_own_blocks head (map (block_made to_formulas) blocks) && list_all is_allowed_block blocks

@@ -14,7 +14,8 @@ use Rattle.fn_rules.specs.Formulas.{Formula, other_side}
 use Rattle.fn_rules.specs.Functions.{GuardedCase, Function, cases_of, is_declared, is_declared_pair}
 use Rattle.fn_tokens.specs.declared.token.Token.{Token}
 use Rattle.fn_tokens.specs.declared.token.Sign.TheVariants.{Plus, Minus}
-use Rattle.fn_tokens.specs.declared.token.Token.TheVariants.{Known, Number, Comparison, Sign, Open, Close, Colon, LineEnd}
+use Rattle.fn_tokens.specs.declared.token.Token.TheVariants.{Known, Number, Comparison, Sign, Open, Close, Colon}
+use Rattle.fn_tokens.specs.declared.token.Token.TheVariants.{LineEnd}
 use Rattle.fn_tokens.specs.declared.token.Word.{Word}
 use Rattle.fn_tokens.specs.declared.token.Word.TheVariants as words
 use Rattle.fn_tokens.specs.Spelling.{spelled}
@@ -31,7 +32,8 @@ offset_tokens (negsuc n) = Sign Minus ∷ Number (suc n) ∷ []
 
 abbrev pub atom_tokens : Atom → List Token
 atom_tokens a =
-    Known (words.Thing a.sort a.left) ∷ Comparison a.cmp ∷ Known (words.Thing a.sort (other_side a.left)) ∷ offset_tokens a.k
+    Known (words.Thing a.sort a.left) ∷ Comparison a.cmp ∷ Known (words.Thing a.sort (other_side a.left))
+        ∷ offset_tokens a.k
 
 -- in parentheses, where they are needed
 abbrev pub enclosed : Bool → List Token → List Token
@@ -72,7 +74,8 @@ case_tokens kind c = Known words.Case ∷ guard_tokens Loose c.guard ++ Colon �
 -- the lines of a block
 abbrev pub block_tokens : Kind → Kind → List GuardedCase → List Token
 block_tokens first second cases =
-    Known words.Block ∷ Known (words.Kind first) ∷ Known (words.Kind second) ∷ LineEnd ∷ flat_map (case_tokens first) cases
+    Known words.Block ∷ Known (words.Kind first) ∷ Known (words.Kind second) ∷ LineEnd
+        ∷ flat_map (case_tokens first) cases
 
 -- tokens that are there if the test is true
 abbrev pub present : Bool → List Token → List Token

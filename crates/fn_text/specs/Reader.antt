@@ -1,6 +1,7 @@
 -- Reading tokens one after another, over anything that phrases may be made into: the phrases themselves,
 -- or the formulas that they mean.
-use Rattle.std.specs.Prelude.{ℕ, zero, suc, ◌+◌, true, false, if◌then◌else◌, List, [], ◌∷◌, ◌++◌, Option, Some, None, Result, Ok, Err}
+use Rattle.std.specs.Prelude.{ℕ, zero, suc, ◌+◌, true, false, if◌then◌else◌, List, [], ◌∷◌, ◌++◌, Option, Some, None}
+use Rattle.std.specs.Prelude.{Result, Ok, Err}
 use Rattle.ot_model.specs.declared.op.Kind.TheVariants as kinds
 use Rattle.ot_model.specs.declared.op.Mode.TheVariants as modes
 use Rattle.fn_rules.specs.declared.guard.Sort.{Sort}
@@ -101,7 +102,8 @@ closed m s (level ∷ levels) = left_for (record s { last = m.round (disjunction
 abbrev pub control_behind : Control → Move → Control
 control_behind c (moves.Skip want) = with_want c want
 control_behind c (moves.SetLanguage language) = record c { want = wants.LineEnd nexts.Text; language = language }
-control_behind c (moves.SetMode mode) = record c { want = wants.LineEnd nexts.Kinds; head = record c.head { mode = mode } }
+control_behind c (moves.SetMode mode) = record c { want = wants.LineEnd nexts.Kinds;
+    head = record c.head { mode = mode } }
 control_behind c (moves.Declare kind) = record c { want = wants.NextKind; head = with_kind c.head kind }
 control_behind c moves.AssumeSites = record c { want = wants.Differ; head = record c.head { sites_differ = true } }
 control_behind c moves.AssumeChars = record c { want = wants.Differ; head = record c.head { chars_differ = true } }
@@ -145,8 +147,10 @@ moved m s moves.Open = record (told s moves.Open) {
 moved m s moves.Negate = told s moves.Negate
 moved m s moves.Always = record (told s moves.Always) { last = m.always }
 moved m s (moves.BeginAtom sort left) = told s (moves.BeginAtom sort left)
-moved m s (moves.Compare sort left cmp) = record (told s (moves.Compare sort left cmp)) { last = m.compared sort left cmp }
-moved m s (moves.Shift left cmp sign n) = record (told s (moves.Shift left cmp sign n)) { last = m.shifted left cmp sign n }
+moved m s (moves.Compare sort left cmp) = record (told s (moves.Compare sort left cmp))
+    { last = m.compared sort left cmp }
+moved m s (moves.Shift left cmp sign n) = record (told s (moves.Shift left cmp sign n))
+    { last = m.shifted left cmp sign n }
 moved m s moves.And = record (told s moves.And) { all = Some (conjunction m s); last = m.always }
 moved m s moves.Or = record (told s moves.Or) { any = Some (disjunction m s); all = None; last = m.always }
 moved m s moves.Close = closed m s s.outer
@@ -163,7 +167,8 @@ abbrev pub after_move : {V : Tightness → Type 0} {K B : Type 0} → Maker V K 
 after_move m s at None = Err (fault_of s.control at)
 after_move m s at (Some move) = Ok (moved m s move)
 
-abbrev pub turn : {V : Tightness → Type 0} {K B : Type 0} → Maker V K B → State V K B → Placed → Result (State V K B) TextFault
+abbrev pub turn : {V : Tightness → Type 0} {K B : Type 0} → Maker V K B → State V K B → Placed
+    → Result (State V K B) TextFault
 turn m s at = after_move m s at (move_for s.control at s.control.want at.token)
 
 -- the head and the blocks, once the file has ended; tokens that have no end of the file end nothing
@@ -172,7 +177,8 @@ ended s wants.Nothing = Ok (s.control.head, s.done)
 ended s _ = Err record { line = 1; column = 1; kind = faults.Expected }
 
 -- the head and the blocks that tokens give from a state on, or the first fault
-abbrev pub read_from : {V : Tightness → Type 0} {K B : Type 0} → Maker V K B → State V K B → List Placed → Result (Head × List B) TextFault
+abbrev pub read_from : {V : Tightness → Type 0} {K B : Type 0} → Maker V K B → State V K B → List Placed
+    → Result (Head × List B) TextFault
 read_from m s [] = ended s s.control.want
 read_from m s (at ∷ rest) = elim (turn m s at) [ Ok after ↦ read_from m after rest | Err fault ↦ Err fault ]
 
@@ -186,7 +192,8 @@ abbrev pub first_control : Control
 first_control = record {
   want = wants.Otfn;
   language = languages.One;
-  head = record { mode = modes.Plain; ins = false; del = false; upd = false; sites_differ = false; chars_differ = false };
+  head = record { mode = modes.Plain; ins = false; del = false; upd = false; sites_differ = false;
+      chars_differ = false };
   line = 0;
   column = 0;
   begun = false;

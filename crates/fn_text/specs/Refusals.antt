@@ -29,8 +29,8 @@ abbrev pub RefusalsAreFinal : Type 0
 RefusalsAreFinal =
     (bytes : List ℕ) (fault : TextFault) → function_in bytes ≡ Err fault → IsRefusedFor (tokens_in bytes) fault
 
--- what a call answers of bytes, seen by a view: a function whose text they are, the fault of their first wrong token, or
--- want of memory, which says nothing of them
+-- what a call answers of bytes, seen by a view: a function whose text they are, the fault of their first wrong token,
+-- or want of memory, which says nothing of them
 abbrev pub IsStoppedFor : List ℕ → TextError → Type 0
 IsStoppedFor bytes (errors.Fault fault) = IsRefusedFor (tokens_in bytes) fault
 IsStoppedFor bytes errors.NoMemory = Unit {0}

@@ -45,9 +45,11 @@ parentheses_in (token ∷ tokens) = parentheses_in tokens
 -- no phrase that means a guard has fewer parentheses than the guard's canonical text
 abbrev pub PrintsHaveFewestParentheses : Type 0
 PrintsHaveFewestParentheses =
-    (g : Formula) (p : Phrase Loose) → made to_formulas p ≡ g → parentheses_in (guard_tokens Loose g) ≤ parentheses_in (written_as p)
+    (g : Formula) (p : Phrase Loose) → made to_formulas p ≡ g
+        → parentheses_in (guard_tokens Loose g) ≤ parentheses_in (written_as p)
 
 -- the state behind tokens that can all go on
-abbrev pub state_behind : {V : Tightness → Type 0} {K B : Type 0} → Maker V K B → State V K B → List Placed → Result (State V K B) TextFault
+abbrev pub state_behind : {V : Tightness → Type 0} {K B : Type 0} → Maker V K B → State V K B → List Placed
+    → Result (State V K B) TextFault
 state_behind m s [] = Ok s
 state_behind m s (at ∷ rest) = elim (turn m s at) [ Ok after ↦ state_behind m after rest | Err fault ↦ Err fault ]

@@ -1,13 +1,16 @@
 //! The canonical text of a function: first its tokens, then their bytes.
-ghost use Rattle.std.specs.Prelude.{◌≡◌, ◌≤◌, ◌<◌, ◌^◌, ◌++◌, length, [], ◌∷◌, Ok, IsTrue, IfOk, OnOk, unsigned_abs, map};
+ghost use Rattle.std.specs.Prelude.{◌≡◌, ◌≤◌, ◌<◌, ◌^◌, ◌++◌, length, [], ◌∷◌, Ok, IsTrue, IfOk, OnOk, unsigned_abs};
+ghost use Rattle.std.specs.Prelude.{map};
 ghost use Rattle.std.specs.List.{All, flat_map};
 ghost use Rattle.fn_rules.specs.Formulas.{formula_of, other_side};
 ghost use Rattle.fn_rules.specs.Functions.{case_of};
 ghost use Rattle.fn_rules.specs.Rules.{function_of};
 ghost use Rattle.fn_rules.specs.Validity.{is_valid};
 ghost use Rattle.fn_moves.specs.Languages.{language_for};
-ghost use Rattle.fn_text.specs.Print.{offset_tokens, atom_tokens, guard_tokens, result_tokens, case_tokens, block_tokens, kind_tokens};
-ghost use Rattle.fn_text.specs.Print.{declared_block, blocks_with, function_tokens, printed, head_tokens, assumption_tokens};
+ghost use Rattle.fn_text.specs.Print.{offset_tokens, atom_tokens, guard_tokens, result_tokens, case_tokens};
+ghost use Rattle.fn_text.specs.Print.{block_tokens, kind_tokens};
+ghost use Rattle.fn_text.specs.Print.{declared_block, blocks_with, function_tokens, printed, head_tokens};
+ghost use Rattle.fn_text.specs.Print.{assumption_tokens};
 ghost use Rattle.fn_text.specs.Print.{first_lines};
 ghost use Rattle.fn_text.specs.Reading.{function_in};
 ghost use Rattle.fn_text.specs.Offsets.{HasOffset, HasOffsets, HasResultOffset, HasCaseOffsets};
@@ -228,7 +231,8 @@ fn push_blocks_with(
     first: Kind,
     seconds: &[Kind],
 ) -> Result<(), NoMemory>
-    ensures { OnOk result (out.new.items ≡ out.old.items ++ flat_map (declared_block (function_of rules.now) first) seconds.now) }
+    ensures { OnOk result (out.new.items ≡ out.old.items
+        ++ flat_map (declared_block (function_of rules.now) first) seconds.now) }
 {
     for second in seconds {
         push_declared(out, rules, first, *second)?;

@@ -5,7 +5,8 @@ ghost use Rattle.fn_rules.specs.Formulas.{formula_of};
 ghost use Rattle.fn_rules.specs.Functions.{case_of};
 ghost use Rattle.fn_rules.specs.Building.{block_of};
 ghost use Rattle.fn_moves.specs.Meaning.{res_of, signed, to_formulas};
-ghost use Rattle.fn_text.specs.Reader.{negate, join, choose, conjunction, disjunction, blocks_of, left_for, told, moved, turn, ended};
+ghost use Rattle.fn_text.specs.Reader.{negate, join, choose, conjunction, disjunction, blocks_of, left_for, told};
+ghost use Rattle.fn_text.specs.Reader.{moved, turn, ended};
 ghost use Rattle.fn_text.specs.Reader.{read_from, first_state};
 ghost use Rattle.fn_moves.specs.Controls.{depth_of};
 ghost use Rattle.fn_moves.specs.Moves.{HasRoom};
@@ -118,7 +119,8 @@ impl Reader {
     /// The conjunction that ends with the last operand, which is taken out.
     fn take_conjunction(&mut self, alloc: Global) -> Result<Guard, NoMemory>
         ensures value { IfOk result (λ g. formula_of g ≡ conjunction to_formulas (state_of self.old)) }
-        ensures left { OnOk result (state_of self.new ≡ record (state_of self.old) { all = None; last = formula_of Guard.True }) }
+        ensures left { OnOk result (state_of self.new ≡ record (state_of self.old)
+            { all = None; last = formula_of Guard.True }) }
     {
         let all = self.all.take();
         let last = mem::replace(&mut self.last, Guard::True);
@@ -129,7 +131,8 @@ impl Reader {
     /// All that was read in the innermost parentheses, which is taken out.
     fn take_disjunction(&mut self, alloc: Global) -> Result<Guard, NoMemory>
         ensures value { IfOk result (λ g. formula_of g ≡ disjunction to_formulas (state_of self.old)) }
-        ensures left { OnOk result (state_of self.new ≡ record (state_of self.old) { any = None; all = None; last = formula_of Guard.True }) }
+        ensures left { OnOk result (state_of self.new ≡ record (state_of self.old)
+            { any = None; all = None; last = formula_of Guard.True }) }
     {
         let conjunction = self.take_conjunction(alloc)?;
         let any = self.any.take();
@@ -161,7 +164,8 @@ impl Reader {
 
     /// Puts the block that was begun to those that are done.
     fn close_block(&mut self, alloc: Global) -> Result<(), NoMemory>
-        ensures { OnOk result (state_of self.new ≡ record (state_of self.old) { cases = []; done = blocks_of to_formulas (state_of self.old) }) }
+        ensures { OnOk result (state_of self.new ≡ record (state_of self.old)
+            { cases = []; done = blocks_of to_formulas (state_of self.old) }) }
     {
         let cases = mem::replace(&mut self.cases, Vec::new(alloc));
         if self.control.begun {
@@ -175,7 +179,8 @@ impl Reader {
     }
 
     fn begin_block(&mut self, alloc: Global, first: Kind, second: Kind) -> Result<(), NoMemory>
-        ensures { OnOk result (state_of self.new ≡ moved to_formulas (state_of self.old) (Move.BeginBlock first second)) }
+        ensures { OnOk result (state_of self.new ≡ moved to_formulas (state_of self.old)
+            (Move.BeginBlock first second)) }
     {
         self.close_block(alloc)?;
         self.tell(Move::BeginBlock(first, second));
@@ -371,7 +376,8 @@ impl Reader {
 
 /// The head and the blocks that tokens give, or the first token that cannot go on.
 pub(crate) fn read_tokens(alloc: Global, tokens: &[Placed]) -> Result<(Head, Vec<Block>), TextError>
-    ensures { Gives (λ x. (x.0, map block_of x.1.items)) result (read_from to_formulas (first_state to_formulas) tokens.now) }
+    ensures { Gives (λ x. (x.0, map block_of x.1.items)) result
+        (read_from to_formulas (first_state to_formulas) tokens.now) }
 {
     let mut reader = Reader::new(alloc);
     for at in tokens {

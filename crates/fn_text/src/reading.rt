@@ -19,7 +19,8 @@ use std::alloc::Global;
 /// The head and the blocks of a file, which are within the limits.
 fn parts(alloc: Global, bytes: &[u8]) -> Result<(Head, Vec<Block>), TextError>
     requires { length bytes.now < 2 ^ 31 }
-    ensures read { Gives (λ x. (x.0, map block_of x.1.items)) result (read_from to_formulas (first_state to_formulas) (tokens_in bytes.now)) }
+    ensures read { Gives (λ x. (x.0, map block_of x.1.items)) result
+        (read_from to_formulas (first_state to_formulas) (tokens_in bytes.now)) }
     ensures within_limits { IfOk result (λ x. IsTrue (is_buildable x.0 (map block_of x.1.items))) }
 {
     let tokens = lex(alloc, bytes)?;

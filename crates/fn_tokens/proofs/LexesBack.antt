@@ -1,5 +1,6 @@
 -- Tokens in lines are read back from the bytes that spell them.
-use Rattle.std.proofs.Common.{◌≡◌, ℕ, zero, suc, ◌+◌, ◌-◌, ◌/◌, ◌%◌, ◌<◌, ◌≤◌, ◌==◌, Bool, true, false, not, ◌||◌, List, [], ◌∷◌, ◌++◌, map, length, take, refl, sym, ◌∙◌, ap, subst, inl, inr, arith}
+use Rattle.std.proofs.Common.{◌≡◌, ℕ, zero, suc, ◌+◌, ◌-◌, ◌/◌, ◌%◌, ◌<◌, ◌≤◌, ◌==◌, Bool, true, false, not, ◌||◌, List, [], ◌∷◌, ◌++◌, map, length, take, refl}
+use Rattle.std.proofs.Common.{sym, ◌∙◌, ap, subst, inl, inr, arith}
 use Rattle.std.specs.Prelude.{codes, nat_lt}
 use Rattle.std.specs.List.{list_all, prefix_len}
 use Rattle.std.specs.Fmt.{decimal}
@@ -250,7 +251,8 @@ text_then token tokens line column after lexes lines others =
     let f = follows tokens lines in
     rw (f.is)
     (lexes line column f.sep after f.rest f.ends
-    ∙ ap (λ ts. token ∷ ts) (ap (seen (spot line (further (length (token_bytes token)) column) true 0)) (sym f.is) ∙ others line (further (length (token_bytes token)) column)))
+    ∙ ap (λ ts. token ∷ ts) (ap (seen (spot line (further (length (token_bytes token)) column) true 0)) (sym f.is) ∙ others line
+        (further (length (token_bytes token)) column)))
 
 -- tokens in whole lines are read back from their bytes
 pub lines_lex : (begins : Bool) (tokens : List Token) (line column : ℕ) → InLines begins tokens →

@@ -15,6 +15,7 @@ use Rattle.fn_tokens.specs.declared.token.Word.TheVariants as words
 use Rattle.fn_tokens.specs.Words.{spelling_of}
 use Rattle.fn_tokens.specs.Spelling.{token_bytes, ends_line, space_before, spelled_from, IsText, InLines}
 
+-- a word is spelled by at most 6 bytes
 word_size : (word : Word) → length (spelling_of word) ≤ 6
 word_size words.Otfn = lit≤ tt
 word_size words.Text = lit≤ tt
@@ -46,6 +47,7 @@ word_size words.End = lit≤ tt
 number_size : (n : ℕ) → n ≤ 99 → length (decimal n) ≤ 6
 number_size n small = let two = length-decimal-le 2 n (lit< tt) (omega (arith, small)) (omega (arith, small)) in omega (arith, two)
 
+-- so is a token of a text
 token_size : (token : Token) → IsText token → length (token_bytes token) ≤ 6
 token_size Byte is = absurd is
 token_size Unknown is = absurd is

@@ -1,10 +1,12 @@
 -- The bytes of tokens in lines: one space between two tokens of a line, and a newline behind each line.
-use Rattle.std.specs.Prelude.{◌≡◌, ◌≤◌, ℕ, Bool, true, false, ◌||◌, if◌then◌else◌, ◌*◌, List, [], ◌∷◌, ◌++◌, length, codes}
+use Rattle.std.specs.Prelude.{◌≡◌, ◌≤◌, ℕ, Bool, true, false, ◌||◌, if◌then◌else◌, ◌*◌, List, [], ◌∷◌, ◌++◌, length}
+use Rattle.std.specs.Prelude.{codes}
 use Rattle.std.specs.Fmt.{decimal}
 use Rattle.fn_rules.specs.declared.guard.Cmp.TheVariants.{Lt, Le, Eq}
 use Rattle.fn_tokens.specs.declared.token.Sign.TheVariants.{Plus, Minus}
 use Rattle.fn_tokens.specs.declared.token.Token.{Token}
-use Rattle.fn_tokens.specs.declared.token.Token.TheVariants.{Byte, Unknown, Known, Number, Comparison, Sign, Open, Close, Colon, LineEnd, FileEnd}
+use Rattle.fn_tokens.specs.declared.token.Token.TheVariants.{Byte, Unknown, Known, Number, Comparison, Sign, Open}
+use Rattle.fn_tokens.specs.declared.token.Token.TheVariants.{Close, Colon, LineEnd, FileEnd}
 use Rattle.fn_tokens.specs.Words.{spelling_of}
 use Rattle.fn_tokens.specs.Tokens.{tokens_in, bare}
 
@@ -36,7 +38,8 @@ space_before begins token = if begins || ends_line token then [] else 32 ∷ []
 -- the bytes of tokens, of which the first begins a line or not
 abbrev pub spelled_from : Bool → List Token → List ℕ
 spelled_from begins [] = []
-spelled_from begins (token ∷ tokens) = space_before begins token ++ token_bytes token ++ spelled_from (ends_line token) tokens
+spelled_from begins (token ∷ tokens) = space_before begins token ++ token_bytes token
+    ++ spelled_from (ends_line token) tokens
 
 -- the bytes of tokens
 abbrev pub spelled : List Token → List ℕ

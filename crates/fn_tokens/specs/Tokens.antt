@@ -6,7 +6,8 @@ use Rattle.std.specs.List.{prefix_len}
 use Rattle.fn_rules.specs.declared.guard.Cmp.TheVariants.{Lt, Le, Eq}
 use Rattle.fn_tokens.specs.declared.token.Sign.TheVariants.{Plus, Minus}
 use Rattle.fn_tokens.specs.declared.token.Token.{Token}
-use Rattle.fn_tokens.specs.declared.token.Token.TheVariants.{Byte, Number, Comparison, Sign, Open, Close, Colon, LineEnd, FileEnd}
+use Rattle.fn_tokens.specs.declared.token.Token.TheVariants.{Byte, Number, Comparison, Sign, Open, Close, Colon}
+use Rattle.fn_tokens.specs.declared.token.Token.TheVariants.{LineEnd, FileEnd}
 use Rattle.fn_tokens.specs.declared.token.Placed.{Placed}
 use Rattle.fn_tokens.specs.declared.lexer.Cursor.{Cursor}
 use Rattle.fn_tokens.specs.declared.lexer.Front.{Front}
@@ -62,7 +63,8 @@ front_number byte rest more =
 
 abbrev pub front_less : List ℕ → Front
 front_less rest =
-    if begins_with_equals rest then record { token = Comparison Le; more = 1 } else record { token = Comparison Lt; more = 0 }
+    if begins_with_equals rest then record { token = Comparison Le; more = 1 } else record
+        { token = Comparison Lt; more = 0 }
 
 -- the longest token at a byte that is no blank, no line's end and no number sign
 unfoldable pub front_of : ℕ → List ℕ → Front
@@ -97,7 +99,8 @@ place_after at byte rest =
     if nat_lt 0 at.skip then stepped at at.after (at.skip - 1) else
     (if is_line_end byte then below at else
     (if is_blank byte then stepped at at.after 0 else
-    (if byte == 35 then stepped at at.after (prefix_len (is_in runs.Comment) rest) else stepped at true (front_of byte rest).more)))
+    (if byte == 35 then stepped at at.after (prefix_len (is_in runs.Comment) rest) else stepped at true
+        (front_of byte rest).more)))
 
 -- the tokens that begin at a byte: at most one
 abbrev pub tokens_at : Cursor → ℕ → List ℕ → List Placed

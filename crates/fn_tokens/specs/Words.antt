@@ -6,7 +6,8 @@ use Rattle.ot_model.specs.declared.op.Kind.TheVariants as kinds
 use Rattle.fn_rules.specs.declared.guard.Sort.TheVariants.{Pos, Site, Char}
 use Rattle.fn_rules.specs.declared.guard.Side.TheVariants.{First, Second}
 use Rattle.fn_tokens.specs.declared.token.Word.{Word}
-use Rattle.fn_tokens.specs.declared.token.Word.TheVariants.{Otfn, Text, Mode, Kinds, Kind, Assume, Sites, Chars, Differ, Block, Case, And, Or, Not, True, Thing, Nop, End}
+use Rattle.fn_tokens.specs.declared.token.Word.TheVariants.{Otfn, Text, Mode, Kinds, Kind, Assume, Sites, Chars, Differ}
+use Rattle.fn_tokens.specs.declared.token.Word.TheVariants.{Block, Case, And, Or, Not, True, Thing, Nop, End}
 use Rattle.fn_tokens.specs.declared.token.Token.{Token}
 use Rattle.fn_tokens.specs.declared.token.Token.TheVariants.{Unknown, Known}
 

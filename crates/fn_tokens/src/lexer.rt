@@ -1,8 +1,11 @@
 //! From bytes to tokens, in one pass.
 
-ghost use Rattle.std.specs.Prelude.{◌≡◌, ℕ, ◌+◌, ◌^◌, ◌<◌, ◌≤◌, ◌∷◌, List, drop, take, length, slice_index, IfOk, option_to_list};
+ghost use Rattle.std.specs.Prelude.{◌≡◌, ℕ, ◌+◌, ◌^◌, ◌<◌, ◌≤◌, ◌∷◌, List, drop, take, length, slice_index, IfOk};
+ghost use Rattle.std.specs.Prelude.{option_to_list};
 ghost use Rattle.std.specs.List.{prefix_len};
-ghost use Rattle.fn_tokens.specs.Tokens.{tokens_in, TokensEndFiles, is_letter, is_digit, is_blank, is_in, number_from, sign_token, front_less, front_word, front_number, front_of, tokens_at, place_after, placed_at, line_end_at, stepped, below};
+ghost use Rattle.fn_tokens.specs.Tokens.{tokens_in, TokensEndFiles, is_letter, is_digit, is_blank, is_in, number_from};
+ghost use Rattle.fn_tokens.specs.Tokens.{sign_token, front_less, front_word, front_number, front_of, tokens_at};
+ghost use Rattle.fn_tokens.specs.Tokens.{place_after, placed_at, line_end_at, stepped, below};
 
 use crate::NoMemory;
 use crate::token::{Placed, Sign, Token, word_of};
@@ -188,7 +191,8 @@ fn less_of(rest: &[u8]) -> Front
 #[tactic(auto, using(crate::proofs::Lexing::take_first))]
 fn word_front(bytes: &[u8]) -> Front
     requires { 0 < length bytes.now }
-    ensures { result ≡ front_word (slice_index bytes.now 0) (drop 1 bytes.now) (prefix_len (is_in Run.Word) (drop 1 bytes.now)) }
+    ensures { result ≡ front_word (slice_index bytes.now 0) (drop 1 bytes.now)
+        (prefix_len (is_in Run.Word) (drop 1 bytes.now)) }
 {
     let more = Run::Word.len(&bytes[1..]);
     let token = word_of(&bytes[..more + 1]);
@@ -199,7 +203,8 @@ fn word_front(bytes: &[u8]) -> Front
 #[tactic(auto, using(crate::proofs::Lexing::take_first))]
 fn number_front(bytes: &[u8]) -> Front
     requires { 0 < length bytes.now }
-    ensures { result ≡ front_number (slice_index bytes.now 0) (drop 1 bytes.now) (prefix_len (is_in Run.Number) (drop 1 bytes.now)) }
+    ensures { result ≡ front_number (slice_index bytes.now 0) (drop 1 bytes.now)
+        (prefix_len (is_in Run.Number) (drop 1 bytes.now)) }
 {
     let more = Run::Number.len(&bytes[1..]);
     let token = number_of(&bytes[..more + 1]);

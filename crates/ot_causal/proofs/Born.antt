@@ -28,6 +28,7 @@ Differ-from (Some s) None apart = tt
 Differ-from (Some s) (Some t) apart = apart
 
 module _ (f : Function) (past : Past) (first : List Cell) (sound : IsSoundPast f past first) where
+  -- in a sound past being before is an order
   pub IsOrderly-sound : IsOrderly past
   IsOrderly-sound = record {
     itself = λ o made. elim (cases_Bool (past.before o o)) [

@@ -4,7 +4,8 @@ use Rattle.std.proofs.lemmas.Bool.{cases_Bool, cases_eq, false≢true, both_ways
 use Rattle.ot_causal.specs.Members.{has, without}
 use Rattle.ot_causal.specs.Past.{Past, IsNext, IsClosed, AreMade, IsOrderly, IsFree}
 use Rattle.ot_causal.specs.Forms.{newest_open}
-use Rattle.ot_causal.proofs.Members.{IsDistinct, has-itself, has-older, has-cases, without-newest, without-older, has-without, has-without_none, has-from_without, has-without_itself}
+use Rattle.ot_causal.proofs.Members.{IsDistinct, has-itself, has-older, has-cases, without-newest, without-older, has-without, has-without_none}
+use Rattle.ot_causal.proofs.Members.{has-from_without, has-without_itself}
 
 module _ (past : Past) where
   pub IsDistinct-closed : (l : List ℕ) → IsClosed past l → IsDistinct l

@@ -1,9 +1,11 @@
 -- What was counted need not be sought again: with a form all that it is made from was counted. So it is for the
 -- lists at one site, which are sublists of what it has integrated.
-use Rattle.std.proofs.Common.{◌≡◌, ◌↔◌, ℕ, zero, suc, ◌<◌, ◌≤◌, true, false, List, [], ◌∷◌, ◌++◌, length, Option, Some, None, refl, sym, ◌∙◌, subst, inl, inr, arith}
+use Rattle.std.proofs.Common.{◌≡◌, ◌↔◌, ℕ, zero, suc, ◌<◌, ◌≤◌, true, false, List, [], ◌∷◌, ◌++◌, length, Option, Some, None, refl, sym, ◌∙◌, subst, inl, inr}
+use Rattle.std.proofs.Common.{arith}
 use Rattle.std.specs.Prelude.{nat_eq}
 use Rattle.std.specs.List.{AllByRecursion, list_all}
-use Rattle.std.proofs.lemmas.Bool.{cases_Bool, false≢true, eq-eqb, eqb-true, and_from, and_parts, or_cases, or_left, or_right, or_from, or_parts, false_from_ne_true}
+use Rattle.std.proofs.lemmas.Bool.{cases_Bool, false≢true, eq-eqb, eqb-true, and_from, and_parts, or_cases, or_left, or_right, or_from, or_parts}
+use Rattle.std.proofs.lemmas.Bool.{false_from_ne_true}
 use Rattle.ot_causal.specs.Members.{has, without, have_one_set, HaveOneSet, IsSublist, skip}
 use Rattle.ot_causal.specs.Past.{Past, IsClosed, IsReady, IsOrderly, IsOpening}
 use Rattle.ot_causal.specs.Forms.{newest_open}
@@ -160,7 +162,8 @@ module _ (past : Past) (seen : List ℕ) where
     AreCounted-sought_within (suc n) o l short ready sublist = by (newest_open past o l) refl (λ p m. AreCounted-sought_within n p m)
       where
         by : (found : Option ℕ) → newest_open past o l ≡ found
-            → ((p : ℕ) (m : List ℕ) → length m < n → IsReady past p m → IsSublist m seen → AllByRecursion (IsCounted past seen (sought past p m)) (sought past p m))
+            → ((p : ℕ) (m : List ℕ) → length m < n → IsReady past p m → IsSublist m seen
+            → AllByRecursion (IsCounted past seen (sought past p m)) (sought past p m))
             → AllByRecursion (IsCounted past seen (sought past o l)) (sought past o l)
         by None none below = subst (λ (names : List FormName). AllByRecursion (IsCounted past seen names) names) (sym (sought-none_open past o l none)) tt
         by (Some x) found below =

@@ -18,7 +18,8 @@ use Rattle.ot_causal.proofs.Closed.{IsDistinct-closed, before-none_open, newest_
 use Rattle.ot_causal.proofs.Forms.{form-none_open, form-newest_open, state-nil}
 use Rattle.ot_causal.proofs.Born.{IsOrderly-sound, IsAllowed-apart}
 use Rattle.ot_causal.proofs.Openings.{IsDiamond, IsNext-newer, IsOpening-newest_open, IsFree-newest, IsDiamond-free}
-use Rattle.ot_causal.proofs.Pairs.{HasFormOn, after, state-executed, state-same_older, ConvergesAt-there, CommutesAt-there, HasFormOn-behind, state-flip, form-behind_two}
+use Rattle.ot_causal.proofs.Pairs.{HasFormOn, after, state-executed, state-same_older, ConvergesAt-there, CommutesAt-there, HasFormOn-behind, state-flip}
+use Rattle.ot_causal.proofs.Pairs.{form-behind_two}
 
 -- what is shown of the lists that are shorter than a number
 pub record Below (f : Function) (past : Past) (first : List Cell) (n : ℕ) : Type 0 where
@@ -244,7 +245,8 @@ module _ (f : Function) (both : CarriesForms f) (no_chars : f.head.chars_differ 
             HaveOneSet-without x l m (IsDistinct-closed past l ready_l.1) (IsDistinct-closed past m ready_m.1) same in
             ap₂ (transformed f)
             (below.same_forms o (without x l) (without x m) (omega (arith, short, at_x.shorter)) (at_x.next, at_x.closed) (at_m.next, at_m.closed) one_set)
-            (below.same_forms x (without x l) (without x m) (omega (arith, short, at_x.shorter)) (at_x.next_member, at_x.closed) (at_m.next_member, at_m.closed) one_set)
+            (below.same_forms x (without x l) (without x m) (omega (arith, short, at_x.shorter)) (at_x.next_member, at_x.closed) (at_m.next_member, at_m.closed)
+                one_set)
             ∙ ap (λ z. transformed f (form f past o (without z m)) (form f past z (without z m))) one)
         | inr differ ↦ (let at_x : IsOpening past o l x = IsOpening-newest_open past order o l x ready_l found_x in
             let at_y : IsOpening past o m y = IsOpening-newest_open past order o m y ready_m found_y in

@@ -36,6 +36,7 @@ module _ (f : Function) (keeps : (a b form : Op) → transform_of f a b ≡ Some
     | inr again ↦ inr (record { kind = again.kind ∙ moved.kind; site = again.site ∙ moved.site; char = again.char ∙ moved.char })
   ]
 
+  -- a form is a form of its operation, by the length of its list
   IsFormOf-within : (past : Past) (n o : ℕ) (l : List ℕ) (p : Op) → length l < n → form f past o l ≡ Some p → IsFormOf (past.operation o) p
   IsFormOf-within past zero o l p short is = absurd (omega (arith, short))
   IsFormOf-within past (suc n) o l p short is = by (newest_open past o l) refl (λ m own. IsFormOf-within past n o m own)
@@ -60,6 +61,7 @@ module _ (f : Function) (keeps : (a b form : Op) → transform_of f a b ≡ Some
 module _ (f : Function) (near : (a b form : Op) (m : ℕ) → IsWithin m a → IsWithin m b → transform_of f a b ≡ Some form → IsWithin (m + 99) form)
     (wider : (m n : ℕ) (o : Op) → m ≤ n → IsWithin m o → IsWithin n o)
     (past : Past) (m : ℕ) (all_near : (o : ℕ) → o < past.count → IsWithin m (past.operation o)) where
+  -- a form is at most 99 further on for each operation of its list
   IsWithin-within : (n o : ℕ) (l : List ℕ) (p : Op) → length l < n → o < past.count → AreMade past l → form f past o l ≡ Some p
       → IsWithin (m + 99 * length l) p
   IsWithin-within zero o l p short made all is = absurd (omega (arith, short))

@@ -5,8 +5,10 @@ use Rattle.std.proofs.lemmas.Bool.{cases_eq}
 use Rattle.ot_causal.specs.Members.{has, without, HaveOneSet}
 use Rattle.ot_causal.specs.Past.{Past, IsNext, IsClosed, IsReady, IsOrderly, IsFree, IsOpening}
 use Rattle.ot_causal.specs.Forms.{newest_open}
-use Rattle.ot_causal.proofs.Members.{has-itself, has-older, has-other, has-cases, differ-has, has-without, has-without_itself, has-from_without, length-without, HaveOneSet-taken_out}
-use Rattle.ot_causal.proofs.Closed.{IsDistinct-closed, made-member, IsFree-other, has-newest_open, before-newest_open, IsNext-without, IsClosed-without, IsFree-newest_open, IsNext-taken_out}
+use Rattle.ot_causal.proofs.Members.{has-itself, has-older, has-other, has-cases, differ-has, has-without, has-without_itself, has-from_without, length-without}
+use Rattle.ot_causal.proofs.Members.{HaveOneSet-taken_out}
+use Rattle.ot_causal.proofs.Closed.{IsDistinct-closed, made-member, IsFree-other, has-newest_open, before-newest_open, IsNext-without, IsClosed-without}
+use Rattle.ot_causal.proofs.Closed.{IsFree-newest_open, IsNext-taken_out}
 
 -- two members x and y, taken out of two lists of one set: both are next behind the list without both
 pub record IsDiamond (past : Past) (x y : ℕ) (l m both : List ℕ) : Type 0 where
@@ -28,6 +30,7 @@ IsNext-newer past x l o differ next = record {
 }
 
 module _ (past : Past) (order : IsOrderly past) where
+  -- the newest member that is not before an operation is an opening of its list
   pub IsOpening-newest_open : (o : ℕ) (l : List ℕ) (x : ℕ) → IsReady past o l → newest_open past o l ≡ Some x → IsOpening past o l x
   IsOpening-newest_open o l x ready found = record {
     made = made-member past l x ready.1 member;

@@ -16,6 +16,7 @@ use Rattle.ot_causal.proofs.Closed.{AreMade-closed, newest_open-none}
 use Rattle.ot_causal.proofs.Forms.{form-none_open, state-nil, state-cons}
 use Rattle.ot_causal.proofs.Frames.{IsNext-extended, IsClosed-extended, form-extended, state-extended}
 
+-- a new session is sound
 pub IsSound-new : (f : Function) (d : List Cell) (session : SessionData) → IsNew d session → IsSound f session
 IsSound-new f d session is_new = record {
   past = record {
@@ -24,7 +25,8 @@ IsSound-new f d session is_new = record {
   };
   closed = λ s site. subst (λ (l : List ℕ). IsClosed session.past l) (sym (is_new.seen s site)) tt;
   documents = λ s site.
-      ap (state f session.past session.first) (is_new.seen s site) ∙ state-nil f session.past session.first ∙ ap Some (is_new.first ∙ sym (is_new.documents s site));
+      ap (state f session.past session.first) (is_new.seen s site) ∙ state-nil f session.past session.first ∙ ap Some
+          (is_new.first ∙ sym (is_new.documents s site));
   sites = λ o made. absurd (omega (arith, made, is_new.nothing));
   own = λ o made. absurd (omega (arith, made, is_new.nothing));
 }
@@ -150,6 +152,7 @@ module _ (f : Function) (tested : (n : ℕ) (o : Op) → IsEnabled o n → is_en
       let site_is : maker old.past x ≡ s = sym (maker-extended old.past new.past x makes.extends made) ∙ at_site in
       makes.befores x ∙ (rw site_is at (sound.own x made))
 
+  -- of two operations of one site one is before the other
   ordered_all : (x y : ℕ) → x < new.past.count → y < new.past.count → maker new.past x ≡ maker new.past y → x ≢ y
       → (new.past.before x y ≡ true) ⊎ (new.past.before y x ≡ true)
   ordered_all x y made_x made_y one_site differ = elim (is_old_or_newest x made_x) [
@@ -165,6 +168,7 @@ module _ (f : Function) (tested : (n : ℕ) (o : Op) → IsEnabled o n → is_en
     ]
   ]
 
+  -- making an operation keeps a session sound
   pub IsSound-makes : IsSound f new
   IsSound-makes = record {
     past = record {
@@ -212,6 +216,7 @@ module _ (f : Function) (old new : SessionData) (s o : ℕ) (integrates : Integr
       integrates.next.made (AreMade-closed old.past (old.seen s) (sound.closed s integrates.site)))
       ∙ integrates.document
 
+  -- integrating an operation keeps a session sound
   pub IsSound-integrates : IsSound f new
   IsSound-integrates = record {
     past = record {

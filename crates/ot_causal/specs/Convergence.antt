@@ -24,15 +24,18 @@ pub record HasEnabledForm (f : Function) (past : Past) (d : List Cell) (o : ℕ)
 -- form; documents and forms are the same for any two lists of one set
 pub record HasOneCourse (f : Function) (past : Past) (first : List Cell) : Type 0 where
   pub documents : (l : List ℕ) → IsClosed past l → HasState f past first l
-  pub forms : (o : ℕ) (l : List ℕ) (d : List Cell) → IsReady past o l → state f past first l ≡ Some d → HasEnabledForm f past d o l
+  pub forms : (o : ℕ) (l : List ℕ) (d : List Cell) → IsReady past o l → state f past first l ≡ Some d
+      → HasEnabledForm f past d o l
   pub one_document : (l m : List ℕ) → IsClosed past l → IsClosed past m → HaveOneSet l m
       → state f past first l ≡ state f past first m
-  pub one_form : (o : ℕ) (l m : List ℕ) → IsReady past o l → IsReady past o m → HaveOneSet l m → form f past o l ≡ form f past o m
+  pub one_form : (o : ℕ) (l m : List ℕ) → IsReady past o l → IsReady past o m → HaveOneSet l m
+      → form f past o l ≡ form f past o m
 
 -- an operation that is next at a site has a form that exists and is enabled there, and two sites that have
 -- integrated the same set hold one document
 pub record Converges (f : Function) (session : SessionData) : Type 0 where
   pub never_stuck : (s o : ℕ) → IsSite session.sites s → IsNext session.past (session.seen s) o
       → HasEnabledForm f session.past (session.document s) o (session.seen s)
-  pub one_document : (s u : ℕ) → IsSite session.sites s → IsSite session.sites u → HaveOneSet (session.seen s) (session.seen u)
+  pub one_document : (s u : ℕ) → IsSite session.sites s → IsSite session.sites u
+      → HaveOneSet (session.seen s) (session.seen u)
       → session.document s ≡ session.document u

@@ -1,5 +1,6 @@
 -- Which forms are sought, in which order, and which of them a site counts.
-use Rattle.std.specs.Prelude.{◌≡◌, ℕ, zero, suc, ◌+◌, ◌*◌, Bool, true, ◌&&◌, if◌then◌else◌, nat_eq, List, [], ◌∷◌, ◌++◌, length}
+use Rattle.std.specs.Prelude.{◌≡◌, ℕ, zero, suc, ◌+◌, ◌*◌, Bool, true, ◌&&◌, if◌then◌else◌, nat_eq, List, [], ◌∷◌, ◌++◌}
+use Rattle.std.specs.Prelude.{length}
 use Rattle.std.specs.List.{AllByRecursion, list_all, list_any, count_by}
 use Rattle.std.specs.Option.{option_map_or}
 use Rattle.ot_causal.specs.Members.{without, have_one_set, IsSublist}

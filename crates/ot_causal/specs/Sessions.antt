@@ -47,7 +47,8 @@ pub record IsSite (sites s : ℕ) : Type 0 where
 pub record IsSound (f : Function) (session : SessionData) : Type 0 where
   pub past : IsSoundPast f session.past session.first
   pub closed : (s : ℕ) → IsSite session.sites s → IsClosed session.past (session.seen s)
-  pub documents : (s : ℕ) → IsSite session.sites s → state f session.past session.first (session.seen s) ≡ Some (session.document s)
+  pub documents : (s : ℕ) → IsSite session.sites s → state f session.past session.first (session.seen s)
+      ≡ Some (session.document s)
   pub sites : (o : ℕ) → o < session.past.count → IsSite session.sites (maker session.past o)
   pub own : (o : ℕ) → o < session.past.count → has (session.seen (maker session.past o)) o ≡ true
 

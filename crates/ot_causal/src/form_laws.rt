@@ -19,7 +19,8 @@ use fn_rules::{
 /// its form behind the list without the newest open member, transformed against that member's; so it is
 /// behind a newest member that is not before it.
 pub fn forms_are_made_from_shorter_ones()
-    ensures whole { (f : Function) (past : Past) (o : ℕ) (l : List ℕ) → newest_open past o l ≡ None → form f past o l ≡ Some (past.operation o) }
+    ensures whole { (f : Function) (past : Past) (o : ℕ) (l : List ℕ) → newest_open past o l ≡ None
+        → form f past o l ≡ Some (past.operation o) }
     ensures moved { (f : Function) (past : Past) (o : ℕ) (l : List ℕ) (x : ℕ) → newest_open past o l ≡ Some x
         → form f past o l ≡ transformed f (form f past o (without x l)) (form f past x (without x l)) }
     ensures newest { (f : Function) (past : Past) (o x : ℕ) (l : List ℕ) → past.before x o ≡ false
@@ -29,7 +30,8 @@ pub fn forms_are_made_from_shorter_ones()
 /// A form is nop, or its operation at some position, which each member of the list moves by at most 99 from
 /// where operations were made.
 pub fn forms_keep_all_but_the_position()
-    ensures kept { (f : Function) (past : Past) (o : ℕ) (l : List ℕ) (p : Op) → form f past o l ≡ Some p → IsFormOf (past.operation o) p }
+    ensures kept { (f : Function) (past : Past) (o : ℕ) (l : List ℕ) (p : Op) → form f past o l ≡ Some p
+        → IsFormOf (past.operation o) p }
     ensures near { (f : Function) (past : Past) (m o : ℕ) (l : List ℕ) (p : Op) → IsTrue (is_valid f)
         → ((x : ℕ) → x < past.count → IsWithin m (past.operation x)) → o < past.count → AreMade past l
         → form f past o l ≡ Some p → IsWithin (m + 99 * length l) p }
@@ -42,7 +44,8 @@ pub fn forms_keep_all_but_the_position()
 /// No list leads to the first document, and a longer one leads from where its older members lead.
 pub fn lists_lead_member_by_member()
     ensures none { (f : Function) (past : Past) (first : List Cell) → state f past first [] ≡ Some first }
-    ensures next { (f : Function) (past : Past) (first : List Cell) (o : ℕ) (l : List ℕ) (d : List Cell) → state f past first l ≡ Some d
+    ensures next { (f : Function) (past : Past) (first : List Cell) (o : ℕ) (l : List ℕ) (d : List Cell)
+        → state f past first l ≡ Some d
         → state f past first (o ∷ l) ≡ executed f (form f past o l) d }
 {}
 
@@ -50,12 +53,16 @@ pub fn lists_lead_member_by_member()
 pub fn making_more_changes_nothing()
     ensures next { (old new : Past) (l : List ℕ) (o : ℕ) → Extends old new → IsNext old l o → IsNext new l o }
     ensures closed { (old new : Past) (l : List ℕ) → Extends old new → IsClosed old l → IsClosed new l }
-    ensures closed_before { (old new : Past) (l : List ℕ) → Extends old new → AreMade old l → IsClosed new l → IsClosed old l }
-    ensures newest { (old new : Past) (o : ℕ) (l : List ℕ) → Extends old new → o < old.count → newest_open new o l ≡ newest_open old o l }
-    ensures forms { (f : Function) (old new : Past) (o : ℕ) (l : List ℕ) → Extends old new → o < old.count → AreMade old l
+    ensures closed_before { (old new : Past) (l : List ℕ) → Extends old new → AreMade old l → IsClosed new l
+        → IsClosed old l }
+    ensures newest { (old new : Past) (o : ℕ) (l : List ℕ) → Extends old new → o < old.count
+        → newest_open new o l ≡ newest_open old o l }
+    ensures forms { (f : Function) (old new : Past) (o : ℕ) (l : List ℕ) → Extends old new → o < old.count
+        → AreMade old l
         → form f new o l ≡ form f old o l }
     ensures states { (f : Function) (old new : Past) (first : List Cell) (l : List ℕ) → Extends old new → AreMade old l
         → state f new first l ≡ state f old first l }
-    ensures sought { (old new : Past) (o : ℕ) (l : List ℕ) → Extends old new → o < old.count → AreMade old l → sought new o l ≡ sought old o l }
+    ensures sought { (old new : Past) (o : ℕ) (l : List ℕ) → Extends old new → o < old.count → AreMade old l
+        → sought new o l ≡ sought old o l }
     ensures counted { (old new : Past) (l : List ℕ) → Extends old new → AreMade old l → counted new l ≡ counted old l }
 {}

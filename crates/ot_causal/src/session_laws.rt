@@ -15,8 +15,10 @@ use fn_rules::{both_properties_hold_of_forms, functions_keep_forms};
 /// function.
 pub fn steps_keep_sessions_sound()
     ensures begun { (f : Function) (d : List Cell) (session : SessionData) → IsNew d session → IsSound f session }
-    ensures made { (f : Function) (old new : SessionData) (s : ℕ) (a : Op) → IsSound f old → MayMake f old s a → Makes f old new s a → IsSound f new }
-    ensures integrated { (f : Function) (old new : SessionData) (s o : ℕ) → IsSound f old → Integrates f old new s o → IsSound f new }
+    ensures made { (f : Function) (old new : SessionData) (s : ℕ) (a : Op) → IsSound f old → MayMake f old s a
+        → Makes f old new s a → IsSound f new }
+    ensures integrated { (f : Function) (old new : SessionData) (s o : ℕ) → IsSound f old → Integrates f old new s o
+        → IsSound f new }
 {
     functions_keep_forms();
 }
@@ -35,7 +37,8 @@ pub fn both_properties_give_one_course()
 /// So no site of a sound session is ever stuck, and two sites that have integrated the same set hold one
 /// document.
 pub fn both_properties_give_one_document()
-    ensures { (f : Function) (session : SessionData) → HasTp1 f → HasTp2 f → f.head.chars_differ ≡ false → IsSound f session → Converges f session }
+    ensures { (f : Function) (session : SessionData) → HasTp1 f → HasTp2 f → f.head.chars_differ ≡ false
+        → IsSound f session → Converges f session }
 {
     both_properties_give_one_course();
 }

@@ -89,6 +89,7 @@ module _ (stand : NamesStand) (why : Why) (values : List ℤ) (zero : valuation_
   fresh_there k who small =
       let other = near_char (v (char_name who)) small.ch_low small.ch_high in fresh_at v k who other.0 other.1
 
+  -- the two operations are concurrent, and break the property for the cause that the end names
   pub pair_broken :
       PairFailsBy → (f : Function) (k l : Kind) → IsTrue (is_obligation f.head (Pair k l)) → PartsAreSmall (Pair k l) values
       → end_of (plan_of f (Pair k l)) v ≡ Some why
@@ -108,6 +109,7 @@ module _ (stand : NamesStand) (why : Why) (values : List ℤ) (zero : valuation_
       end
       (document_shows v (op_at v (sym_op k A)) (op_at v (sym_op l B)) why (fresh_there k A first) (fresh_there l B second))
 
+  -- so are three operations, and they break the second property
   pub triple_broken :
       TripleFailsBy → (f : Function) (k l m : Kind) → IsTrue (is_obligation f.head (Triple k l m)) → PartsAreSmall (Triple k l m) values
       → end_of (plan_of f (Triple k l m)) v ≡ Some why
@@ -132,6 +134,7 @@ least_length (Triple k l m) w values least = let len = least.len in (omega arith
 
 module _ (stand : NamesStand) (fails : PairFailsBy) (pair_breaks : PairBreaks) (triple_fails : TripleFailsBy) (triple_breaks : TripleBreaks)
     (f : Function) where
+  -- the operations of the least values break the property of the obligation, for the cause
   broken :
       (ob : ObName) (w : List Lit) (why : Why) (values : List ℤ) → IsTrue (is_obligation f.head ob)
       → AreLeast w (floors_of ob) values → PartsAreSmall ob values → end_of (plan_of f ob) (valuation_of values) ≡ Some why

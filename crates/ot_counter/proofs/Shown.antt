@@ -1,6 +1,7 @@
 -- The document of a counterexample shows the cause: where the characters of the operations are others than
 -- `x` and `y`, it tells apart what final documents have at the index.
-use Rattle.std.proofs.Common.{◌≡◌, ◌≢◌, ℕ, zero, suc, ◌+◌, ℤ, pos, negsuc, ◌+ℤ◌, Bool, true, false, not, if◌then◌else◌, Option, Some, None, List, [], ◌∷◌, ◌++◌, length, refl, ap, sym, ◌∙◌, inl, inr, arith, add-one}
+use Rattle.std.proofs.Common.{◌≡◌, ◌≢◌, ℕ, zero, suc, ◌+◌, ℤ, pos, negsuc, ◌+ℤ◌, Bool, true, false, not, if◌then◌else◌, Option, Some, None, List, [], ◌∷◌, ◌++◌}
+use Rattle.std.proofs.Common.{length, refl, ap, sym, ◌∙◌, inl, inr, arith, add-one}
 use Rattle.std.specs.Prelude.{slice_get, unsigned_abs}
 use Rattle.std.specs.Ordering.{int_eq}
 use Rattle.std.proofs.lemmas.Bool.{cases_Bool}
@@ -76,6 +77,7 @@ module _ (n : ℕ) (a b : Op) (i : ℤ) (left dead : Option ℤ) (fresh_a : IsFr
   abbrev cell_at : ℕ → Cell
   cell_at t = shown_cell i (Cells left dead) t
 
+  -- the document of a counterexample tells apart what is read at the index
   tells_apart : TellsApart (cells_by_place n cell_at) a b i left dead
   tells_apart = record {
     live = λ j cell here apart.

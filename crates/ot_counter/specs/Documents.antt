@@ -1,5 +1,6 @@
 -- The document that shows a cause, which is read off the values of a counterexample.
-use Rattle.std.specs.Prelude.{ℕ, zero, suc, ℤ, pos, ◌+ℤ◌, Bool, false, not, if◌then◌else◌, List, [], ◌∷◌, Option, Some, None, unsigned_abs}
+use Rattle.std.specs.Prelude.{ℕ, zero, suc, ℤ, pos, ◌+ℤ◌, Bool, false, not, if◌then◌else◌, List, [], ◌∷◌, Option, Some}
+use Rattle.std.specs.Prelude.{None, unsigned_abs}
 use Rattle.std.specs.Ordering.{int_eq}
 use Rattle.ot_model.specs.declared.cell.Cell.{Cell}
 use Rattle.ot_model.specs.Cells.{live_cell}

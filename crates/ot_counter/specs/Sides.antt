@@ -38,9 +38,11 @@ operation_side (Some form) = sides.Op form
 -- `a` and then `b`; of a triple the form of `c` behind them
 abbrev pub left_at : Function → (ℕ → ℤ) → List Cell → ObName → Side
 left_at f v d (Pair k l) = document_way f d (op_at v (sym_op k A)) (op_at v (sym_op l B))
-left_at f v d (Triple k l m) = operation_side (form_behind f (op_at v (sym_op k A)) (op_at v (sym_op l B)) (op_at v (sym_op m C)))
+left_at f v d (Triple k l m) = operation_side (form_behind f (op_at v (sym_op k A)) (op_at v (sym_op l B))
+    (op_at v (sym_op m C)))
 
 -- `b` and then `a`; of a triple the form of `c` behind them
 abbrev pub right_at : Function → (ℕ → ℤ) → List Cell → ObName → Side
 right_at f v d (Pair k l) = document_way f d (op_at v (sym_op l B)) (op_at v (sym_op k A))
-right_at f v d (Triple k l m) = operation_side (form_behind f (op_at v (sym_op l B)) (op_at v (sym_op k A)) (op_at v (sym_op m C)))
+right_at f v d (Triple k l m) = operation_side (form_behind f (op_at v (sym_op l B)) (op_at v (sym_op k A))
+    (op_at v (sym_op m C)))

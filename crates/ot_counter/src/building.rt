@@ -45,7 +45,8 @@ pub fn build(
     requires possible { IsPossible answers.now }
     ensures counter { IfOk result (λ counter. IsCounter (function_of rules.now) ob answers.now why counter) }
     ensures breaks { IfOk result (λ counter. Breaks (function_of rules.now) counter.level counter.doc counter.ops) }
-    ensures by_the_cause { IfOk result (λ counter. BreaksBy (function_of rules.now) counter.level counter.doc counter.ops why) }
+    ensures by_the_cause { IfOk result (λ counter. BreaksBy (function_of rules.now) counter.level counter.doc
+        counter.ops why) }
 {
     // The contract of `head` tells that the function keeps the limits, which the laws want.
     let _head = rules.head();
@@ -67,7 +68,8 @@ fn read_off(
     why: Why,
 ) -> Result<Counter, NoMemory>
     requires declared { IsTrue (is_obligation (function_of rules.now).head ob) }
-    requires concurrent { AreConcurrent (function_of rules.now) (document_read (valuation_of values.now) why) (ops_at (valuation_of values.now) ob) }
+    requires concurrent { AreConcurrent (function_of rules.now) (document_read (valuation_of values.now) why)
+        (ops_at (valuation_of values.now) ob) }
     requires parts { (who : Who) → char_name who < length (floors_of ob) → IsSmallAt values.now who }
     requires cells { pos 0 ≤ℤ valuation_of values.now 1 }
     ensures { IfOk result (λ counter. IsReadOff (function_of rules.now) ob (valuation_of values.now) why counter) }
@@ -94,11 +96,13 @@ fn of_pair(
     why: Why,
 ) -> Result<Counter, NoMemory>
     requires declared { IsTrue (is_obligation (function_of rules.now).head (Pair k l)) }
-    requires concurrent { AreConcurrent (function_of rules.now) (document_read (valuation_of values.now) why) (ops_at (valuation_of values.now) (Pair k l)) }
+    requires concurrent { AreConcurrent (function_of rules.now) (document_read (valuation_of values.now) why)
+        (ops_at (valuation_of values.now) (Pair k l)) }
     requires first { IsSmallAt values.now A }
     requires second { IsSmallAt values.now B }
     requires cells { pos 0 ≤ℤ valuation_of values.now 1 }
-    ensures { IfOk result (λ counter. IsReadOff (function_of rules.now) (Pair k l) (valuation_of values.now) why counter) }
+    ensures { IfOk result (λ counter. IsReadOff (function_of rules.now) (Pair k l) (valuation_of values.now) why
+        counter) }
 {
     let doc = document_at(alloc, values, why)?;
     let a = op_at(values, k, Who::A);
@@ -130,7 +134,8 @@ fn of_triple(
     requires second { IsSmallAt values.now B }
     requires third { IsSmallAt values.now C }
     requires cells { pos 0 ≤ℤ valuation_of values.now 1 }
-    ensures { IfOk result (λ counter. IsReadOff (function_of rules.now) (Triple k l m) (valuation_of values.now) why counter) }
+    ensures { IfOk result (λ counter. IsReadOff (function_of rules.now) (Triple k l m) (valuation_of values.now) why
+        counter) }
 {
     let doc = document_at(alloc, values, why)?;
     let a = op_at(values, k, Who::A);

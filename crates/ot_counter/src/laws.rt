@@ -29,13 +29,17 @@ use ot_values::answers_have_least_values;
 /// document that shows it.
 pub fn failing_ends_have_counterexamples()
     ensures above { (f : Function) (ob : ObName) (w : List Lit) (why : Why) → IsTrue (is_valid f)
-        → IsTrue (is_obligation f.head ob) → LeadTo why (plan_of f ob) w → IsPossible w → IsPossibleAbove (floors_of ob) w }
-    ensures parts { (f : Function) (ob : ObName) (w : List Lit) (why : Why) (values : List ℤ) (who : Who) → IsTrue (is_valid f)
-        → LeadTo why (plan_of f ob) w → AreLeast w (floors_of ob) values → char_name who < length (floors_of ob) → IsSmallAt values who }
+        → IsTrue (is_obligation f.head ob) → LeadTo why (plan_of f ob) w → IsPossible w
+        → IsPossibleAbove (floors_of ob) w }
+    ensures parts { (f : Function) (ob : ObName) (w : List Lit) (why : Why) (values : List ℤ) (who : Who)
+        → IsTrue (is_valid f)
+        → LeadTo why (plan_of f ob) w → AreLeast w (floors_of ob) values → char_name who < length (floors_of ob)
+        → IsSmallAt values who }
     ensures broken { (f : Function) (ob : ObName) (w : List Lit) (why : Why) (values : List ℤ) → IsTrue (is_valid f)
         → IsTrue (is_obligation f.head ob) → LeadTo why (plan_of f ob) w → AreLeast w (floors_of ob) values
         → Breaks f (level_of ob) (document_at (valuation_of values) why) (ops_at (valuation_of values) ob) }
-    ensures by_the_cause { (f : Function) (ob : ObName) (w : List Lit) (why : Why) (values : List ℤ) → IsTrue (is_valid f)
+    ensures by_the_cause { (f : Function) (ob : ObName) (w : List Lit) (why : Why) (values : List ℤ)
+        → IsTrue (is_valid f)
         → IsTrue (is_obligation f.head ob) → LeadTo why (plan_of f ob) w → AreLeast w (floors_of ob) values
         → BreaksBy f (level_of ob) (document_at (valuation_of values) why) (ops_at (valuation_of values) ob) why }
 {

@@ -68,6 +68,7 @@ module _ (begun v : View) (tally : Tally) (events : List Event) (i : ℕ) (d : E
   pub next_can_be_done : CanBeDone v (get_or events i d)
   next_can_be_done = can_be_done v play.counts play.stands (get_or events i d) (is_drill begun v is play.function) parts.0
 
+  -- one event more was done, and the session is in play
   pub in_play-next : (new : View) (new_tally : Tally) → IsPlayed v tally (get_or events i d) new new_tally → InPlay begun new new_tally events (i + 1)
   in_play-next new new_tally played =
       let once = counts_once v new tally new_tally (get_or events i d) played in

@@ -1,5 +1,6 @@
 -- A session that stands at counts: what may be done in it, and where it stands behind an event.
-use Rattle.std.proofs.Common.{◌≡◌, ◌≢◌, ◌<◌, ◌≤◌, ◌+◌, ◌*◌, ◌⊎◌, ℕ, zero, suc, Bool, true, false, List, [], ◌∷◌, length, Some, Ok, refl, sym, ap, ◌∙◌, subst, inl, inr, arith, add-one}
+use Rattle.std.proofs.Common.{◌≡◌, ◌≢◌, ◌<◌, ◌≤◌, ◌+◌, ◌*◌, ◌⊎◌, ℕ, zero, suc, Bool, true, false, List, [], ◌∷◌, length, Some, Ok, refl, sym, ap, ◌∙◌, subst}
+use Rattle.std.proofs.Common.{inl, inr, arith, add-one}
 use Rattle.std.specs.Prelude.{pos, ◌&&◌, not, nat_eq, nat_le, nat_lt, if◌then◌else◌}
 use Rattle.std.specs.Ordering.{int_eq}
 use Rattle.std.proofs.lemmas.Bool.{and_parts, cases_eq}
@@ -74,6 +75,7 @@ deletion made s behind = record {
   filled = λ d filled. marked_left s d (filled behind);
 }
 
+-- an operation that passes the test is one at the front
 front_by : (c : Counts) (s : ℕ) (o : Op) → is_at_front c s o ≡ true → IsFront (c.made s) s o
 front_by c s (Ins at ch site) h =
     let both : (int_eq at (pos 0) ≡ true) × (nat_eq site s ≡ true) = and_parts (int_eq at (pos 0)) (nat_eq site s) h in
@@ -98,6 +100,7 @@ record MayBeMade (c : Counts) (s : ℕ) (o : Op) : Type 0 where
   few : c.total < 48
   front : IsFront (c.made s) s o
 
+-- an operation that passes the test may be made at its site
 may_be_made : (c : Counts) (s : ℕ) (o : Op) → is_fine c (Make s o) ≡ true → MayBeMade c s o
 may_be_made c s o h =
     let a : Bool = not c.taking in
@@ -138,6 +141,7 @@ module _ (v : View) (c : Counts) (stands : Stands v c) where
     enabled = may.front.enabled ((data_in v).document s) (λ some. stands.filled may.early s may.site some);
   }
 
+  -- an event that is fine by the counts can be done in the session
   pub can_be_done : (event : Event) → IsDrillFunction v.function → is_fine c event ≡ true → CanBeDone v event
   can_be_done (Make s o) is fine =
       let may = may_be_made c s o fine in (
@@ -192,6 +196,7 @@ module _ (v new : View) (c : Counts) (s n : ℕ) (o : Op) (stands : Stands v c) 
       made_at-more (past_of v.made) (past_of new.made) s t o made_by_site.extends made_by_site.count made_by_site.operation may.front.own
       ∙ ap (λ m. m + more_at s t) (stands.made t)
 
+  -- each operation is made by one of the three sites
   makers_then : (t : ℕ) → t < length new.made → IsSite 3 (maker (past_of new.made) t)
   makers_then t below =
       let count : length new.made ≡ length v.made + 1 = made_by_site.count in
@@ -214,6 +219,7 @@ module _ (v new : View) (c : Counts) (s n : ℕ) (o : Op) (stands : Stands v c) 
         | inr other ↦ (let none = other.1 in omega arith)
       ]
 
+  -- each site that has made an operation has a cell, while none was taken
   cells_then : c.taking ≡ false → (t : ℕ) → IsSite 3 t → 0 < c.made t + more_at s t → 0 < length ((data_in new).document t)
   cells_then early t site some =
       elim (more_cases s t) as (λ _. 0 < length ((data_in new).document t)) [

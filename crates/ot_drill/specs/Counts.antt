@@ -1,5 +1,6 @@
 -- Which events no session of three sites refuses: a test that computes, and what it rests on.
-use Rattle.std.specs.Prelude.{◌≡◌, ℕ, pos, ◌+◌, ◌*◌, ◌<◌, ◌≤◌, Bool, true, false, not, ◌&&◌, if◌then◌else◌, nat_eq, nat_le, nat_lt, List, [], ◌∷◌, length}
+use Rattle.std.specs.Prelude.{◌≡◌, ℕ, pos, ◌+◌, ◌*◌, ◌<◌, ◌≤◌, Bool, true, false, not, ◌&&◌, if◌then◌else◌, nat_eq}
+use Rattle.std.specs.Prelude.{nat_le, nat_lt, List, [], ◌∷◌, length}
 use Rattle.std.specs.Ordering.{int_eq}
 use Rattle.ot_model.specs.declared.op.Op.{Op}
 use Rattle.ot_model.specs.declared.op.Op.TheVariants.{Ins, Del, Upd, Nop}
@@ -38,7 +39,8 @@ is_at_front c s Nop = false
 
 -- an operation may be made before any is taken, and taken once it was made
 abbrev pub is_fine : Counts → Event → Bool
-is_fine c (Make s op) = not c.taking && is_site s && nat_lt (c.made s) MOST_ROUNDS && nat_lt c.total 48 && is_at_front c s op
+is_fine c (Make s op) = not c.taking && is_site s && nat_lt (c.made s) MOST_ROUNDS && nat_lt c.total 48 && is_at_front c
+    s op
 is_fine c (Take s number) = is_site s && nat_lt number c.total
 
 abbrev pub counts_behind : Counts → Event → Counts
@@ -51,7 +53,8 @@ abbrev pub are_fine : Counts → List Event → Bool
 are_fine c [] = true
 are_fine c (event ∷ events) = is_fine c event && are_fine (counts_behind c event) events
 
--- the session is open, and its counts are these, which are small; before an operation is taken, sites that made one have cells
+-- the session is open, and its counts are these, which are small; before an operation is taken, sites that made one
+-- have cells
 pub record Stands (v : View) (c : Counts) : Type 0 where
   pub is_open : v.is_open ≡ true
   pub sites : length v.sites ≡ SITES

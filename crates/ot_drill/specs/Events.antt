@@ -1,5 +1,6 @@
 -- The events of a generated workload.
-use Rattle.std.specs.Prelude.{ℕ, pos, ◌-◌, ◌*◌, ◌%◌, not, nat_eq, if◌then◌else◌, List, [], ◌∷◌, ◌++◌, map, filter, reverse}
+use Rattle.std.specs.Prelude.{ℕ, pos, ◌-◌, ◌*◌, ◌%◌, not, nat_eq, if◌then◌else◌, List, [], ◌∷◌, ◌++◌, map, filter}
+use Rattle.std.specs.Prelude.{reverse}
 use Rattle.std.specs.List.{flat_map, range_with_len}
 use Rattle.ot_model.specs.declared.op.Op.{Op}
 use Rattle.ot_model.specs.declared.op.Op.TheVariants as ops
@@ -23,7 +24,8 @@ abbrev pub takes_of : ℕ → List ℕ → List Event
 takes_of site numbers = map (Take site) numbers
 
 -- in so many rounds each of three sites makes an operation; then site 1 takes those of the others in the order in which
--- they were made, site 2 takes them in the opposite order, and site 3 takes them twice in the order in which they were made
+-- they were made, site 2 takes them in the opposite order, and site 3 takes them twice in the order in which they were
+-- made
 abbrev pub drill_events : ℕ → List Event
 drill_events rounds =
     flat_map makes_in (range_with_len 0 rounds)

@@ -29,14 +29,16 @@ with_answer tally (Done numbers) = tally
 
 -- the event is done and counted
 abbrev pub IsPlayed : View → Tally → Event → View → Tally → Type 0
-IsPlayed v tally (Make site op) new new_tally = (number : ℕ) × HasMade v new site op number × (new_tally ≡ with_made tally)
+IsPlayed v tally (Make site op) new new_tally = (number : ℕ) × HasMade v new site op number
+    × (new_tally ≡ with_made tally)
 IsPlayed v tally (Take site number) new new_tally =
     (took : Took) × HasTaken v new site number (Ok took) × (new_tally ≡ with_answer tally took)
 
 -- the events are done one after the other from a session on, which is this one in the end, and this was counted
 pub data ArePlayed (begun : View) : List Event → View → Tally → Type 0 where
   start : ArePlayed begun [] begun nothing_done
-  then : (events : List Event) (mid new : View) (tally new_tally : Tally) (event : Event) → ArePlayed begun events mid tally
+  then : (events : List Event) (mid new : View) (tally new_tally : Tally) (event : Event)
+      → ArePlayed begun events mid tally
       → IsPlayed mid tally event new new_tally → ArePlayed begun (events ++ event ∷ []) new new_tally
 
 -- no site has counted more forms than the operations of so many rounds can have

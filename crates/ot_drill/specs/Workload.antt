@@ -9,8 +9,8 @@ use Rattle.fn_rules.specs.Functions.{Function, GuardedCase, cases_of, is_declare
 use Rattle.fn_rules.specs.Building.{PairCases, function_from}
 use Rattle.fn_rules.specs.Shipped.{p1_to_p2, p1_plus, when, block, by_sites, smaller_stays, moved_up, stays}
 
--- of two insertions: one that stands more than so many cells in front of the other stays, then one that stands more than
--- one cell less in front of it, and so on down to more than one
+-- of two insertions: one that stands more than so many cells in front of the other stays, then one that stands more
+-- than one cell less in front of it, and so on down to more than one
 abbrev pub further_cases : ℕ → List GuardedCase
 further_cases zero = []
 further_cases (suc k) = when (p1_to_p2 Lt (negsuc k)) (p1_plus (pos 0)) ∷ further_cases k
@@ -18,7 +18,8 @@ further_cases (suc k) = when (p1_to_p2 Lt (negsuc k)) (p1_plus (pos 0)) ∷ furt
 -- the blocks of `ttf`, with further cases at the front of the first
 abbrev pub drill_blocks : ℕ → List PairCases
 drill_blocks n =
-    block Ins Ins (further_cases n ++ smaller_stays) ∷ block Ins Del stays ∷ block Del Ins moved_up ∷ block Del Del stays ∷ []
+    block Ins Ins (further_cases n ++ smaller_stays) ∷ block Ins Del stays ∷ block Del Ins moved_up
+        ∷ block Del Del stays ∷ []
 
 -- `ttf` with so many cases more, each of which the case behind them implies
 abbrev pub drill_function : ℕ → Function

@@ -60,7 +60,8 @@ fn push_takes(site: u32, numbers: &[u32], events: &mut Vec<Event>) -> Result<(),
 
 // A site takes operations, and then all of them once more.
 fn push_twice(site: u32, numbers: &[u32], events: &mut Vec<Event>) -> Result<(), NoMemory>
-    ensures { OnOk result (events.new.items ≡ events.old.items ++ takes_of site numbers.now ++ takes_of site numbers.now) }
+    ensures { OnOk result (events.new.items ≡ events.old.items ++ takes_of site numbers.now
+        ++ takes_of site numbers.now) }
 {
     push_takes(site, numbers, events)?;
     push_takes(site, numbers, events)

@@ -1,5 +1,6 @@
 -- Carrying an operation over a list: one after the other, with one more at the end, and what is kept of the operations.
-use Rattle.std.proofs.Common.{◌≡◌, ℕ, ◌+◌, ◌<◌, true, false, List, [], ◌∷◌, length, drop, get_or, Option, Some, None, refl, ◌≤◌, ◌++◌, ap, sym, append_assoc, arith, ◌∙◌, subst}
+use Rattle.std.proofs.Common.{◌≡◌, ℕ, ◌+◌, ◌<◌, true, false, List, [], ◌∷◌, length, drop, get_or, Option, Some, None, refl, ◌≤◌, ◌++◌, ap, sym, append_assoc}
+use Rattle.std.proofs.Common.{arith, ◌∙◌, subst}
 use Rattle.std.specs.Prelude.{pos, nat_le}
 use Rattle.std.specs.Option.{option_map, option_and_then}
 use Rattle.std.proofs.lemmas.List.{drop_more}
@@ -88,19 +89,22 @@ carry-push f o (a ∷ bs) b = by (crossed f o a.op) (λ p. carry-push f p bs b)
             → option_map (behind first) (option_map (λ both. record { op = both.own; list = c.list ++ record b { op = both.other } ∷ [] }) x)
             ≡ option_map (λ both. record { op = both.own; list = (first ++ c.list) ++ record b { op = both.other } ∷ [] }) x
         at None = refl
-        at (Some both) = ap (λ (list : List Placed). Some (record { op = both.own; list = list })) (sym (append_assoc first c.list (record b { op = both.other } ∷ [])))
+        at (Some both) = ap (λ (list : List Placed). Some (record { op = both.own; list = list }))
+            (sym (append_assoc first c.list (record b { op = both.other } ∷ [])))
 
     by : (x : Option Crossed) → ((p : Op) → carry f p (bs ++ b ∷ []) ≡ option_and_then (carried_on f b) (carry f p bs))
         → option_and_then (λ both. option_map (behind (record a { op = both.other } ∷ [])) (carry f both.own (bs ++ b ∷ []))) x
         ≡ option_and_then (carried_on f b) (option_and_then (λ both. option_map (behind (record a { op = both.other } ∷ [])) (carry f both.own bs)) x)
     by None rest = refl
-    by (Some both) rest = ap (option_map (behind (record a { op = both.other } ∷ []))) (rest both.own) ∙ moved (record a { op = both.other } ∷ []) (carry f both.own bs)
+    by (Some both) rest = ap (option_map (behind (record a { op = both.other } ∷ []))) (rest both.own) ∙ moved (record a { op = both.other } ∷ [])
+        (carry f both.own bs)
 
 -- both transformations of two that crossed
 pub record AreTransformed (f : Function) (a b : Op) (both : Crossed) : Type 0 where
   pub own : transform_of f a b ≡ Some both.own
   pub other : transform_of f b a ≡ Some both.other
 
+-- two operations that cross are each transformed by the other
 pub crossed_both : (f : Function) (a b : Op) (both : Crossed) → crossed f a b ≡ Some both → AreTransformed f a b both
 crossed_both f a b both is = by (transform_of f a b) refl (transform_of f b a) refl is
   where
@@ -128,6 +132,7 @@ pub record CarriesOn (f : Function) (o : Op) (b : Placed) (bs : List Placed) (k 
   pub rest_is : carry f both.own bs ≡ Some rest
   pub k_is : record { op = rest.op; list = record b { op = both.other } ∷ rest.list } ≡ k
 
+-- what is carried over a list crosses its first operation, and then goes on over the others
 pub carries_on : (f : Function) (o : Op) (b : Placed) (bs : List Placed) (k : Carried) → carry f o (b ∷ bs) ≡ Some k → CarriesOn f o b bs k
 carries_on f o b bs k is = by (crossed f o b.op) refl is
   where

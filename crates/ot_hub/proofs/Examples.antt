@@ -87,6 +87,7 @@ to_take = record { place = 0; op = Ins (pos 2) 97 1 } ∷ record { place = 1; op
 up_way : Ups sites (client_of waiting 3).messages (ahead_of waiting.server 3) (third ∷ []) to_take
 up_way = record { carried = record { op = third.op; list = to_take }; is = refl; form_is = refl; rest = refl }
 
+-- the way down of client 3, whose pending operation both others cross
 down_way : Downs sites 3 0 (client_of waiting 3).pending waiting.server.log (third ∷ []) to_take
 down_way = inr (record {
   other = λ same. absurd (omega (arith, same));

@@ -18,6 +18,7 @@ document_code : Coded (List Cell)
 document_code = coded_list cell_code
 
 module _ (hub : HubData) where
+  -- in a hub in step a client that received all and made nothing has the server's document
   follows : AreInStep hub.function hub.first hub.server hub.clients → FollowsLog hub
   follows s = record {
     server = s.log.doc;

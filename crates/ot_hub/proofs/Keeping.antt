@@ -1,5 +1,6 @@
 -- Each step keeps what is kept of a hub.
-use Rattle.std.proofs.Common.{◌≡◌, ℕ, ◌+◌, ◌*◌, ◌-◌, ◌<◌, ◌≤◌, List, [], ◌∷◌, ◌++◌, length, drop, map, Option, Some, None, refl, sym, ap, ◌∙◌, subst, get_or, arith, length-append, length-drop, inl, inr}
+use Rattle.std.proofs.Common.{◌≡◌, ℕ, ◌+◌, ◌*◌, ◌-◌, ◌<◌, ◌≤◌, List, [], ◌∷◌, ◌++◌, length, drop, map, Option, Some, None, refl, sym, ap, ◌∙◌, subst, get_or}
+use Rattle.std.proofs.Common.{arith, length-append, length-drop, inl, inr}
 use Rattle.std.specs.Prelude.{slice_set, nat_eq, nat_le}
 use Rattle.std.proofs.lemmas.Bool.{cases_Bool}
 use Rattle.std.specs.List.{All, sum_by}
@@ -108,7 +109,8 @@ pub record WentOn {X : Type 0} (carried : Option Carried) (cells : ℕ) (go : Ca
   pub is : carried ≡ Some it
   pub new_is : go it ≡ new
 
-pub goes_on-to : {X : Type 0} (carried : Option Carried) (cells : ℕ) (go : Carried → X) (new : X) → goes_on carried cells go ≡ To new → WentOn carried cells go new
+pub goes_on-to : {X : Type 0} (carried : Option Carried) (cells : ℕ) (go : Carried → X) (new : X) → goes_on carried cells go ≡ To new
+    → WentOn carried cells go new
 goes_on-to None cells go new is = cc
 goes_on-to {X} (Some it) cells go new is = elim (cases_Bool (is_enabled it.op cells)) [
   | inl enabled ↦ (let led : To (go it) ≡ To new = rw enabled at is in record { it = it; is = refl; new_is = to_one led })
@@ -159,19 +161,23 @@ module _ (f : Function) (has : KeepsNear f) (grows : Grows) (mode : Mode) (c : �
   longer : length (s.log ++ record { client = c; op = carried.op } ∷ []) ≡ entries + 1
   longer = length-append s.log (record { client = c; op = carried.op } ∷ [])
 
+  -- so all that is kept of the server is kept of the one after the message
   pub IsServerKept-after : IsServerKept f (server_after mode c carried s)
   IsServerKept-after = record {
     few = omega (arith, longer, few);
-    log = subst (λ (n : ℕ). All (λ entry. IsUsable f (reach n) entry.op) after.log) (sym longer) (All-push (λ entry. IsUsable f (reach (entries + 1)) entry.op) s.log (record { client = c; op = carried.op })
+    log = subst (λ (n : ℕ). All (λ entry. IsUsable f (reach n) entry.op) after.log) (sym longer)
+        (All-push (λ entry. IsUsable f (reach (entries + 1)) entry.op) s.log (record { client = c; op = carried.op })
         (All-weaker (λ entry. IsUsable f (reach entries) entry.op) (λ entry. IsUsable f (reach (entries + 1)) entry.op)
         (λ entry. IsUsable-wider has.wider f (reach entries) (reach (entries + 1)) entry.op (omega arith)) s.log kept.log) op_near);
-    ahead = subst (λ (n : ℕ). All (λ one. AreUsable f (reach n) one) after.ahead) (sym longer) (All-set (λ one. AreUsable f (reach (entries + 1)) one) (map (λ one. one ++ item ∷ []) s.ahead) (c - 1) carried.list
+    ahead = subst (λ (n : ℕ). All (λ one. AreUsable f (reach n) one) after.ahead) (sym longer)
+        (All-set (λ one. AreUsable f (reach (entries + 1)) one) (map (λ one. one ++ item ∷ []) s.ahead) (c - 1) carried.list
         (AreUsable-wider has.wider f (reach entries + 99 * length list) (reach (entries + 1)) carried.list further near.list)
         (All-map (λ one. AreUsable f (reach (entries + 1)) one) (λ one. one ++ item ∷ []) s.ahead
         (All-weaker (λ one. AreUsable f (reach entries) one) (λ one. AreUsable f (reach (entries + 1)) (one ++ item ∷ []))
         (λ one all. All-push (λ b. IsUsable f (reach (entries + 1)) b.op) one item
         (AreUsable-wider has.wider f (reach entries) (reach (entries + 1)) one (omega arith) all) op_near) s.ahead kept.ahead)));
-    short = subst (λ (n : ℕ). All (λ one. length one ≤ n) after.ahead) (sym longer) (All-set (λ one. length one ≤ entries + 1) (map (λ one. one ++ item ∷ []) s.ahead) (c - 1) carried.list
+    short = subst (λ (n : ℕ). All (λ one. length one ≤ n) after.ahead) (sym longer)
+        (All-set (λ one. length one ≤ entries + 1) (map (λ one. one ++ item ∷ []) s.ahead) (c - 1) carried.list
         (omega (arith, near.length, short))
         (All-map (λ one. length one ≤ entries + 1) (λ one. one ++ item ∷ []) s.ahead
         (All-weaker (λ one. length one ≤ entries) (λ one. length (one ++ item ∷ []) ≤ entries + 1)
@@ -295,7 +301,9 @@ pub record IsClientStepped (f : Function) (n : ℕ) (old new : Client) : Type 0 
   pub edits : new.edits ≡ old.edits
   pub messages : new.messages ≡ old.messages
 
-pub IsClientKept-stepped : (f : Function) → KeepsNear f → Grows → (n c : ℕ) (client new : Client) → IsClientKept f n client → n ≤ MAX_EDITS → client.received < n
+-- a client that takes an entry keeps what is kept of it, and its edits and messages stay
+pub IsClientKept-stepped : (f : Function) → KeepsNear f → Grows → (n c : ℕ) (client new : Client) → IsClientKept f n client → n ≤ MAX_EDITS
+    → client.received < n
     → (entry : Entry) → IsUsable f (reach n) entry.op → client_step f c entry client ≡ To new → IsClientStepped f n client new
 IsClientKept-stepped f has grows n c client new kept few more entry usable is = elim (cases_Bool (nat_eq entry.client c)) [
   | inl own ↦

@@ -30,7 +30,8 @@ module _ (f : Function) (keeps : KeepsForms f) (converging : ConvergesOnForms f)
   module _ (server : Server) (c : ℕ) (client : Client) (ahead : List Placed) (s : IsClientInStep f first server c client ahead)
       (o : Op) (integrable : IsIntegrable f (length client.doc) o) (of : IsOf c o) where
     across : CarriesAcross f client.doc o s.taken
-    across = CarriesAcross-tp1 f keeps converging client.doc o s.taken integrable s.taken_chain (allowed_with_others f keeps any_chars is_form c o s.taken of s.others)
+    across = CarriesAcross-tp1 f keeps converging client.doc o s.taken integrable s.taken_chain
+        (allowed_with_others f keeps any_chars is_form c o s.taken of s.others)
 
     abbrev k : Carried
     k = across.carried
@@ -41,6 +42,7 @@ module _ (f : Function) (keeps : KeepsForms f) (converging : ConvergesOnForms f)
     downs : Downs f c client.received (edited mode o client).pending (drop client.received server.log) (s.forms ++ item client.received k.op ∷ []) k.list
     downs = downs-more_pending f c o client.received client.received client.pending (drop client.received server.log) s.forms s.taken k s.downs across.is
 
+    -- it stays in step: its message is at the end of what it sends and of what is pending
     pub IsClientInStep-edited : IsClientInStep f first server c (edited mode o client) ahead
     IsClientInStep-edited = record {
       forms = s.forms ++ item client.received k.op ∷ [];
@@ -50,7 +52,8 @@ module _ (f : Function) (keeps : KeepsForms f) (converging : ConvergesOnForms f)
           (subst (λ (l : List Placed). carry f o l ≡ Some k) (sym s.kept_is) across.is);
       downs = downs;
       kept_is = from_place-same client.received k.list
-          (downs-places f c client.received (edited mode o client).pending (drop client.received server.log) (s.forms ++ item client.received k.op ∷ []) k.list downs);
+          (downs-places f c client.received (edited mode o client).pending (drop client.received server.log) (s.forms ++ item client.received k.op ∷ []) k.list
+              downs);
       received = s.received;
       made = all-push (λ message. message.place ≤ client.received) client.messages (item client.received o) s.made (omega arith);
       doc = ap (document_after mode o) s.doc ∙ sym (document_after_all-push mode client.pending (item client.received o) base);
@@ -62,6 +65,7 @@ module _ (f : Function) (keeps : KeepsForms f) (converging : ConvergesOnForms f)
       one_document = across.one_document ∙ ap (document_after mode k.op) s.one_document
           ∙ sym (document_after_all-push mode s.forms (item client.received k.op) server.doc);
       own = all-push (λ b. IsOf c b.op) client.pending (item client.received o) s.own of;
-      own_forms = all-push (λ b. IsOf c b.op) s.forms (item client.received k.op) s.own_forms (op-kept f (IsOf c) (of-kept f keeps any_chars is_form c) o s.taken k across.is of);
+      own_forms = all-push (λ b. IsOf c b.op) s.forms (item client.received k.op) s.own_forms
+          (op-kept f (IsOf c) (of-kept f keeps any_chars is_form c) o s.taken k across.is of);
       others = list-kept f (IsOfOthers c) (others-kept f keeps any_chars is_form c) o s.taken k across.is s.others;
     }

@@ -55,6 +55,7 @@ from_place-later place later (a ∷ list) sooner = elim (cases_Bool (nat_le plac
 
 -- what is sent, where the server keeps one more entry for the client, or the client makes one more
 module _ (f : Function) where
+  -- an entry that the server keeps for the client crosses what is sent, and comes after what was kept
   pub ups-more_ahead : (y : Op) (n : ℕ) (messages ahead forms kept : List Placed) (k : Carried) → Ups f messages ahead forms kept
       → AllByRecursion (λ message. message.place ≤ n) messages → carry f y forms ≡ Some k
       → Ups f messages (ahead ++ item n y ∷ []) k.list (kept ++ item n k.op ∷ [])

@@ -57,6 +57,7 @@ module _ (f : Function) (has : KeepsNear f) where
     pub own : IsUsable f m both.own
     pub other : IsUsable f m both.other
 
+  -- two operations that cross stay usable, at most 99 further on
   pub IsUsable-crossed : (m : ℕ) (a b : Op) (both : Crossed) → IsUsable f m a → IsUsable f m b → crossed f a b ≡ Some both
       → AreUsableBoth (m + 99) both
   IsUsable-crossed m a b both as_a as_b is = by (transform_of f a b) refl (transform_of f b a) refl is

@@ -1,5 +1,6 @@
 -- Where the server executes what a message became, each client stays in step with it.
-use Rattle.std.proofs.Common.{◌≡◌, ◌≢◌, ◌≤◌, ℕ, false, List, [], ◌∷◌, ◌++◌, length, take, drop, Some, refl, sym, ap, ◌∙◌, subst, arith, length-append, length-drop}
+use Rattle.std.proofs.Common.{◌≡◌, ◌≢◌, ◌≤◌, ℕ, false, List, [], ◌∷◌, ◌++◌, length, take, drop, Some, refl, sym, ap, ◌∙◌, subst, arith, length-append}
+use Rattle.std.proofs.Common.{length-drop}
 use Rattle.std.specs.List.{AllByRecursion}
 use Rattle.std.proofs.lemmas.List.{map-append, take-append-le, drop-append-le}
 use Rattle.ot_model.specs.declared.cell.Cell.{Cell}
@@ -79,11 +80,13 @@ module _ (f : Function) (keeps : KeepsForms f) (converging : ConvergesOnForms f)
         is_others = of_other d c k.op other of
 
         across : CarriesAcross f server.doc k.op s.forms
-        across = CarriesAcross-tp1 f keeps converging server.doc k.op s.forms integrable s.forms_chain (allowed_with_own f keeps any_chars is_form d k.op s.forms is_others s.own_forms)
+        across = CarriesAcross-tp1 f keeps converging server.doc k.op s.forms integrable s.forms_chain
+            (allowed_with_own f keeps any_chars is_form d k.op s.forms is_others s.own_forms)
 
         abbrev next : Placed
         next = item entries across.carried.op
 
+        -- the entry comes after what the server keeps for the client, and crosses what it sends
         pub IsClientInStep-told : IsClientInStep f first new d client (ahead ++ item entries k.op ∷ [])
         IsClientInStep-told = record {
           forms = across.carried.list;
@@ -126,6 +129,7 @@ module _ (f : Function) (keeps : KeepsForms f) (converging : ConvergesOnForms f)
         after : document_after mode up.form.op server.doc ≡ document_after mode k.op server.doc
         after = ap (λ (o : Op). document_after mode o server.doc) form_op
 
+        -- its oldest message is an entry of the log now, and is on its way no more
         pub IsClientInStep-sent : IsClientInStep f first new d (sent client) k.list
         IsClientInStep-sent = record {
           forms = up.forms;
@@ -152,7 +156,8 @@ module _ (f : Function) (keeps : KeepsForms f) (converging : ConvergesOnForms f)
         }
 
   -- the step of the server leads on
-  module _ (server : Server) (c : ℕ) (client : Client) (s : IsClientInStep f first server c client (ahead_of server c)) (oldest : Placed) (younger : List Placed)
+  module _ (server : Server) (c : ℕ) (client : Client) (s : IsClientInStep f first server c client (ahead_of server c)) (oldest : Placed)
+      (younger : List Placed)
       (up : FirstUp f oldest younger (ahead_of server c) s.forms s.kept) where
     abbrev became : Carried
     became = up.first.carried

@@ -1,5 +1,6 @@
 -- All clients of a hub and its server stay in step, and what is in the log and on its way stays counted.
-use Rattle.std.proofs.Common.{◌≡◌, ◌≢◌, ◌<◌, ◌+◌, ◌-◌, ℕ, false, List, [], ◌∷◌, ◌++◌, length, map, drop, Some, refl, sym, ap, ◌∙◌, subst, arith, inl, inr, get_or, length-drop, eq-eqb, eqb-true, get_or-set_same, get_or-set_other}
+use Rattle.std.proofs.Common.{◌≡◌, ◌≢◌, ◌<◌, ◌+◌, ◌-◌, ℕ, false, List, [], ◌∷◌, ◌++◌, length, map, drop, Some, refl, sym, ap, ◌∙◌, subst, arith, inl, inr}
+use Rattle.std.proofs.Common.{get_or, length-drop, eq-eqb, eqb-true, get_or-set_same, get_or-set_other}
 use Rattle.std.specs.Prelude.{nat_eq, slice_get, slice_set, count_by, if◌then◌else◌, Err}
 use Rattle.std.proofs.lemmas.Bool.{cases_eq, false_from_ne_true}
 use Rattle.std.proofs.lemmas.Option.{unwrap_or-slice_get}
@@ -186,6 +187,7 @@ module _ (f : Function) (keeps : KeepsForms f) (converging : ConvergesOnForms f)
     of : IsOf c became.op
     of = up-of f keeps converging any_chars is_form first server c client mine message younger up
 
+    -- the step leads to a hub in step: the client that sent it, and each other one
     pub AreInStep-up : LeadsTo (λ after. AreInStep f first after (slice_set all (c - 1) (sent client))) (server_step f c message server)
     AreInStep-up = record {
       to = new;

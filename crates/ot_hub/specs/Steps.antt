@@ -1,5 +1,6 @@
 -- The steps of a hub: a client makes an operation, the server takes a message, a client takes an entry of the log.
-use Rattle.std.specs.Prelude.{◌≡◌, ◌+◌, ◌-◌, ℕ, nat_eq, List, [], ◌∷◌, ◌++◌, length, map, drop, Option, Some, None, unwrap_or, slice_get, slice_set, if◌then◌else◌, Result, Ok, Err}
+use Rattle.std.specs.Prelude.{◌≡◌, ◌+◌, ◌-◌, ℕ, nat_eq, List, [], ◌∷◌, ◌++◌, length, map, drop, Option, Some, None}
+use Rattle.std.specs.Prelude.{unwrap_or, slice_get, slice_set, if◌then◌else◌, Result, Ok, Err}
 use Rattle.ot_model.specs.declared.op.Op.{Op}
 use Rattle.ot_model.specs.declared.op.Mode.{Mode}
 use Rattle.ot_model.specs.Effect.{is_enabled, document_after}
@@ -39,7 +40,8 @@ abbrev pub server_after : Mode → ℕ → Carried → Server → Server
 server_after mode c carried server = record {
   log = server.log ++ record { client = c; op = carried.op } ∷ [];
   doc = document_after mode carried.op server.doc;
-  ahead = slice_set (map (λ list. list ++ record { place = length server.log; op = carried.op } ∷ []) server.ahead) (c - 1) carried.list;
+  ahead = slice_set (map (λ list. list ++ record { place = length server.log; op = carried.op } ∷ []) server.ahead)
+      (c - 1) carried.list;
 }
 
 -- the server takes a message: it is carried over the entries that the client had not received when it made it
@@ -75,7 +77,8 @@ abbrev pub client_step : Function → ℕ → Entry → Client → Step Client
 client_step f c entry client =
     if nat_eq entry.client c
     then To (confirmed client)
-    else goes_on (carry f entry.op client.pending) (length client.doc) (λ carried. client_after f.head.mode carried client)
+    else goes_on (carry f entry.op client.pending) (length client.doc)
+        (λ carried. client_after f.head.mode carried client)
 
 -- the step leads on
 abbrev pub IsTo : {X : Type 0} → Step X → Type 0

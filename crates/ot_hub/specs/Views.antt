@@ -1,5 +1,6 @@
 -- A hub, seen as plain data, and what its calls answer.
-use Rattle.std.specs.Prelude.{◌≡◌, ◌≢◌, ◌-◌, ℕ, Bool, true, false, List, [], ◌∷◌, length, replicate, Option, Some, None, slice_get, slice_set, Result, Ok, Err}
+use Rattle.std.specs.Prelude.{◌≡◌, ◌≢◌, ◌-◌, ℕ, Bool, true, false, List, [], ◌∷◌, length, replicate, Option, Some, None}
+use Rattle.std.specs.Prelude.{slice_get, slice_set, Result, Ok, Err}
 use Rattle.std.specs.List.{sum_by}
 use Rattle.ot_model.specs.declared.cell.Cell.{Cell}
 use Rattle.ot_model.specs.declared.op.Op.{Op}
@@ -64,7 +65,8 @@ all_edits hub = sum_by (λ client. client.edits) hub.clients
 
 -- the hub after a client made an operation
 abbrev pub after_edit : HubData → ℕ → Op → HubData
-after_edit hub c o = record hub { clients = slice_set hub.clients (c - 1) (edited hub.function.head.mode o (client_of hub c)) }
+after_edit hub c o = record hub { clients = slice_set hub.clients (c - 1)
+    (edited hub.function.head.mode o (client_of hub c)) }
 
 -- the tests that an operation passes that a client makes, in their order
 pub record PassesSite (hub : HubData) (c : ℕ) (o : Op) : Type 0 where
@@ -84,8 +86,10 @@ abbrev pub HasEdited : HubData → HubData → ℕ → Op → Result (Unit {0}) 
 HasEdited old new c o (Ok done) = PassesAll old c o × (all_edits old ≢ MAX_EDITS) × (new ≡ after_edit old c o)
 HasEdited old new c o (Err edits.NoSite) = (¬ (IsClient (length old.clients) c)) × (new ≡ old)
 HasEdited old new c o (Err edits.WrongSite) = IsClient (length old.clients) c × (site_of o ≢ Some c) × (new ≡ old)
-HasEdited old new c o (Err edits.WrongKind) = PassesSite old c o × (¬ (HasDeclaredKind old.function.head (kind_of o))) × (new ≡ old)
-HasEdited old new c o (Err edits.NotEnabled) = PassesKind old c o × (¬ (IsEnabled o (length (client_of old c).doc))) × (new ≡ old)
+HasEdited old new c o (Err edits.WrongKind) = PassesSite old c o × (¬ (HasDeclaredKind old.function.head (kind_of o)))
+    × (new ≡ old)
+HasEdited old new c o (Err edits.NotEnabled) = PassesKind old c o × (¬ (IsEnabled o (length (client_of old c).doc)))
+    × (new ≡ old)
 HasEdited old new c o (Err edits.Full) = PassesAll old c o × (all_edits old ≡ MAX_EDITS) × (new ≡ old)
 HasEdited old new c o (Err edits.NoMemory) = PassesAll old c o × (all_edits old ≢ MAX_EDITS) × (new ≡ closed old)
 
@@ -93,7 +97,8 @@ HasEdited old new c o (Err edits.NoMemory) = PassesAll old c o × (all_edits old
 abbrev pub up_with : HubData → ℕ → List Placed → Step HubData
 up_with hub c [] = Nothing
 up_with hub c (message ∷ others) =
-    step_map (λ server. record hub { server = server; clients = slice_set hub.clients (c - 1) (sent (client_of hub c)) })
+    step_map (λ server. record hub { server = server; clients = slice_set hub.clients (c - 1)
+        (sent (client_of hub c)) })
     (server_step hub.function c message hub.server)
 
 abbrev pub up_step : HubData → ℕ → Step HubData
@@ -103,7 +108,8 @@ up_step hub c = up_with hub c (client_of hub c).messages
 abbrev pub down_with : HubData → ℕ → Option Entry → Step HubData
 down_with hub c None = Nothing
 down_with hub c (Some entry) =
-    step_map (λ client. record hub { clients = slice_set hub.clients (c - 1) client }) (client_step hub.function c entry (client_of hub c))
+    step_map (λ client. record hub { clients = slice_set hub.clients (c - 1) client })
+        (client_step hub.function c entry (client_of hub c))
 
 abbrev pub down_step : HubData → ℕ → Step HubData
 down_step hub c = down_with hub c (slice_get hub.server.log (client_of hub c).received)

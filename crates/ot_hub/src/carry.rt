@@ -60,7 +60,8 @@ pub(crate) fn carry_list(
 ) -> Result<List<Placed>, NoMemory>
     requires usable { CanBeCarried (function_of rules.now) op list.now }
     requires carried { IsSome (carry (function_of rules.now) op (from_place place list.now)) }
-    ensures { IfOk result (λ new. carried_list (carry (function_of rules.now) op (from_place place list.now)) ≡ Some new) }
+    ensures { IfOk result (λ new. carried_list (carry (function_of rules.now) op (from_place place list.now))
+        ≡ Some new) }
 {
     let _head = rules.head();
     transform_stays_near();

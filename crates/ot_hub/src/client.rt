@@ -97,7 +97,8 @@ pub(crate) fn edit_at(
 ) -> Result<(), NoMemory>
     requires place { place < length clients.old }
     requires client { CanEdit op (client_at clients.old place) }
-    ensures ok { OnOk result (clients.new ≡ slice_set clients.old place (edited (function_of rules.now).head.mode op (client_at clients.old place))) }
+    ensures ok { OnOk result (clients.new ≡ slice_set clients.old place
+        (edited (function_of rules.now).head.mode op (client_at clients.old place))) }
     ensures err { OnErr result (clients.new ≡ clients.old) }
 {
     let client = &mut clients[place];
@@ -133,7 +134,8 @@ pub(crate) fn sent_at(clients: &mut [Client], place: usize)
 
 /// So many clients that hold the document, and made nothing.
 pub(crate) fn fresh_clients(alloc: Global, doc: &Doc, count: u32) -> Result<Vec<Client>, NoMemory>
-    ensures { IfOk result (λ clients. clients.items ≡ replicate count (record { edits = 0; received = 0; pending = []; messages = []; doc = doc.now })) }
+    ensures { IfOk result (λ clients. clients.items ≡ replicate count
+        (record { edits = 0; received = 0; pending = []; messages = []; doc = doc.now })) }
 {
     let mut clients = Vec::new(alloc);
     while clients.len() < count as usize {

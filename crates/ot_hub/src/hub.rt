@@ -145,7 +145,8 @@ impl Hub {
     /// client had not received when it made it, and puts what it becomes at the end of its log.
     pub fn up(&mut self, client: u32) -> Result<Moved, Move>
         requires { (view_of self.old).is_open ≡ true }
-        ensures moved { HasMoved (view_of self.old) (view_of self.new) client (up_step (view_of self.old) client) result }
+        ensures moved { HasMoved (view_of self.old) (view_of self.new) client (up_step (view_of self.old) client)
+            result }
 
         // Where the function has the first property and characters need not differ, no operation is stuck.
         ensures never_stuck { HasTp1 (view_of self.old).function → (view_of self.old).function.head.chars_differ ≡ false
@@ -182,7 +183,8 @@ impl Hub {
     /// client's is carried over what is pending, and executed.
     pub fn down(&mut self, client: u32) -> Result<Moved, Move>
         requires { (view_of self.old).is_open ≡ true }
-        ensures moved { HasMoved (view_of self.old) (view_of self.new) client (down_step (view_of self.old) client) result }
+        ensures moved { HasMoved (view_of self.old) (view_of self.new) client (down_step (view_of self.old) client)
+            result }
         ensures server { (view_of self.new).server ≡ (view_of self.old).server }
 
         // Where the function has the first property and characters need not differ, no operation is stuck.

@@ -13,7 +13,8 @@ use fn_rules::{functions_keep_forms, tp1_holds_of_forms};
 /// Where a function has the first property, an operation can be carried over each list of operations that
 /// can be executed on its document and that it may be with, and both ways lead to one document.
 pub fn tp1_carries_across()
-    ensures { (f : Function) → HasTp1 f → (d : List Cell) (o : Op) (list : List Placed) → IsIntegrable f (length d) o → IsChain f d list
+    ensures { (f : Function) → HasTp1 f → (d : List Cell) (o : Op) (list : List Placed) → IsIntegrable f (length d) o
+        → IsChain f d list
         → IsAllowedWith f o list → CarriesAcross f d o list }
 {
     functions_keep_forms();

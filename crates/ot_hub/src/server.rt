@@ -64,7 +64,8 @@ impl Server {
         requires low { 1 ≤ client }
         requires high { client ≤ length self.old.ahead }
         requires usable { IsUsable (function_of rules.now) most_cells message.now.op }
-        ensures { HasStepped self.old self.new (server_step (function_of rules.now) client message.now self.old) result }
+        ensures { HasStepped self.old self.new (server_step (function_of rules.now) client message.now self.old)
+            result }
     {
         enabled_operations_are_near();
         let ahead = self.ahead[client as usize - 1].as_slice();

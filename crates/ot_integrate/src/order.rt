@@ -40,7 +40,8 @@ pub fn integrate(
     requires integrable { All (IsIntegrable (function_of rules.now) (length doc.now)) ops.now }
     requires cells { length doc.now ≤ MAX_CELLS }
     requires places { length order.now ≤ MAX_OPERATIONS }
-    ensures outcome { IfOk result (λ end. outcome_of end ≡ integrated (function_of rules.now) doc.now ops.now order.now) }
+    ensures outcome { IfOk result (λ end. outcome_of end
+        ≡ integrated (function_of rules.now) doc.now ops.now order.now) }
 
     // Where the function has both properties, no order of concurrent operations is stuck, and each ends
     // with one document.

@@ -1,7 +1,8 @@
 -- The header of a level.
 use Rattle.std.specs.Prelude.{filter, ◌&&◌}
 use Rattle.std.specs.List.{list_any}
-use Rattle.std.proofs.Common.{◌≡◌, ℕ, ◌+◌, ◌<◌, Bool, true, false, IsTrue, List, [], ◌∷◌, ◌++◌, length, Ok, arith, refl, sym, ap, ◌∙◌, length-append, append_assoc}
+use Rattle.std.proofs.Common.{◌≡◌, ℕ, ◌+◌, ◌<◌, Bool, true, false, IsTrue, List, [], ◌∷◌, ◌++◌, length, Ok, arith, refl, sym, ap, ◌∙◌, length-append}
+use Rattle.std.proofs.Common.{append_assoc}
 use Rattle.fn_rules.specs.declared.function.Level.{Level}
 use Rattle.fn_rules.specs.declared.function.Level.TheVariants.{Tp1, Tp2}
 use Rattle.ot_model.specs.declared.op.Kind.{Kind}
@@ -65,6 +66,7 @@ behind_header :
 behind_header names level trees bytes is = is ∙ append_assoc (header_text names level) (sections_text names trees) end_text
 
 module _ (f : Function) where
+  -- a certificate of a valid function is judged whole
   pub certificate_is_whole :
       AreParts → (level : Level) (bytes : List ℕ) → IsTrue (is_valid f) → IsCertificate bytes f level → IsWhole f level bytes
   certificate_is_whole are_parts Tp1 bytes valid (trees, answers, is) =
@@ -96,6 +98,7 @@ module _ (f : Function) where
         ),
       )
 
+  -- bytes that are judged whole are a certificate with answers
   whole_shows :
       AreSections → (names : List ObName) (level : Level) (bytes rest : List ℕ) (branches : List (Branch Why)) (offset : ℕ)
       → bytes ≡ header_text names level ++ rest

@@ -46,6 +46,7 @@ module _ (once : IsJudgedOnce) (are_whole : AreWhole) (f : Function) (bytes : Li
       same_level l m one.0 other.0
       (once (plan_of f) (start_of f) bytes (part.Header l ∷ one.0) (part.Header m ∷ other.0) (Ok tt) (Ok tt) one.1 other.1).1
 
+  -- bytes have one judgement by a valid function
   one_judgement_of :
       (one other : Result Level JudgeError) → IsTrue (is_valid f)
       → IsJudgement f bytes one → IsJudgement f bytes other → one ≡ other

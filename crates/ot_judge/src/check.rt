@@ -25,8 +25,8 @@ pub fn check_all<F: Feed>(alloc: Global, rules: &Rules, feed: &mut F) -> Result<
     // Where the feed tells its bytes, these are the bytes.
     ensures judged { IsWant result ⊎ ((bytes : List ℕ) × MayGive F.left F.bound feed.old bytes
         × IsJudgement (function_of rules.now) bytes result) }
-    // Whether or not the feed tells its bytes: of all bytes that begin with those that it gave, and are no more where nothing
-    // is left, those that it had not given before the call have this judgement.
+    // Whether or not the feed tells its bytes: of all bytes that begin with those that it gave, and are no more where
+    // nothing is left, those that it had not given before the call have this judgement.
     ensures given { IsWant result ⊎ ((all : Whole) → MayHave F.left F.bound F.gave F.hand feed.new all →
         (bytes : List ℕ) × MayGiveOf F.left F.bound F.gave feed.old all bytes
         × IsJudgement (function_of rules.now) bytes result) }

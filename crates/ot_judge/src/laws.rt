@@ -13,8 +13,10 @@ use ot_sections::{all_bytes_are_judged, bytes_are_judged_once, sections_are_part
 /// Bytes are a certificate of a function at a level exactly where they are made of parts that fit one after
 /// another, the header of the level first and the last line last.
 pub fn certificates_are_parts_that_fit()
-    ensures parts { (f : Function) (level : Level) (bytes : List ℕ) → IsTrue (is_valid f) → IsCertificate bytes f level → IsWhole f level bytes }
-    ensures certificate { (f : Function) (level : Level) (bytes : List ℕ) → IsWhole f level bytes → IsCertificate bytes f level }
+    ensures parts { (f : Function) (level : Level) (bytes : List ℕ) → IsTrue (is_valid f) → IsCertificate bytes f level
+        → IsWhole f level bytes }
+    ensures certificate { (f : Function) (level : Level) (bytes : List ℕ) → IsWhole f level bytes
+        → IsCertificate bytes f level }
 {
     sections_are_parts_that_fit::<Why>();
 }
@@ -29,8 +31,8 @@ pub fn bytes_have_one_judgement()
     bytes_are_judged_once::<Why>();
 }
 
-/// Any bytes have a judgement of any function: they are a certificate of it, or are refused at an offset for a cause. So
-/// with the law before, bytes have exactly one judgement of a function within the limits.
+/// Any bytes have a judgement of any function: they are a certificate of it, or are refused at an offset for a cause.
+/// So with the law before, bytes have exactly one judgement of a function within the limits.
 pub fn all_bytes_have_a_judgement()
     ensures { (f : Function) (bytes : List ℕ) → (judgement : Result Level JudgeError) × IsJudgement f bytes judgement }
 {

@@ -1,7 +1,8 @@
 -- What a turn of the search comes to: too many questions, a low certificate, or a failing end from which it goes on.
 use Rattle.std.specs.List.{AllByRecursion}
 use Rattle.std.specs.declared.alloc.Global.{Global}
-use Rattle.std.proofs.Common.{◌≡◌, ℕ, ℤ, pos, ◌+◌, ◌<◌, ◌≤◌, true, IsTrue, List, [], ◌∷◌, ◌++◌, length, drop, Some, Vec, inl, inr, refl, sym, ap, subst, ◌∙◌, arith, length-append}
+use Rattle.std.proofs.Common.{◌≡◌, ℕ, ℤ, pos, ◌+◌, ◌<◌, ◌≤◌, true, IsTrue, List, [], ◌∷◌, ◌++◌, length, drop, Some, Vec, inl, inr, refl, sym, ap, subst, ◌∙◌}
+use Rattle.std.proofs.Common.{arith, length-append}
 use Rattle.std.specs.Fmt.{decimal}
 use Rattle.std.proofs.lemmas.Fmt.{length-decimal-le}
 use Rattle.diff_graph.specs.declared.lit.Lit.{Lit}
@@ -94,6 +95,7 @@ module _ (f : Function) (budget : ℕ) (e : Ending) (obs : List ObName) (are : o
     fit : AreAnswers plan (parts_of f.head (level_of e.ob)) low_trees
     fit = subst (λ (l : List ObName). AreAnswers plan l low_trees) are settled.2.fit
 
+    -- the search ends: the end has a least counterexample
     pub falls_least : FallsTo (short.Least e.ob e.answers e.why e.cells cert)
     falls_least = (
       settled.0 ∷ [],
@@ -127,6 +129,7 @@ module _ (f : Function) (budget : ℕ) (e : Ending) (obs : List ObName) (are : o
         (end_is_listed (λ o. level_of o ≡ level_of e.ob) plan (end_by ob answers.items why) (parts_of f.head (level_of e.ob)) settled.0 all
         (asked_there settled.0 settled.1) settled.2.1.first).here
 
+    -- the search goes on from the shorter end that fails
     pub falls_on :
         (next : Ending) (answer : Short) → IsEnding f next → next.ob ≡ ob → next.answers.items ≡ drop 1 answers.items → next.why ≡ why
         → (turns : List (List (ObQuestions Why))) × Falls f budget (end_of next) next.cells turns answer → FallsTo answer
@@ -162,6 +165,7 @@ module _ (f : Function) (valid : IsTrue (is_valid f))
       breaks e.ob e.why (answered_by e.answers.items) (valuation_of values) e.cells ending.listed
       (literals_lead e.why (plan_of f e.ob) e.answers.items ending.way) least.zero_first is least.met
 
+  -- a failing end with a low certificate of as many cells is a least counterexample
   pub is_least :
       ((bytes : List ℕ) (level : Level) (bound n : ℕ) → IsLow bytes f level bound → n < bound → HasAt f level n)
       → (e : Ending) (cert : List ℕ) → IsEnding f e → IsBroken f (level_of e.ob) → IsLow cert f (level_of e.ob) e.cells

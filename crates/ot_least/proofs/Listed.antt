@@ -28,6 +28,7 @@ module _ (P : ObName → Type 0) (plan : ObName → Plan Why) (x : FailingOb Why
   listed_here ob e q holds list fails is =
       subst (λ (y : FailingOb Why). IsListed P plan y) is (record { here = holds; questions = q; list = list; fails = fails })
 
+  -- the failing end is of this obligation, or else of one of the later ones
   here_or_later :
       (ob : ObName) (obs : List ObName) (q : Questions Why) (failing : Option (FailingEnd Why)) (lists : List (ObQuestions Why))
       → P ob → QuestionList (plan ob) [] q

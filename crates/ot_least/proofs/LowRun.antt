@@ -39,6 +39,7 @@ module _ {F : Type 0} (feeds : Ghosts F) (f : Function) (feed new : F) where
   module _ (level : Level) (bound : ℕ) (bounded : bound ≤ MAX_BOUND) (first : F)
       (header : (all : Whole) (rest : List ℕ) → Yields feeds first all rest → Yields feeds feed all (low_header_text level bound ++ rest))
       (reader : Progress) (at : point_of {W = Why} (stand (fed reader first) []) ≡ behind_header f level bound) where
+    -- a low certificate is its first line, and what is judged after it
     pub judged_behind :
         (end : Result (Unit {0}) JudgeError) → IsJudgedBehind feeds (plan_below f (Some bound)) (stand (fed reader first) []) new end
         → (all : Whole) → Has feeds new all → (bytes : List ℕ) × Yields feeds feed all bytes × IsJudgedLow f end bytes level bound

@@ -34,6 +34,7 @@ AreSections =
     → (trees : List AnswerTree) × AreAnswers plan obs trees × (bytes ≡ sections_text obs trees ++ end_text)
 
 module _ (f : Function) (level : Level) (bound : ℕ) (bytes : List ℕ) where
+  -- a low certificate is judged as one
   pub low_is_judged : AreParts → IsLow bytes f level bound → IsJudgedLow f (Ok tt) bytes level bound
   low_is_judged are_parts (bounded, (trees, answers, text)) =
       let obs = parts_of f.head level in
@@ -46,6 +47,7 @@ module _ (f : Function) (level : Level) (bound : ℕ) (bytes : List ℕ) where
         ),
       )
 
+  -- bytes that are judged a low certificate are one
   pub judged_is_low : AreSections → IsJudgedLow f (Ok tt) bytes level bound → IsLow bytes f level bound
   judged_is_low are_sections (bounded, (rest, text, judged)) =
       let obs = parts_of f.head level in
@@ -154,6 +156,7 @@ module _ (f : Function) (bytes : List ℕ) where
           same_end (Ok tt) (Err (judge.Refused offset cause)) level m bound c (are_judged f level bound bytes low) refused in
           cc
 
+      -- bytes have one judgement as a low certificate
       pub low_judged_once :
           (one other : Result (Level × ℕ) JudgeError) → IsLowJudgement f bytes one → IsLowJudgement f bytes other → one ≡ other
       low_judged_once (Ok (l, b)) (Ok (m, c)) one two =

@@ -61,6 +61,7 @@ alike_self Spent = refl
 alike : (a b : Short) → a ≡ b → AreAlike a b
 alike a b same = subst (λ (x : Short). AreAlike a x) same (alike_self a)
 
+-- question lists tell one answer, but for its certificate
 tells_once :
     (f : Function) (end : FailingOb Why) (cells : ℕ) (lists : List (ObQuestions Why)) (a b : Short) → TellsLeast f end cells lists a
     → TellsLeast f end cells lists b → AreAlike a b
@@ -110,6 +111,7 @@ module _ (one_list : OneList) (f : Function) (budget : ℕ) where
 
   module _ (one_first : (obs : List ObName) (lists others : List (ObQuestions Why)) → AreAsked (plan_of f) obs lists
       → AreAsked (plan_of f) obs others → lists ≡ others) where
+    -- a function has one answer on its shortest document, but for its certificate
     pub short_once : (a b : Short) → IsShort f budget a → IsShort f budget b → AreAlike a b
     short_once a b (lists, asked, comes) (more, asked', comes') =
         let same : more ≡ lists = one_first (obligations_of f.head Tp2) more lists asked' asked in

@@ -11,8 +11,8 @@ use Rattle.ot_questions.specs.Obligation.{plan_of}
 use Rattle.ot_least.specs.declared.ending.Ending.{Ending}
 use Rattle.ot_least.specs.Shortest.{HasCells, end_by}
 
--- the answers lead through the plan of an obligation to an end that fails, some integers meet them, and the least of these
--- give so many cells
+-- the answers lead through the plan of an obligation to an end that fails, some integers meet them, and the least of
+-- these give so many cells
 pub record IsEnding (f : Function) (e : Ending) : Type 0 where
   pub listed : IsTrue (is_obligation f.head e.ob)
   pub way : AreAnswersTo (plan_of f e.ob) e.answers.items (Fails e.why)

@@ -43,7 +43,8 @@ HasNoHeaderBy bytes judge.NoMemory = ⊥
 -- some bytes that a feed might give are refused so, if the error is a refusal
 abbrev pub IsNoHeaderBehind : {F : Type 0} → Ghosts F → F → F → JudgeError → Type 0
 IsNoHeaderBehind feeds old new e =
-    IsRefused e → (all : Whole) → Has feeds new all → (bytes : List ℕ) × Yields feeds old all bytes × HasNoHeaderBy bytes e
+    IsRefused e → (all : Whole) → Has feeds new all → (bytes : List ℕ) × Yields feeds old all bytes
+        × HasNoHeaderBy bytes e
 
 -- behind the first line
 abbrev pub behind_header : Function → Level → ℕ → Point Why

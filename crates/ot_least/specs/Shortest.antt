@@ -43,7 +43,8 @@ abbrev pub EndHasCells : FailingOb Why → ℕ → Type 0
 EndHasCells e cells = HasCells e.ob e.end.answers cells
 
 -- the bytes are a low certificate whose trees have exactly these questions
-pub record IsLowProof (f : Function) (level : Level) (cells : ℕ) (lists : List (ObQuestions Why)) (bytes : List ℕ) : Type 0 where
+pub record IsLowProof (f : Function) (level : Level) (cells : ℕ) (lists : List (ObQuestions Why)) (bytes : List ℕ) :
+    Type 0 where
   pub trees : List AnswerTree
   pub fit : AreAnswers (plan_below f (Some cells)) (parts_of f.head level) trees
   pub ask : AskTheQuestions (plan_below f (Some cells)) trees lists
@@ -57,16 +58,18 @@ TellsLeast f end cells lists Fine = ⊥
 TellsLeast f end cells lists TooLong = ⊥
 TellsLeast f end cells lists Spent = ⊥
 
--- what comes of question lists: they are too many, or none has a failing end, or there is a first one, whose document has so
--- many cells
+-- what comes of question lists: they are too many, or none has a failing end, or there is a first one, whose document
+-- has so many cells
 abbrev pub Comes : ℕ → List (ObQuestions Why) → Type 0 → Type 0 → (FailingOb Why → ℕ → Type 0) → Type 0
 Comes budget lists Spends Holds Ends =
     ((budget < count_in lists) × Spends)
     ⊎ (((count_in lists ≤ budget) × (failing_in lists ≡ None) × Holds)
-    ⊎ ((count_in lists ≤ budget) × ((end : FailingOb Why) × (cells : ℕ) × (failing_in lists ≡ Some end) × Ends end cells)))
+    ⊎ ((count_in lists ≤ budget) × ((end : FailingOb Why) × (cells : ℕ) × (failing_in lists ≡ Some end)
+    × Ends end cells)))
 
--- from a failing end with so many cells on, turn by turn: each turn has the question lists of the property's obligations on
--- the documents of fewer cells; the next turn goes on from their failing end, and the last turn gives the answer
+-- from a failing end with so many cells on, turn by turn: each turn has the question lists of the property's
+-- obligations on the documents of fewer cells; the next turn goes on from their failing end, and the last turn gives
+-- the answer
 abbrev pub Falls : Function → ℕ → FailingOb Why → ℕ → List (List (ObQuestions Why)) → Short → Type 0
 Falls f budget end cells [] short = ⊥
 Falls f budget end cells (lists ∷ turns) short =
@@ -91,7 +94,8 @@ IsShort f budget short =
 -- the property that an obligation is a part of is broken on a document of so many cells and on none of fewer, as the
 -- bytes certify; and the answers lead through the plan of the obligation, without the question whether the document is
 -- short, to a failing end whose document has so many cells
-pub record IsLeast (f : Function) (ob : ObName) (answers : List Answer) (why : Why) (cells : ℕ) (cert : List ℕ) : Type 0 where
+pub record IsLeast (f : Function) (ob : ObName) (answers : List Answer) (why : Why) (cells : ℕ) (cert : List ℕ) : Type 0
+    where
   pub broken : IsBroken f (level_of ob)
   pub breaks : ¬ HasAt f (level_of ob) cells
   pub holds_below : (n : ℕ) → n < cells → HasAt f (level_of ob) n

@@ -6,7 +6,8 @@ ghost use Rattle.fn_rules.specs.declared.function.Level.{Level};
 ghost use Rattle.fn_rules.specs.Rules.{function_of};
 ghost use Rattle.ot_outside.specs.Faults.{Rose};
 ghost use Rattle.ot_sections.specs.declared.refusal.JudgeError.{JudgeError};
-ghost use Rattle.ot_sections.specs.Feeding.{Has, IsKept, IsSpent, IsTruncated, MayGive, MayGiveOf, MayHave, Whole, Yields};
+ghost use Rattle.ot_sections.specs.Feeding.{Has, IsKept, IsSpent, IsTruncated, MayGive, MayGiveOf, MayHave, Whole};
+ghost use Rattle.ot_sections.specs.Feeding.{Yields};
 ghost use Rattle.ot_least.specs.Judgements.{IsLowJudgement, IsWant};
 
 use crate::laws::{bytes_have_one_low_judgement, low_certificates_are_sections};
@@ -46,8 +47,8 @@ fn judge_low<F: Feed>(
 /// Whether the bytes of a feed are a low certificate of the function, and at which level and bound; or where they are
 /// refused first, and why. Offsets count from the file's beginning.
 ///
-/// The error is `Failed` only where the count of the feed's faults rose, and `NoMemory` where there was none. Nothing is
-/// judged behind what is refused. A certificate is read to the end of the feed, and so is one that ends too early.
+/// The error is `Failed` only where the count of the feed's faults rose, and `NoMemory` where there was none. Nothing
+/// is judged behind what is refused. A certificate is read to the end of the feed, and so is one that ends too early.
 pub fn check_bound<F: Feed>(
     alloc: Global,
     rules: &Rules,
@@ -58,8 +59,8 @@ pub fn check_bound<F: Feed>(
     // Where the feed tells its bytes, these are the bytes.
     ensures judged { IsWant result ⊎ ((bytes : List ℕ) × MayGive F.left F.bound feed.old bytes
         × IsLowJudgement (function_of rules.now) bytes result) }
-    // Whether or not the feed tells its bytes: of all bytes that begin with those that it gave, and are no more where nothing
-    // is left, those that it had not given before the call have this judgement.
+    // Whether or not the feed tells its bytes: of all bytes that begin with those that it gave, and are no more where
+    // nothing is left, those that it had not given before the call have this judgement.
     ensures given { IsWant result ⊎ ((all : Whole) → MayHave F.left F.bound F.gave F.hand feed.new all →
         (bytes : List ℕ) × MayGiveOf F.left F.bound F.gave feed.old all bytes
         × IsLowJudgement (function_of rules.now) bytes result) }

@@ -21,8 +21,8 @@ use ot_questions::{Why, triple_plans_mean_tp2};
 use ot_sections::MAX_BOUND;
 use std::alloc::Global;
 
-// Goes on from a failing end: searches the documents of fewer cells, and where one breaks the property too, goes on from
-// there.
+// Goes on from a failing end: searches the documents of fewer cells, and where one breaks the property too, goes on
+// from there.
 fn descend(alloc: Global, rules: &Rules, budget: u64, end: Ending) -> Result<Short, NoMemory>
     requires ending { IsEnding (function_of rules.now) end }
     requires broken { IsBroken (function_of rules.now) (part_level end.ob) }
@@ -79,14 +79,16 @@ fn descend_from(alloc: Global, rules: &Rules, budget: u64, end: Ending) -> Resul
     descend(alloc, rules, budget, end)
 }
 
-/// The shortest document on which a function breaks a property, by at most `budget` questions of each search. The property is
-/// the first, or else the second.
+/// The shortest document on which a function breaks a property, by at most `budget` questions of each search. The
+/// property is the first, or else the second.
 ///
 /// All obligations are searched first. From the failing end on, whose least values give the document so many cells, the
-/// obligations of its property are searched on the documents of fewer cells, and so on from each failing end, until none fails.
+/// obligations of its property are searched on the documents of fewer cells, and so on from each failing end, until
+/// none fails.
 ///
-/// `Spent` comes exactly where one of the searches has more questions, `Fine` exactly where the first has no failing end,
-/// `TooLong` exactly where the document there has more than 1,000 cells, and else `Least`. The error is want of memory.
+/// `Spent` comes exactly where one of the searches has more questions, `Fine` exactly where the first has no failing
+/// end, `TooLong` exactly where the document there has more than 1,000 cells, and else `Least`. The error is want of
+/// memory.
 pub fn shortest(alloc: Global, rules: &Rules, budget: u64) -> Result<Short, NoMemory>
     ensures decides { IfOk result (IsShort (function_of rules.now) budget) }
 

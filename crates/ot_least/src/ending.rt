@@ -86,8 +86,8 @@ pub(crate) fn ending_at(
     })
 }
 
-/// The failing end to which answers lead on the documents of fewer cells than the bound. It has fewer cells itself, so it
-/// goes without the answer to the question whether the document is short.
+/// The failing end to which answers lead on the documents of fewer cells than the bound. It has fewer cells itself, so
+/// it goes without the answer to the question whether the document is short.
 pub(crate) fn shorter_ending(
     alloc: Global,
     rules: &Rules,

@@ -1,5 +1,5 @@
-//! What low certificates show, and what the length of a failing end is. These functions work nothing out: their contracts
-//! are the laws.
+//! What low certificates show, and what the length of a failing end is. These functions work nothing out: their
+//! contracts are the laws.
 ghost use Rattle.std.specs.Prelude.{◌≡◌, ◌≢◌, ◌<◌, ◌≤ℤ◌, ◌-ℤ◌, ◌∷◌, ℕ, ℤ, pos, IsTrue, List, Ok, Result, Some};
 ghost use Rattle.diff_graph.specs.declared.lit.Lit.{Lit};
 ghost use Rattle.diff_graph.specs.Literals.{AreMet, IsPossible};
@@ -55,10 +55,12 @@ pub fn failing_ends_break_at_their_length()
     triple_plans_mean_tp2();
 }
 
-/// A failing end on the documents of fewer cells than a bound is one of the obligation, behind the first question. And the
-/// least values that meet the answers there give fewer cells than the bound: the first question is met without its answer.
+/// A failing end on the documents of fewer cells than a bound is one of the obligation, behind the first question. And
+/// the least values that meet the answers there give fewer cells than the bound: the first question is met without its
+/// answer.
 pub fn failing_ends_below_a_bound_are_shorter()
-    ensures leads { (f : Function) (ob : ObName) (why : Why) (w : List Lit) (bound : ℕ) → LeadTo why (plan_below f (Some bound) ob) w
+    ensures leads { (f : Function) (ob : ObName) (why : Why) (w : List Lit) (bound : ℕ)
+        → LeadTo why (plan_below f (Some bound) ob) w
         → (l : Lit) × (rest : List Lit) × (w ≡ l ∷ rest) × LeadTo why (plan_of f ob) rest }
     ensures shorter { (f : Function) (ob : ObName) (why : Why) (l : Lit) (rest : List Lit) (bound : ℕ) (values : List ℤ)
         → IsTrue (is_valid f) → LeadTo why (plan_below f (Some bound) ob) (l ∷ rest) → IsPossible (l ∷ rest)
@@ -68,19 +70,20 @@ pub fn failing_ends_below_a_bound_are_shorter()
     answers_have_least_values();
 }
 
-/// Bytes are a low certificate of a function at a level and a bound exactly where they begin with the first line of these,
-/// and what stands behind it is made of parts that fit up to the end.
+/// Bytes are a low certificate of a function at a level and a bound exactly where they begin with the first line of
+/// these, and what stands behind it is made of parts that fit up to the end.
 pub fn low_certificates_are_sections()
     ensures parts { (f : Function) (level : Level) (bound : ℕ) (bytes : List ℕ) → IsLow bytes f level bound
         → IsJudgedLow f (Ok tt) bytes level bound }
-    ensures certificate { (f : Function) (level : Level) (bound : ℕ) (bytes : List ℕ) → IsJudgedLow f (Ok tt) bytes level bound
+    ensures certificate { (f : Function) (level : Level) (bound : ℕ) (bytes : List ℕ)
+        → IsJudgedLow f (Ok tt) bytes level bound
         → IsLow bytes f level bound }
 {
     sections_are_parts_that_fit::<Why>();
 }
 
-/// Bytes have at most one judgement: they are a low certificate of a function at one level and one bound, or are refused at
-/// one offset for one cause, and never both.
+/// Bytes have at most one judgement: they are a low certificate of a function at one level and one bound, or are
+/// refused at one offset for one cause, and never both.
 pub fn bytes_have_one_low_judgement()
     ensures { (f : Function) (bytes : List ℕ) (one other : Result (Level × ℕ) JudgeError) → IsLowJudgement f bytes one
         → IsLowJudgement f bytes other → one ≡ other }
@@ -92,15 +95,17 @@ pub fn bytes_have_one_low_judgement()
 /// Any two answers of the search for the shortest document, of one function and one budget, are one but for their
 /// certificates.
 pub fn functions_have_one_shortest_document()
-    ensures { (f : Function) (budget : ℕ) (one other : Short) → IsShort f budget one → IsShort f budget other → AreAlike one other }
+    ensures { (f : Function) (budget : ℕ) (one other : Short) → IsShort f budget one → IsShort f budget other
+        → AreAlike one other }
 {
     obligations_have_one_question_list();
 }
 
-/// The search for the shortest document of a valid function never ends for the length of the first failing end's document: no
-/// such document has more than 1,000 cells.
+/// The search for the shortest document of a valid function never ends for the length of the first failing end's
+/// document: no such document has more than 1,000 cells.
 pub fn first_documents_are_never_too_long()
-    ensures { (f : Function) (budget : ℕ) (short : Short) → IsTrue (is_valid f) → IsShort f budget short → short ≢ TooLong }
+    ensures { (f : Function) (budget : ℕ) (short : Short) → IsTrue (is_valid f) → IsShort f budget short
+        → short ≢ TooLong }
 {
     first_documents_have_at_most_1000_cells();
 }

@@ -18,7 +18,8 @@ fn next_byte<F: Feed>(feed: &mut F) -> Result<Option<u8>, Failed>
     ensures byte { IfOk result (λ o. IfSome o (λ byte. (all : Whole) (rest : List ℕ) → Yields F.Feed feed.new all rest
         → Yields F.Feed feed.old all (byte ∷ rest))) }
     ensures fewer { IfOk result (λ o. IfSome o (λ _. F.bound feed.old ≡ F.bound feed.new + 1)) }
-    ensures over { IfOk result (λ o. IfNone o ((all : Whole) → Has F.Feed feed.new all → Yields F.Feed feed.old all [])) }
+    ensures over { IfOk result (λ o. IfNone o ((all : Whole) → Has F.Feed feed.new all
+        → Yields F.Feed feed.old all [])) }
     ensures nothing_left { IfOk result (λ o. IfNone o (IsSpent F.left F.hand feed.new)) }
     ensures failed { OnErr result (Rose (F.faults feed.old) (F.faults feed.new)) }
     ensures kept { IsKept F.faults F.bound F.held F.keeps feed.old feed.new }

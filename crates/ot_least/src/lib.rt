@@ -1,7 +1,7 @@
 //! The shortest documents on which a function breaks a property, with a certificate that none is shorter.
 //!
-//! A low certificate has, behind its first line with a level and a bound, a tree for each obligation of the level's property on
-//! the documents of fewer cells than the bound: it shows that the property holds on all of them.
+//! A low certificate has, behind its first line with a level and a bound, a tree for each obligation of the level's
+//! property on the documents of fewer cells than the bound: it shows that the property holds on all of them.
 #![tactic(auto)]
 
 mod bound;

@@ -36,7 +36,8 @@ pub(crate) fn level_of(ob: ObName) -> Level
 /// They speak of declared kinds alone, and they are few. This function works nothing out: its contract is the law.
 pub(crate) fn parts_are_obligations()
     ensures listed { (head : Head) (level : Level) → list_all (is_obligation head) (parts_of head level) ≡ true }
-    ensures of_level { (head : Head) (level : Level) → AllByRecursion (λ ob. part_level ob ≡ level) (parts_of head level) }
+    ensures of_level { (head : Head) (level : Level) → AllByRecursion (λ ob. part_level ob ≡ level)
+        (parts_of head level) }
     ensures few { (head : Head) (level : Level) → length (parts_of head level) ≤ 24 }
 {
     obligations_are_those_of_the_kinds();

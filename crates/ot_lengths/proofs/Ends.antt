@@ -51,6 +51,7 @@ parts_lead l on_yes on_no w q y e None by_yes by_no (n, list, is) fails =
 parts_lead l on_yes on_no w q y e (Some end) by_yes by_no is fails =
     lead_yes l on_yes on_no w e (by_yes (sym (ap (λ (x : Questions Why). x.failing) is) ∙ fails))
 
+-- the failing end of a question list is one to which answers lead
 ends_lead :
     (p : Plan Why) (w : List Lit) (q : Questions Why) (e : FailingEnd Why) → QuestionList p w q → q.failing ≡ Some e → LeadsBehind p w e
 ends_lead (Ask l on_yes on_no) w q e (inl (_, none)) fails = absurd (none_fails q e none fails)

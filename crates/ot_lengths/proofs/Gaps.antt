@@ -46,6 +46,7 @@ IsTaken p q r low high = IsIn low high p ⊎ (IsIn low high q ⊎ IsIn low high 
 abbrev AreOut : ℤ → ℤ → ℤ → ℤ → ℤ → Type 0
 AreOut p q r low high = IsOut low high p × IsOut low high q × IsOut low high r
 
+-- three integers are out of a range, or one of them takes it
 out_or_taken : (p q r low high : ℤ) → AreOut p q r low high ⊎ IsTaken p q r low high
 out_or_taken p q r low high =
     elim (out_or_in low high p) [
@@ -168,6 +169,7 @@ module _ (v : ℕ → ℤ) (p q r : ℕ) where
   each_out : (low high : ℤ) → AreOut (v p) (v q) (v r) low high → (x : ℕ) → Inner x → IsOut low high (v x)
   each_out low high out x is = each_of (λ y. IsOut low high (v y)) p q r x out.0 out.1 out.2 is
 
+  -- one of four ranges has none of the three values, so there is a cut in it
   pub find_cut : ((x : ℕ) → Inner x → pos 0 ≤ℤ v x) → (t : ℤ) × IsCut v Inner t
   find_cut natural =
       elim (out_or_taken (v p) (v q) (v r) before one) [

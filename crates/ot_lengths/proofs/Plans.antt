@@ -19,10 +19,12 @@ use Rattle.ot_questions.specs.declared.why.Why.TheVariants.{OutOfRange, Lengths,
 use Rattle.ot_questions.specs.Nears.{IsNear}
 use Rattle.ot_questions.specs.Places.{zero_place, length_and, index_and, sym_op, sym_at, sym_kind, growth}
 use Rattle.ot_questions.specs.Questions.{ask_enabled, ask_le}
-use Rattle.ot_questions.specs.Obligation.{ask_documents, ask_lengths, ask_ways, ask_converge, ask_all_enabled, ask_pair, ask_one_place, ask_same_form, ask_behind, ask_commute, ask_triple, plan_of}
+use Rattle.ot_questions.specs.Obligation.{ask_documents, ask_lengths, ask_ways, ask_converge, ask_all_enabled, ask_pair, ask_one_place, ask_same_form}
+use Rattle.ot_questions.specs.Obligation.{ask_behind, ask_commute, ask_triple, plan_of}
 use Rattle.ot_questions.proofs.Nears.{IsNear-plus, IsNear-zero}
 use Rattle.ot_lengths.proofs.Reach.{IsOneOf, AsksShort, IsForm, form_more, form_at, form_made}
-use Rattle.ot_lengths.proofs.Walks.{Short, NamedAt, GoesOn, short_if, near_le, near_lt, walk_eq, walk_transform, zero_named, length_named, walk_enabled, walk_allowed, walk_cells}
+use Rattle.ot_lengths.proofs.Walks.{Short, NamedAt, GoesOn, short_if, near_le, near_lt, walk_eq, walk_transform, zero_named, length_named, walk_enabled}
+use Rattle.ot_lengths.proofs.Walks.{walk_allowed, walk_cells}
 
 growth_near : (mode : Mode) (o : SymOp) → IsNear 1 (growth mode o)
 growth_near Plain (Ins p c s) = record { low = omega (arith, ints); high = omega (arith, ints) }

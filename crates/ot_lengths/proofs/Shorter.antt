@@ -1,6 +1,7 @@
 -- Values above a cut that are lowered by one meet the same answers. So the least values do not give the length more than
 -- 1,000.
-use Rattle.std.proofs.Common.{◌≡◌, ℕ, zero, suc, ◌<◌, ℤ, pos, ◌+ℤ◌, ◌-ℤ◌, ◌≤ℤ◌, ◌<ℤ◌, true, if◌then◌else◌, int_le, List, [], ◌∷◌, length, refl, ap, sym, ◌∙◌, subst, inl, inr, arith, lit<}
+use Rattle.std.proofs.Common.{◌≡◌, ℕ, zero, suc, ◌<◌, ℤ, pos, ◌+ℤ◌, ◌-ℤ◌, ◌≤ℤ◌, ◌<ℤ◌, true, if◌then◌else◌, int_le, List, [], ◌∷◌, length, refl, ap, sym, ◌∙◌}
+use Rattle.std.proofs.Common.{subst, inl, inr, arith, lit<}
 use Rattle.std.specs.Prelude.{slice_index_or}
 use Rattle.std.specs.List.{AllByRecursion, list_all}
 use Rattle.std.proofs.lemmas.Bool.{cases_Bool, false≢true, and_parts}
@@ -158,6 +159,7 @@ module _ (ob : ObName) (w : List Lit) (values : List ℤ) (like : AreLike w) (sh
   abbrev v : ℕ → ℤ
   v = valuation_of values
 
+  -- least values do not give the length more than 1,000
   not_long : pos 1000 <ℤ v length_name → ⊥
   not_long long =
       let (t, cut) = cut_of ob w values least in

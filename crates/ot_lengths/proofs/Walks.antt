@@ -1,5 +1,6 @@
 -- The questions about operations, each with what is asked behind it: their literals are short.
-use Rattle.std.proofs.Common.{◌≡◌, ℕ, ◌+◌, ◌≤◌, ℤ, pos, negsuc, ◌+ℤ◌, ◌-ℤ◌, Bool, true, false, if◌then◌else◌, nat_eq, nat_le, int_le, Option, Some, None, List, [], ◌∷◌, length, refl, subst, inl, inr, arith, lit≤}
+use Rattle.std.proofs.Common.{◌≡◌, ℕ, ◌+◌, ◌≤◌, ℤ, pos, negsuc, ◌+ℤ◌, ◌-ℤ◌, Bool, true, false, if◌then◌else◌, nat_eq, nat_le, int_le, Option, Some, None, List}
+use Rattle.std.proofs.Common.{[], ◌∷◌, length, refl, subst, inl, inr, arith, lit≤}
 use Rattle.std.specs.Ordering.{int_eq}
 use Rattle.std.specs.List.{AllByRecursion, list_all}
 use Rattle.std.proofs.lemmas.Bool.{cases_Bool, and_parts}
@@ -28,11 +29,13 @@ use Rattle.ot_questions.specs.declared.place.SymOp.TheVariants.{Ins, Del, Upd, N
 use Rattle.ot_questions.specs.declared.why.Why.{Why}
 use Rattle.ot_questions.specs.Nears.{IsNear}
 use Rattle.ot_questions.specs.Places.{place, plus, zero_place, length_and, index_and, sym_kind, sym_site, sym_char, sym_result, sym_thing}
-use Rattle.ot_questions.specs.Questions.{ask_le, ask_lt, ask_eq, ask_compared, ask_atom, ask_guard, ask_first_result, ask_result_by_kinds, or_undefined, ask_transform, ask_enabled, ask_differ, ask_allowed}
+use Rattle.ot_questions.specs.Questions.{ask_le, ask_lt, ask_eq, ask_compared, ask_atom, ask_guard, ask_first_result, ask_result_by_kinds, or_undefined}
+use Rattle.ot_questions.specs.Questions.{ask_transform, ask_enabled, ask_differ, ask_allowed}
 use Rattle.ot_questions.specs.Reading.{base_cell, put_cell, buried_cell, replaced_cell, ask_cell, ask_same_source, ask_same, is_same_flag, cells_cause}
 use Rattle.ot_questions.proofs.Nears.{IsNear-more, IsNear-plus, IsNear-zero, IsNear-offset_for}
 use Rattle.ot_questions.proofs.Placed.{things_there}
-use Rattle.ot_lengths.proofs.Reach.{IsAcross, IsOther, IsNamed, IsShort, AsksShort, InnerAt, IsThing, IsForm, inner_more, thing_more, thing_plus, form_more, form_thing, form_result}
+use Rattle.ot_lengths.proofs.Reach.{IsAcross, IsOther, IsNamed, IsShort, AsksShort, InnerAt, IsThing, IsForm, inner_more, thing_more, thing_plus, form_more}
+use Rattle.ot_lengths.proofs.Reach.{form_thing, form_result}
 
 across_le : (m n t : ℕ) (j k : ℤ) → IsNear m j → IsNear n k → m + n + 1 ≤ t → IsAcross t (k -ℤ j)
 across_le m n t j k h g few = record { low = omega (arith, ints); high = omega (arith, ints) }

@@ -1,5 +1,6 @@
 -- Which operations are enabled on a document, and the document after an operation.
-use Rattle.std.specs.Prelude.{ℕ, pos, ◌≤ℤ◌, ◌<ℤ◌, List, [], ◌∷◌, take, drop, map, unsigned_abs, Bool, true, ◌&&◌, int_le, int_lt}
+use Rattle.std.specs.Prelude.{ℕ, pos, ◌≤ℤ◌, ◌<ℤ◌, List, [], ◌∷◌, take, drop, map, unsigned_abs, Bool, true, ◌&&◌}
+use Rattle.std.specs.Prelude.{int_le, int_lt}
 use Rattle.ot_model.specs.declared.cell.Cell.{Cell}
 use Rattle.ot_model.specs.declared.op.Mode.{Mode}
 use Rattle.ot_model.specs.declared.op.Mode.TheVariants.{Plain, Tomb}

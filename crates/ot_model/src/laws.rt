@@ -1,5 +1,6 @@
 //! Laws of kinds and operations, for the layers above. Each is the contract of a function that does nothing.
-ghost use Rattle.std.specs.Prelude.{◌≡◌, ◌≢◌, ◌↔◌, ◌+◌, ◌≤◌, ℤ, List, Option, Some, None, length, slice_get, true, is_some};
+ghost use Rattle.std.specs.Prelude.{◌≡◌, ◌≢◌, ◌↔◌, ◌+◌, ◌≤◌, ℤ, List, Option, Some, None, length, slice_get, true};
+ghost use Rattle.std.specs.Prelude.{is_some};
 ghost use Rattle.std.specs.List.{Contains};
 ghost use Rattle.ot_model.specs.declared.cell.Cell.{Cell};
 ghost use Rattle.ot_model.specs.declared.op.Kind.{Kind};

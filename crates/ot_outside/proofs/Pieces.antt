@@ -1,5 +1,6 @@
 -- What is left of a file that is read in pieces.
-use Rattle.std.proofs.Common.{◌≡◌, ℕ, ◌+◌, ◌-◌, ◌≤◌, ◌<◌, zero, suc, List, [], ◌∷◌, ◌++◌, take, drop, length, get_or, Bool, true, false, ◌↔◌, IsTrue, Option, Some, None, Result, Ok, Err, IfOk, refl, sym, ap, ◌∙◌, arith, subst, drop-cons, add-one, append_assoc, length-append}
+use Rattle.std.proofs.Common.{◌≡◌, ℕ, ◌+◌, ◌-◌, ◌≤◌, ◌<◌, zero, suc, List, [], ◌∷◌, ◌++◌, take, drop, length, get_or, Bool, true, false, ◌↔◌, IsTrue, Option}
+use Rattle.std.proofs.Common.{Some, None, Result, Ok, Err, IfOk, refl, sym, ap, ◌∙◌, arith, subst, drop-cons, add-one, append_assoc, length-append}
 use Rattle.std.proofs.lemmas.List.{drop-drop, drop-take, length-drop, length-take, length-take-le, get_or-take, take_all, take-append-drop}
 use Rattle.std.specs.Prelude.{option_map}
 use Rattle.std.specs.Option.{ForSome}
@@ -211,7 +212,8 @@ pub slice_of_hand :
     (room count at filled : ℕ) (piece : List ℕ) → at ≤ filled → filled ≤ length piece → count ≤ length (take room (drop at (take filled piece)))
     → take count (take room (drop at (take filled piece))) ≡ take count (drop at piece)
 slice_of_hand room count at filled piece ordered within few =
-    let read : length (drop at (take filled piece)) ≡ filled - at = length-drop at (take filled piece) ∙ ap (λ n. n - at) (length-take-le filled piece within) in
+    let read : length (drop at (take filled piece)) ≡ filled - at = length-drop at (take filled piece) ∙ ap (λ n. n - at) (length-take-le filled piece within)
+        in
     let taken = length-take room (drop at (take filled piece)) in
     take_first count room (drop at (take filled piece)) (omega (arith, few, taken))
     ∙ ap (take count) (sym (hand_is_part at filled piece ordered))

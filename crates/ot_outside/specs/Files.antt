@@ -1,5 +1,6 @@
 -- Files in memory: their names and what they hold.
-use Rattle.std.specs.Prelude.{ℕ, List, [], Option, String, Vec, option_map, slice_get, find, bytes_eq, string_bytes, unwrap_or}
+use Rattle.std.specs.Prelude.{ℕ, List, [], Option, String, Vec, option_map, slice_get, find, bytes_eq, string_bytes}
+use Rattle.std.specs.Prelude.{unwrap_or}
 use Rattle.std.specs.declared.alloc.Global.{Global}
 
 -- a list of files

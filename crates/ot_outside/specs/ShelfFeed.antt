@@ -26,7 +26,8 @@ gave_by feed = feed.given.bytes
 abbrev pub unread_of : {S : Type 0} {shelf : Ghosts S} → ShelfFeed S shelf → List ℕ
 unread_of feed = drop feed.at (take feed.filled feed.piece)
 
--- the bytes that the shelf's calls gave of the open file are those that it gave, and then those that it has not given yet
+-- the bytes that the shelf's calls gave of the open file are those that it gave, and then those that it has not given
+-- yet
 abbrev pub IsAllOfReads : {S : Type 0} {shelf : Ghosts S} → ShelfFeed S shelf → Type 0
 IsAllOfReads {shelf = shelf} feed = (shelf.reads feed.shelf.now).bytes ≡ gave_by feed ++ unread_of feed
 
@@ -46,8 +47,8 @@ hand_of feed = take feed.room (drop feed.at (take feed.filled feed.piece))
 abbrev pub beyond_limit : {S : Type 0} {shelf : Ghosts S} → ShelfFeed S shelf → Option (List ℕ)
 beyond_limit feed = option_map (drop feed.room) (file_left feed)
 
--- between two states of a feed: its shelf holds and offers what it did and opened no other file, what was read of the open
--- one is still what it gave and has not given yet, and the limit and the bytes beyond it are the same
+-- between two states of a feed: its shelf holds and offers what it did and opened no other file, what was read of the
+-- open one is still what it gave and has not given yet, and the limit and the bytes beyond it are the same
 pub record KeepsShelf {S : Type 0} {shelf : Ghosts S} (old new : ShelfFeed S shelf) : Type 0 where
   pub unchanged : Unchanged shelf.holds shelf.offered shelf.faults (shelf_of old) (shelf_of new)
   pub reading : IsSameReading (shelf.reads (shelf_of old)) (shelf.reads (shelf_of new))

@@ -1,5 +1,6 @@
 //! Bytes one at a time or in pieces: of a slice, and of a shelf's open file.
-ghost use Rattle.std.specs.Prelude.{◌≡◌, ℕ, ◌++◌, ◌+◌, ◌<◌, ◌≤◌, List, Option, None, [], ◌∷◌, length, take, drop, true, false, IfOk, OnErr, MatchOption};
+ghost use Rattle.std.specs.Prelude.{◌≡◌, ℕ, ◌++◌, ◌+◌, ◌<◌, ◌≤◌, List, Option, None, [], ◌∷◌, length, take, drop, true};
+ghost use Rattle.std.specs.Prelude.{false, IfOk, OnErr, MatchOption};
 ghost use Rattle.std.specs.Io.KnownBytes.{IsAtEnd, prepend_known};
 ghost use Rattle.ot_outside.specs.Faults.{Rose};
 
@@ -37,7 +38,8 @@ pub trait Feed {
             (λ b. left self.old ≡ prepend_known (b ∷ []) (left self.new))) }
         ensures err { OnErr result (left self.new ≡ left self.old) }
 
-        ensures given { IfOk result (λ byte. MatchOption byte (bound self.new ≤ bound self.old) (λ _. bound self.old ≡ bound self.new + 1)) }
+        ensures given { IfOk result (λ byte. MatchOption byte (bound self.new ≤ bound self.old)
+            (λ _. bound self.old ≡ bound self.new + 1)) }
         ensures never_rises { bound self.new ≤ bound self.old }
 
         ensures gave { IfOk result (λ byte. MatchOption byte (gave self.new ≡ gave self.old)

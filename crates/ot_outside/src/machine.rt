@@ -1,5 +1,6 @@
 // The files and the standard output of the machine.
-ghost use Rattle.std.specs.Prelude.{◌≡◌, ◌<◌, ◌≤◌, ◌↔◌, ℕ, List, [], take, length, Some, if◌then◌else◌, is_err, IfOk, OnOk, OnErr};
+ghost use Rattle.std.specs.Prelude.{◌≡◌, ◌<◌, ◌≤◌, ◌↔◌, ℕ, List, [], take, length, Some, if◌then◌else◌, is_err, IfOk};
+ghost use Rattle.std.specs.Prelude.{OnOk, OnErr};
 ghost use Rattle.std.specs.Io.KnownBytes.{IsAtEnd, append_known, prepend_known};
 ghost use Rattle.ot_outside.specs.Faults.{Rose, next_count};
 ghost use Rattle.ot_outside.specs.Machine.{left_of, machine_holds, machine_written};
@@ -89,7 +90,8 @@ impl<R: Files> Shelf for FileShelf<'_, R> {
         requires { 0 < length into.old }
 
         ensures count { IfOk result (λ n. n ≤ length into.new) }
-        ensures ok { IfOk result (λ n. left_of self.old.file ≡ prepend_known (take n into.new) (left_of self.new.file)) }
+        ensures ok { IfOk result (λ n. left_of self.old.file
+            ≡ prepend_known (take n into.new) (left_of self.new.file)) }
         ensures end { IfOk result (λ n. n ≡ 0 → IsAtEnd (left_of self.old.file)) }
         ensures err { OnErr result (left_of self.new.file ≡ left_of self.old.file) }
 
@@ -99,7 +101,8 @@ impl<R: Files> Shelf for FileShelf<'_, R> {
 
         ensures failed { OnErr result (Rose self.old.faults self.new.faults) }
         ensures called { self.new.calls ≡ next_count self.old.calls }
-        ensures given { IfOk result (λ n. reads_of self.new.noted ≡ gone_on (take n into.new) (reads_of self.old.noted)) }
+        ensures given { IfOk result (λ n. reads_of self.new.noted
+            ≡ gone_on (take n into.new) (reads_of self.old.noted)) }
         ensures not_given { OnErr result (reads_of self.new.noted ≡ reads_of self.old.noted) }
 
         // Each call that fails counts, and no other.

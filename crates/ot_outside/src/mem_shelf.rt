@@ -1,5 +1,7 @@
 // Files in memory.
-ghost use Rattle.std.specs.Prelude.{◌≡◌, ◌<◌, ◌≤◌, ◌↔◌, ◌||◌, ℕ, List, [], take, drop, length, ◌++◌, min, if◌then◌else◌, is_err, is_none, IfOk, OnOk, OnErr, MatchOption, bytes_eq, string_bytes};
+ghost use Rattle.std.specs.Prelude.{◌≡◌, ◌<◌, ◌≤◌, ◌↔◌, ◌||◌, ℕ, List, [], take, drop, length, ◌++◌, min};
+ghost use Rattle.std.specs.Prelude.{if◌then◌else◌, is_err, is_none, IfOk, OnOk, OnErr, MatchOption, bytes_eq};
+ghost use Rattle.std.specs.Prelude.{string_bytes};
 ghost use Rattle.ot_outside.specs.Faults.{Rose, next_count};
 ghost use Rattle.ot_outside.specs.Files.{contents_at, held};
 
@@ -28,7 +30,8 @@ struct OpenFile {
 }
 
 impl MemShelf {
-    ghost use Rattle.ot_outside.specs.MemShelf.{call_count, failing_calls, fault_count, reads_by, shelf_holds, shelf_left};
+    ghost use Rattle.ot_outside.specs.MemShelf.{call_count, failing_calls, fault_count, reads_by, shelf_holds};
+    ghost use Rattle.ot_outside.specs.MemShelf.{shelf_left};
     ghost use Rattle.ot_outside.specs.Reads.{no_reads};
 
     /// A shelf with these files, of which none is open. It takes no memory.
@@ -51,7 +54,8 @@ impl MemShelf {
 
 impl Shelf for MemShelf {
     ghost use Rattle.std.specs.Prelude.{Some};
-    ghost use Rattle.ot_outside.specs.MemShelf.{call_count, failing_calls, fails_next, fault_count, reads_by, shelf_holds, shelf_left};
+    ghost use Rattle.ot_outside.specs.MemShelf.{call_count, failing_calls, fails_next, fault_count, reads_by};
+    ghost use Rattle.ot_outside.specs.MemShelf.{shelf_holds, shelf_left};
     ghost use Rattle.ot_outside.specs.Reads.{after_reading, gone_on};
 
     ghost holds = { shelf_holds };
@@ -78,7 +82,8 @@ impl Shelf for MemShelf {
 
         // It fails exactly where its number is listed or the name is not held, and that counts.
         ensures fails { is_err result ≡ (fails_next self.old || is_none (shelf_holds self.old name.now)) }
-        ensures raised { fault_count self.new ≡ (if is_err result then next_count (fault_count self.old) else fault_count self.old) }
+        ensures raised { fault_count self.new ≡ (if is_err result then next_count (fault_count self.old)
+            else fault_count self.old) }
         ensures called { call_count self.new ≡ next_count (call_count self.old) }
         ensures opened { reads_by self.new ≡ after_reading name.now [] (reads_by self.old) }
         ensures failing { failing_calls self.new ≡ failing_calls self.old }
@@ -111,7 +116,8 @@ impl Shelf for MemShelf {
 
         // It fails exactly where its number is listed, and that counts. It fills `into` as far as it can.
         ensures fails { is_err result ≡ fails_next self.old }
-        ensures raised { fault_count self.new ≡ (if is_err result then next_count (fault_count self.old) else fault_count self.old) }
+        ensures raised { fault_count self.new ≡ (if is_err result then next_count (fault_count self.old)
+            else fault_count self.old) }
         ensures called { call_count self.new ≡ next_count (call_count self.old) }
         ensures given { IfOk result (λ n. reads_by self.new ≡ gone_on (take n into.new) (reads_by self.old)) }
         ensures not_given { OnErr result (reads_by self.new ≡ reads_by self.old) }

@@ -1,5 +1,6 @@
 // Bytes in memory.
-ghost use Rattle.std.specs.Prelude.{◌≡◌, ◌<◌, ◌≤◌, ◌-◌, ◌||◌, ◌++◌, [], take, length, min, nat_le, if◌then◌else◌, is_err, vec_capacity, vec_len, IfOk, OnErr};
+ghost use Rattle.std.specs.Prelude.{◌≡◌, ◌<◌, ◌≤◌, ◌-◌, ◌||◌, ◌++◌, [], take, length, min, nat_le, if◌then◌else◌};
+ghost use Rattle.std.specs.Prelude.{is_err, vec_capacity, vec_len, IfOk, OnErr};
 ghost use Rattle.ot_outside.specs.Faults.{Rose, next_count};
 
 use crate::counts::Counts;
@@ -22,7 +23,8 @@ pub struct MemSink {
 }
 
 impl MemSink {
-    ghost use Rattle.ot_outside.specs.MemSink.{call_count, failing_calls, fault_count, per_call_of, room_of, sink_bytes};
+    ghost use Rattle.ot_outside.specs.MemSink.{call_count, failing_calls, fault_count, per_call_of, room_of};
+    ghost use Rattle.ot_outside.specs.MemSink.{sink_bytes};
 
     /// A sink with room for `room` bytes, which is taken here, that takes at most `per_call` bytes at
     /// a call.
@@ -59,7 +61,8 @@ impl MemSink {
 
 impl Sink for MemSink {
     ghost use Rattle.std.specs.Prelude.{Some};
-    ghost use Rattle.ot_outside.specs.MemSink.{call_count, failing_calls, fails_next, fault_count, per_call_of, room_of, sink_bytes};
+    ghost use Rattle.ot_outside.specs.MemSink.{call_count, failing_calls, fails_next, fault_count, per_call_of};
+    ghost use Rattle.ot_outside.specs.MemSink.{room_of, sink_bytes};
 
     ghost written = { λ sink. Some (sink_bytes sink) };
 
@@ -78,15 +81,18 @@ impl Sink for MemSink {
         ensures failed { OnErr result (Rose (fault_count self.old) (fault_count self.new)) }
 
         // It fails exactly where its number is listed or no room is left, and that counts.
-        ensures fails { is_err result ≡ (fails_next self.old || nat_le (room_of self.old) (length (sink_bytes self.old))) }
-        ensures raised { fault_count self.new ≡ (if is_err result then next_count (fault_count self.old) else fault_count self.old) }
+        ensures fails { is_err result ≡ (fails_next self.old || nat_le (room_of self.old)
+            (length (sink_bytes self.old))) }
+        ensures raised { fault_count self.new ≡ (if is_err result then next_count (fault_count self.old)
+            else fault_count self.old) }
         ensures called { call_count self.new ≡ next_count (call_count self.old) }
         ensures failing { failing_calls self.new ≡ failing_calls self.old }
         ensures room { room_of self.new ≡ room_of self.old }
         ensures per_call { per_call_of self.new ≡ per_call_of self.old }
 
         // It takes as many bytes as it may and has room for.
-        ensures full { IfOk result (λ n. n ≡ min (min (length bytes.now) (per_call_of self.old)) (room_of self.old - length (sink_bytes self.old))) }
+        ensures full { IfOk result (λ n. n ≡ min (min (length bytes.now) (per_call_of self.old))
+            (room_of self.old - length (sink_bytes self.old))) }
     {
         self.counts.call()?;
         let left = self.room - self.bytes.len();

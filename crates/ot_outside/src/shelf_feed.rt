@@ -35,7 +35,8 @@ impl<'a, H: Shelf> ShelfFeed<'a, H> {
     ghost use Rattle.ot_outside.specs.Faults.{Rose};
     ghost use Rattle.ot_outside.specs.Reads.{IsSameReading};
     ghost use Rattle.ot_outside.specs.Unchanged.{Unchanged};
-    ghost use Rattle.ot_outside.specs.ShelfFeed.{IsAllOfReads, file_left, gave_by, held_by, room_of, shelf_of, unread_of};
+    ghost use Rattle.ot_outside.specs.ShelfFeed.{IsAllOfReads, file_left, gave_by, held_by, room_of, shelf_of};
+    ghost use Rattle.ot_outside.specs.ShelfFeed.{unread_of};
 
     /// A feed of what is left of the open file, of at most `limit` bytes. It takes no memory.
     pub fn new(shelf: &'a mut H, limit: u64) -> ShelfFeed<'a, H>

@@ -56,7 +56,8 @@ pub fn read_all<H: Shelf>(
     ensures ok { OnOk result (ForSome (H.holds shelf.old name.now) (λ contents. into.new.items ≡ contents)) }
     ensures front { ForSome (H.holds shelf.old name.now) (IsFront into.new.items) }
 
-    // Whether or not the shelf tells what the name holds: what its calls gave is what `into` holds, or goes on behind it.
+    // Whether or not the shelf tells what the name holds: what its calls gave is what `into` holds, or goes on behind
+    // it.
     ensures read { H.reads shelf.new ≡ after_reading name.now (H.reads shelf.new).bytes (H.reads shelf.old) }
     ensures given { OnOk result ((H.reads shelf.new).bytes ≡ into.new.items) }
     ensures given_front { IsFront into.new.items (H.reads shelf.new).bytes }
@@ -71,7 +72,8 @@ pub fn read_all<H: Shelf>(
     ensures called { H.calls shelf.new ≤ H.calls shelf.old + limit + 2 }
 
     ensures failed { IsErrOf result ReadError.Failed → Rose (H.faults shelf.old) (H.faults shelf.new) }
-    ensures too_long { IsErrOf result ReadError.TooLong → ForSome (H.holds shelf.old name.now) (λ contents. limit < length contents) }
+    ensures too_long { IsErrOf result ReadError.TooLong
+        → ForSome (H.holds shelf.old name.now) (λ contents. limit < length contents) }
     ensures full { IsErrOf result ReadError.TooLong → length into.new.items ≡ limit }
 {
     shelf.open(name)?;

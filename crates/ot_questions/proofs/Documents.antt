@@ -1,6 +1,8 @@
 -- Documents as functions from all integers, with a free blank cell beyond their ends, and operations as
 -- what they do to such functions. Nothing here has a condition on the index.
-use Rattle.std.proofs.Common.{◌≡◌, ℕ, zero, suc, ◌+◌, ◌-◌, ◌<◌, ◌≤◌, ℤ, pos, negsuc, ◌+ℤ◌, ◌≤ℤ◌, ◌<ℤ◌, Bool, true, false, if◌then◌else◌, int_le, int_lt, List, [], ◌∷◌, ◌++◌, length, take, drop, map, get_or, refl, ap, sym, ◌∙◌, inl, inr, arith, append_assoc, length-append, length-take, length-drop}
+use Rattle.std.proofs.Common.{◌≡◌, ℕ, zero, suc, ◌+◌, ◌-◌, ◌<◌, ◌≤◌, ℤ, pos, negsuc, ◌+ℤ◌, ◌≤ℤ◌, ◌<ℤ◌, Bool, true, false, if◌then◌else◌, int_le, int_lt, List}
+use Rattle.std.proofs.Common.{[], ◌∷◌, ◌++◌, length, take, drop, map, get_or, refl, ap, sym, ◌∙◌, inl, inr, arith, append_assoc, length-append, length-take}
+use Rattle.std.proofs.Common.{length-drop}
 use Rattle.std.proofs.lemmas.Bool.{cases_lt}
 use Rattle.std.proofs.lemmas.Int.{ints}
 use Rattle.std.proofs.lemmas.List.{get_or_append_left, get_or-append-add, get_or-take, get_or-drop, drop_more}
@@ -78,6 +80,7 @@ edit_within n count x d b fits =
     ∙ (ap (λ j. get_or (take n d ++ (x ∷ drop (n + count) d)) j b) place
     ∙ get_or-append-add (take n d) (x ∷ drop (n + count) d) 0 b)
 
+-- an edit takes so many cells out of a list, and puts its own in
 length-edit :
     (n count : ℕ) (cells d : List Cell) → n + count ≤ length d → length (with_cells n count cells d) + count ≡ length d + length cells
 length-edit n count cells d h =
@@ -248,6 +251,7 @@ edit_length change n d here =
     = ap (λ cells. length (with_cells n 1 (map change cells) d)) (one_cell d n blank here) in
     omega (arith, ints)
 
+-- a document grows by what its operation adds
 pub length-document_after :
     (mode : Mode) (o : Op) (d : List Cell) → IsEnabled o (length d)
     → pos (length (document_after mode o d)) ≡ pos (length d) +ℤ op_growth mode o

@@ -14,8 +14,10 @@ use Rattle.ot_questions.specs.declared.why.Why.{Why}
 use Rattle.ot_questions.specs.declared.why.Why.TheVariants.{Undefined, Cells, Operations}
 use Rattle.ot_questions.specs.Nexts.{next_after}
 use Rattle.ot_questions.specs.Places.{sym_op}
-use Rattle.ot_questions.specs.Obligation.{plan_of, plan_below, ask_pair, ask_triple, ask_all_enabled, ask_converge, ask_ways, ask_lengths, ask_documents, ask_commute, ask_behind, ask_same_form, ask_one_place}
-use Rattle.ot_questions.specs.Questions.{ask_le, ask_lt, ask_eq, ask_compared, ask_atom, ask_guard, ask_result, ask_transform, ask_enabled, ask_differ, ask_allowed}
+use Rattle.ot_questions.specs.Obligation.{plan_of, plan_below, ask_pair, ask_triple, ask_all_enabled, ask_converge, ask_ways, ask_lengths, ask_documents}
+use Rattle.ot_questions.specs.Obligation.{ask_commute, ask_behind, ask_same_form, ask_one_place}
+use Rattle.ot_questions.specs.Questions.{ask_le, ask_lt, ask_eq, ask_compared, ask_atom, ask_guard, ask_result, ask_transform, ask_enabled, ask_differ}
+use Rattle.ot_questions.specs.Questions.{ask_allowed}
 use Rattle.ot_questions.specs.Reading.{base_cell, put_cell, buried_cell, replaced_cell, cells_cause, ask_cell, ask_same, ask_same_source}
 
 -- the literal `x <= y + k`

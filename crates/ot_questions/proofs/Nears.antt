@@ -1,5 +1,6 @@
 -- Offsets stay small.
-use Rattle.std.proofs.Common.{◌≡◌, ℕ, ◌+◌, ℤ, pos, negsuc, ◌+ℤ◌, ◌≤ℤ◌, Bool, true, false, ◌&&◌, IsTrue, nat_le, int_le, List, [], ◌∷◌, length, arith, rules, refl, sym, subst, lit≤, ◌≤◌}
+use Rattle.std.proofs.Common.{◌≡◌, ℕ, ◌+◌, ℤ, pos, negsuc, ◌+ℤ◌, ◌≤ℤ◌, Bool, true, false, ◌&&◌, IsTrue, nat_le, int_le, List, [], ◌∷◌, length, arith, rules}
+use Rattle.std.proofs.Common.{refl, sym, subst, lit≤, ◌≤◌}
 use Rattle.std.specs.Ordering.{int_eq}
 use Rattle.std.specs.List.{AllByRecursion, list_all}
 use Rattle.std.proofs.lemmas.Int.{ints}

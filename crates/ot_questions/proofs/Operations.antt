@@ -1,5 +1,6 @@
 -- The tests at a valuation are those of the operations that the names stand for.
-use Rattle.std.proofs.Common.{◌≡◌, ℕ, ℤ, pos, ◌+ℤ◌, ◌≤ℤ◌, ◌<ℤ◌, Bool, true, false, not, ◌&&◌, ◌||◌, if◌then◌else◌, int_le, int_lt, Option, Some, None, option_map, List, [], ◌∷◌, refl, ap, sym, ◌∙◌, subst, inl, inr}
+use Rattle.std.proofs.Common.{◌≡◌, ℕ, ℤ, pos, ◌+ℤ◌, ◌≤ℤ◌, ◌<ℤ◌, Bool, true, false, not, ◌&&◌, ◌||◌, if◌then◌else◌, int_le, int_lt, Option, Some, None}
+use Rattle.std.proofs.Common.{option_map, List, [], ◌∷◌, refl, ap, sym, ◌∙◌, subst, inl, inr}
 use Rattle.std.specs.Prelude.{unsigned_abs, unwrap_or}
 use Rattle.std.specs.Ordering.{int_eq}
 use Rattle.std.proofs.lemmas.Bool.{cases_Bool, and_parts, and_from, false≢true}
@@ -226,6 +227,7 @@ sym_allowed-true v f a b h =
     (if_true f.head.chars_differ _ (λ e. sym_differ-true v (sym_char a) (sym_char b)
     (Differ-both _ _ _ _ (char_of-op_at v a) (char_of-op_at v b) (h.chars e))))
 
+-- operations that the test allows at a valuation are allowed
 pub IsAllowed-test :
     (v : ℕ → ℤ) (f : Function) (a b : SymOp) → IsCounted v a → IsCounted v b → sym_allowed v f.head a b ≡ true
     → IsAllowed f (op_at v a) (op_at v b)

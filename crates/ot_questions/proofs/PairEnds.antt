@@ -1,6 +1,7 @@
 -- What the end of a pair's plan says of the instance: the questions go the way of the interpreter, and the
 -- end is that of the instance, on any document of the length.
-use Rattle.std.proofs.Common.{◌≡◌, ℕ, ℤ, pos, negsuc, ◌+ℤ◌, ◌≤ℤ◌, ◌<ℤ◌, true, false, int_le, int_lt, Option, Some, None, option_map, List, [], ◌∷◌, length, refl, ap, sym, ◌∙◌, subst, inl, inr, ◌⊎◌, Decides, arith}
+use Rattle.std.proofs.Common.{◌≡◌, ℕ, ℤ, pos, negsuc, ◌+ℤ◌, ◌≤ℤ◌, ◌<ℤ◌, true, false, int_le, int_lt, Option, Some, None, option_map, List, [], ◌∷◌, length}
+use Rattle.std.proofs.Common.{refl, ap, sym, ◌∙◌, subst, inl, inr, ◌⊎◌, Decides, arith}
 use Rattle.std.specs.Prelude.{◌≢◌, unwrap_or, IsSome}
 use Rattle.std.specs.List.{AllByRecursion}
 use Rattle.std.specs.Ordering.{int_eq}
@@ -33,7 +34,8 @@ use Rattle.ot_questions.proofs.Forms.{form_char}
 use Rattle.ot_questions.proofs.Documents.{cell_at}
 use Rattle.ot_questions.proofs.Seen.{source_meant, flag_meant, meant, PutsOnly, each_seen}
 use Rattle.ot_questions.proofs.Sameness.{found_same}
-use Rattle.ot_questions.proofs.Telling.{IsReadFlag, IsFreshName, IsFreshSource, HasCell, IsTold, told_source, told_flag, read_base, read_dead, dead_flag, cell_at-in, within_by_blanks, same_ends, told_same}
+use Rattle.ot_questions.proofs.Telling.{IsReadFlag, IsFreshName, IsFreshSource, HasCell, IsTold, told_source, told_flag, read_base, read_dead, dead_flag}
+use Rattle.ot_questions.proofs.Telling.{cell_at-in, within_by_blanks, same_ends, told_same}
 use Rattle.ot_questions.proofs.Pairs.{form_at, length_after, length_after_two, cell_seen, blank_free, documents_end, lengths_end, ways_end, end-converge}
 
 -- what the end says of two operations that are enabled and allowed
@@ -266,6 +268,7 @@ module _ (v : ℕ → ℤ) (f : Function) (x y : SymOp) (d : List Cell) (z : v 0
               (alone b)
               (sym (left_cell b) ∙ (cell_at_unwrapped left right (v 2) one b ∙ right_cell b))
 
+        -- what the comparison of the two cells that were read ends with, on the document
         cells_say : Says (end_of (ask_same left_seen right_seen) v)
         cells_say =
             elim (same_ends v left_seen right_seen) [

@@ -52,6 +52,7 @@ module _ (f : Function) (d : List Cell) (a b : Op) where
   cell_got : (left right : List Cell) (k : ℕ) (x : Cell) → slice_get left k ≡ slice_get right k → get_or left k x ≡ get_or right k x
   cell_got left right k x e = sym (unwrap_or-slice_get left k x) ∙ (ap (λ o. unwrap_or o x) e ∙ unwrap_or-slice_get right k x)
 
+  -- where it ends in agreement at each index, both ways lead to one document
   pub converges_by_indices : ((i : ℤ) → EndWith f d a b (AgreeAt i)) → ConvergesAt f d a b
   converges_by_indices h =
       let first = h (pos 0) in

@@ -132,6 +132,7 @@ pub record ArePairsEnough (f : Function) : Type 0 where
       (k l : Kind) → is_declared f.head k ≡ true → is_declared f.head l ≡ true
       → Contains (pairs_of (declared_kinds f.head)) (Pair k l) ⊎ Contains (pairs_of (declared_kinds f.head)) (Pair l k)
 
+-- where each pair of declared kinds holds at a length, the function has TP1 there
 pub pairs_mean_at :
     (f : Function) → ArePairsEnough f → (n : ℕ) → AllHoldAtLength f (pairs_of (declared_kinds f.head)) n → HasTp1At f n
 pairs_mean_at f enough n h d a b len (da, ea, ok, rest) =
@@ -153,6 +154,7 @@ pub all_pairs_mean : (f : Function) → ArePairsEnough f → AllHold f (pairs_of
 all_pairs_mean f enough h d a b posed =
     pairs_mean_at f enough (length d) (at_each_length f _ h (length d)) d a b refl posed
 
+-- where a valid function has TP1 at a length, each pair of declared kinds holds there
 pair_holds_at :
     (f : Function) (n : ℕ) → is_valid f ≡ true → HasTp1At f n → (k l : Kind) → is_declared f.head k ≡ true
     → is_declared f.head l ≡ true → HoldsAtLength f (Pair k l) n

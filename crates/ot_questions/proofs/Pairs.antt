@@ -1,5 +1,6 @@
 -- The plan of a pair at a valuation, and TP1 at the operations that the names stand for.
-use Rattle.std.proofs.Common.{◌≡◌, ℕ, ℤ, pos, negsuc, ◌+ℤ◌, ◌≤ℤ◌, ◌<ℤ◌, Bool, true, ◌&&◌, if◌then◌else◌, int_le, int_lt, Option, Some, None, option_map, List, [], ◌∷◌, length, refl, ap, sym, ◌∙◌, arith}
+use Rattle.std.proofs.Common.{◌≡◌, ℕ, ℤ, pos, negsuc, ◌+ℤ◌, ◌≤ℤ◌, ◌<ℤ◌, Bool, true, ◌&&◌, if◌then◌else◌, int_le, int_lt, Option, Some, None, option_map, List}
+use Rattle.std.proofs.Common.{[], ◌∷◌, length, refl, ap, sym, ◌∙◌, arith}
 use Rattle.std.specs.Ordering.{int_eq}
 use Rattle.std.proofs.lemmas.Int.{ints}
 use Rattle.std.proofs.lemmas.List.{get_or_default}
@@ -20,7 +21,8 @@ use Rattle.ot_questions.specs.Reading.{ask_cell, ask_same}
 use Rattle.ot_questions.specs.Obligation.{ask_documents, ask_lengths, ask_ways, ask_converge, ask_all_enabled, ask_pair}
 use Rattle.ot_questions.specs.Meaning.{op_at}
 use Rattle.ot_questions.proofs.Tests.{plus-assoc, if_and}
-use Rattle.ot_questions.proofs.Values.{if_end, by_test, end-le, end-lt, end-transform, end-enabled, end-allowed, end-cell, sym_transformed, sym_allowed, goes_on, enabled_to, seen}
+use Rattle.ot_questions.proofs.Values.{if_end, by_test, end-le, end-lt, end-transform, end-enabled, end-allowed, end-cell, sym_transformed, sym_allowed}
+use Rattle.ot_questions.proofs.Values.{goes_on, enabled_to, seen}
 use Rattle.ot_questions.proofs.Operations.{IsCounted, transform_of-op_at}
 use Rattle.ot_questions.proofs.Documents.{cell_at, shown, cell_at-document_after, shown-same, op_growth, length-document_after}
 use Rattle.ot_questions.proofs.Seen.{meant, seen_at}

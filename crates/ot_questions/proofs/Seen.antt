@@ -59,6 +59,7 @@ meant_three v g true c x y z = refl
 meant_three v g false true x y z = refl
 meant_three v g false false x y z = refl
 
+-- what is seen after an insertion: the cell before it, the new one, or the one that moved on
 seen_put :
     (v : ℕ → ℤ) (mode : Mode) (p : Place) (c s : ℕ) (ops : List SymOp) (g : ℤ → Cell) (off : ℤ)
     → after_ops v mode ops g (v 2 +ℤ off) ≡ meant v g (seen v mode ops off)
@@ -125,6 +126,7 @@ module _ (P : Finished → Type 0) (base : (off : ℤ) → P (base_cell off)) (b
   one_of_three : (b c : Bool) (x y z : Finished) → P x → P y → P z → P (if b then x else (if c then y else z))
   one_of_three b c x y z hx hy hz = one_of_two b x (if c then y else z) hx (one_of_two c y z hy hz)
 
+  -- what holds of the base cells and of what operations put holds of each cell that is seen
   pub each_seen :
       (v : ℕ → ℤ) (mode : Mode) (ops : List SymOp) (off : ℤ) → AllByRecursion (PutsOnly P) ops → P (seen v mode ops off)
   each_seen v mode [] off h = base off

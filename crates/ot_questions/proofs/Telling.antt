@@ -1,7 +1,8 @@
 -- Documents that tell apart: on one of them two cells that were read have one meaning only where they are
 -- found the same. A base cell that was read and differs from the other cell shows it by its character, a half
 -- cell by its flag.
-use Rattle.std.proofs.Common.{◌≡◌, ◌≢◌, ℕ, length, ℤ, pos, negsuc, ◌+ℤ◌, Bool, true, false, if◌then◌else◌, get_or, Option, Some, None, List, refl, ap, sym, ◌∙◌, inl, inr, ◌⊎◌, arith}
+use Rattle.std.proofs.Common.{◌≡◌, ◌≢◌, ℕ, length, ℤ, pos, negsuc, ◌+ℤ◌, Bool, true, false, if◌then◌else◌, get_or, Option, Some, None, List, refl, ap, sym, ◌∙◌}
+use Rattle.std.proofs.Common.{inl, inr, ◌⊎◌, arith}
 use Rattle.std.specs.Prelude.{unsigned_abs}
 use Rattle.std.specs.Ordering.{int_eq}
 use Rattle.std.proofs.lemmas.Bool.{cases_lt, cases_Bool, false≢true}
@@ -171,6 +172,7 @@ module _ (v : ℕ → ℤ) (d : List Cell) (b : Cell) (dead : Option ℤ)
   all_live : dead ≡ None → (k : ℤ) → HasCell d (v 2 +ℤ k) → (cell_at b d (v 2 +ℤ k)).live ≡ true
   all_live none k has = base_lives k (λ m e same. no_offset dead m none e) has
 
+  -- flags of one base cell that was read are found the same, where no cell is to be dead
   base_flags :
       (j k : ℤ) (l m : Flag) → j ≡ k → dead ≡ None → HasCell d (v 2 +ℤ j) → HasCell d (v 2 +ℤ k) → IsReadFlag (Base j) l
       → IsReadFlag (Base k) m → flag_meant v (cell_at b d) l ≡ flag_meant v (cell_at b d) m → is_same_flag l m ≡ true
@@ -195,6 +197,7 @@ module _ (v : ℕ → ℤ) (d : List Cell) (b : Cell) (dead : Option ℤ)
       (λ m f equal. false≢true (sym other ∙ (Decides-int_eq j k).1 (one_offset dead j m at_left f ∙ sym equal))) tk in
       false≢true (sym (base_dies j at_left tj) ∙ (same ∙ right_lives))
 
+  -- flags that the document tells apart are found the same, where they mean the same
   named_flags :
       (l m : Flag) → dead ≡ dead_of_half l m → IsToldFlag v d l → IsToldFlag v d m
       → flag_meant v (cell_at b d) l ≡ flag_meant v (cell_at b d) m → is_same_flag l m ≡ true

@@ -1,6 +1,7 @@
 -- There is a document of each length that tells apart: two characters that no operation puts, one of them
 -- at one place alone, and live cells but for the one that is to be dead.
-use Rattle.std.proofs.Common.{◌≡◌, ◌≢◌, ℕ, zero, suc, ◌+◌, ◌<◌, ◌≤◌, ℤ, pos, negsuc, ◌+ℤ◌, Bool, true, false, not, if◌then◌else◌, Option, Some, None, List, [], ◌∷◌, length, refl, ap, sym, ◌∙◌, inl, inr, arith}
+use Rattle.std.proofs.Common.{◌≡◌, ◌≢◌, ℕ, zero, suc, ◌+◌, ◌<◌, ◌≤◌, ℤ, pos, negsuc, ◌+ℤ◌, Bool, true, false, not, if◌then◌else◌, Option, Some, None, List, []}
+use Rattle.std.proofs.Common.{◌∷◌, length, refl, ap, sym, ◌∙◌, inl, inr, arith}
 use Rattle.std.specs.Prelude.{slice_get, unwrap_or}
 use Rattle.std.specs.Ordering.{int_eq}
 use Rattle.std.proofs.lemmas.Bool.{cases_Bool}
@@ -81,6 +82,7 @@ not_read_there i (Some k) t apart =
       | inr other ↦ other
     ]
 
+-- the document that is made for this tells apart
 pub telling_tells : (n : ℕ) (a b : Op) (i : ℤ) (left dead : Option ℤ) → TellsApart (telling n a b i left dead) a b i left dead
 telling_tells n a b i left dead = record {
   live = λ j cell here apart.

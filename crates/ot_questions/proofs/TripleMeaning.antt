@@ -33,7 +33,8 @@ use Rattle.ot_questions.proofs.TellingDocument.{made, length-made}
 use Rattle.ot_questions.proofs.Answered.{Answered, begins_answered, Decides-all_enabled, Decides-allowed, length_test}
 use Rattle.ot_questions.proofs.Listed.{of_contained, each_appended, each_of_both, each_triple}
 use Rattle.ot_questions.proofs.Lengths.{from_each_length, at_each_length}
-use Rattle.ot_questions.proofs.PairMeaning.{ArePairsEnough, declared_kind, declared_from, all_declared, pairs_mean_at, all_pairs_mean, tp1_holds_pairs_at, tp1_holds_all_pairs}
+use Rattle.ot_questions.proofs.PairMeaning.{ArePairsEnough, declared_kind, declared_from, all_declared, pairs_mean_at, all_pairs_mean, tp1_holds_pairs_at}
+use Rattle.ot_questions.proofs.PairMeaning.{tp1_holds_all_pairs}
 
 -- three operations that are enabled and pairwise allowed
 pub record TriplePosed (f : Function) (n : ℕ) (a b c : Op) : Type 0 where
@@ -150,6 +151,7 @@ pub record AreTriplesEnough (f : Function) : Type 0 where
       → Contains (triples_of (declared_kinds f.head)) (Triple k l m)
       ⊎ Contains (triples_of (declared_kinds f.head)) (Triple l k m)
 
+-- where each triple of declared kinds holds at a length, the function has TP2 there
 pub triples_mean_at :
     (f : Function) → AreTriplesEnough f → (n : ℕ) → AllHoldAtLength f (triples_of (declared_kinds f.head)) n
     → HasTp2At f n
@@ -189,6 +191,7 @@ all_plans_mean f enough h =
     let both = each_of_both (HoldsEverywhere f) (pairs_of kinds) (triples_of kinds) h in
     (all_pairs_mean f enough.pairs both.0, triples_mean f enough both.1)
 
+-- where a valid function has TP2 at a length, each triple of declared kinds holds there
 triple_holds_at :
     (f : Function) (n : ℕ) → is_valid f ≡ true → HasTp2At f n → (k l m : Kind)
     → is_declared f.head k ≡ true → is_declared f.head l ≡ true → is_declared f.head m ≡ true

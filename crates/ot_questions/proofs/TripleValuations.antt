@@ -30,6 +30,7 @@ module _ (f : Function) (k l m : Kind) (v : ℕ → ℤ) (d : List Cell) (a b c 
     b_and_c = given.3.2.0;
   }
 
+  -- three operations for which the plan was asked are concurrent
   concurrent_from : TriplePosed f (length d) a b c → AreConcurrent f d (a ∷ b ∷ c ∷ [])
   concurrent_from posed =
       let two = and_parts (is_declared f.head k && is_declared f.head l) (is_declared f.head m) h.declared in

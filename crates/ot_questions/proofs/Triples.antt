@@ -1,6 +1,7 @@
 -- The plan of a triple at a valuation, and TP2 at the operations that the names stand for. What is new
 -- beside pairs: a form is nop or its operation moved, so equal positions make two forms equal.
-use Rattle.std.proofs.Common.{◌≡◌, ℕ, ℤ, pos, ◌+ℤ◌, Bool, ◌&&◌, if◌then◌else◌, int_le, Option, Some, None, option_map, [], ◌∷◌, refl, ap, sym, ◌∙◌, subst, inl, inr, ◌⊎◌}
+use Rattle.std.proofs.Common.{◌≡◌, ℕ, ℤ, pos, ◌+ℤ◌, Bool, ◌&&◌, if◌then◌else◌, int_le, Option, Some, None, option_map, [], ◌∷◌, refl, ap, sym, ◌∙◌, subst, inl}
+use Rattle.std.proofs.Common.{inr, ◌⊎◌}
 use Rattle.std.specs.Prelude.{option_and_then}
 use Rattle.std.specs.Ordering.{int_eq}
 use Rattle.std.proofs.lemmas.Bool.{cases_Bool, false≢true}
@@ -35,6 +36,7 @@ use Rattle.ot_questions.proofs.Pairs.{goes_on-same, all_enabled, end-all_enabled
 abbrev pub FoundAs : Type 0 → Option Why → Type 0
 FoundAs Same end = (Same × (end ≡ None)) ⊎ ((Same → ⊥) × (end ≡ Some Operations))
 
+-- two places are found equal exactly where the integers that they stand for are
 place_found : (v : ℕ → ℤ) (p q : Place) → FoundAs (integer_at v p ≡ integer_at v q) (end_of (ask_eq p q Holds (Fails Operations)) v)
 place_found v p q =
     elim (cases_Bool (int_eq (integer_at v p) (integer_at v q))) [
@@ -247,6 +249,7 @@ TripleSays f a b c None = CommutesAt f a b c
 TripleSays f a b c (Some why) = TripleFails f a b c why
 
 module _ (v : ℕ → ℤ) (f : Function) (a b c : SymOp) (z : v 0 ≡ pos 0) (ca : IsCounted v a) (cb : IsCounted v b) (cd : IsCounted v c) where
+  -- each of the two forms is missing, or their comparison tells whether they are one operation
   by_both :
       (left right : Option SymOp) → sym_behind v f a b c ≡ left → sym_behind v f b a c ≡ right
       → TripleSays f (op_at v a) (op_at v b) (op_at v c) (commute_end v left right)

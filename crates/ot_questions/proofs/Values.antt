@@ -1,6 +1,7 @@
 -- Where a valuation leads through the questions: each `ask_` function goes on as the test at the
 -- valuation says.
-use Rattle.std.proofs.Common.{◌≡◌, ℕ, ℤ, pos, negsuc, ◌+ℤ◌, Bool, true, false, not, ◌&&◌, ◌||◌, if◌then◌else◌, nat_eq, int_le, int_lt, Option, Some, None, List, [], ◌∷◌, refl, ap, ◌∙◌, inl, inr}
+use Rattle.std.proofs.Common.{◌≡◌, ℕ, ℤ, pos, negsuc, ◌+ℤ◌, Bool, true, false, not, ◌&&◌, ◌||◌, if◌then◌else◌, nat_eq, int_le, int_lt, Option, Some, None, List}
+use Rattle.std.proofs.Common.{[], ◌∷◌, refl, ap, ◌∙◌, inl, inr}
 use Rattle.std.specs.Ordering.{int_eq}
 use Rattle.std.proofs.lemmas.Bool.{cases_Bool}
 use Rattle.std.proofs.lemmas.Bool.Decides.{Decides-eqb}
@@ -23,7 +24,8 @@ use Rattle.ot_questions.specs.declared.place.SymOp.TheVariants.{Ins, Del, Upd, N
 use Rattle.ot_questions.specs.declared.why.Why.{Why}
 use Rattle.ot_questions.specs.declared.why.Why.TheVariants.{Undefined}
 use Rattle.ot_questions.specs.Places.{place, plus, zero_place, length_and, index_and, integer_at, sym_kind, sym_site, sym_char, sym_result, sym_thing}
-use Rattle.ot_questions.specs.Questions.{ask_le, ask_lt, ask_eq, ask_compared, ask_atom, ask_guard, ask_first_result, ask_result_by_kinds, ask_result, or_undefined, ask_transform, ask_enabled, ask_differ, ask_allowed}
+use Rattle.ot_questions.specs.Questions.{ask_le, ask_lt, ask_eq, ask_compared, ask_atom, ask_guard, ask_first_result, ask_result_by_kinds, ask_result}
+use Rattle.ot_questions.specs.Questions.{or_undefined, ask_transform, ask_enabled, ask_differ, ask_allowed}
 use Rattle.ot_questions.specs.Reading.{base_cell, put_cell, buried_cell, replaced_cell, ask_cell}
 use Rattle.ot_questions.specs.Meaning.{op_at}
 use Rattle.ot_questions.proofs.Tests.{int_le-same_name, int_le-shifted, int_le-before, if_and, if_or, if_not, if_through, if_eq}

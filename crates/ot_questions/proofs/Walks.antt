@@ -1,7 +1,8 @@
 -- One walk through the `ask_` functions: each question of a plan is a fine literal that compares like with
 -- like, each position that is asked about was found to be at least 0 before, and each function adds a few
 -- questions to the longest path of what follows.
-use Rattle.std.proofs.Common.{◌≡◌, ℕ, suc, ◌+◌, ◌*◌, ◌<◌, ◌≤◌, max, ℤ, pos, negsuc, ◌+ℤ◌, ◌-ℤ◌, ◌≤ℤ◌, Bool, true, false, not, if◌then◌else◌, nat_eq, nat_le, int_le, Option, Some, None, List, [], ◌∷◌, length, refl, ap, sym, ◌∙◌, subst, inl, inr, arith, lit≤}
+use Rattle.std.proofs.Common.{◌≡◌, ℕ, suc, ◌+◌, ◌*◌, ◌<◌, ◌≤◌, max, ℤ, pos, negsuc, ◌+ℤ◌, ◌-ℤ◌, ◌≤ℤ◌, Bool, true, false, not, if◌then◌else◌, nat_eq, nat_le}
+use Rattle.std.proofs.Common.{int_le, Option, Some, None, List, [], ◌∷◌, length, refl, ap, sym, ◌∙◌, subst, inl, inr, arith, lit≤}
 use Rattle.std.specs.Ordering.{int_eq}
 use Rattle.std.specs.List.{AllByRecursion, list_all}
 use Rattle.std.proofs.lemmas.Bool.{cases_Bool, and_parts, and_from}
@@ -38,13 +39,15 @@ use Rattle.ot_questions.specs.declared.why.Why.{Why}
 use Rattle.ot_questions.specs.declared.why.Why.TheVariants.{Undefined, OutOfRange, Lengths, Operations}
 use Rattle.ot_questions.specs.Nears.{IsNear}
 use Rattle.ot_questions.specs.Places.{place, plus, zero_place, length_and, index_and, sym_at, sym_kind, sym_site, sym_char, sym_result, sym_thing, growth}
-use Rattle.ot_questions.specs.Questions.{ask_le, ask_lt, ask_eq, ask_compared, ask_atom, ask_guard, ask_first_result, ask_result_by_kinds, ask_result, or_undefined, ask_transform, ask_enabled, ask_differ, ask_allowed}
+use Rattle.ot_questions.specs.Questions.{ask_le, ask_lt, ask_eq, ask_compared, ask_atom, ask_guard, ask_first_result, ask_result_by_kinds, ask_result}
+use Rattle.ot_questions.specs.Questions.{or_undefined, ask_transform, ask_enabled, ask_differ, ask_allowed}
 use Rattle.ot_questions.specs.Reading.{base_cell, put_cell, buried_cell, replaced_cell, ask_cell, ask_same_source, ask_same, is_same_flag, cells_cause}
 use Rattle.ot_questions.specs.Obligation.{ask_documents, ask_lengths, ask_ways, ask_converge, ask_one_place, ask_same_form, ask_behind, ask_commute}
 use Rattle.ot_questions.proofs.Nears.{IsNear-more, IsNear-plus, IsNear-zero, IsNear-offset_for}
 use Rattle.ot_questions.specs.Sorts.{sort_name, IsStill}
 use Rattle.ot_questions.specs.Asked.{IsSteady, Stands, OpStands, IsGood, IsKept}
-use Rattle.ot_questions.proofs.Placed.{HasThing, things_there, steady-offset, Stands-more, Stands-plus, Stands-name, OpStands-more, Stands-thing, OpStands-nop, OpStands-result}
+use Rattle.ot_questions.proofs.Placed.{HasThing, things_there, steady-offset, Stands-more, Stands-plus, Stands-name, OpStands-more, Stands-thing, OpStands-nop}
+use Rattle.ot_questions.proofs.Placed.{OpStands-result}
 use Rattle.ot_questions.proofs.Found.{AsksOfKnown}
 
 -- what is kept of what a plan asks, and it asks of known names alone
@@ -198,6 +201,7 @@ module _ (count : ℕ) (known : ℕ → Bool) (Free : ℕ → Type 0) (below : (
   -- of two operations of these kinds, in whose block the guard may stand
   module _ (k l : Kind) (a b : SymOp) (ea : sym_kind a ≡ Some k) (eb : sym_kind b ≡ Some l) (ha : OpStands Free 200 a)
       (hb : OpStands Free 200 b) where
+    -- the questions of an atom, which compares the operations either way
     by_side :
         (m : ℕ) (atom : Atom) (side : Side) (p q : Plan Why) → HasThing atom.sort a → HasThing atom.sort b → IsSteady atom.sort atom.k
         → IsNear 99 atom.k → Kept m p → Kept m q
@@ -243,6 +247,7 @@ module _ (count : ℕ) (known : ℕ → Bool) (Free : ℕ → Type 0) (below : (
   abbrev pub GoesOnAfter : ℕ → ℕ → (Option SymOp → Plan Why) → Type 0
   GoesOnAfter m n go = Kept m (go None) × ((r : SymOp) → OpStands Free n r → Kept m (go (Some r)))
 
+  -- the questions of the cases of a block, in their order
   walk_first_result :
       (m n : ℕ) (k l : Kind) (cs : List GuardedCase) (a b : SymOp) (go : Option SymOp → Plan Why) → n ≤ 200 → sym_kind a ≡ Some k
       → sym_kind b ≡ Some l
@@ -469,6 +474,7 @@ module _ (count : ℕ) (known : ℕ → Bool) (Free : ℕ → Type 0) (below : (
   -- of a valid function, none of whose blocks has more atoms than so many
   module _ (f : Function) (valid : is_valid f ≡ true) (atoms : ℕ)
       (few_atoms : (k l : Kind) → block_atoms (cases_of f k l) ≤ atoms) where
+    -- the questions of a transformation: nop, the operation itself, or by the block of the kinds
     walk_result_by_kinds :
         (m n : ℕ) (a b : SymOp) (j k : Option Kind) (go : Option SymOp → Plan Why) → n ≤ 200 → sym_kind a ≡ j → sym_kind b ≡ k
         → OpStands Free n a → OpStands Free n b → GoesOnAfter m (n + 99) go → Kept (m + 2 * atoms) (ask_result_by_kinds f a b j k go)

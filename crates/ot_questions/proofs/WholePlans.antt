@@ -22,7 +22,8 @@ use Rattle.ot_questions.specs.Asked.{Stands, OpStands}
 use Rattle.ot_questions.proofs.Nears.{IsNear-zero}
 use Rattle.ot_questions.proofs.Placed.{position_sort, AllStand-freer, OpStands-sym_op}
 use Rattle.ot_questions.proofs.Found.{known_at_first}
-use Rattle.ot_questions.proofs.Walks.{IsWalked, asked_kept, good_literal, walk_le, walk_lt, walk_read, walk_allowed, walk_converge, walk_commute, ComparesDocuments}
+use Rattle.ot_questions.proofs.Walks.{IsWalked, asked_kept, good_literal, walk_le, walk_lt, walk_read, walk_allowed, walk_converge, walk_commute}
+use Rattle.ot_questions.proofs.Walks.{ComparesDocuments}
 
 -- the name is one of the obligation, and known
 abbrev IsUsable : ℕ → (ℕ → Bool) → ℕ → Type 0

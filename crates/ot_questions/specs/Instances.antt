@@ -1,6 +1,7 @@
 -- Instances of the properties: operations and a document that the names of an obligation stand for at a
 -- valuation, and what the interpreter gives on them. In these words it is said where a plan ends.
-use Rattle.std.specs.Prelude.{◌≡◌, ◌≢◌, ◌⊎◌, ℕ, ℤ, pos, negsuc, ◌+ℤ◌, true, false, IsTrue, List, length, slice_get, Option, Some, None, option_map, option_and_then}
+use Rattle.std.specs.Prelude.{◌≡◌, ◌≢◌, ◌⊎◌, ℕ, ℤ, pos, negsuc, ◌+ℤ◌, true, false, IsTrue, List, length, slice_get}
+use Rattle.std.specs.Prelude.{Option, Some, None, option_map, option_and_then}
 use Rattle.ot_model.specs.declared.cell.Cell.{Cell}
 use Rattle.ot_model.specs.declared.op.Op.{Op}
 use Rattle.ot_model.specs.declared.op.Kind.{Kind}

@@ -14,7 +14,8 @@ use Rattle.ot_questions.specs.declared.place.SymOp.{SymOp}
 use Rattle.ot_questions.specs.declared.place.SymOp.TheVariants.{Ins, Del, Upd, Nop}
 use Rattle.ot_questions.specs.declared.why.Why.{Why}
 use Rattle.ot_questions.specs.declared.why.Why.TheVariants.{Undefined}
-use Rattle.ot_questions.specs.Places.{place, zero_place, length_and, plus, sym_kind, sym_site, sym_char, sym_result, sym_thing}
+use Rattle.ot_questions.specs.Places.{place, zero_place, length_and, plus, sym_kind, sym_site, sym_char, sym_result}
+use Rattle.ot_questions.specs.Places.{sym_thing}
 
 -- whether the first place is at most the second: asked as a literal, but for one name with itself,
 -- which the offsets decide

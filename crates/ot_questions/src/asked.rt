@@ -44,23 +44,30 @@ pub fn plans_compare_like_with_like()
 /// them, with a few more questions on the longest path: each literal compares like with like and keeps the
 /// limits.
 pub fn questions_keep_limits()
-    ensures operations { (count : ℕ) (k : Kind) (who : Who) → position_name who < count → site_name who < count → char_name who < count
+    ensures operations { (count : ℕ) (k : Kind) (who : Who) → position_name who < count → site_name who < count
+        → char_name who < count
         → OpStands (IsBelow count) 0 (sym_op k who) }
     ensures comparison { (count m : ℕ) (sort : Sort) (a b : Place) (p q : Plan Why) → 2 < count
-        → Stands (IsBelow count) 500 sort a → Stands (IsBelow count) 500 sort b → IsKept count m p → IsKept count m q → IsKept count (m + 1) (ask_le a b p q) }
-    ensures guard { (count m : ℕ) (k l : Kind) (g : Formula) (a b : SymOp) (p q : Plan Why) → 2 < count → sym_kind a ≡ Some k
+        → Stands (IsBelow count) 500 sort a → Stands (IsBelow count) 500 sort b → IsKept count m p → IsKept count m q
+        → IsKept count (m + 1) (ask_le a b p q) }
+    ensures guard { (count m : ℕ) (k l : Kind) (g : Formula) (a b : SymOp) (p q : Plan Why) → 2 < count
+        → sym_kind a ≡ Some k
         → sym_kind b ≡ Some l → OpStands (IsBelow count) 200 a → OpStands (IsBelow count) 200 b
         → IsTrue (has_valid_atoms (compares_chars k l) g) → IsKept count m p → IsKept count m q
         → IsKept count (m + 2 * guard_atoms g) (ask_guard g a b p q) }
-    ensures result { (count m n : ℕ) (f : Function) (a b : SymOp) (go : Option SymOp → Plan Why) → 2 < count → IsTrue (is_valid f)
+    ensures result { (count m n : ℕ) (f : Function) (a b : SymOp) (go : Option SymOp → Plan Why) → 2 < count
+        → IsTrue (is_valid f)
         → n ≤ 200 → OpStands (IsBelow count) n a → OpStands (IsBelow count) n b → IsKept count m (go None)
         → ((r : SymOp) → OpStands (IsBelow count) (n + 99) r → IsKept count m (go (Some r)))
         → IsKept count (m + 2 * function_atoms f) (ask_result f a b go) }
-    ensures enabled { (count m : ℕ) (a : SymOp) (off : ℤ) (p q : Plan Why) → 2 < count → IsNear 499 off → OpStands (IsBelow count) 499 a
+    ensures enabled { (count m : ℕ) (a : SymOp) (off : ℤ) (p q : Plan Why) → 2 < count → IsNear 499 off
+        → OpStands (IsBelow count) 499 a
         → IsKept count m p → IsKept count m q → IsKept count (m + 2) (ask_enabled a off p q) }
-    ensures allowed { (count m n : ℕ) (head : Head) (a b : SymOp) (p : Plan Why) → 2 < count → OpStands (IsBelow count) n a
+    ensures allowed { (count m n : ℕ) (head : Head) (a b : SymOp) (p : Plan Why) → 2 < count
+        → OpStands (IsBelow count) n a
         → OpStands (IsBelow count) n b → IsKept count m p → IsKept count (m + 4) (ask_allowed head a b p) }
-    ensures one_form { (count : ℕ) (a b : SymOp) → 2 < count → OpStands (IsBelow count) 500 a → OpStands (IsBelow count) 500 b
+    ensures one_form { (count : ℕ) (a b : SymOp) → 2 < count → OpStands (IsBelow count) 500 a
+        → OpStands (IsBelow count) 500 b
         → IsKept count 2 (ask_same_form a b) }
 
     // A plan of which it is kept is within the limits and compares like with like.
@@ -71,6 +78,7 @@ pub fn questions_keep_limits()
 /// Where the names of a site and of a character are natural numbers, the names of an operation stand for the
 /// operation at the valuation.
 pub fn names_stand_for_operations()
-    ensures { (v : ℕ → ℤ) (k : Kind) (who : Who) → v zero_name ≡ pos 0 → pos 0 ≤ℤ v (site_name who) → pos 0 ≤ℤ v (char_name who)
+    ensures { (v : ℕ → ℤ) (k : Kind) (who : Who) → v zero_name ≡ pos 0 → pos 0 ≤ℤ v (site_name who)
+        → pos 0 ≤ℤ v (char_name who)
         → StandsFor v (sym_op k who) (op_at v (sym_op k who)) }
 {}

@@ -29,7 +29,8 @@ pub fn pair_plans_mean_tp1()
     ensures pair_shown { (f : Function) (k l : Kind) (n : ℕ) → HoldsAtLength f (Pair k l) n → HasPair f k l n }
     ensures whole_shown_at { (f : Function) (n : ℕ) → AllHoldAtLength f (obligations_of f.head Tp1) n → HasTp1At f n }
     ensures whole_shown { (f : Function) → AllHold f (obligations_of f.head Tp1) → HasTp1 f }
-    ensures pair { (f : Function) (k l : Kind) (n : ℕ) → IsTrue (is_valid f) → HoldsAtLength f (Pair k l) n ↔ HasPair f k l n }
+    ensures pair { (f : Function) (k l : Kind) (n : ℕ) → IsTrue (is_valid f)
+        → HoldsAtLength f (Pair k l) n ↔ HasPair f k l n }
     ensures whole_at { (f : Function) (n : ℕ) → IsTrue (is_valid f)
         → AllHoldAtLength f (obligations_of f.head Tp1) n ↔ HasTp1At f n }
     ensures whole { (f : Function) → IsTrue (is_valid f) → AllHold f (obligations_of f.head Tp1) ↔ HasTp1 f }
@@ -44,20 +45,23 @@ pub fn pair_plans_mean_tp1()
 /// those of all pairs and triples exactly where it has both; and so at each length by itself. That the
 /// plans show the properties is so of any function; the other way needs the limits.
 pub fn triple_plans_mean_tp2()
-    ensures triple_shown { (f : Function) (k l m : Kind) (n : ℕ) → HoldsAtLength f (Triple k l m) n → HasTriple f k l m n }
+    ensures triple_shown { (f : Function) (k l m : Kind) (n : ℕ) → HoldsAtLength f (Triple k l m) n
+        → HasTriple f k l m n }
     ensures alone_shown_at { (f : Function) (n : ℕ)
         → AllHoldAtLength f (triples_of (declared_kinds f.head)) n → HasTp2At f n }
     ensures alone_shown { (f : Function) → AllHold f (triples_of (declared_kinds f.head)) → HasTp2 f }
     ensures whole_shown_at { (f : Function) (n : ℕ)
         → AllHoldAtLength f (obligations_of f.head Tp2) n → HasTp1At f n × HasTp2At f n }
     ensures whole_shown { (f : Function) → AllHold f (obligations_of f.head Tp2) → HasTp1 f × HasTp2 f }
-    ensures triple { (f : Function) (k l m : Kind) (n : ℕ) → IsTrue (is_valid f) → HoldsAtLength f (Triple k l m) n ↔ HasTriple f k l m n }
+    ensures triple { (f : Function) (k l m : Kind) (n : ℕ) → IsTrue (is_valid f)
+        → HoldsAtLength f (Triple k l m) n ↔ HasTriple f k l m n }
     ensures alone_at { (f : Function) (n : ℕ) → IsTrue (is_valid f)
         → AllHoldAtLength f (triples_of (declared_kinds f.head)) n ↔ HasTp2At f n }
     ensures alone { (f : Function) → IsTrue (is_valid f) → AllHold f (triples_of (declared_kinds f.head)) ↔ HasTp2 f }
     ensures whole_at { (f : Function) (n : ℕ) → IsTrue (is_valid f)
         → AllHoldAtLength f (obligations_of f.head Tp2) n ↔ (HasTp1At f n × HasTp2At f n) }
-    ensures whole { (f : Function) → IsTrue (is_valid f) → AllHold f (obligations_of f.head Tp2) ↔ (HasTp1 f × HasTp2 f) }
+    ensures whole { (f : Function) → IsTrue (is_valid f)
+        → AllHold f (obligations_of f.head Tp2) ↔ (HasTp1 f × HasTp2 f) }
 {
     allowed_is_symmetric();
     obligations_are_those_of_the_kinds();

@@ -1,5 +1,6 @@
 -- The rule on a transformation: by the first of the cases that are left.
-use Rattle.std.proofs.Common.{◌≡◌, ◌⊎◌, ℕ, suc, ◌+◌, ◌<◌, ◌≤◌, max, IsTrue, Option, Some, None, List, [], ◌∷◌, length, drop, MatchOption, refl, ap, sym, ◌∙◌, subst, inl, arith}
+use Rattle.std.proofs.Common.{◌≡◌, ◌⊎◌, ℕ, suc, ◌+◌, ◌<◌, ◌≤◌, max, IsTrue, Option, Some, None, List, [], ◌∷◌, length, drop, MatchOption, refl, ap, sym, ◌∙◌}
+use Rattle.std.proofs.Common.{subst, inl, arith}
 use Rattle.ot_model.specs.declared.op.Kind.{Kind}
 use Rattle.fn_rules.specs.declared.function.ObName.{ObName}
 use Rattle.fn_rules.specs.Formulas.{Formula}
@@ -90,6 +91,7 @@ module _ (f : Function) (a b : SymOp) (k l : Kind) (there : sym_kind a ≡ Some 
       (ask_from_case (suc n) (ask_with f plan)
       ∙ ap (λ t. ask_first_result t a b (or_undefined (ask_with f plan))) (drop_next (f.cases k l) n c cs e))
 
+  -- the choice by the first case that is left is lighter than the goal
   lighter_of_cases :
       (cs : List GuardedCase) (n : ℕ) (plan : Progress) → drop n (f.cases k l) ≡ cs
       → goal_weight f (choose_case cs n a b plan) < goal_weight f (Choose n a b plan)
@@ -104,6 +106,7 @@ module _ (f : Function) (a b : SymOp) (k l : Kind) (there : sym_kind a ≡ Some 
 
   -- the parts, of operands and cases that are not far
   module _ (ob : ObName) (valid : IsTrue (is_valid f)) where
+    -- so has the choice by the first case that is left
     parts_of_cases :
         (cs : List GuardedCase) (n : ℕ) (plan : Progress) → drop n (f.cases k l) ≡ cs → IsTrue (is_obligation f.head ob)
         → IsChoiceOf f ob n a b plan → HasParts f ob (choose_case cs n a b plan)
@@ -153,6 +156,7 @@ module _ (f : Function) (ob : ObName) (case : ℕ) (a b : SymOp) (plan : Progres
       lighter_of_cases f a b k l there other (drop case (f.cases k l)) case plan refl
 
   module _ (valid : IsTrue (is_valid f)) (d : IsTrue (is_obligation f.head ob)) where
+    -- so has the choice by the kinds of the two operations
     parts_of_kinds :
         (ka kb : Option Kind) → sym_kind a ≡ ka → sym_kind b ≡ kb → IsChoiceOf f ob case a b plan
         → HasParts f ob (choose_by_kinds f case a b ka kb plan)

@@ -1,5 +1,6 @@
 -- The goals behind a result have parts of the obligation.
-use Rattle.std.proofs.Common.{◌≡◌, ℕ, ◌+◌, ◌<◌, ◌≤◌, ℤ, pos, ◌+ℤ◌, Bool, true, false, if◌then◌else◌, IsTrue, Option, Some, None, List, [], ◌∷◌, ◌++◌, length, refl, sym, ◌∙◌, subst, arith}
+use Rattle.std.proofs.Common.{◌≡◌, ℕ, ◌+◌, ◌<◌, ◌≤◌, ℤ, pos, ◌+ℤ◌, Bool, true, false, if◌then◌else◌, IsTrue, Option, Some, None, List, [], ◌∷◌, ◌++◌, length}
+use Rattle.std.proofs.Common.{refl, sym, ◌∙◌, subst, arith}
 use Rattle.std.proofs.lemmas.Int.{ints}
 use Rattle.std.proofs.lemmas.List.{append-nil, append_assoc, length-set}
 use Rattle.std.specs.Ordering.{int_eq}
@@ -25,11 +26,13 @@ use Rattle.ot_terms.specs.Goals.{GoalTree, Fails, Deliver}
 use Rattle.ot_terms.specs.Changes.{changed, doc_of}
 use Rattle.ot_terms.specs.Starting.{enabled_form}
 use Rattle.ot_terms.specs.Standing.{changes_of, results_of}
-use Rattle.ot_terms.specs.Belonging.{IsPlace, IsLowerable, HasPlaces, HasNames, IsDocOf, IsIndexOf, AreMade, AreResults, IsNextResult, IsProgressOf, HasParts, next_operands}
+use Rattle.ot_terms.specs.Belonging.{IsPlace, IsLowerable, HasPlaces, HasNames, IsDocOf, IsIndexOf, AreMade, AreResults, IsNextResult, IsProgressOf, HasParts}
+use Rattle.ot_terms.specs.Belonging.{next_operands}
 use Rattle.goal_rules.specs.Ends.{same_documents, both_ways, one_place, end_goal}
 use Rattle.goal_rules.specs.Table.{with_result, go_on, rewrite_deliver}
 use Rattle.ot_rewrite.proofs.Rewritings.{IsRewriting}
-use Rattle.ot_rewrite.proofs.Operands.{IsOperand, AreOperands, operand_reach, IsOperand-more, pair_results, triple_results, made_pair, made_triple, next_are_operands}
+use Rattle.ot_rewrite.proofs.Operands.{IsOperand, AreOperands, operand_reach, IsOperand-more, pair_results, triple_results, made_pair, made_triple}
+use Rattle.ot_rewrite.proofs.Operands.{next_are_operands}
 use Rattle.ot_rewrite.proofs.ChosenCases.{name_of_place, some_names, operand_reach_low}
 use Rattle.ot_rewrite.proofs.DeliveredPlans.{results_of-with_result, deliver_asks}
 use Rattle.ot_rewrite.proofs.DeliveredWeights.{awaits_next, deliver_falls}

@@ -1,5 +1,6 @@
 -- Delivering a result makes a goal lighter.
-use Rattle.std.proofs.Common.{◌≡◌, ℕ, suc, ◌+◌, ◌-◌, ◌*◌, ◌<◌, ◌≤◌, ℤ, ◌+ℤ◌, Bool, true, false, if◌then◌else◌, Option, Some, None, List, [], ◌∷◌, ◌++◌, length, map, refl, ap, arith}
+use Rattle.std.proofs.Common.{◌≡◌, ℕ, suc, ◌+◌, ◌-◌, ◌*◌, ◌<◌, ◌≤◌, ℤ, ◌+ℤ◌, Bool, true, false, if◌then◌else◌, Option, Some, None, List, [], ◌∷◌, ◌++◌, length}
+use Rattle.std.proofs.Common.{map, refl, ap, arith}
 use Rattle.std.specs.List.{sum}
 use Rattle.std.proofs.lemmas.List.{length-append, length-take-le}
 use Rattle.std.specs.Ordering.{int_eq}
@@ -137,6 +138,7 @@ module _ (f : Function) where
   one_place_weight (Some k) None at there = omega arith
   one_place_weight (Some k) (Some l) at there = omega arith
 
+  -- the goal at the end of an obligation weighs at most 200
   end_goal_weight : (mode : Mode) (ob : ObName) (os got : List SymOp) → goal_weight f (end_goal mode ob os got) ≤ 200
   end_goal_weight mode (Pair k l) [] got = omega arith
   end_goal_weight mode (Pair k l) (a ∷ []) got = omega arith

@@ -1,5 +1,6 @@
 -- The rules lead from a choice to its next question or result.
-use Rattle.std.proofs.Common.{◌≡◌, ℕ, zero, suc, negsuc, Bool, true, false, if◌then◌else◌, nat_eq, int_le, Option, Some, None, List, [], ◌∷◌, drop, refl, subst, sym}
+use Rattle.std.proofs.Common.{◌≡◌, ℕ, zero, suc, negsuc, Bool, true, false, if◌then◌else◌, nat_eq, int_le, Option, Some, None, List, [], ◌∷◌, drop, refl, subst}
+use Rattle.std.proofs.Common.{sym}
 use Rattle.ot_model.specs.declared.op.Kind.{Kind}
 use Rattle.fn_rules.specs.declared.guard.Cmp.{Cmp}
 use Rattle.fn_rules.specs.declared.guard.Cmp.TheVariants as cmp
@@ -42,6 +43,7 @@ module _ (f : Function) where
   comparison_leads cmp.Eq s t y n =
       form_before (Eq s t) y n (If (Le s t) (If (Le t s) y n) n) _ refl (order_leads s t (If (Le t s) y n) n)
 
+  -- a choice by the form of a guard leads to the choice by its first comparison
   guard_leads : (g : Formula) (a b : SymOp) (y n : GoalTree) → Reaches f (If (guard_form g a b) y n) (led_guard g a b y n)
   guard_leads guards.Always a b y n = form_before True y n y y refl (reaches_itself f y)
   guard_leads (guards.Compare atom) a b y n =

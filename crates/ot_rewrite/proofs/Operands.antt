@@ -69,6 +69,7 @@ module _ (f : Function) (k l m : Kind) (a b c : SymOp) (os : List SymOp)
       → IsOperand f (Triple k l m) n r
   result n first r h moved = IsOperand-result f (Triple k l m) n first r h.declared moved
 
+  -- the next two operations of a triple are operands, after each number of results
   triple_operands :
       (got : List SymOp) → AreResults (Triple k l m) (a ∷ b ∷ c ∷ os) [] got
       → MatchOption (next_operands (Triple k l m) (a ∷ b ∷ c ∷ os) got) (Unit {0})
@@ -113,6 +114,7 @@ module _ (f : Function) where
         IsOperand-made f (Triple k l m) m c first_two.1 hc,
       )
 
+  -- the next two operations of an obligation are operands
   operands :
       (ob : ObName) (os got : List SymOp) → IsTrue (is_obligation f.head ob) → AreMade ob os → AreResults ob os [] got
       → MatchOption (next_operands ob os got) (Unit {0}) (AreOperands f ob (operand_reach ob (length got)))

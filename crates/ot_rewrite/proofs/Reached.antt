@@ -53,6 +53,7 @@ pub record IsKept (f : Function) (ob : ObName) (old new : GoalTree) : Type 0 whe
   pub lighter : goal_weight f new ≤ goal_weight f old
 
 module _ (f : Function) (ob : ObName) (valid : IsTrue (is_valid f)) where
+  -- what a first rule and the others keep, both keep one after the other
   kept_by_first :
       (g h : GoalTree) (o : Option GoalTree) → IsGoalOf f ob g → rewritten f g ≡ o → (others : GoalTree → Option GoalTree)
       → ((k : GoalTree) → IsGoalOf f ob k → others k ≡ Some h → IsKept f ob k h) → option_and_then others o ≡ Some h

@@ -289,6 +289,7 @@ both_go_on (Some x) (Some y) z w el er e = cc
 both_go_on None t x y el er e = cc
 both_go_on (Some x) None z w el er e = cc
 
+-- where the left cell is finished, a rule fits by the right one
 right_goes_on :
     (l r : CellTree) (x : Finished) → finished_cell l ≡ Some x → (t : Option CellTree) → read_step r ≡ t
     → rewrite_right l r t ≡ None → ⊥
@@ -307,6 +308,7 @@ right_goes_on l (Over ch cell) x el None s e =
     both_go_on (finished_cell l) (finished_cell (Over ch cell)) x found.0 el found.1 e
 right_goes_on l (If g on_yes on_no) x el None s e = cc
 
+-- a rule fits by the left cell or by the right one
 left_goes_on : (l r : CellTree) (t : Option CellTree) → read_step l ≡ t → rewrite_left l r t ≡ None → ⊥
 left_goes_on l r (Some read) s e = cc
 left_goes_on (At d at) r None s e =

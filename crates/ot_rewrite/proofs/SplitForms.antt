@@ -16,7 +16,8 @@ use Rattle.ot_terms.specs.Goals.{GoalTree, If}
 use Rattle.ot_terms.specs.Standing.{ask_form}
 use Rattle.ot_terms.specs.Belonging.{HasPlaces}
 use Rattle.goal_rules.specs.Table.{rewritten}
-use Rattle.ot_rewrite.specs.Splits.{SplitTree, Yes, No, Ask, LeadsTo, there, by_rule, EndsInYes, EndsInNo, EndsAtQuestion, split_holds, ask_split, comparisons_left, HasFewer, HasSplitPlaces, HasLowOffsets, split_le, split_eq, split_and, split_or, split_not, split_of}
+use Rattle.ot_rewrite.specs.Splits.{SplitTree, Yes, No, Ask, LeadsTo, there, by_rule, EndsInYes, EndsInNo, EndsAtQuestion, split_holds, ask_split}
+use Rattle.ot_rewrite.specs.Splits.{comparisons_left, HasFewer, HasSplitPlaces, HasLowOffsets, split_le, split_eq, split_and, split_or, split_not, split_of}
 use Rattle.ot_rewrite.proofs.FormRules.{IsPlace-before}
 
 -- the offsets of a form with places may be lowered

@@ -42,7 +42,8 @@ led_guard (guards.Not g) a b on_yes on_no = led_guard g a b on_no on_yes
 
 abbrev pub led_case : List GuardedCase → ℕ → SymOp → SymOp → Progress → GoalTree
 led_case [] case a b plan = Fails Undefined
-led_case (c ∷ cs) case a b plan = led_guard c.guard a b (Deliver (sym_result c.res a b) plan) (Choose (suc case) a b plan)
+led_case (c ∷ cs) case a b plan = led_guard c.guard a b (Deliver (sym_result c.res a b) plan)
+    (Choose (suc case) a b plan)
 
 abbrev pub led_by_kinds : Function → ℕ → SymOp → SymOp → Option Kind → Option Kind → Progress → GoalTree
 led_by_kinds f case a b None l plan = Deliver ops.Nop plan

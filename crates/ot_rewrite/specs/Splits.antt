@@ -1,5 +1,6 @@
 -- Where the rules of a form end, and the forms that are left behind its first question.
-use Rattle.std.specs.Prelude.{◌≡◌, ◌≢◌, ℕ, ◌+◌, ◌<◌, ℤ, negsuc, Bool, true, false, if◌then◌else◌, nat_eq, int_le, Option, Some, None}
+use Rattle.std.specs.Prelude.{◌≡◌, ◌≢◌, ℕ, ◌+◌, ◌<◌, ℤ, negsuc, Bool, true, false, if◌then◌else◌, nat_eq, int_le}
+use Rattle.std.specs.Prelude.{Option, Some, None}
 use Rattle.std.specs.Ordering.{int_eq}
 use Rattle.fn_rules.specs.Functions.{Function}
 use Rattle.ask_core.specs.Plans.{Plan}
@@ -58,7 +59,8 @@ EndsAtQuestion x y g =
 abbrev pub split_holds : (ℕ → ℤ) → SplitTree → Bool
 split_holds v Yes = true
 split_holds v No = false
-split_holds v (Ask x y if_yes if_no) = if int_le (integer_at v x) (integer_at v y) then form_holds v if_yes else form_holds v if_no
+split_holds v (Ask x y if_yes if_no) = if int_le (integer_at v x) (integer_at v y) then form_holds v if_yes
+    else form_holds v if_no
 
 -- what it asks: its question, and then what the form behind the answer asks
 abbrev pub ask_split : SplitTree → Plan Why → Plan Why → Plan Why
@@ -80,13 +82,15 @@ comparisons_left (forms.Not g) = comparisons_left g
 abbrev pub HasFewer : FormTree → SplitTree → Type 0
 HasFewer g Yes = Unit {0}
 HasFewer g No = Unit {0}
-HasFewer g (Ask x y if_yes if_no) = (comparisons_left if_yes < comparisons_left g) × (comparisons_left if_no < comparisons_left g)
+HasFewer g (Ask x y if_yes if_no) = (comparisons_left if_yes < comparisons_left g)
+    × (comparisons_left if_no < comparisons_left g)
 
 -- the names and offsets are such as those of a form are to be
 abbrev pub HasSplitPlaces : ℕ → SplitTree → Type 0
 HasSplitPlaces count Yes = Unit {0}
 HasSplitPlaces count No = Unit {0}
-HasSplitPlaces count (Ask x y if_yes if_no) = IsPlace count x × IsPlace count y × HasPlaces count if_yes × HasPlaces count if_no
+HasSplitPlaces count (Ask x y if_yes if_no) = IsPlace count x × IsPlace count y × HasPlaces count if_yes
+    × HasPlaces count if_no
 
 -- the offsets that are lowered by one are small
 abbrev pub HasLowOffsets : FormTree → Type 0

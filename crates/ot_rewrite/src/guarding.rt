@@ -95,7 +95,8 @@ fn by_guard<'a>(
     requires a_near { IsNearOp 200 a }
     requires b_near { IsNearOp 200 b }
     requires atoms_near { HasNearAtoms (formula_of guard.now) }
-    ensures { IfOk result (λ r. front_tree r ≡ leading.led_guard (formula_of guard.now) a b (goal_tree yes.now) (goal_tree no.now)) }
+    ensures { IfOk result (λ r. front_tree r ≡ leading.led_guard (formula_of guard.now) a b (goal_tree yes.now)
+        (goal_tree no.now)) }
 {
     match guard {
         Guard::True => Ok(Front::of(yes)),
@@ -129,7 +130,8 @@ fn try_case<'a>(
     requires b_near { IsNearOp 200 b }
     requires atoms_near { HasNearAtoms (formula_of guard.now) }
     requires few { case ≤ 64 }
-    ensures { IfOk result (λ r. front_tree r ≡ leading.led_guard (formula_of guard.now) a b (goals.Deliver op plan.now) (goals.Choose (suc case) a b plan.now)) }
+    ensures { IfOk result (λ r. front_tree r ≡ leading.led_guard (formula_of guard.now) a b (goals.Deliver op plan.now)
+        (goals.Choose (suc case) a b plan.now)) }
 {
     if let Guard::True = guard {
         return Ok(Front::Deliver { op, plan });

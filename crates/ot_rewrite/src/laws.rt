@@ -12,7 +12,8 @@ ghost use Rattle.goal_rules.specs.Table.{rewritten};
 ghost use Rattle.ot_rewrite.specs.Fronts.{is_at_front};
 
 /// A rule makes of a goal one that asks the same, is true at the same valuations, is of the same function
-/// and obligation, and weighs less; and there is a rule for each goal but those at whose front a question or an end stands.
+/// and obligation, and weighs less; and there is a rule for each goal but those at whose front a question or an end
+/// stands.
 pub fn rules_keep_what_is_asked()
     ensures asked { (f : Function) (ob : ObName) (g h : GoalTree)
         → IsTrue (is_valid f) → IsGoalOf f ob g → rewritten f g ≡ Some h → ask_goal f h ≡ ask_goal f g }

@@ -54,12 +54,14 @@ pub fn front_of<'a>(
     requires { (ob : ObName) × IsGoalOf (function_of rules.now) ob (goal_tree goal.now) }
     ensures reached { IfOk result (λ r. Reaches (function_of rules.now) (goal_tree goal.now) (front_tree r)) }
     ensures at_front { IfOk result (λ r. IsTrue (is_at_front (front_tree r))) }
-    ensures asks { IfOk result (λ r. ask_goal (function_of rules.now) (front_tree r) ≡ ask_goal (function_of rules.now) (goal_tree goal.now)) }
+    ensures asks { IfOk result (λ r. ask_goal (function_of rules.now) (front_tree r)
+        ≡ ask_goal (function_of rules.now) (goal_tree goal.now)) }
     ensures truth { IfOk result (λ r. (v : ℕ → ℤ) → goal_holds (function_of rules.now) v (front_tree r)
         ↔ goal_holds (function_of rules.now) v (goal_tree goal.now)) }
     ensures belongs { IfOk result (λ r. (ob : ObName) → IsGoalOf (function_of rules.now) ob (goal_tree goal.now)
         → IsGoalOf (function_of rules.now) ob (front_tree r)) }
-    ensures weighs { IfOk result (λ r. goal_weight (function_of rules.now) (front_tree r) ≤ goal_weight (function_of rules.now) (goal_tree goal.now)) }
+    ensures weighs { IfOk result (λ r. goal_weight (function_of rules.now) (front_tree r)
+        ≤ goal_weight (function_of rules.now) (goal_tree goal.now)) }
 {
     let _head = rules.head();
     let mut front = Front::of(goal);
@@ -78,12 +80,14 @@ pub fn simplify<'a>(
     requires { (ob : ObName) × IsGoalOf (function_of rules.now) ob (goal_tree goal.now) }
     ensures reached { IfOk result (λ r. Reaches (function_of rules.now) (goal_tree goal.now) (goal_tree r.now)) }
     ensures at_front { IfOk result (λ r. IsTrue (is_at_front (goal_tree r.now))) }
-    ensures asks { IfOk result (λ r. ask_goal (function_of rules.now) (goal_tree r.now) ≡ ask_goal (function_of rules.now) (goal_tree goal.now)) }
+    ensures asks { IfOk result (λ r. ask_goal (function_of rules.now) (goal_tree r.now)
+        ≡ ask_goal (function_of rules.now) (goal_tree goal.now)) }
     ensures truth { IfOk result (λ r. (v : ℕ → ℤ) → goal_holds (function_of rules.now) v (goal_tree r.now)
         ↔ goal_holds (function_of rules.now) v (goal_tree goal.now)) }
     ensures belongs { IfOk result (λ r. (ob : ObName) → IsGoalOf (function_of rules.now) ob (goal_tree goal.now)
         → IsGoalOf (function_of rules.now) ob (goal_tree r.now)) }
-    ensures weighs { IfOk result (λ r. goal_weight (function_of rules.now) (goal_tree r.now) ≤ goal_weight (function_of rules.now) (goal_tree goal.now)) }
+    ensures weighs { IfOk result (λ r. goal_weight (function_of rules.now) (goal_tree r.now)
+        ≤ goal_weight (function_of rules.now) (goal_tree goal.now)) }
 {
     Ok(front_of(bump, rules, goal)?.placed(bump)?)
 }

@@ -8,7 +8,8 @@ ghost use Rattle.ot_terms.specs.Forms as forms;
 ghost use Rattle.ot_terms.specs.Forms.{form_tree, form_holds};
 ghost use Rattle.ot_terms.specs.Standing.{ask_form};
 ghost use Rattle.ot_rewrite.specs.Splits as splits;
-ghost use Rattle.ot_rewrite.specs.Splits.{split_tree, split_of, first_question, EndsInYes, EndsInNo, EndsAtQuestion, split_holds, ask_split, HasFewer, HasSplitPlaces, HasLowOffsets};
+ghost use Rattle.ot_rewrite.specs.Splits.{split_tree, split_of, first_question, EndsInYes, EndsInNo, EndsAtQuestion};
+ghost use Rattle.ot_rewrite.specs.Splits.{split_holds, ask_split, HasFewer, HasSplitPlaces, HasLowOffsets};
 
 use crate::question::Split;
 use ask_core::NoMemory;
@@ -111,11 +112,13 @@ pub fn split<'a>(bump: &'a Bump, form: &'a Form<'a>) -> Result<Split<'a>, NoMemo
 
     // what the form means, and what it asks
     ensures truth { IfOk result (λ r. (v : ℕ → ℤ) → form_holds v (form_tree form.now) ≡ split_holds v (split_tree r)) }
-    ensures asks { IfOk result (λ r. (p q : Plan Why) → ask_form (form_tree form.now) p q ≡ ask_split (split_tree r) p q) }
+    ensures asks { IfOk result (λ r. (p q : Plan Why) → ask_form (form_tree form.now) p q
+        ≡ ask_split (split_tree r) p q) }
 
     // the forms that are left
     ensures fewer { IfOk result (λ r. HasFewer (form_tree form.now) (split_tree r)) }
-    ensures places { IfOk result (λ r. (count : ℕ) → HasPlaces count (form_tree form.now) → HasSplitPlaces count (split_tree r)) }
+    ensures places { IfOk result (λ r. (count : ℕ) → HasPlaces count (form_tree form.now)
+        → HasSplitPlaces count (split_tree r)) }
 {
     Ok(split_part(bump, form)?)
 }

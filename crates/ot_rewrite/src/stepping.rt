@@ -18,7 +18,8 @@ use ot_terms::{Form, Goal};
 // The part that is left where the form of a goal is decided.
 #[tactic(auto, unfolding(goal_rules::specs::Table::rewritten))]
 fn part_of<'a>(goal: &'a Goal<'a>) -> Option<&'a Goal<'a>>
-    ensures { (f : Function) → MatchOption result (Unit {0}) (λ r. rewritten f (goal_tree goal.now) ≡ Some (goal_tree r.now)) }
+    ensures { (f : Function) → MatchOption result (Unit {0})
+        (λ r. rewritten f (goal_tree goal.now) ≡ Some (goal_tree r.now)) }
 {
     let Goal::If { form, yes, no } = *goal else {
         return None;
@@ -46,7 +47,8 @@ fn stepped<'a>(
     goal: &'a Goal<'a>,
 ) -> Result<Option<&'a Goal<'a>>, NoMemory>
     requires { (ob : ObName) × IsGoalOf (function_of rules.now) ob (goal_tree goal.now) }
-    ensures { IfOk result (λ r. option_map (λ g. goal_tree g.now) r ≡ rewritten (function_of rules.now) (goal_tree goal.now)) }
+    ensures { IfOk result (λ r. option_map (λ g. goal_tree g.now) r
+        ≡ rewritten (function_of rules.now) (goal_tree goal.now)) }
 {
     if let Some(part) = part_of(goal) {
         return Ok(Some(part));
@@ -66,7 +68,8 @@ pub fn step<'a>(
     goal: &'a Goal<'a>,
 ) -> Result<Option<&'a Goal<'a>>, NoMemory>
     requires { (ob : ObName) × IsGoalOf (function_of rules.now) ob (goal_tree goal.now) }
-    ensures rule { IfOk result (λ r. option_map (λ g. goal_tree g.now) r ≡ rewritten (function_of rules.now) (goal_tree goal.now)) }
+    ensures rule { IfOk result (λ r. option_map (λ g. goal_tree g.now) r
+        ≡ rewritten (function_of rules.now) (goal_tree goal.now)) }
     ensures kept { IfOk result (λ r. MatchOption r (IsTrue (is_at_front (goal_tree goal.now)))
         (λ g. IsStep (function_of rules.now) (goal_tree goal.now) (goal_tree g.now))) }
     ensures stops { IfOk result (λ r. IsTrue (is_at_front (goal_tree goal.now)) → r ≡ None) }

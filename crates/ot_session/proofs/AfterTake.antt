@@ -27,7 +27,8 @@ use Rattle.ot_session.specs.Sites.{view_site, data_of, IsSorted, KeepsForms, Can
 use Rattle.ot_session.specs.Taking.{TakesAtPlace}
 use Rattle.ot_session.specs.Views.{View, HasTaken, view_of}
 use Rattle.ot_session.proofs.Usable.{GrowByOne, AreUsable-sound}
-use Rattle.ot_session.proofs.Taken.{counted-most, CanTake-kept, forms-can, length-taken, TakesAt-taken, sound-taken, all-counted-open, never-stuck-taken, never-spent-taken, HasTaken-at, OnOk-fine, IfSome-from}
+use Rattle.ot_session.proofs.Taken.{counted-most, CanTake-kept, forms-can, length-taken, TakesAt-taken, sound-taken, all-counted-open, never-stuck-taken}
+use Rattle.ot_session.proofs.Taken.{never-spent-taken, HasTaken-at, OnOk-fine, IfSome-from}
 
 module _ (s : Session) where
   abbrev rules : Function

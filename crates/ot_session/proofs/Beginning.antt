@@ -20,6 +20,7 @@ module _ (d : List Cell) where
   fresh-viewed sites fresh = AllByRecursion-map (IsFresh d) (IsFreshView d) view_site
       (λ s f. record { document = f.document; seen = ap reverse f.seen; held = f.held; room = f.marked.held }) sites fresh
 
+  -- sites that are fresh hold nothing and have integrated nothing, so their marks are in order
   sorted-fresh : (count : ℕ) (sites : List Site) → AllByRecursion (IsFresh d) sites → AllByRecursion (IsSorted count) sites
   sorted-fresh count [] fresh = tt
   sorted-fresh count (s ∷ sites) fresh = (

@@ -1,5 +1,6 @@
 -- Lists without a member, and how many operations of each site are in a list.
-use Rattle.std.proofs.Common.{◌≡◌, ◌≢◌, ◌<◌, ◌≤◌, ◌+◌, ◌-◌, ℕ, true, false, not, filter, List, [], ◌∷◌, length, map, refl, sym, ap, ◌∙◌, subst, inl, inr, arith, get_or}
+use Rattle.std.proofs.Common.{◌≡◌, ◌≢◌, ◌<◌, ◌≤◌, ◌+◌, ◌-◌, ℕ, true, false, not, filter, List, [], ◌∷◌, length, map, refl, sym, ap, ◌∙◌, subst, inl, inr, arith}
+use Rattle.std.proofs.Common.{get_or}
 use Rattle.std.specs.Prelude.{nat_eq, slice_set}
 use Rattle.std.specs.List.{range_with_len}
 use Rattle.std.proofs.Common.{get_or-set_other}

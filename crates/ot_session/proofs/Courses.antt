@@ -1,5 +1,6 @@
 -- Taking an operation at a site, as steps of what the definitions of sessions speak of.
-use Rattle.std.proofs.Common.{◌≡◌, ◌≢◌, ◌<◌, ◌+◌, ◌-◌, ◌∷◌, [], ℕ, zero, suc, Bool, true, List, length, Some, None, Result, Ok, Err, refl, sym, ap, ◌∙◌, subst, inl, inr, arith}
+use Rattle.std.proofs.Common.{◌≡◌, ◌≢◌, ◌<◌, ◌+◌, ◌-◌, ◌∷◌, [], ℕ, zero, suc, Bool, true, List, length, Some, None, Result, Ok, Err, refl, sym, ap, ◌∙◌, subst}
+use Rattle.std.proofs.Common.{inl, inr, arith}
 use Rattle.std.specs.Prelude.{slice_get, slice_set}
 use Rattle.std.proofs.lemmas.Bool.{cases_eq}
 use Rattle.std.proofs.lemmas.List.{length-set}
@@ -82,6 +83,7 @@ module _ (f : Function) (first : List Cell) (made : List Made) (sites : List Sit
   module _ (sound_law : (old new : SessionData) (s o : ℕ) → IsSound f old → Integrates f old new s o → IsSound f new)
       (count_law : (old new : SessionData) (s o : ℕ) → IsSound f old → Integrates f old new s o
       → all_counted new + length (counted old.past (old.seen s)) ≡ all_counted old + length (counted new.past (new.seen s))) where
+    -- a course from a sound session keeps it sound, and its count grows by what was counted
     pub Follows-course : (n : ℕ) (v : Standing) (done : List ℕ) (w : Standing) → IsSound f (with v.site) → IsCourse f (past_of made) n v done w
         → Follows v w
     Follows-course n v _ _ sound start = record { sound = sound; counts = refl }

@@ -39,6 +39,7 @@ module _ (f : Function) (old new : Past) (extends : Extends old new)
       (λ s. from_site-extended s l (made_law l closed)) (range_with_len 1 MAX_SITES))
 
   module _ (seen more : List ℕ) (sublist : (l : List ℕ) → IsSublist l seen → IsSublist l more) where
+    -- entries that stand for forms stand for them where more is made
     entries-extended : (names : List FormName) (es : List (Key × Op)) → AllByRecursion (IsFormEntry f old seen names) es
         → AllByRecursion (IsFormEntry f new more names) es
     entries-extended names [] all = tt

@@ -1,5 +1,6 @@
 -- A site at which an operation was integrated.
-use Rattle.std.proofs.Common.{◌≡◌, ◌≢◌, ◌<◌, ◌≤◌, ◌+◌, ◌-◌, ◌++◌, ◌∷◌, [], ℕ, Bool, true, false, List, length, Option, Some, None, Result, Ok, Err, refl, sym, ap, ◌∙◌, subst, inl, inr, arith, reverse}
+use Rattle.std.proofs.Common.{◌≡◌, ◌≢◌, ◌<◌, ◌≤◌, ◌+◌, ◌-◌, ◌++◌, ◌∷◌, [], ℕ, Bool, true, false, List, length, Option, Some, None, Result, Ok, Err, refl, sym}
+use Rattle.std.proofs.Common.{ap, ◌∙◌, subst, inl, inr, arith, reverse}
 use Rattle.std.specs.Prelude.{nat_eq, slice_set}
 use Rattle.std.specs.List.{AllByRecursion}
 use Rattle.std.proofs.Math.Logic.{∥∥₁_map, ∥∥₁_map₂}
@@ -29,6 +30,7 @@ use Rattle.ot_session.proofs.Marks.{marked-set}
 use Rattle.ot_session.proofs.Seeking.{length-count_sought}
 
 module _ (f : Function) (past : Past) (seen : List ℕ) (n : ℕ) where
+  -- entries that stand for forms stand for them where one operation more is integrated
   entries-longer : (names : List FormName) (es : List (Key × Op)) → AllByRecursion (IsFormEntry f past seen names) es
       → AllByRecursion (IsFormEntry f past (n ∷ seen) names) es
   entries-longer names [] all = tt
@@ -92,6 +94,7 @@ module _ (f : Function) (past : Past) (n : ℕ) (p : Op) (table : List (Key × O
   seen_now : reverse new.seen.items ≡ n ∷ reverse old.seen.items
   seen_now = ap (λ (l : List ℕ). reverse l) change.seen ∙ reverse-append old.seen.items (n ∷ [])
 
+  -- the site has integrated the operation, and the count grew by the forms that were sought
   HasIntegrated-changed : (others total more : ℕ) → total ≡ others + length (counted past (reverse old.seen.items))
       → Seeks f past (reverse old.seen.items) (counted past (reverse old.seen.items)) others n (reverse old.seen.items) table more
       → form f past n (reverse old.seen.items) ≡ Some p → is_enabled p (length old.doc) ≡ true
@@ -112,6 +115,7 @@ module _ (f : Function) (past : Past) (n : ℕ) (p : Op) (table : List (Key × O
     held = change.held;
   }
 
+  -- what a site holds is made and not integrated, also once it has integrated what it held
   apart_now : IsApart past.count old → n < length old.held → IsApart past.count new
   apart_now apart inside = record {
     made = λ x is. apart.made x (elim (cases_eq x n) [
@@ -252,6 +256,7 @@ module _ (f : Function) (past : Past) (site : Site) (n total more : ℕ) (table 
     }
 
     module _ (counted_next : (o : ℕ) (l : List ℕ) → counted past (o ∷ l) ≡ count_sought (counted past l) (sought past o l)) where
+      -- where nothing is in the way, the new count is the one after the operation was integrated
       pub count_behind-sought : more ≡ count_behind f past total seen n
       count_behind-sought =
           let all : count_behind f past total seen n ≡ total + uncounted past seen n =

@@ -1,5 +1,6 @@
 -- Making an operation, as a step of what the definitions of sessions speak of.
-use Rattle.std.proofs.Common.{◌≡◌, ◌≢◌, ◌<◌, ◌≤◌, ◌+◌, ◌-◌, ◌++◌, ◌∷◌, [], ℕ, Bool, true, List, length, map, inl, inr, Option, Some, refl, sym, ap, ◌∙◌, subst, reverse, length-append, arith}
+use Rattle.std.proofs.Common.{◌≡◌, ◌≢◌, ◌<◌, ◌≤◌, ◌+◌, ◌-◌, ◌++◌, ◌∷◌, [], ℕ, Bool, true, List, length, map, inl, inr, Option, Some, refl, sym, ap, ◌∙◌, subst}
+use Rattle.std.proofs.Common.{reverse, length-append, arith}
 use Rattle.std.specs.Prelude.{slice_get, nat_eq}
 use Rattle.std.proofs.lemmas.Bool.{cases_eq, ne_eqb, or_from}
 use Rattle.std.specs.Option.{option_map}
@@ -29,7 +30,8 @@ use Rattle.ot_session.specs.Sites.{SiteView, IsMarked, IsSorted, KeepsForms, IsK
 use Rattle.ot_session.proofs.Extending.{HasForms-extended}
 use Rattle.ot_session.proofs.Marks.{IsMarked-executed}
 use Rattle.ot_session.proofs.Views.{closed-viewed}
-use Rattle.ot_session.proofs.Lists.{AllByRecursion-set, AllByRecursion-at, AllByRecursion-from, slice_get-set_same, slice_get-set_other, slice_get-push_same, slice_get-push_other}
+use Rattle.ot_session.proofs.Lists.{AllByRecursion-set, AllByRecursion-at, AllByRecursion-from, slice_get-set_same, slice_get-set_other, slice_get-push_same}
+use Rattle.ot_session.proofs.Lists.{slice_get-push_other}
 
 pub all-marked : (count : ℕ) (ss : List Site) → AllByRecursion (IsSorted count) ss → AllByRecursion IsMarked ss
 all-marked count [] all = tt
@@ -131,6 +133,7 @@ module _ (f : Function) (first : List Cell) (t : ℕ) (o : Op) (made new_made : 
   all-sorted-more count more [] most all = tt
   all-sorted-more count more (s ∷ ss) most all = (sorted-more count more s most all.0, all-sorted-more count more ss most all.1)
 
+  -- marks that are in order stay so at the site that makes an operation
   sorted-executed : length made < MAX_MADE → IsSorted (length made) step.before → IsSorted (length new_made) step.after
   sorted-executed few sorted = record {
     marked = IsMarked-executed f.head.mode (length made) o step.before step.after few step.executes sorted.marked;

@@ -1,5 +1,6 @@
 -- What a take answers, and what is behind it, are told by the session before it.
-use Rattle.std.proofs.Common.{◌≡◌, ◌≢◌, ◌<◌, ◌≤◌, ◌-◌, ◌++◌, ◌∷◌, [], ℕ, true, List, length, Some, None, Result, Ok, Err, is_ok, refl, sym, ap, ◌∙◌, subst, inl, inr, arith}
+use Rattle.std.proofs.Common.{◌≡◌, ◌≢◌, ◌<◌, ◌≤◌, ◌-◌, ◌++◌, ◌∷◌, [], ℕ, true, List, length, Some, None, Result, Ok, Err, is_ok, refl, sym, ap, ◌∙◌, subst, inl}
+use Rattle.std.proofs.Common.{inr, arith}
 use Rattle.std.specs.Prelude.{slice_set}
 use Rattle.std.proofs.lemmas.Bool.{cases_lt}
 use Rattle.std.proofs.lemmas.List.{append_assoc, append-nil}
@@ -15,7 +16,8 @@ use Rattle.ot_session.specs.declared.limits.TheConstants.{MAX_FORMS}
 use Rattle.ot_session.specs.Past.{past_of}
 use Rattle.ot_session.specs.Seeking.{IsSpent, count_behind}
 use Rattle.ot_session.specs.Sites.{SiteView}
-use Rattle.ot_session.specs.Taking.{Standing, IsKnown, HasAllBefore, IsLeastDue, NoneIsDue, HasIntegrated, IsStuck, IsTurn, IsCourse, start, then, Integrates, Takes}
+use Rattle.ot_session.specs.Taking.{Standing, IsKnown, HasAllBefore, IsLeastDue, NoneIsDue, HasIntegrated, IsStuck, IsTurn, IsCourse, start, then, Integrates}
+use Rattle.ot_session.specs.Taking.{Takes}
 use Rattle.ot_session.specs.Views.{View, TakesAt, HasTaken}
 
 -- one operation is the least that is due

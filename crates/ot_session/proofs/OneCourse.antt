@@ -31,6 +31,7 @@ module _ (f : Function) (past : Past) (first : List Cell) where
       by None none = absurd (∥∥₁_elim has ⊥_prop (λ h. let both : None ≡ Some h.document = sym none ∙ h.is in cc))
       by (Some d) some = record { document = d; is = some }
 
+  -- an enabled form that is merely there is there: the form is computed
   HasEnabledForm-fact : (d : List Cell) (o : ℕ) (l : List ℕ) → ∥ HasEnabledForm f past d o l ∥₁ → HasEnabledForm f past d o l
   HasEnabledForm-fact d o l has = by (form f past o l) refl
     where

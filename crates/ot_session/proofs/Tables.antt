@@ -1,5 +1,6 @@
 -- What a table of forms gives, and what it stays with one more.
-use Rattle.std.proofs.Common.{cond, if◌then◌else◌, ◌≡◌, ◌<◌, ◌-◌, ◌↔◌, ℕ, Bool, true, false, ◌&&◌, List, [], ◌∷◌, map, Option, Some, None, refl, sym, ap, ◌∙◌, subst, get_or, inl, inr}
+use Rattle.std.proofs.Common.{cond, if◌then◌else◌, ◌≡◌, ◌<◌, ◌-◌, ◌↔◌, ℕ, Bool, true, false, ◌&&◌, List, [], ◌∷◌, map, Option, Some, None, refl, sym, ap, ◌∙◌}
+use Rattle.std.proofs.Common.{subst, get_or, inl, inr}
 use Rattle.std.specs.Prelude.{nat_eq, is_some}
 use Rattle.std.specs.List.{AllByRecursion, range_with_len}
 use Rattle.std.specs.Cmp.Lexicographic.{pointwise}

@@ -93,6 +93,7 @@ pub record Holds (n : ℕ) (old new : Site) : Type 0 where
   pub integrated : new.integrated ≡ old.integrated
   pub held : new.held ≡ slice_set old.held n true
 
+-- marks that are in order stay so where a site holds an operation that it has not integrated
 pub IsSorted-held : (count n : ℕ) (old new : Site) → Holds n old new → n < count → n < length old.held → is_marked old.integrated n ≡ false
     → IsSorted count old → IsSorted count new
 IsSorted-held count n old new holds made inside unmarked sorted = record {

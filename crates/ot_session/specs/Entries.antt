@@ -1,5 +1,6 @@
 -- A table of forms, seen as the list of its entries, and what was counted with it.
-use Rattle.std.specs.Prelude.{◌≡◌, ℕ, ◌+◌, Bool, true, ◌&&◌, nat_eq, List, length, Option, Some, None, is_some, Result, Ok, Err}
+use Rattle.std.specs.Prelude.{◌≡◌, ℕ, ◌+◌, Bool, true, ◌&&◌, nat_eq, List, length, Option, Some, None, is_some, Result}
+use Rattle.std.specs.Prelude.{Ok, Err}
 use Rattle.std.specs.List.{AllByRecursion}
 use Rattle.std.specs.Map.{lookup}
 use Rattle.std.specs.Cmp.Lexicographic.{pointwise}
@@ -28,7 +29,8 @@ abbrev pub key_of : Past → FormName → Key
 key_of past name = record { number = name.of; counts = clock past name.behind }
 
 -- the entry is the form of an operation behind a list that was sought, under the counts of that list, and was counted
-pub record IsFormEntry (f : Function) (past : Past) (seen : List ℕ) (names : List FormName) (e : Key × Op) : Type 0 where
+pub record IsFormEntry (f : Function) (past : Past) (seen : List ℕ) (names : List FormName) (e : Key × Op) : Type 0
+    where
   pub list : List ℕ
   pub sought : IsSought past seen e.0.number list
   pub counts : e.0.counts ≡ clock past list
@@ -40,7 +42,8 @@ pub record IsStored (past : Past) (entries : List (Key × Op)) (name : FormName)
   pub there : is_some (form_under (key_of past name) entries) ≡ true
 
 -- the table of a site that has integrated the list: it has the forms that were counted, and no others
-pub record HasForms (f : Function) (past : Past) (seen : List ℕ) (names : List FormName) (entries : List (Key × Op)) : Type 0 where
+pub record HasForms (f : Function) (past : Past) (seen : List ℕ) (names : List FormName) (entries : List (Key × Op)) :
+    Type 0 where
   pub counted : AreCounted past seen names
   pub forms : AllByRecursion (IsFormEntry f past seen names) entries
   pub stored : AllByRecursion (IsStored past entries) names
@@ -67,7 +70,8 @@ pub record Seeks (f : Function) (past : Past) (seen : List ℕ) (names : List Fo
   pub count : total ≡ others + length (count_sought names (sought past o l))
 
 -- a form was sought where some were counted at the site, and so many at the others, and this is the answer
-abbrev pub HasSought : Function → Past → List ℕ → List FormName → ℕ → ℕ → List ℕ → List (Key × Op) → ℕ → Result Op Refusal → Type 0
+abbrev pub HasSought : Function → Past → List ℕ → List FormName → ℕ → ℕ → List ℕ → List (Key × Op) → ℕ
+    → Result Op Refusal → Type 0
 HasSought f past seen names others o l entries total (Ok p) = Seeks f past seen names others o l entries total
 HasSought f past seen names others o l entries total (Err NoForm) =
     first_obstacle f past (others + length names) names (sought past o l) ≡ Some (Missing total)

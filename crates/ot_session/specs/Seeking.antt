@@ -42,4 +42,5 @@ count_at (Some Exhausted) total more = MAX_FORMS
 
 -- how many are counted in all once the form of an operation was sought at a site that has integrated the list
 abbrev pub count_behind : Function → Past → ℕ → List ℕ → ℕ → ℕ
-count_behind f past total seen o = count_at (first_obstacle f past total (counted past seen) (sought past o seen)) total (uncounted past seen o)
+count_behind f past total seen o = count_at (first_obstacle f past total (counted past seen) (sought past o seen)) total
+    (uncounted past seen o)

@@ -1,5 +1,6 @@
 -- Sites and sessions, seen as plain data.
-use Rattle.std.specs.Prelude.{◌≡◌, ◌<◌, ◌-◌, ◌++◌, ℕ, Bool, true, false, List, [], ◌∷◌, length, map, reverse, Option, Some, None, slice_get, slice_set}
+use Rattle.std.specs.Prelude.{◌≡◌, ◌<◌, ◌-◌, ◌++◌, ℕ, Bool, true, false, List, [], ◌∷◌, length, map, reverse, Option}
+use Rattle.std.specs.Prelude.{Some, None, slice_get, slice_set}
 use Rattle.std.specs.List.{AllByRecursion}
 use Rattle.ot_model.specs.declared.cell.Cell.{Cell}
 use Rattle.ot_model.specs.declared.op.Op.{Op}
@@ -98,7 +99,8 @@ pub record IsSameSite (old new : Site) : Type 0 where
   pub held : new.held ≡ old.held
 
 -- an operation was executed at one of the sites, and is among those that were made
-pub record ExecutesAt (mode : Mode) (o : Op) (i : ℕ) (old_made new_made : List Made) (old new : List Site) : Type 0 where
+pub record ExecutesAt (mode : Mode) (o : Op) (i : ℕ) (old_made new_made : List Made) (old new : List Site) : Type 0
+    where
   pub before : Site
   pub after : Site
   pub was : slice_get old i ≡ Some before

@@ -1,5 +1,6 @@
 -- What a site does with an operation that it takes.
-use Rattle.std.specs.Prelude.{◌≡◌, ◌<◌, ◌≤◌, ◌+◌, ◌⊎◌, ℕ, Bool, true, false, List, [], ◌∷◌, ◌++◌, length, Some, None, slice_get, slice_set, Result, Ok, Err}
+use Rattle.std.specs.Prelude.{◌≡◌, ◌<◌, ◌≤◌, ◌+◌, ◌⊎◌, ℕ, Bool, true, false, List, [], ◌∷◌, ◌++◌, length, Some, None}
+use Rattle.std.specs.Prelude.{slice_get, slice_set, Result, Ok, Err}
 use Rattle.fn_rules.specs.Functions.{Function}
 use Rattle.ot_causal.specs.Members.{has}
 use Rattle.ot_causal.specs.Past.{Past, IsNext}
@@ -70,12 +71,14 @@ IsTurn past taken (_ ∷ _) site o = IsLeastDue past site o
 -- these were integrated for an operation that was taken, in this order, each when it was its turn
 pub data IsCourse (f : Function) (past : Past) (taken : ℕ) (old : Standing) : List ℕ → Standing → Type 0 where
   start : IsCourse f past taken old [] old
-  then : (done : List ℕ) (mid new : Standing) (o : ℕ) → IsCourse f past taken old done mid → IsTurn past taken done mid.site o
+  then : (done : List ℕ) (mid new : Standing) (o : ℕ) → IsCourse f past taken old done mid
+      → IsTurn past taken done mid.site o
       → HasIntegrated f past o mid new → IsCourse f past taken old (done ++ o ∷ []) new
 
 -- the operation is neither integrated nor held at the site, which has integrated all that are before it; and what it
 -- has integrated for it so far, in this order
-pub record Integrates (f : Function) (past : Past) (taken : ℕ) (old : Standing) (done : List ℕ) (new : Standing) : Type 0 where
+pub record Integrates (f : Function) (past : Past) (taken : ℕ) (old : Standing) (done : List ℕ) (new : Standing) : Type
+    0 where
   pub unknown : ¬ (IsKnown old.site taken)
   pub ready : HasAllBefore past old.site taken
   pub course : IsCourse f past taken old done new
@@ -97,8 +100,8 @@ pub record HasDone (f : Function) (past : Past) (taken : ℕ) (old new : Standin
   pub some : 0 < length done
   pub over : NoneIsDue past new.site
 
--- some were integrated, and then it was the turn of one that is stuck: the forms that were sought for it are counted, up to
--- the first that does not exist
+-- some were integrated, and then it was the turn of one that is stuck: the forms that were sought for it are counted,
+-- up to the first that does not exist
 pub record HasStuck (f : Function) (past : Past) (taken : ℕ) (old new : Standing) (o : ℕ) : Type 0 where
   pub done : List ℕ
   pub mid : Standing
@@ -144,7 +147,8 @@ done_in (Ok done) = Ok (Done done)
 done_in (Err e) = Err e
 
 -- the site at a place took an operation, and nothing else changed
-pub record TakesAtPlace (f : Function) (past : Past) (place taken : ℕ) (old new : List Site) (total new_total : ℕ) (answer : Result Took Take) : Type 0 where
+pub record TakesAtPlace (f : Function) (past : Past) (place taken : ℕ) (old new : List Site) (total new_total : ℕ)
+    (answer : Result Took Take) : Type 0 where
   pub before : Site
   pub after : Site
   pub was : slice_get old place ≡ Some before

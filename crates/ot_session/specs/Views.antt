@@ -1,5 +1,6 @@
 -- A session, seen as plain data: the function, the first document, what was made, and each site.
-use Rattle.std.specs.Prelude.{◌≡◌, ◌<◌, ◌≤◌, ◌-◌, ◌++◌, ℕ, Bool, true, false, List, [], ◌∷◌, length, map, Some, slice_get, slice_set, Result, Ok, Err, is_ok}
+use Rattle.std.specs.Prelude.{◌≡◌, ◌<◌, ◌≤◌, ◌-◌, ◌++◌, ℕ, Bool, true, false, List, [], ◌∷◌, length, map, Some}
+use Rattle.std.specs.Prelude.{slice_get, slice_set, Result, Ok, Err, is_ok}
 use Rattle.std.specs.List.{AllByRecursion}
 use Rattle.ot_model.specs.declared.cell.Cell.{Cell}
 use Rattle.ot_model.specs.declared.op.Op.{Op}
@@ -86,7 +87,8 @@ pub record TakesAt (old new : View) (t n : ℕ) (answer : Result Took Take) : Ty
   pub after : Standing
   pub site : slice_get old.sites (t - 1) ≡ Some before
   pub takes : Takes old.function (past_of old.made) n (record { site = before; counted = old.counted }) after answer
-  pub is : new ≡ record old { sites = slice_set old.sites (t - 1) after.site; counted = after.counted; is_open = is_ok answer }
+  pub is : new ≡ record old { sites = slice_set old.sites (t - 1) after.site; counted = after.counted;
+      is_open = is_ok answer }
 
 -- a site was asked to take an operation, and this is the answer
 abbrev pub HasTaken : View → View → ℕ → ℕ → Result Took Take → Type 0

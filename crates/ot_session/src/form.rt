@@ -1,5 +1,6 @@
 //! The form of an operation behind a list of others, newest first.
-ghost use Rattle.std.specs.Prelude.{◌≡◌, ◌≤◌, ◌<◌, ◌+◌, ◌-◌, ℕ, List, Some, None, Err, IfOk, OnOk, IfErr, length, slice_index, slice_set, filter, not, nat_eq};
+ghost use Rattle.std.specs.Prelude.{◌≡◌, ◌≤◌, ◌<◌, ◌+◌, ◌-◌, ℕ, List, Some, None, Err, IfOk, OnOk, IfErr, length};
+ghost use Rattle.std.specs.Prelude.{slice_index, slice_set, filter, not, nat_eq};
 ghost use Rattle.fn_rules.specs.Rules.{function_of};
 ghost use Rattle.ot_causal.specs.Members.{without};
 ghost use Rattle.ot_causal.specs.Past.{maker, IsClosed};
@@ -65,17 +66,23 @@ pub(crate) fn form_behind(
     list: &[u32],
     counts: [u32; MAX_SITES],
 ) -> Result<Op, Refusal>
-    requires may { ∥ MaySeek (function_of seeking.rules.now) (past_of seeking.made.now) seeking.seen.now number list.now ∥₁ }
+    requires may { ∥ MaySeek (function_of seeking.rules.now) (past_of seeking.made.now) seeking.seen.now number list.now
+        ∥₁ }
     requires counts { counts ≡ clock (past_of seeking.made.now) list.now }
     requires few { length list.now ≤ MAX_MADE }
-    requires table { ∥ IsTable (function_of seeking.rules.now) (past_of seeking.made.now) seeking.seen.now table.old counted.old ∥₁ }
+    requires table { ∥ IsTable (function_of seeking.rules.now) (past_of seeking.made.now) seeking.seen.now table.old
+        counted.old ∥₁ }
     requires counted { counted.old ≤ MAX_FORMS }
-    ensures ok { IfOk result (λ p. form (function_of seeking.entry.rules.now) (past_of seeking.entry.made.now) number list.now ≡ Some p) }
-    ensures no_form { result ≡ Err NoForm → form (function_of seeking.entry.rules.now) (past_of seeking.entry.made.now) number list.now ≡ None }
+    ensures ok { IfOk result (λ p. form (function_of seeking.entry.rules.now) (past_of seeking.entry.made.now) number
+        list.now ≡ Some p) }
+    ensures no_form { result ≡ Err NoForm → form (function_of seeking.entry.rules.now) (past_of seeking.entry.made.now)
+        number list.now ≡ None }
     ensures sought { (names : List FormName) (others : ℕ)
-        → ∥ HasForms (function_of seeking.entry.rules.now) (past_of seeking.entry.made.now) seeking.entry.seen.now names table.old ∥₁
+        → ∥ HasForms (function_of seeking.entry.rules.now) (past_of seeking.entry.made.now) seeking.entry.seen.now names
+        table.old ∥₁
         → counted.old ≡ others + length names
-        → HasSought (function_of seeking.entry.rules.now) (past_of seeking.entry.made.now) seeking.entry.seen.now names others number list.now
+        → HasSought (function_of seeking.entry.rules.now) (past_of seeking.entry.made.now) seeking.entry.seen.now names
+        others number list.now
         table.new counted.new result }
     ensures counted { counted.new ≤ MAX_FORMS }
     ensures more { counted.old ≤ counted.new }

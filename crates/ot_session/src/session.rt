@@ -1,5 +1,6 @@
 //! The session.
-ghost use Rattle.std.specs.Prelude.{◌≡◌, ◌≤◌, ◌<◌, ◌↔◌, ◌≢◌, ◌*◌, length, IfOk, IfErr, OnOk, IsTrue, Some, Err, reverse, map, true, false, ℕ};
+ghost use Rattle.std.specs.Prelude.{◌≡◌, ◌≤◌, ◌<◌, ◌↔◌, ◌≢◌, ◌*◌, length, IfOk, IfErr, OnOk, IsTrue, Some, Err};
+ghost use Rattle.std.specs.Prelude.{reverse, map, true, false, ℕ};
 ghost use Rattle.std.specs.List.{AllByRecursion};
 ghost use Rattle.ot_model.specs.declared.limits.TheConstants.{MAX_CELLS};
 ghost use Rattle.fn_rules.specs.Rules.{function_of};
@@ -38,7 +39,8 @@ pub struct Session {
     ghost most: { length sites.items ≤ MAX_SITES },
     ghost within: { counted ≤ MAX_FORMS },
     ghost kept: { ∥ IsKept (function_of rules) first made.items sites.items ∥₁ },
-    ghost forms: { is_open ≡ true → ∥ AllByRecursion (KeepsForms (function_of rules) (past_of made.items)) sites.items ∥₁ },
+    ghost forms: { is_open ≡ true → ∥ AllByRecursion (KeepsForms (function_of rules) (past_of made.items)) sites.items
+        ∥₁ },
     ghost counts: { is_open ≡ true → counted ≡ all_counted (data_of first made.items (map view_site sites.items)) },
 }
 
@@ -123,18 +125,24 @@ impl Session {
         requires { (view_of self.old).is_open ≡ true }
         ensures made { IfOk result (λ number. HasMade (view_of self.old) (view_of self.new) site op number) }
         ensures no_site { (result ≡ Err makes.NoSite) ↔ (¬ (IsSite (data_in (view_of self.old)).sites site)) }
-        ensures wrong_site { result ≡ Err makes.WrongSite → IsSite (data_in (view_of self.old)).sites site × (site_of op ≢ Some site) }
-        ensures wrong_kind { result ≡ Err makes.WrongKind → IsSite (data_in (view_of self.old)).sites site × (site_of op ≡ Some site)
+        ensures wrong_site { result ≡ Err makes.WrongSite → IsSite (data_in (view_of self.old)).sites site
+            × (site_of op ≢ Some site) }
+        ensures wrong_kind { result ≡ Err makes.WrongKind → IsSite (data_in (view_of self.old)).sites site
+            × (site_of op ≡ Some site)
             × (¬ (HasDeclaredKind (view_of self.old).function.head (kind_of op))) }
-        ensures not_enabled { result ≡ Err makes.NotEnabled → IsSite (data_in (view_of self.old)).sites site × (site_of op ≡ Some site)
+        ensures not_enabled { result ≡ Err makes.NotEnabled → IsSite (data_in (view_of self.old)).sites site
+            × (site_of op ≡ Some site)
             × HasDeclaredKind (view_of self.old).function.head (kind_of op)
             × (¬ (IsEnabled op (length ((data_in (view_of self.old)).document site)))) }
-        ensures full { result ≡ Err makes.Full → MayMake (view_of self.old).function (data_in (view_of self.old)) site op
+        ensures full { result ≡ Err makes.Full → MayMake (view_of self.old).function (data_in (view_of self.old)) site
+            op
             × (length (view_of self.old).made ≡ MAX_MADE) }
 
         // What was not refused had passed every test.
-        ensures passed { OnOk result (MayMake (view_of self.old).function (data_in (view_of self.old)) site op × (length (view_of self.old).made < MAX_MADE)) }
-        ensures no_memory { result ≡ Err makes.NoMemory → MayMake (view_of self.old).function (data_in (view_of self.old)) site op
+        ensures passed { OnOk result (MayMake (view_of self.old).function (data_in (view_of self.old)) site op
+            × (length (view_of self.old).made < MAX_MADE)) }
+        ensures no_memory { result ≡ Err makes.NoMemory
+            → MayMake (view_of self.old).function (data_in (view_of self.old)) site op
             × (length (view_of self.old).made < MAX_MADE) }
         ensures unchanged { IfErr result (λ e. e ≢ makes.NoMemory → view_of self.new ≡ view_of self.old) }
         ensures closed { result ≡ Err makes.NoMemory → view_of self.new ≡ closed (view_of self.old) }
@@ -182,7 +190,8 @@ impl Session {
             → (view_of self.old).function.head.chars_differ ≡ false → (o : ℕ) → result ≢ Err (takes.Stuck o) }
 
         // Where the most forms that its sites can count are no more than are allowed, the count is never spent.
-        ensures never_spent { (data_in (view_of self.old)).sites * most_forms (data_in (view_of self.old)).past (data_in (view_of self.old)).sites ≤ MAX_FORMS
+        ensures never_spent { (data_in (view_of self.old)).sites * most_forms (data_in (view_of self.old)).past
+            (data_in (view_of self.old)).sites ≤ MAX_FORMS
             → result ≢ Err takes.Spent }
 
         // Whatever the answer, what was counted stays counted.
@@ -224,8 +233,8 @@ impl Session {
         enabled(op, self.doc(site).len())
     }
 
-    /// A law: where the function has both properties and characters need not differ, sites that have integrated the same
-    /// operations hold one document.
+    /// A law: where the function has both properties and characters need not differ, sites that have integrated the
+    /// same operations hold one document.
     pub fn sites_agree(&self)
         ensures { HasTp1 (view_of self.now).function → HasTp2 (view_of self.now).function
             → (view_of self.now).function.head.chars_differ ≡ false → (s t : ℕ)
@@ -236,9 +245,9 @@ impl Session {
         both_properties_give_one_document();
     }
 
-    /// A law: where the function has both properties and characters need not differ, each closed list of operations made
-    /// so far leads to a document, on which each operation that the list is ready for has an enabled form, and documents
-    /// and forms depend on sets alone; also for lists that no site has integrated.
+    /// A law: where the function has both properties and characters need not differ, each closed list of operations
+    /// made so far leads to a document, on which each operation that the list is ready for has an enabled form, and
+    /// documents and forms depend on sets alone; also for lists that no site has integrated.
     pub fn past_has_one_course(&self)
         ensures { HasTp1 (view_of self.now).function → HasTp2 (view_of self.now).function
             → (view_of self.now).function.head.chars_differ ≡ false

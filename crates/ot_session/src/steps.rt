@@ -42,7 +42,8 @@ pub(crate) fn execute_at(
     ensures ok { OnOk result (ExecutesAt mode op place made.old.items made.new.items sites.old sites.new) }
     ensures made { OnErr result (made.new.items ≡ made.old.items) }
     ensures sites { OnErr result (map view_site sites.new ≡ map view_site sites.old) }
-    ensures sorted { OnErr result ((n : ℕ) → AllByRecursion (IsSorted n) sites.old → AllByRecursion (IsSorted n) sites.new) }
+    ensures sorted { OnErr result ((n : ℕ) → AllByRecursion (IsSorted n) sites.old
+        → AllByRecursion (IsSorted n) sites.new) }
 {
     let number = made.len() as u32;
     made.reserve(1)?;

@@ -1,5 +1,6 @@
 //! How a site takes an operation.
-ghost use Rattle.std.specs.Prelude.{◌≡◌, ◌≤◌, ◌<◌, ℕ, List, Ok, Err, IfOk, IfSome, OnOk, OnErr, None, length, reverse, slice_get};
+ghost use Rattle.std.specs.Prelude.{◌≡◌, ◌≤◌, ◌<◌, ℕ, List, Ok, Err, IfOk, IfSome, OnOk, OnErr, None, length, reverse};
+ghost use Rattle.std.specs.Prelude.{slice_get};
 ghost use Rattle.std.specs.List.{AllByRecursion};
 ghost use Rattle.fn_rules.specs.Rules.{function_of};
 ghost use Rattle.ot_causal.specs.Past.{IsNext};
@@ -9,7 +10,8 @@ ghost use Rattle.ot_session.specs.declared.form.Refusal.TheVariants.{NoForm, Spe
 ghost use Rattle.ot_session.specs.Past.{is_marked, past_of};
 ghost use Rattle.ot_session.specs.Seeking.{IsSpent, count_behind};
 ghost use Rattle.ot_session.specs.Sites.{view_site, IsSameSite, IsSorted, CanTake};
-ghost use Rattle.ot_session.specs.Taking.{standing, IsKnown, HasAllBefore, HasIntegrated, IsStuck, Takes, done_in, TakesAtPlace, IsDueByMarks, IsLeastByMarks};
+ghost use Rattle.ot_session.specs.Taking.{standing, IsKnown, HasAllBefore, HasIntegrated, IsStuck, Takes, done_in};
+ghost use Rattle.ot_session.specs.Taking.{TakesAtPlace, IsDueByMarks, IsLeastByMarks};
 
 use crate::answer::{Take, Took};
 use crate::form::{Refusal, Seeking, counts_of, form_behind};
@@ -39,9 +41,11 @@ pub(crate) fn take_at(
     requires made { number < length made.now }
     requires few { length made.now ≤ MAX_MADE }
     requires can { ∥ AllByRecursion (CanTake (function_of rules.now) (past_of made.now)) sites.old ∥₁ }
-    requires total { IfSome (slice_get sites.old place) (λ site. length (counted (past_of made.now) (reverse site.seen.items)) ≤ total.old) }
+    requires total { IfSome (slice_get sites.old place)
+        (λ site. length (counted (past_of made.now) (reverse site.seen.items)) ≤ total.old) }
     requires within { total.old ≤ MAX_FORMS }
-    ensures takes { TakesAtPlace (function_of rules.now) (past_of made.now) place number sites.old sites.new total.old total.new result }
+    ensures takes { TakesAtPlace (function_of rules.now) (past_of made.now) place number sites.old sites.new total.old
+        total.new result }
     ensures sorted { ∥ AllByRecursion (IsSorted (length made.now)) sites.new ∥₁ }
     ensures can { OnOk result (∥ AllByRecursion (CanTake (function_of rules.now) (past_of made.now)) sites.new ∥₁) }
     ensures within { total.new ≤ MAX_FORMS }
@@ -63,7 +67,8 @@ fn take_here(
     requires can { ∥ CanTake (function_of rules.now) (past_of made.now) site.old ∥₁ }
     requires total { length (counted (past_of made.now) (reverse site.old.seen.items)) ≤ total.old }
     requires within { total.old ≤ MAX_FORMS }
-    ensures takes { Takes (function_of rules.now) (past_of made.now) number (standing site.old total.old) (standing site.new total.new) result }
+    ensures takes { Takes (function_of rules.now) (past_of made.now) number (standing site.old total.old)
+        (standing site.new total.new) result }
     ensures sorted { ∥ IsSorted (length made.now) site.new ∥₁ }
     ensures can { OnOk result (∥ CanTake (function_of rules.now) (past_of made.now) site.new ∥₁) }
     ensures within { total.new ≤ MAX_FORMS }
@@ -101,7 +106,8 @@ fn integrate_all(
     requires within { total.old ≤ MAX_FORMS }
     requires unknown { ¬ (IsKnown (view_site site.old) number) }
     requires ready { HasAllBefore (past_of made.now) (view_site site.old) number }
-    ensures takes { Takes (function_of rules.now) (past_of made.now) number (standing site.old total.old) (standing site.new total.new)
+    ensures takes { Takes (function_of rules.now) (past_of made.now) number (standing site.old total.old)
+        (standing site.new total.new)
         (done_in result) }
     ensures sorted { ∥ IsSorted (length made.now) site.new ∥₁ }
     ensures can { OnOk result (∥ CanTake (function_of rules.now) (past_of made.now) site.new ∥₁) }
@@ -127,7 +133,8 @@ fn integrate_all(
 /// The least of the held operations before which nothing is missing.
 fn least_due(made: &[Made], integrated: &[bool], held: &[bool]) -> Option<u32>
     requires few { length made.now ≤ MAX_MADE }
-    ensures some { IfSome result (λ o. IsLeastByMarks (past_of made.now) (is_marked integrated.now) (is_marked held.now) o) }
+    ensures some { IfSome result (λ o. IsLeastByMarks (past_of made.now) (is_marked integrated.now) (is_marked held.now)
+        o) }
     ensures none { result ≡ None → (x : ℕ) → x < length made.now
         → ¬ (IsDueByMarks (past_of made.now) (is_marked integrated.now) (is_marked held.now) x) }
 {
@@ -153,11 +160,15 @@ fn integrate(
     requires next { IsNext (past_of made.now) (reverse site.old.seen.items) number }
     requires total { length (counted (past_of made.now) (reverse site.old.seen.items)) ≤ total.old }
     requires within { total.old ≤ MAX_FORMS }
-    ensures ok { OnOk result (HasIntegrated (function_of rules.now) (past_of made.now) number (standing site.old total.old) (standing site.new total.new)) }
+    ensures ok { OnOk result (HasIntegrated (function_of rules.now) (past_of made.now) number
+        (standing site.old total.old) (standing site.new total.new)) }
     ensures can { OnOk result (∥ CanTake (function_of rules.now) (past_of made.now) site.new ∥₁) }
-    ensures stuck { result ≡ Err NoForm → IsStuck (function_of rules.now) (past_of made.now) number (standing site.old total.old) }
-    ensures stuck_at { result ≡ Err NoForm → total.new ≡ count_behind (function_of rules.now) (past_of made.now) total.old (reverse site.old.seen.items) number }
-    ensures spent { result ≡ Err Spent → IsSpent (function_of rules.now) (past_of made.now) total.old (reverse site.old.seen.items) number }
+    ensures stuck { result ≡ Err NoForm → IsStuck (function_of rules.now) (past_of made.now) number
+        (standing site.old total.old) }
+    ensures stuck_at { result ≡ Err NoForm → total.new
+        ≡ count_behind (function_of rules.now) (past_of made.now) total.old (reverse site.old.seen.items) number }
+    ensures spent { result ≡ Err Spent → IsSpent (function_of rules.now) (past_of made.now) total.old
+        (reverse site.old.seen.items) number }
     ensures spent_at { result ≡ Err Spent → total.new ≡ MAX_FORMS }
     ensures err { OnErr result (IsSameSite site.old site.new) }
     ensures within { total.new ≤ MAX_FORMS }

@@ -76,6 +76,7 @@ test_of_end true p why v e = (refl, e)
 test_of_end false p why v e = absurd (cc)
 
 module _ (v : ℕ → ℤ) where
+  -- flags that are the same for every base document are found the same
   flags_found : (l m : Flag) → ((base : BaseDocument) → flag_at base v l ≡ flag_at base v m) → is_same_flag l m ≡ true
   flags_found Live Live h = refl
   flags_found Live Dead h = sym (h (everywhere (pos 0) true))
@@ -160,6 +161,7 @@ module _ (v : ℕ → ℤ) where
       end-read f.head.mode left (λ x. ask_read f.head.mode right (λ y. ask_same x y)) v
       ∙ end-read f.head.mode right (λ y. ask_same (read_of v f.head.mode left) y) v
 
+  -- the comparison ends with no cause exactly where the cells are the same for every base document
   pub compared_over_all :
       (f : Function) (count : ℕ) (left right : CellTree)
       → IsCellOf f.head.mode count left → IsCellOf f.head.mode count right

@@ -18,6 +18,7 @@ use Rattle.ot_terms.specs.Placing.{compared, guard_form}
 use Rattle.ot_terms.specs.Belonging.{IsPlace, IsLowerable, HasPlaces, HasNames}
 
 module _ (count : ℕ) (some : 0 < count) where
+  -- what a guard compares of an operation has a name below the count
   thing_named : (sort : Sort) (o : SymOp) → HasNames count o → (sym_thing sort o).var < count
   thing_named Pos (ops.Ins at ch site) h = h.0
   thing_named Pos (ops.Del at site) h = h.0

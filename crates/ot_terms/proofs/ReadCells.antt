@@ -103,6 +103,7 @@ module _ (base : BaseDocument) (v : ℕ → ℤ) where
       ∙ by_place-le (v 2 +ℤ off) (integer_at v at) (seen v mode os off) (replaced_cell ch (seen v mode os off)) (seen v mode os off)
   read_changed mode ops.Nop d os off h = h off
 
+  -- a cell of a document is the one that is seen after its changes
   read_doc :
       (mode : Mode) (count : ℕ) (d : DocTree) (off : ℤ) → IsDocOf mode count d
       → cell_of_doc base v d (v 2 +ℤ off) ≡ finished_at (seen v mode (changes_of d) off)
@@ -125,6 +126,7 @@ module _ (base : BaseDocument) (v : ℕ → ℤ) where
   read_made mode [] off = refl
   read_made mode (o ∷ os) off = read_changed mode o (doc_of mode os) os off (λ k. read_made mode os k)
 
+  -- a cell is the finished cell that it is read as
   pub read_cell :
       (mode : Mode) (count : ℕ) (cell : CellTree) → IsCellOf mode count cell
       → cell_of base v cell ≡ finished_at (read_of v mode cell)

@@ -127,6 +127,7 @@ module _ (f : Function) (ob : ObName) where
       ((IsPlace-name (name_count ob) 0 (omega arith), IsPlace-name (name_count ob) 1 one), h, tt)
 
 module _ (f : Function) where
+  -- the first choice of a pair has parts of the pair
   first_of_two :
       (k l : Kind) → IsTrue (is_obligation f.head (Pair k l))
       → HasParts f (Pair k l) (first_choice (Pair k l) (sym_op k A) (sym_op l B) Nop)
@@ -148,6 +149,7 @@ module _ (f : Function) where
         cases = omega arith;
       }
 
+  -- the first choice of a triple has parts of the triple
   first_of_three :
       (k l m : Kind) → IsTrue (is_obligation f.head (Triple k l m))
       → HasParts f (Triple k l m) (first_choice (Triple k l m) (sym_op k A) (sym_op l B) (sym_op m C))
@@ -178,6 +180,7 @@ module _ (f : Function) where
         cases = omega arith;
       }
 
+  -- the goal that an obligation begins with is one of its function and of the obligation
   pub start_of_belongs : (ob : ObName) → IsTrue (is_obligation f.head ob) → IsGoalOf f ob (start_of f.head ob)
   start_of_belongs (Pair k l) h =
       let a = sym_op k A in

@@ -54,6 +54,7 @@ short_of_cells :
     (f : Function) (v : ℕ → ℤ) (n : ℕ) (next : GoalTree) → v 0 ≡ pos 0 → v 1 ≡ negsuc n → goal_holds f v (if_length next)
 short_of_cells f v n next z e = subst (λ t. MatchBool t (goal_holds f v next) (Unit {0})) (sym (negative_length v n z e)) tt
 
+-- at a negative length the first goal holds
 no_cells : (f : Function) (ob : ObName) (v : ℕ → ℤ) (n : ℕ) → v 0 ≡ pos 0 → v 1 ≡ negsuc n → goal_holds f v (start_of f.head ob)
 no_cells f (Pair k l) v n z e =
     let a = sym_op k A in

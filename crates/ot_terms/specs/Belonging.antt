@@ -1,6 +1,7 @@
 -- When a goal is of a function and an obligation: its names, offsets and operations are such as come from
 -- the goal that the obligation begins with.
-use Rattle.std.specs.Prelude.{◌≡◌, ◌≢◌, ◌⊎◌, ℕ, ◌<◌, ◌≤◌, pos, neg_ℤ, ◌+ℤ◌, ◌-ℤ◌, ◌≤ℤ◌, IsTrue, nat_eq, if◌then◌else◌, Option, Some, None, MatchOption, List, [], ◌∷◌, ◌++◌, length}
+use Rattle.std.specs.Prelude.{◌≡◌, ◌≢◌, ◌⊎◌, ℕ, ◌<◌, ◌≤◌, pos, neg_ℤ, ◌+ℤ◌, ◌-ℤ◌, ◌≤ℤ◌, IsTrue, nat_eq, if◌then◌else◌}
+use Rattle.std.specs.Prelude.{Option, Some, None, MatchOption, List, [], ◌∷◌, ◌++◌, length}
 use Rattle.ot_model.specs.declared.op.Kind.{Kind}
 use Rattle.ot_model.specs.declared.op.Mode.{Mode}
 use Rattle.ot_model.specs.declared.op.Mode.TheVariants.{Plain, Tomb}
@@ -66,7 +67,8 @@ IsCellOf mode count (cells.At d at) = IsDocOf mode count d × IsIndexOf d at
 IsCellOf mode count (cells.Char ch) = ch < count
 IsCellOf mode count (cells.Dead cell) = IsCellOf mode count cell
 IsCellOf mode count (cells.Over ch cell) = (ch < count) × IsCellOf mode count cell
-IsCellOf mode count (cells.If g on_yes on_no) = HasPlaces count g × IsCellOf mode count on_yes × IsCellOf mode count on_no
+IsCellOf mode count (cells.If g on_yes on_no) = HasPlaces count g × IsCellOf mode count on_yes
+    × IsCellOf mode count on_no
 
 -- the names of an operation
 abbrev pub HasNames : ℕ → SymOp → Type 0
@@ -84,7 +86,8 @@ pub record IsMade (count : ℕ) (k : Kind) (a : SymOp) : Type 0 where
 -- the operations of an obligation; a pair has nop in the third place
 abbrev pub AreMade : ObName → List SymOp → Type 0
 AreMade (Pair k l) os =
-    (a b : SymOp) × (os ≡ a ∷ b ∷ ops.Nop ∷ []) × IsMade (name_count (Pair k l)) k a × IsMade (name_count (Pair k l)) l b
+    (a b : SymOp) × (os ≡ a ∷ b ∷ ops.Nop ∷ []) × IsMade (name_count (Pair k l)) k a
+        × IsMade (name_count (Pair k l)) l b
 AreMade (Triple k l m) os =
     (a b c : SymOp) × (os ≡ a ∷ b ∷ c ∷ []) × IsMade (name_count (Triple k l m)) k a
     × IsMade (name_count (Triple k l m)) l b × IsMade (name_count (Triple k l m)) m c
@@ -170,7 +173,8 @@ HasParts f ob (goals.Fails why) = Unit {0}
 HasParts f ob (goals.If g on_yes on_no) = HasPlaces (name_count ob) g × HasParts f ob on_yes × HasParts f ob on_no
 HasParts f ob (goals.Choose case a b plan) = IsChoiceOf f ob case a b plan
 HasParts f ob (goals.Deliver o plan) = IsProgressOf ob plan × IsNextResult ob plan.ops (results_of plan) o
-HasParts f ob (goals.Same left right) = IsCellOf f.head.mode (name_count ob) left × IsCellOf f.head.mode (name_count ob) right
+HasParts f ob (goals.Same left right) = IsCellOf f.head.mode (name_count ob) left
+    × IsCellOf f.head.mode (name_count ob) right
 
 -- the goal is of the function and the obligation
 pub record IsGoalOf (f : Function) (ob : ObName) (g : GoalTree) : Type 0 where

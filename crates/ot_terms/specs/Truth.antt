@@ -1,5 +1,6 @@
 -- The truth of a goal at a valuation, read over all base documents at once.
-use Rattle.std.specs.Prelude.{◌≡◌, ℕ, zero, suc, ℤ, pos, ◌+ℤ◌, Bool, true, false, if◌then◌else◌, IsTrue, Option, Some, None, IsSomeAnd, MatchOption, List, [], ◌∷◌, ◌++◌, drop}
+use Rattle.std.specs.Prelude.{◌≡◌, ℕ, zero, suc, ℤ, pos, ◌+ℤ◌, Bool, true, false, if◌then◌else◌, IsTrue, Option, Some}
+use Rattle.std.specs.Prelude.{None, IsSomeAnd, MatchOption, List, [], ◌∷◌, ◌++◌, drop}
 use Rattle.std.specs.Ordering.{int_eq}
 use Rattle.ot_model.specs.declared.op.Kind.{Kind}
 use Rattle.ot_model.specs.declared.op.Mode.{Mode}

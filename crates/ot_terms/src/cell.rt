@@ -71,7 +71,8 @@ impl<'a> CellT<'a> {
         yes: &'a CellT<'a>,
         no: &'a CellT<'a>,
     ) -> Result<&'a CellT<'a>, NoMemory>
-        ensures { IfOk result (λ r. cell_tree r.now ≡ trees.If (form_tree form.now) (cell_tree yes.now) (cell_tree no.now)) }
+        ensures { IfOk result (λ r. cell_tree r.now ≡ trees.If (form_tree form.now) (cell_tree yes.now)
+            (cell_tree no.now)) }
     {
         Ok(bump.try_alloc(CellT::If { form, yes, no })?)
     }

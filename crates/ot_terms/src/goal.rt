@@ -88,7 +88,8 @@ impl<'a> Goal<'a> {
         yes: &'a Goal<'a>,
         no: &'a Goal<'a>,
     ) -> Result<&'a Goal<'a>, NoMemory>
-        ensures { IfOk result (λ r. goal_tree r.now ≡ trees.If (form_tree form.now) (goal_tree yes.now) (goal_tree no.now)) }
+        ensures { IfOk result (λ r. goal_tree r.now ≡ trees.If (form_tree form.now) (goal_tree yes.now)
+            (goal_tree no.now)) }
     {
         Ok(bump.try_alloc(Goal::If { form, yes, no })?)
     }

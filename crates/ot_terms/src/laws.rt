@@ -28,12 +28,14 @@ pub fn forms_are_asked_as_they_are_true()
 pub fn cells_are_compared_over_all_documents()
     ensures { (f : Function) (count : ℕ) (left right : CellTree) (v : ℕ → ℤ)
         → IsCellOf f.head.mode count left → IsCellOf f.head.mode count right
-        → (end_of (ask_goal f (Same left right)) v ≡ None) ↔ ((base : BaseDocument) → cell_of base v left ≡ cell_of base v right) }
+        → (end_of (ask_goal f (Same left right)) v ≡ None)
+        ↔ ((base : BaseDocument) → cell_of base v left ≡ cell_of base v right) }
 {}
 
 /// A goal of a function and an obligation is true at a valuation exactly where the plan that it stands for
 /// ends in `Holds` there. So two goals that stand for one plan are true at the same valuations.
-#[tactic(auto, using(crate::proofs::GoalTruth::goal_holds_ends, crate::proofs::GoalTruth::goal_holds_value, crate::proofs::GoalTruth::goal_holds_alike))]
+#[tactic(auto, using(crate::proofs::GoalTruth::goal_holds_ends, crate::proofs::GoalTruth::goal_holds_value,
+crate::proofs::GoalTruth::goal_holds_alike))]
 pub fn goals_are_true_as_their_plans()
     ensures end { (f : Function) (ob : ObName) (g : GoalTree) (v : ℕ → ℤ) → IsGoalOf f ob g
         → goal_holds f v g ↔ (end_of (ask_goal f g) v ≡ None) }
@@ -44,11 +46,13 @@ pub fn goals_are_true_as_their_plans()
 {}
 
 /// The goal that an obligation begins with is of the function and the obligation, and stands for the plan of the
-/// obligation. It is true at all integers exactly where the property holds for all operations of the kinds on all documents;
-/// and for each length by itself, at all integers with that length exactly where it holds on all documents of the length.
+/// obligation. It is true at all integers exactly where the property holds for all operations of the kinds on all
+/// documents; and for each length by itself, at all integers with that length exactly where it holds on all documents
+/// of the length.
 #[tactic(auto, using(crate::proofs::Starts::ask_goal_start_of, crate::proofs::StartParts::start_of_belongs))]
 pub fn first_goals_stand_for_obligations()
-    ensures belongs { (f : Function) (ob : ObName) → IsTrue (is_obligation f.head ob) → IsGoalOf f ob (start_of f.head ob) }
+    ensures belongs { (f : Function) (ob : ObName) → IsTrue (is_obligation f.head ob)
+        → IsGoalOf f ob (start_of f.head ob) }
     ensures plan { (f : Function) (ob : ObName) → ask_goal f (start_of f.head ob) ≡ plan_of f ob }
     ensures instance { (f : Function) (ob : ObName) (n : ℕ) → IsTrue (is_valid f) → IsTrue (is_obligation f.head ob)
         → IsTrueAtLength f (start_of f.head ob) n ↔ HasInstance f ob n }

@@ -95,9 +95,11 @@ pub fn place_form<'a>(
     ensures tree { IfOk result (λ r. form_tree r.now ≡ guard_form (formula_of guard.now) a b) }
     ensures truth { IfOk result (λ r. (v : ℕ → ℤ) (x y : Op) → v zero_name ≡ pos 0 → StandsFor v a x → StandsFor v b y
         → form_holds v (form_tree r.now) ≡ holds_of (formula_of guard.now) x y) }
-    ensures places { IfOk result (λ r. (count : ℕ) → 0 < count → HasNames count a → HasNames count b → IsNearOp 99 a → IsNearOp 99 b
+    ensures places { IfOk result (λ r. (count : ℕ) → 0 < count → HasNames count a → HasNames count b → IsNearOp 99 a
+        → IsNearOp 99 b
         → HasPlaces count (form_tree r.now)) }
-    ensures asks { IfOk result (λ r. (p q : Plan Why) → ask_form (form_tree r.now) p q ≡ ask_guard (formula_of guard.now) a b p q) }
+    ensures asks { IfOk result (λ r. (p q : Plan Why) → ask_form (form_tree r.now) p q
+        ≡ ask_guard (formula_of guard.now) a b p q) }
 {
     Ok(place_part(bump, guard, a, b)?)
 }

@@ -36,6 +36,7 @@ record FloorsAt (ob : ObName) (who : Who) : Type 0 where
   pub site : pos 0 ≤ℤ valuation_of (floors_of ob) (site_name who)
   pub ch : pos 97 ≤ℤ valuation_of (floors_of ob) (char_name who)
 
+-- the floors of the names of an operation, where the tests of them are passed
 floors_by_tests :
     (ob : ObName) (who : Who) → nat_lt (position_name who) (length (floors_of ob)) ≡ true
     → nat_lt (site_name who) (length (floors_of ob)) ≡ true → int_le (pos 0) (valuation_of (floors_of ob) (position_name who)) ≡ true

@@ -1,6 +1,7 @@
 -- Least characters leave no gap: where a value is not taken, all above it could be one lower. So of three
 -- characters none is more than two above the highest floor.
-use Rattle.std.proofs.Common.{◌≡◌, ◌≢◌, ◌⊎◌, ℕ, zero, suc, ◌<◌, ℤ, pos, ◌-ℤ◌, ◌≤ℤ◌, ◌<ℤ◌, ◌≤◌, lit≤, Bool, true, false, ◌||◌, if◌then◌else◌, nat_eq, int_le, List, [], ◌∷◌, length, refl, ap, sym, ◌∙◌, subst, inl, inr, arith}
+use Rattle.std.proofs.Common.{◌≡◌, ◌≢◌, ◌⊎◌, ℕ, zero, suc, ◌<◌, ℤ, pos, ◌-ℤ◌, ◌≤ℤ◌, ◌<ℤ◌, ◌≤◌, lit≤, Bool, true, false, ◌||◌, if◌then◌else◌, nat_eq, int_le}
+use Rattle.std.proofs.Common.{List, [], ◌∷◌, length, refl, ap, sym, ◌∙◌, subst, inl, inr, arith}
 use Rattle.std.specs.List.{list_all}
 use Rattle.std.specs.Prelude.{slice_index_or}
 use Rattle.std.specs.Ordering.{int_eq}
@@ -40,6 +41,7 @@ int_le-from m t h = grind (arith, ints)
 pub int_le-true : (m t : ℤ) → int_le m t ≡ true → m ≤ℤ t
 int_le-true m t h = grind (arith, ints)
 
+-- a character from a bound on is one lower, and one below it is as it was
 lower_is : (m t : ℤ) → IsLower m t (lower m Char t)
 lower_is m t =
     elim (cases_Bool (int_le m t)) [
@@ -97,6 +99,7 @@ no_char : (b : Bool) → (if b then Site else Pos) ≡ Char → ⊥
 no_char true e = cc
 no_char false e = cc
 
+-- what holds of names 5, 8 and 11 holds of each name of a character
 char_names : (P : ℕ → Type 0) → P 5 → P 8 → P 11 → (x : ℕ) → sort_name x ≡ Char → P x
 char_names P five eight eleven x e =
     elim (cases_Bool (nat_eq x 5)) [
@@ -116,6 +119,7 @@ char_names P five eight eleven x e =
 abbrev AnyName : ℕ → Type 0
 AnyName x = Unit {0}
 
+-- lowered values are alike, where no character is right below the bound
 alike_lowered :
     (v : ℕ → ℤ) (m : ℤ) → v 5 ≢ (m -ℤ pos 1) → v 8 ≢ (m -ℤ pos 1) → v 11 ≢ (m -ℤ pos 1) → AreAlike AnyName v (lowered v m)
 alike_lowered v m five eight eleven = record {
@@ -139,6 +143,7 @@ record Gap (p q r : ℤ) : Type 0 where
   pub q_free : q ≢ (m -ℤ pos 1)
   pub r_free : r ≢ (m -ℤ pos 1)
 
+-- a value is taken by one of two integers, or by none of them
 taken : (q r m : ℤ) → ((q ≢ m) × (r ≢ m)) ⊎ ((q ≡ m) ⊎ (r ≡ m))
 taken q r m =
     elim (cases_Bool (int_eq q m)) [
@@ -164,6 +169,7 @@ gap_at : (p q r m : ℤ) → pos 102 ≤ℤ p → pos 100 ≤ℤ m → m ≤ℤ 
 gap_at p q r m high low most hq hr =
     record { m = m; low = low; high = most; p_free = λ e. omega (arith, ints); q_free = hq; r_free = hr }
 
+-- of three characters, one of which is at least 102, two leave a gap
 gap : (p q r : ℤ) → pos 102 ≤ℤ p → Gap p q r
 gap p q r high =
     elim (taken q r (pos 101)) [
@@ -193,6 +199,7 @@ module _ (ob : ObName) (w : List Lit) (values : List ℤ) (like : AreLike w) (le
   abbrev v : ℕ → ℤ
   v = valuation_of values
 
+  -- no character is above such a gap: it could be one lower
   not_above :
       (x : ℕ) (m : ℤ) → x < length (floors_of ob) → sort_name x ≡ Char → pos 102 ≤ℤ v x → pos 100 ≤ℤ m → m ≤ℤ pos 102
       → v 5 ≢ (m -ℤ pos 1) → v 8 ≢ (m -ℤ pos 1) → v 11 ≢ (m -ℤ pos 1) → ⊥

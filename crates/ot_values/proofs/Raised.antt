@@ -1,6 +1,7 @@
 -- Integers that meet answers can be raised above the floors: all sites by one number, and all characters by
 -- another, and a position that the answers do not speak of becomes 0.
-use Rattle.std.proofs.Common.{◌≡◌, ℕ, zero, suc, ◌+◌, ◌≤◌, lit≤, ℤ, pos, negsuc, ◌+ℤ◌, ◌≤ℤ◌, Bool, true, if◌then◌else◌, List, [], ◌∷◌, refl, ap, sym, ◌∙◌, subst, inl, inr, arith}
+use Rattle.std.proofs.Common.{◌≡◌, ℕ, zero, suc, ◌+◌, ◌≤◌, lit≤, ℤ, pos, negsuc, ◌+ℤ◌, ◌≤ℤ◌, Bool, true, if◌then◌else◌, List, [], ◌∷◌, refl, ap, sym, ◌∙◌}
+use Rattle.std.proofs.Common.{subst, inl, inr, arith}
 use Rattle.std.specs.Prelude.{unsigned_abs}
 use Rattle.std.proofs.lemmas.Bool.{cases_Bool}
 use Rattle.std.proofs.lemmas.Int.{ints}

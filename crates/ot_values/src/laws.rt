@@ -14,10 +14,13 @@ ghost use Rattle.ot_values.specs.Values.{floors_of, IsPossibleAtPositions, IsSma
 /// the positions that the answers speak of, some above the floors do. The least of these have small parts, and
 /// at the positions that the answers speak of they are no higher than any such integers.
 pub fn answers_have_least_values()
-    ensures above { (ob : ObName) (w : List Lit) → AreLike w → IsPossibleAtPositions w → IsPossibleAbove (floors_of ob) w }
-    ensures small { (ob : ObName) (w : List Lit) (values : List ℤ) (who : Who) → AreLike w → AreLeast w (floors_of ob) values
+    ensures above { (ob : ObName) (w : List Lit) → AreLike w → IsPossibleAtPositions w
+        → IsPossibleAbove (floors_of ob) w }
+    ensures small { (ob : ObName) (w : List Lit) (values : List ℤ) (who : Who) → AreLike w
+        → AreLeast w (floors_of ob) values
         → char_name who < length (floors_of ob) → IsSmallAt values who }
-    ensures lowest { (ob : ObName) (w : List Lit) (values : List ℤ) (v : ℕ → ℤ) (x : ℕ) → AreLike w → AreLeast w (floors_of ob) values
+    ensures lowest { (ob : ObName) (w : List Lit) (values : List ℤ) (v : ℕ → ℤ) (x : ℕ) → AreLike w
+        → AreLeast w (floors_of ob) values
         → v zero_name ≡ pos 0 → AreMet v w → HasNoNegativePosition w v → x < length (floors_of ob) → sort_name x ≡ Pos
         → IsTrue (speaks_of w x) → valuation_of values x ≤ℤ v x }
 {}

@@ -31,7 +31,8 @@ pub fn least_values(alloc: Global, ob: ObName, answers: &[Lit]) -> Result<Vec<i3
     requires few { length answers.now < 2 ^ 32 }
     requires possible { IsPossibleAtPositions answers.now }
     ensures least { IfOk result (λ values. AreLeast answers.now (floors_of ob) values.items) }
-    ensures small { IfOk result (λ values. (who : Who) → char_name who < length (floors_of ob) → IsSmallAt values.items who) }
+    ensures small { IfOk result (λ values. (who : Who) → char_name who < length (floors_of ob)
+        → IsSmallAt values.items who) }
 {
     answers_have_least_values();
     let values = least_above_floors(alloc, ob, answers)?;

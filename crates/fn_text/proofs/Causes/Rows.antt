@@ -117,6 +117,7 @@ module _ (c : Control) (at : Placed) where
       cc
   true_told _ atoms e h = refl
 
+  -- a refused operand of an atom has the row of what is wanted there
   pub thing_told : (want : Want) (sort : Sort) (side : Side) (atoms : ℕ) → c.atoms ≡ atoms_for want atoms →
       move_for c at want (Known (words.Thing sort side)) ≡ None →
       thing_fault c sort (region_of want)

@@ -179,6 +179,7 @@ module _ {V : Tightness → Type 0} {K B : Type 0} (m : Maker V K B) (s : State 
       λ k. h.declared k ∙ sym (declared_over_chars s.control.head k) in
       assumption)
 
+  -- where a line begins
   line_keeps : KeepsAt wants.Line
   line_keeps t move h e =
       by_line Keeps s.control at t move e
@@ -249,6 +250,7 @@ module _ {V : Tightness → Type 0} {K B : Type 0} (m : Maker V K B) (s : State 
   declares_none want k h other i =
       ap (λ ks. list_any (is_same_kind i) ks) (kinds_behind k before false other) ∙ h.declared i
 
+  -- after a kind of the head
   next_kind_keeps : KeepsAt wants.NextKind
   next_kind_keeps t move h e =
       by_next_kind Keeps s.control t move e
@@ -270,6 +272,7 @@ module _ {V : Tightness → Type 0} {K B : Type 0} (m : Maker V K B) (s : State 
       let blocks = ends_no_pair wants.BlockFirst k h refl in
       assumption)
 
+  -- at the second kind of a block
   block_second_keeps : (k : Kind) → KeepsAt (wants.BlockSecond k)
   block_second_keeps k t move h e =
       by_block_second Keeps s.control k t move e
@@ -296,6 +299,7 @@ module _ {V : Tightness → Type 0} {K B : Type 0} (m : Maker V K B) (s : State 
       let blocks = ends_no_pair wants.Result k h refl in
       assumption)
 
+  -- at `)` after an operand
   close_keeps : (outer : List (Level V)) → s.outer ≡ outer → StandsAt wants.Operator → nat_lt 0 s.control.outside ≡ true →
       Keeps Close moves.Close
   close_keeps [] same h test =
@@ -310,6 +314,7 @@ module _ {V : Tightness → Type 0} {K B : Type 0} (m : Maker V K B) (s : State 
       let there : Stands left.control levels wants.Operator (Close ∷ before) place = assumption in
       subst (λ x. Stands x.control x.outer x.control.want (Close ∷ before) place) (sym (ap (λ x. closed m s x) same)) there
 
+  -- after an operand
   operator_keeps : KeepsAt wants.Operator
   operator_keeps t move h e =
       let closed : without_nots (opened_before before) ≡ opened_by s.outer =
@@ -326,6 +331,7 @@ module _ {V : Tightness → Type 0} {K B : Type 0} (m : Maker V K B) (s : State 
   offset_keeps : (left : Side) (cmp : Cmp) → KeepsAt (wants.Offset left cmp)
   offset_keeps left cmp t move h e = by_offset Keeps s.control left cmp t move e (λ sign. assumption) (operator_keeps t move assumption)
 
+  -- where an operand is wanted
   operand_keeps : KeepsAt wants.Operand
   operand_keeps t move h e =
       let more : s.control.atoms + 1 ≡ atoms_before before + 1 = ap (λ n. n + 1) h.atoms in

@@ -128,6 +128,7 @@ blocks_from f k = flat_map (block_for f k) KINDS
 abbrev pub blocks_for : Function → List WrittenBlock
 blocks_for f = flat_map (blocks_from f) KINDS
 
+-- the blocks that are written of a function are those that its head asks for
 own_blocks : (mode : Mode) (ins del upd sites chars : Bool) (cases : Kind → Kind → List GuardedCase) →
     has_own_blocks (head_of mode ins del upd sites chars)
     (map (block_made to_formulas) (blocks_for (record { head = head_of mode ins del upd sites chars; cases = cases }))) ≡ true

@@ -107,6 +107,7 @@ end_steps s ts h full =
       end_front ts (head_tokens s.control.language head) (flat_map block_written_as blocks) h.1,
     )
 
+-- a token that goes on where a line begins
 pub line_steps : (s : Phrases) (at : Placed) (ts : List Token) (t : Token) (move : Move) → Reached s wants.Line ts →
     at_line s.control at t ≡ Some move → Steps s ts t move
 line_steps s at ts t move h e =
@@ -171,6 +172,7 @@ allowed_more : (blocks : List WrittenBlock) (block : WrittenBlock) → list_all 
 allowed_more blocks block before now =
     list_all-append is_allowed_block blocks (block ∷ []) ∙ and_from _ _ before (and_from _ _ now refl)
 
+-- the blocks read so far, with a new one that has no case yet
 begun_block : (language : Language) (head : Head) (begun : Bool) (seen : Pairs) (blocks : List WrittenBlock) (k l : Kind) →
     is_declared head k ≡ true → is_declared head l ≡ true → has_seen seen k l ≡ false → AreBlocks language head begun seen blocks →
     AreBlocks language head true (with_pair seen k l) (blocks ++ record { first = k; second = l; cases = [] } ∷ [])
@@ -191,6 +193,7 @@ pub block_front : (ts head : List Token) (blocks : List WrittenBlock) (k l : Kin
 block_front ts head blocks k l e =
     rw (e, flat_map-append block_written_as blocks (record { first = k; second = l; cases = [] } ∷ [])) (simp append_assoc)
 
+-- the second kind of a block
 pub block_second_steps : (s : Phrases) (k : Kind) (ts : List Token) (t : Token) (move : Move) → Reached s (wants.BlockSecond k) ts →
     at_block_second s.control k t ≡ Some move → Steps s ts t move
 block_second_steps s k ts t move h e =
@@ -231,6 +234,7 @@ all_front test xs ys h = (and_parts _ _ (sym (list_all-append test xs ys) ∙ h)
 pub all_back : {X : Type 0} (test : X → Bool) (xs ys : List X) → list_all test (xs ++ ys) ≡ true → list_all test ys ≡ true
 all_back test xs ys h = (and_parts (list_all test xs) _ (sym (list_all-append test xs ys) ∙ h)).1
 
+-- the blocks read so far, with one case more in the last of them
 case_more : (language : Language) (head : Head) (begun : Bool) (seen : Pairs) (done : List WrittenBlock) (k l : Kind)
     (cases : List WrittenCase) (c : WrittenCase) → begun ≡ true → length cases + 1 ≤ 64 → is_allowed_case (compares_chars k l) c ≡ true →
     AreBlocks language head begun seen (all_blocks begun done (with_cases k l cases)) →
@@ -256,6 +260,7 @@ last_lines : (head done lines line : List Token) (a b c d : Token) →
     head ++ (done ++ (a ∷ b ∷ c ∷ d ∷ lines ++ [])) ++ line ≡ head ++ (done ++ (a ∷ b ∷ c ∷ d ∷ (lines ++ (line ++ [])) ++ []))
 last_lines head done lines line a b c d = simp (append_assoc, append-nil)
 
+-- the tokens of a case after those of the blocks read so far are those of the blocks with that case
 pub case_front_more : (head : List Token) (begun : Bool) (done : List WrittenBlock) (k l : Kind) (cases : List WrittenCase)
     (c : WrittenCase) → begun ≡ true →
     (head ++ flat_map block_written_as (all_blocks begun done (with_cases k l cases))) ++ case_written_as k c

@@ -21,6 +21,7 @@ use Rattle.fn_text.proofs.ReadIsWritten.Files.{read_is_file, first_reached}
 built_is : (head : Head) (blocks : List PairCases) (f : Function) → built_from (Ok (head, blocks)) ≡ Ok f → f ≡ function_from head blocks
 built_is head blocks f e = cc
 
+-- bytes that are read as a function are a text of it
 text_of_read : (bytes : List ℕ) (f : Function) (read : Result (Head × List WrittenBlock) TextFault) →
     read_from to_phrases (first_state to_phrases) (tokens_in bytes) ≡ read → built_from (parts_made to_formulas read) ≡ Ok f →
     IsTextOf bytes f

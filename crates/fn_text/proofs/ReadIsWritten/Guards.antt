@@ -107,6 +107,7 @@ pub record IsPhrase {t : Tightness} (chars : Bool) (outside : ℕ) (atoms : ℕ)
   pub nested : outside + nesting_in p ≤ 32
   pub counted : atoms_in p ≡ atoms
 
+-- the conjunction that an operand ends is within the limits, where its level and the operand are
 conjunction_is : (chars : Bool) (level : Level Phrase) (last : Phrase Tight) → IsLevel chars level → IsOperand chars level last →
     IsPhrase chars level.outside (atoms_part level.all + atoms_in last) (conjunction_at level last)
 conjunction_is chars level last inner operand =
@@ -122,6 +123,7 @@ conjunction_is chars level last inner operand =
       counted = omega (arith, all, count);
     }
 
+-- so is the disjunction that it ends
 pub disjunction_is : (chars : Bool) (level : Level Phrase) (last : Phrase Tight) → IsLevel chars level →
     IsOperand chars level last → IsPhrase chars level.outside (atoms_of_level level + atoms_in last) (disjunction_at level last)
 disjunction_is chars level last inner operand =
@@ -164,6 +166,7 @@ negated_front : (levels any all : List Token) (n : ℕ) →
     levels ++ (any ++ all ++ nots_front n) ++ Known words.Not ∷ [] ≡ levels ++ (any ++ all ++ nots_front (n + 1))
 negated_front levels any all n = rw (add-one, nots_more n) (simp append_assoc)
 
+-- a token that goes on where an operand is wanted
 pub operand_steps : (s : Phrases) (ts : List Token) (t : Token) (move : Move) → Reached s wants.Operand ts →
     at_operand s.control t ≡ Some move → Steps s ts t move
 operand_steps s ts t move h e =
@@ -341,6 +344,7 @@ closed_front levels level inner front last e = rw e (simp append_assoc)
 abbrev within : Phrases → List (Level Phrase) → Phrases
 within s levels = record s { outer = levels }
 
+-- `)` ends the innermost level, and what stood in it is an operand of the next one
 closed_steps : (s : Phrases) (levels : List (Level Phrase)) (ts : List Token) → Reached (within s levels) wants.Operator ts →
     0 < s.control.outside →
     Reached (closed to_phrases (within s levels) levels) (closed to_phrases (within s levels) levels).control.want (ts ++ Close ∷ [])
@@ -417,6 +421,7 @@ pub shifted_front : (front : List Token) (left : Side) (cmp : Cmp) (sign : Sign)
 shifted_front front left cmp sign n last e =
     ap (λ p. front ++ written_as p ++ tokens.Sign sign ∷ [] ++ Number n ∷ []) e ∙ simp append_assoc
 
+-- the number that ends an atom with an offset
 pub number_steps : (s : Phrases) (left : Side) (cmp : Cmp) (sign : Sign) (ts : List Token) (t : Token) (move : Move) →
     Reached s (wants.Number left cmp sign) ts → at_fixed (wants.Number left cmp sign) t ≡ Some move → Steps s ts t move
 number_steps s left cmp sign ts t move h e =

@@ -54,6 +54,7 @@ mode_steps s ts t move h e =
     by_mode (Steps s ts) t move e
     (λ mode. ((h.0.0, h.0.1, ap (λ (x : Head). record x { mode = mode }) h.0.2), ap (λ x. x ++ Known (words.Mode mode) ∷ []) h.1))
 
+-- the word that begins the line of the kinds
 pub kinds_steps : (s : Phrases) (ts : List Token) (t : Token) (move : Move) → Reached s wants.Kinds ts →
     at_fixed wants.Kinds t ≡ Some move → Steps s ts t move
 kinds_steps s ts t move h e =
@@ -258,6 +259,7 @@ assumed_front ts language old new blocks t none e line =
         ≡ front ++ Known words.Assume ∷ t ∷ Known words.Differ ∷ LineEnd ∷ []
     regrouped front = simp append_assoc
 
+-- what is assumed, which the head then keeps
 pub assumed_steps : (s : Phrases) (ts : List Token) (t : Token) (move : Move) → Reached s wants.Assumed ts →
     at_assumed s.control t ≡ Some move → Steps s ts t move
 assumed_steps s ts t move h e =

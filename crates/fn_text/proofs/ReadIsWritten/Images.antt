@@ -81,6 +81,7 @@ module _ {V : Tightness → Type 0} {K B : Type 0} (m : Maker V K B) where
   closed_made s (level ∷ levels) =
       ap (λ x. record (state_made (closed to_phrases s (level ∷ levels))) { last = m.round x }) (disjunction_made s)
 
+  -- a move on the image of a state is the image of the move
   pub moved_made : (s : Phrases) (move : Move) → moved m (state_made s) move ≡ state_made (moved to_phrases s move)
   moved_made s (moves.Skip want) = refl
   moved_made s (moves.SetLanguage language) = refl

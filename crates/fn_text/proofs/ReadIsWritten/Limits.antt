@@ -55,6 +55,7 @@ tight_in_round (formulas.And g h) = omega arith
 tight_in_round (formulas.Or g h) = omega arith
 tight_in_round (formulas.Not g) = omega arith
 
+-- the formula of a phrase is nested no deeper than the phrase
 nesting_kept : {t : Tightness} (p : Phrase t) → nesting_of t (made to_formulas p) ≤ nesting_in p
 nesting_kept Always = omega arith
 nesting_kept (Compare sort left cmp) = omega arith
@@ -88,6 +89,7 @@ offset_kept signs.Plus n h = h
 offset_kept signs.Minus zero h = refl
 offset_kept signs.Minus (suc n) h = let few : suc n ≤ 99 = leb-true _ _ h in and_from _ _ (le-leb n 98 (omega (arith, few))) refl
 
+-- the atoms of an allowed phrase are valid in its formula
 atoms_valid : {t : Tightness} (chars : Bool) (p : Phrase t) → is_allowed chars p ≡ true → has_valid_atoms chars (made to_formulas p) ≡ true
 atoms_valid chars Always h = refl
 atoms_valid chars (Compare Pos left cmp) h = refl

@@ -95,6 +95,7 @@ module _ (P : Token → Move → Type 0) where
   by_file_end FileEnd move h goes = told (P FileEnd) _ move h goes
   by_file_end _ move h goes = absurd (cc)
 
+  -- at the version: the number of a language
   pub by_version : (t : Token) (move : Move) → at_fixed wants.Version t ≡ Some move →
       ((language : Language) → P (Number (number_of language)) (moves.SetLanguage language)) → P t move
   by_version (Number n) move h goes = by_language (language_numbered n) refl h
@@ -120,6 +121,7 @@ module _ (P : Token → Move → Type 0) where
   by_next_kind c LineEnd move h declare ends = by_allowed (P LineEnd) _ _ move h ends
   by_next_kind c _ move h declare ends = absurd (cc)
 
+  -- where a line begins: `assume`, `block`, `case` or `end`
   pub by_line : (c : Control) (at : Placed) (t : Token) (move : Move) → at_line c at t ≡ Some move →
       ((not c.begun && not c.head.chars_differ) ≡ true → P (Known words.Assume) (moves.Skip wants.Assumed)) →
       P (Known words.Block) (moves.BlockWord at.line at.column) →
@@ -150,6 +152,7 @@ module _ (P : Token → Move → Type 0) where
       by_allowed (P (Known (words.Kind l))) _ _ move h (λ test. let parts = and_parts _ _ test in goes l parts.0 parts.1)
   by_block_second c k _ move h goes = absurd (cc)
 
+  -- at an operand: `(`, `not`, `true`, or what begins an atom
   pub by_operand : (c : Control) (t : Token) (move : Move) → at_operand c t ≡ Some move →
       (nat_lt (depth_of c) 32 ≡ true → P Open moves.Open) →
       (nat_lt (depth_of c) 32 ≡ true → P (Known words.Not) moves.Negate) →

@@ -116,6 +116,7 @@ never s wants.BlockFirst ts rest parts is h test e = first_never s rest parts is
 never s (wants.BlockSecond k) ts rest parts is h test e = second_never s k rest parts is h.1 (not-true _ test) e
 never s _ ts rest parts is h test e = absurd (cc)
 
+-- tokens after which an atom too many or a block too many is wanted begin no file
 file_never : (front : List Placed) (s : State Formulas GuardedCase PairCases) (read : Result Phrases TextFault) →
     state_behind to_phrases (first_state to_phrases) front ≡ read → answer_made to_formulas read ≡ Ok s →
     (wants_atom_more s.control s.control.want || repeats_block s.control s.control.want) ≡ true → Begins 0 (bare front) → ⊥

@@ -70,6 +70,7 @@ head_begins language mode ts more e =
     (e ∙ head_alone (first_lines language mode ++ Known words.Kinds ∷ Known (words.Kind kinds.Ins) ∷ LineEnd ∷ []) language head [] refl
     (ins_line language mode))
 
+-- each front of the tokens that the reader ends a file with begins a file
 ended_begins : (s : Phrases) (ts rest : List Token) → Ended s (ts ++ rest) → Begins 0 ts
 ended_begins s ts rest h =
     let none = no_block_above s.done
@@ -163,6 +164,7 @@ comparison_begins s sort left ts h =
     (retold (lines_of s) ts _ (tokens.Comparison Eq ∷ other ∷ []) _ h.2
     (append_assoc (guard_front s) (Known (words.Thing sort left) ∷ []) (tokens.Comparison Eq ∷ other ∷ [])))
 
+-- tokens that stop before the right side of an atom begin a file
 right_begins : (s : Phrases) (sort : Sort) (left : Side) (cmp : Cmp) (ts : List Token) → Reached s (wants.Right sort left cmp) ts →
     Begins 0 ts
 right_begins s sort left cmp ts h =
@@ -184,6 +186,7 @@ operator_begins s ts h =
     guard_begins 0 s s.last ts [] h.0.0.0 h.0.0.1 h.0.1 (omega (arith, atoms, few))
     (blocks_are_open s.control.language s.control.head s.control.begun s.control.seen _ h.0.0.0.0) (append-nil ts ∙ h.1)
 
+-- tokens that stop before the number of an offset begin a file
 number_begins : (s : Phrases) (left : Side) (cmp : Cmp) (sign : Sign) (ts : List Token) →
     Reached s (wants.Number left cmp sign) ts → Begins 0 ts
 number_begins s left cmp sign ts h =

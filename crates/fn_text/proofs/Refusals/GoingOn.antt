@@ -224,6 +224,7 @@ record Whole (before : List Placed) : Type 0 where
   leads : Leads before now
   whole : wants_behind_operand now.control.want ≡ true
 
+-- tokens that end an operand lead to a state in which a whole operand was read
 whole_of : (before : List Placed) → EndsOperand (bare before) → Whole before
 whole_of before (inl file) =
     let takes = takes_of before Close file in
@@ -373,6 +374,7 @@ colon_row c at _ whole none = absurd (cc)
 none_outside : (n : ℕ) → nat_lt 0 n ≡ false → (n == 0) ≡ true
 none_outside n e = grind (arith, nat_tests)
 
+-- a whole operand ends one in the grammar too: `)` may come after it in parentheses, `:` outside of them
 whole_ends : (before : List Placed) (now : Reading) (some : Bool) → nat_lt 0 now.control.outside ≡ some →
     Leads before now →
     wants_behind_operand now.control.want ≡ true → EndsOperand (bare before)
@@ -464,6 +466,7 @@ operand_by before at Open now move leads goes operand counted full others =
     inner_also before now moves.Open move leads want row refl full (others want)
 operand_by before at _ now move leads goes operand counted full others = absurd (cc)
 
+-- where an operand is wanted and 16 atoms were read, the tokens are taken also
 operand_also : (before : List Placed) (s : Reading) → Leads before s → s.control.want ≡ wants.Operand →
     s.control.atoms ≡ 16 →
     IsTakenAlso (bare before)
@@ -515,6 +518,7 @@ kind_by before at (Known (words.Kind j)) k now move leads goes first others =
     (and_from _ _ word (h.declared j ∙ declared), others)
 kind_by before at _ k now move leads goes first others = absurd (cc)
 
+-- where a block would be repeated, the tokens are taken also
 repeated_by : (before : List Placed) (at : Placed) (s : Reading) (want : Want) → s.control.want ≡ want →
     Leads (at ∷ before) s →
     repeats_block s.control want ≡ true → ((now : Reading) → Leads before now → GoesOn (bare before)) →

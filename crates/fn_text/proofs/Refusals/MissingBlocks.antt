@@ -67,6 +67,7 @@ no_block_above (block ∷ blocks) h =
     let sum = sum_by-append (λ x. cond (above x) 1 0) block.cases (flat_map (λ b. b.cases) blocks) in
     omega (arith, here, others, sum)
 
+-- blocks within the limits are open, with no atom too many
 pub blocks_are_open : (language : Language) (head : Head) (begun : Bool) (seen : Pairs) (blocks : List WrittenBlock) →
     AreBlocks language head begun seen blocks → IsOpen 0 language head seen blocks
 blocks_are_open language head begun seen blocks h =
@@ -140,6 +141,7 @@ few_above (suc n) a h = let one = at_most_one (nat_lt 16 a) in omega (arith, one
     at_most_one true = omega arith
     at_most_one false = omega arith
 
+-- open blocks stay open with one case more, whose guard may have so many atoms more
 pub open_case : (extra : ℕ) (language : Language) (head : Head) (begun : Bool) (seen : Pairs) (done : List WrittenBlock) (k l : Kind)
     (cases : List WrittenCase) (c : WrittenCase) → begun ≡ true → length cases + 1 ≤ 64 →
     is_allowed_case_with (16 + extra) (compares_chars k l) c ≡ true → atoms_in c.guard ≤ 16 + extra →

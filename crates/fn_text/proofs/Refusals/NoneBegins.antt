@@ -69,6 +69,7 @@ pub record Stops {V : Tightness →
   pub refused : move_for state.control wrong state.control.want wrong.token ≡ None
   pub told : fault ≡ fault_of state.control wrong
 
+-- the first token is the wrong one
 stops_here : {V : Tightness →
     Type 0} {K B : Type 0} (m : Maker V K B) (s : State V K B) (at : Placed) (rest : List Placed) (fault : TextFault) →
     move_for s.control at s.control.want at.token ≡ None → read_from m s (at ∷ rest) ≡ Err fault → Stops m s (at ∷ rest) fault
@@ -85,6 +86,7 @@ stops_here m s at rest fault none e =
       told = cc;
     }
 
+-- the wrong token comes after one that is taken
 stops_later : {V : Tightness →
     Type 0} {K B : Type 0} (m : Maker V K B) (s : State V K B) (at : Placed) (rest : List Placed) (fault : TextFault)
     (move : Move) → move_for s.control at s.control.want at.token ≡ Some move → Stops m (moved m s move) rest fault →
@@ -124,6 +126,7 @@ ends_well : {V : Tightness → Type 0} {K B : Type 0} (m : Maker V K B) (s : Sta
     one ≡ moves.Skip wants.Nothing → read_from m (moved m s one) [] ≡ Ok (s.control.head, s.done)
 ends_well m s one e = ap (λ x. read_from m (moved m s x) []) e
 
+-- a list of tokens that ends with the file's end, and is refused, has a first wrong token
 pub stops : {V : Tightness →
     Type 0} {K B : Type 0} (m : Maker V K B) (s : State V K B) (front : List Placed) (last : Placed) (fault : TextFault) →
     last.token ≡ FileEnd → read_from m s (front ++ last ∷ []) ≡ Err fault → Stops m s (front ++ last ∷ []) fault

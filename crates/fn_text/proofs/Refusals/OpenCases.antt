@@ -40,6 +40,7 @@ closed_written (level ∷ levels) d =
     regrouped : (a b c d : List Token) → a ++ b ++ Open ∷ [] ++ c ++ Close ∷ d ≡ a ++ (b ++ Open ∷ (c ++ Close ∷ [])) ++ d
     regrouped a b c d = simp append_assoc
 
+-- closing the open levels makes a phrase within the limits, with all their atoms
 closed_is : (chars : Bool) (levels : List (Level Phrase)) (outside atoms : ℕ) (d : Phrase Loose) → AreLevels chars outside levels →
     IsPhrase chars outside atoms d → IsPhrase chars 0 (atoms_of_levels levels + atoms) (closed_phrase levels d)
 closed_is chars [] outside atoms d around p =
@@ -76,6 +77,7 @@ guard_is s last guard operand =
     closed_is (has_chars s.control) s.outer s.control.outside (atoms_of_level (here s) + atoms_in last)
     (disjunction_at (here s) last) guard.around (disjunction_is (has_chars s.control) (here s) last guard.inner operand)
 
+-- tokens that stop in a guard, its closing parentheses and `: nop` are the line of a case
 case_line : (ts more lines guard last closes whole : List Token) → ts ++ more ≡ lines ++ Known words.Case ∷ (guard ++ last) →
     guard ++ last ++ closes ≡ whole →
     ts ++ (more ++ closes ++ Colon ∷ Known words.Nop ∷ LineEnd ∷ [])

@@ -45,6 +45,7 @@ stops_there before wrong s reads refused goes =
     ap (λ x. move_for x.control wrong x.control.want wrong.token) same ∙ last.goes in
     absurd (cc)
 
+-- tokens that are refused are so for their first wrong token
 refused_for : (tokens : List Placed) (fault : TextFault) → EndsFile tokens →
     read_from to_formulas (first_state to_formulas) tokens ≡ Err fault → IsRefusedFor tokens fault
 refused_for tokens fault ends e =

@@ -102,6 +102,7 @@ module _ {V : Tightness → Type 0} {K B : Type 0} (m : Maker V K B) where
   entered_line : (s : State V K B) (row column : ℕ) (block : WrittenBlock) → AtLine s → AtLine (entered s row column block)
   entered_line s row column block line = record { want = refl; any = line.any; all = line.all; nots = line.nots; outside = line.outside }
 
+  -- the lines of a block are read, and lead to the block that they write
   block_read : (s : State V K B) (row column : ℕ) (block : WrittenBlock) → AtLine s →
       BlockRead s (behind_cases (entered s row column block) block.cases) block
   block_read s row column block line =

@@ -133,6 +133,7 @@ module _ {V : Tightness → Type 0} {K B : Type 0} (m : Maker V K B) where
     last = m.always;
   }
 
+  -- closing a level that was opened here leaves all but the last operand as it was
   closed_keeps : (s : State V K B) (inner : State V K B) (levels : List (Level V)) → levels ≡ inner.outer →
       forget inner ≡ forget (moved m s moves.Open) → forget (closed m inner levels) ≡ forget s
   closed_keeps s inner [] same kept =
@@ -146,6 +147,7 @@ module _ {V : Tightness → Type 0} {K B : Type 0} (m : Maker V K B) where
       ap (λ x. around x level.outside levels) kept
       ∙ (ap (λ n. around (forget s) n levels) (ap (λ x. x.outside) here) ∙ ap (λ l. around (forget s) s.control.outside l) others)
 
+  -- so does reading a whole phrase
   pub behind_keeps : {t : Tightness} (s : State V K B) (p : Phrase t) → forget (behind s p) ≡ forget s
   behind_keeps s Always = refl
   behind_keeps s (Compare sort left cmp) = refl

@@ -104,6 +104,7 @@ module _ {V : Tightness → Type 0} {K B : Type 0} (m : Maker V K B) where
   leads_ins language mode true ps more word e =
       leads_kind language (head_of mode false false false false false) kinds.Ins ps more (word refl) refl e
 
+  -- the deletion, if it is declared
   leads_del : (language : Language) (mode : Mode) (ins del : Bool) (ps : List Placed) (more : List Token) →
       (del ≡ true → has_word language kinds.Del ≡ true) → bare ps ≡ present del (Known (words.Kind kinds.Del) ∷ []) ++ more →
       Leads m (before_blocks wants.NextKind language (head_of mode ins false false false false)) ps
@@ -116,6 +117,7 @@ module _ {V : Tightness → Type 0} {K B : Type 0} (m : Maker V K B) where
       next true = refl
       next false = refl
 
+  -- the update, if it is declared
   leads_upd : (language : Language) (mode : Mode) (ins del upd : Bool) (ps : List Placed) (more : List Token) →
       (upd ≡ true → has_word language kinds.Upd ≡ true) → bare ps ≡ present upd (Known (words.Kind kinds.Upd) ∷ []) ++ more →
       Leads m (before_blocks wants.NextKind language (head_of mode ins del false false false)) ps

@@ -4,7 +4,8 @@ use Rattle.diff_graph.specs.Literals.{Meets}
 use Rattle.diff_graph.specs.Tables.{AreNamed, kept_of, numbered_from, StandsFor}
 use Rattle.diff_graph.specs.Solutions.{valuation_of}
 use Rattle.diff_graph.proofs.AddingSteps.{StandsFor-new_rows}
-use Rattle.diff_graph.proofs.FloorSteps.{no_values_at_stop, All-first, All-second, StandsFor-first, AreSmall-numbered_from, AreMet-numbered_from, AreLeastMeeting-from_stands}
+use Rattle.diff_graph.proofs.FloorSteps.{no_values_at_stop, All-first, All-second, StandsFor-first, AreSmall-numbered_from, AreMet-numbered_from}
+use Rattle.diff_graph.proofs.FloorSteps.{AreLeastMeeting-from_stands}
 use Rattle.diff_graph.proofs.floors.least_in.Goals as goal
 
 pub add_all-requires-clause-stands : goal.add_all-requires-clause-stands

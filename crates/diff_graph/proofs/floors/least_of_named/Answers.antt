@@ -5,7 +5,8 @@ use Rattle.diff_graph.specs.Literals.{Meets, AreMet}
 use Rattle.diff_graph.specs.Tables.{AreNamed, AreSmall}
 use Rattle.diff_graph.specs.Solutions.{AreLeastMeeting, floors_from, IsBoundedBelow}
 use Rattle.diff_graph.proofs.AddingSteps.{All-append}
-use Rattle.diff_graph.proofs.FloorSteps.{AreNamed-floors_from, AreSmall-floors_from, length-floors_from, IsBoundedBelow-floors_from, AreLeast-from_meeting, All-first, All-second, AreMet-floors_from, floors-from_met}
+use Rattle.diff_graph.proofs.FloorSteps.{AreNamed-floors_from, AreSmall-floors_from, length-floors_from, IsBoundedBelow-floors_from, AreLeast-from_meeting}
+use Rattle.diff_graph.proofs.FloorSteps.{All-first, All-second, AreMet-floors_from, floors-from_met}
 use Rattle.diff_graph.proofs.floors.least_of_named.Goals as goal
 
 pub least_in-requires-clause-bounds_named : goal.least_in-requires-clause-bounds_named

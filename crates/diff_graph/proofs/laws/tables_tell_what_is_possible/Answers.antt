@@ -1,7 +1,8 @@
 use Rattle.std.proofs.Common.{inl, inr}
 use Rattle.std.proofs.lemmas.Bool.{cases_Bool}
 use Rattle.diff_graph.specs.Steps.{leaves_room}
-use Rattle.diff_graph.proofs.Stands.{IsCycleOf-from_back, IsModest-from_stands, allowed-from_possible, allowed-from_room, back-from_no_room, not_allowed-from_back, possible-from_allowed}
+use Rattle.diff_graph.proofs.Stands.{IsCycleOf-from_back, IsModest-from_stands, allowed-from_possible, allowed-from_room, back-from_no_room}
+use Rattle.diff_graph.proofs.Stands.{not_allowed-from_back, possible-from_allowed}
 use Rattle.diff_graph.proofs.laws.tables_tell_what_is_possible.Goals as goal
 
 pub returns-clause-possible : goal.returns-clause-possible

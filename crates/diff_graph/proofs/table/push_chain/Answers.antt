@@ -1,6 +1,7 @@
 use Rattle.std.proofs.Common.{arith, length, get_or, None}
 use Rattle.std.proofs.lemmas.Result.{err_from_is_err_and}
-use Rattle.diff_graph.proofs.RowSteps.{numbers_along-here, numbers_along-end, numbers_along-more, numbers_along-none, HasPut-ended, HasPut-more, AppendsFirst-put}
+use Rattle.diff_graph.proofs.RowSteps.{numbers_along-here, numbers_along-end, numbers_along-more, numbers_along-none, HasPut-ended, HasPut-more}
+use Rattle.diff_graph.proofs.RowSteps.{AppendsFirst-put}
 use Rattle.diff_graph.proofs.table.push_chain.Goals as goal
 
 pub returns-then-name-to-clause-ok : goal.returns-then-name-to-clause-ok

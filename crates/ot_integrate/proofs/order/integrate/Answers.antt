@@ -33,7 +33,8 @@ form_behind-requires c =
     (record { declared = refl; enabled = tt }) in
     record {
       declared = rw c.named.ensures integrable.declared;
-      near = rw c.named.ensures (c.enabled_operations_are_near.ensures.wider n most_cells o (omega arith) (c.enabled_operations_are_near.ensures.enabled n o integrable.enabled));
+      near = rw c.named.ensures (c.enabled_operations_are_near.ensures.wider n most_cells o (omega arith)
+          (c.enabled_operations_are_near.ensures.enabled n o integrable.enabled));
       executed = rw c.deref.ensures.value c.loop-place.invariant.executed;
       few = rw c.deref.ensures.value (omega arith);
     }
@@ -91,7 +92,8 @@ loop-place-preserved c =
     let pushed : c.push.new.self.items ≡ executed ++ p ∷ [] = c.in_ok-push-in-Ok.ensures.items in
     let one_more : IsExecuted f p = record {
       declared = c.in-Some.ensures.declared;
-      near = c.enabled_operations_are_near.ensures.wider n most_cells p (omega arith) (c.enabled_operations_are_near.ensures.enabled n p c.in-Ok.ensures.was_enabled);
+      near = c.enabled_operations_are_near.ensures.wider n most_cells p (omega arith)
+          (c.enabled_operations_are_near.ensures.enabled n p c.in-Ok.ensures.was_enabled);
     } in
     record {
       outcome = c.loop-place.invariant.outcome

@@ -11,7 +11,8 @@ use Rattle.ot_session.specs.declared.form.Refusal.TheVariants.{NoForm, Spent}
 use Rattle.ot_session.specs.declared.site.Site.{Site}
 use Rattle.ot_session.specs.Past.{past_of}
 use Rattle.ot_session.specs.Entries.{IsTable, MaySeek}
-use Rattle.ot_session.proofs.Integrating.{Changes, Changes-executed, MaySeek-next, IsTable-kept, IsStuck-missing, count_behind-missing, IsSpent-sought, IsStuck-refused, count_behind-sought, HasIntegrated-sought, CanTake-sought}
+use Rattle.ot_session.proofs.Integrating.{Changes, Changes-executed, MaySeek-next, IsTable-kept, IsStuck-missing, count_behind-missing, IsSpent-sought}
+use Rattle.ot_session.proofs.Integrating.{IsStuck-refused, count_behind-sought, HasIntegrated-sought, CanTake-sought}
 use Rattle.ot_session.proofs.taking.integrate.Goals as goal
 
 pub form_behind-requires-clause-may : goal.form_behind-requires-clause-may

@@ -55,7 +55,8 @@ returns-clause-takes c =
       after = c.take_here.new.site;
       was = slice_get_read sites (length sites) c.args.place site refl c.requires.place c.index-sites-place.is;
       is = refl;
-      takes = subst (λ (s : Site). Takes f past c.args.number (standing s c.args.total.now) (standing c.take_here.new.site c.take_here.new.total) c.take_here.result)
+      takes = subst (λ (s : Site). Takes f past c.args.number (standing s c.args.total.now) (standing c.take_here.new.site c.take_here.new.total)
+          c.take_here.result)
           (sym c.index-sites-place.is) c.take_here.ensures.takes;
     }
 

@@ -23,7 +23,8 @@ use Rattle.ot_hub.proofs.Ways.{LeadsTo}
 use Rattle.ot_hub.proofs.hub.Hub.down.Goals as goal
 
 -- the step of one leads on, so that of all does
-leads_at : (all : List Client) (i : ℕ) (step : Step Client) → {P : Client → Type 0} → LeadsTo P step → LeadsTo (λ (clients : List Client). Unit {0}) (step_map (slice_set all i) step)
+leads_at : (all : List Client) (i : ℕ) (step : Step Client) → {P : Client → Type 0} → LeadsTo P step
+    → LeadsTo (λ (clients : List Client). Unit {0}) (step_map (slice_set all i) step)
 leads_at all i step leads = record { to = slice_set all i leads.to; is = ap (step_map (slice_set all i)) leads.is; holds = tt }
 
 pub take_at-requires-clause-client : goal.take_at-requires-clause-client
@@ -120,13 +121,16 @@ returns-in-Err-clause-moved c =
     let entry : Entry = c.in-Some.entry in
     let next : slice_get s.server.log one.received ≡ Some entry = rw client_is (sym c.in-Some.ensures) in
     let new : List Client = c.take_at.new.clients in
-    let refused : HasStepped {X = List Client} {R = Unit {0}} all new (step_map (slice_set all place) (client_step f (place + 1) entry one)) (Err c.in-Err.refusal) =
+    let refused : HasStepped {X = List Client} {R = Unit {0}} all new (step_map (slice_set all place) (client_step f (place + 1) entry one))
+        (Err c.in-Err.refusal) =
     subst (λ (clients : List Client). HasStepped {X = List Client} {R = Unit {0}} clients new
-    (step_map (slice_set clients place) (client_step f (place + 1) entry (client_at clients place))) (Err c.in-Err.refusal)) c.deref_mut.ensures.value c.in-Err.ensures in
+    (step_map (slice_set clients place) (client_step f (place + 1) entry (client_at clients place))) (Err c.in-Err.refusal)) c.deref_mut.ensures.value
+        c.in-Err.ensures in
     let same : new ≡ all = refused-same all new (step_map (slice_set all place) (client_step f (place + 1) entry one)) c.in-Err.refusal refused in
     let items : (with_items s.clients new).items ≡ new = items_same s.clients new same ∙ sym same in
     let hub : HubData = view_of s in
-    subst (λ (clients : List Client). HasMoved hub (record hub { clients = clients; is_open = false }) c.args.client (down_step hub c.args.client) (Err c.in-Err.refusal))
+    subst (λ (clients : List Client). HasMoved hub (record hub { clients = clients; is_open = false }) c.args.client (down_step hub c.args.client)
+        (Err c.in-Err.refusal))
     (sym items) (down-refused hub c.args.client there entry next new c.in-Err.refusal refused)
 
 pub returns-in-Err-clause-never_stuck : goal.returns-in-Err-clause-never_stuck
@@ -141,9 +145,11 @@ returns-in-Err-clause-never_stuck c tp1 chars is =
     let entry : Entry = c.in-Some.entry in
     let next : slice_get s.server.log one.received ≡ Some entry = rw client_is (sym c.in-Some.ensures) in
     let new : List Client = c.take_at.new.clients in
-    let refused : HasStepped {X = List Client} {R = Unit {0}} all new (step_map (slice_set all place) (client_step f (place + 1) entry one)) (Err c.in-Err.refusal) =
+    let refused : HasStepped {X = List Client} {R = Unit {0}} all new (step_map (slice_set all place) (client_step f (place + 1) entry one))
+        (Err c.in-Err.refusal) =
     subst (λ (clients : List Client). HasStepped {X = List Client} {R = Unit {0}} clients new
-    (step_map (slice_set clients place) (client_step f (place + 1) entry (client_at clients place))) (Err c.in-Err.refusal)) c.deref_mut.ensures.value c.in-Err.ensures in
+    (step_map (slice_set clients place) (client_step f (place + 1) entry (client_at clients place))) (Err c.in-Err.refusal)) c.deref_mut.ensures.value
+        c.in-Err.ensures in
     let stuck : c.in-Err.refusal ≡ moves.Stuck = cc in
     let number : c.args.client ≡ place + 1 = omega (arith, there.low) in
     ∥∥₁_elim (s.in_step tp1 chars) (hlevel) (λ k.

@@ -24,7 +24,8 @@ use Rattle.ot_session.specs.Sites.{view_site, document_in, data_of, ExecutesAt, 
 use Rattle.ot_session.specs.Past.{is_marked, past_of}
 use Rattle.ot_session.specs.Views.{View, HasMade}
 use Rattle.ot_session.proofs.Lists.{AllByRecursion-at}
-use Rattle.ot_session.proofs.Making.{all-marked, extends-executed, Makes-executed, known-executed, held-executed, may_make, makes, IsKept-executed, counts-executed, KeepsForms-executed}
+use Rattle.ot_session.proofs.Making.{all-marked, extends-executed, Makes-executed, known-executed, held-executed, may_make, makes, IsKept-executed}
+use Rattle.ot_session.proofs.Making.{counts-executed, KeepsForms-executed}
 use Rattle.ot_session.proofs.session.Session.make.Goals as goal
 
 -- a fact of what is found, if something is
@@ -147,7 +148,8 @@ returns-in-Ok-clause-made c =
     λ x. ∥∥₁_elim s.kept (Coded-set coded_bool _ _) (λ k. (sorted k).marked.marks x) in
     let before : View = record { function = f; first = s.first; made = made; sites = map view_site sites; counted = s.counted; is_open = s.is_open } in
     subst (λ (ss : List Site).
-    HasMade before (record { function = f; first = s.first; made = new_made; sites = map view_site ss; counted = s.counted; is_open = s.is_open }) t o c.in-Ok.number)
+    HasMade before (record { function = f; first = s.first; made = new_made; sites = map view_site ss; counted = s.counted; is_open = s.is_open }) t o
+        c.in-Ok.number)
     items
     (record {
       number = c.in-Ok.ensures.number;
