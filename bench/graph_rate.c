@@ -1,7 +1,7 @@
-/* The loop of crates/graph_rate in C: a closed table of distances over 12 names, which is asked for
+/* The loop of crates/measure_graphs in C: a closed table of distances over 12 names, which is asked for
  * each literal whether it is allowed, and takes those that are. Prints how many were taken.
  *
- * usage: graph_rate bounds COUNT ROUNDS
+ * usage: measure_graphs bounds COUNT ROUNDS
  */
 #include <stdbool.h>
 #include <stdint.h>

@@ -1,7 +1,7 @@
 #!/usr/bin/env python3
 """Measures the solver and the table of distances on literals over 12 names.
 
-usage: graphs.py      (after `rt run` in crates/graph_rate, or `rt ci`)
+usage: graphs.py      (after `rt run` in crates/measure_graphs, or `rt ci`)
 
 Reports processor time and peak memory of `solve` and `least`, and how many literals a second a table is asked for
 by `allows`, each followed by `add` where it is allowed, beside the same loop in C (graph_rate.c, by
@@ -14,7 +14,7 @@ import tempfile
 from measure import measure_processor
 
 HERE = os.path.dirname(os.path.abspath(__file__))
-PROGRAM = os.path.join(os.path.dirname(HERE), "crates/graph_rate/out/graph_rate")
+PROGRAM = os.path.join(os.path.dirname(HERE), "crates/measure_graphs/out/measure_graphs")
 
 # How many literals, how often `solve` and `least` are called, and how often a table is filled.
 SIZES = [(10, 300_000, 3_000_000), (1_000, 20_000, 40_000), (100_000, 1_000, 1_500)]
@@ -48,7 +48,7 @@ def report_rate(count, rounds, in_c):
 
 def main():
     with tempfile.TemporaryDirectory() as folder:
-        in_c = os.path.join(folder, "graph_rate")
+        in_c = os.path.join(folder, "measure_graphs")
         subprocess.run(["gcc", "-O2", "-o", in_c, os.path.join(HERE, "graph_rate.c")], check=True)
         for count, calls, _ in SIZES:
             report_calls(count, calls)

@@ -1,7 +1,7 @@
 #!/usr/bin/env python3
 """Measures the askers of obligations: questions a second, and bytes of arenas a question.
 
-usage: questions.py      (after `rt run` in crates/question_rate, or `rt ci`)
+usage: questions.py      (after `rt run` in crates/measure_questions, or `rt ci`)
 
 The obligations of a function like examples/functions/ttf.ot, or like ttfu.ot, are walked through what their askers ask,
 yes before no and without a solver, up to so many turns each; a turn is a question or an end. Two insertions have so
@@ -15,7 +15,7 @@ import re
 from measure import measure_processor
 
 TOP = os.path.dirname(os.path.dirname(os.path.abspath(__file__)))
-PROGRAM = os.path.join(TOP, "crates/question_rate/out/question_rate")
+PROGRAM = os.path.join(TOP, "crates/measure_questions/out/measure_questions")
 TURNS = 100_000_000
 
 

@@ -1,6 +1,7 @@
 -- A question list is shorter than 2 to the number of questions on the longest path: by induction on the
 -- plan, since a question has fewer before the answer yes, fewer before no, and itself.
-use Rattle.std.proofs.Common.{◌≡◌, ℕ, suc, ◌+◌, ◌^◌, ◌<◌, ◌≤◌, max, true, false, List, length, Option, Some, None, MatchOption, ap, subst, inl, inr, arith, lit<}
+use Rattle.std.proofs.Common.{◌≡◌, ℕ, suc, ◌+◌, ◌^◌, ◌<◌, ◌≤◌, max, true, false, List, length, Option, Some, None, MatchOption, ap, subst, inl, inr, arith}
+use Rattle.std.proofs.Common.{lit<}
 use Rattle.std.proofs.Math.Nat.{two-pow-succ, one-le-pow, pow-le-pow_right}
 use Rattle.std.proofs.lemmas.List.{length-append}
 use Rattle.diff_graph.specs.declared.lit.Lit.{Lit}

@@ -4,7 +4,8 @@ use Rattle.diff_graph.specs.declared.lit.Lit.{Lit}
 use Rattle.ask_core.specs.declared.tree.Tok.{Tok}
 use Rattle.ask_core.specs.declared.tree.Tok.TheVariants as token
 use Rattle.ask_core.specs.Plans.{Plan, Ask, Holds, Fails}
-use Rattle.ask_core.specs.Trees.{AnswerTree, Question, End, Impossible, Fits, Branch, Completes, CompletesBehind, CompletesParts, IsCycleAmong, tokens_of, with_answer}
+use Rattle.ask_core.specs.Trees.{AnswerTree, Question, End, Impossible, Fits, Branch, Completes, CompletesBehind, CompletesParts, IsCycleAmong, tokens_of}
+use Rattle.ask_core.specs.Trees.{with_answer}
 
 -- a branch of a plan and answers
 abbrev at : {W : Type 0} → Plan W → List Lit → Branch W

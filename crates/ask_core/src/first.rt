@@ -16,7 +16,8 @@ pub fn turn_at<A: Asker>(
 ) -> Result<Turn<A::Node, A::Why>, NoMemory>
     requires opened { 0 < length path.now }
     requires own { AreOwn (A.is_own asker.old) path.now }
-    ensures begins { IfOk result (λ t. Begins (A.is_own asker.new) (A.plan asker.new) t (first_plan (A.plan asker.new) path.now)) }
+    ensures begins { IfOk result (λ t. Begins (A.is_own asker.new) (A.plan asker.new) t
+        (first_plan (A.plan asker.new) path.now)) }
     ensures fine { IsFine (A.name_count asker.new) (first_plan (A.plan asker.new) path.now) }
 
     // No plan changes, so the places are own ones of the same branches.

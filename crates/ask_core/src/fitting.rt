@@ -15,7 +15,8 @@ pub fn fitting_trees_hold<W: Copy>()
     ensures whole { (t : AnswerTree) (p : Plan W) (v : ℕ → ℤ) → Fits t p [] → v 0 ≡ pos 0 → value p v ≡ true }
 
     // The same at any place of a plan, for the valuations that lead there.
-    ensures from_a_place { (t : AnswerTree) (p : Plan W) (w : List Lit) (v : ℕ → ℤ) → AreMet v w → Fits t p w → value p v ≡ true }
+    ensures from_a_place { (t : AnswerTree) (p : Plan W) (w : List Lit) (v : ℕ → ℤ) → AreMet v w → Fits t p w
+        → value p v ≡ true }
 
     // The same of tokens that complete one branch.
     ensures completed { (tokens : List Tok) (b : Branch W) (v : ℕ → ℤ) → AreMet v b.answers

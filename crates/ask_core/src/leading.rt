@@ -11,8 +11,10 @@ ghost use Rattle.ask_core.specs.Leading.{LeadTo};
 /// that meets them, they are no more than the questions on the plan's longest path, and those of a plan
 /// within the limits are of its names, with small offsets.
 pub fn answers_lead_to_ends<W: Copy>()
-    ensures ends { (v : ℕ → ℤ) (why : W) (p : Plan W) (w : List Lit) → LeadTo why p w → AreMet v w → end_of p v ≡ Some why }
+    ensures ends { (v : ℕ → ℤ) (why : W) (p : Plan W) (w : List Lit) → LeadTo why p w → AreMet v w
+        → end_of p v ≡ Some why }
     ensures few { (why : W) (p : Plan W) (w : List Lit) → LeadTo why p w → length w ≤ longest_path p }
-    ensures named { (count : ℕ) (why : W) (p : Plan W) (w : List Lit) → IsFine count p → LeadTo why p w → AreNamed count w }
+    ensures named { (count : ℕ) (why : W) (p : Plan W) (w : List Lit) → IsFine count p → LeadTo why p w
+        → AreNamed count w }
     ensures small { (count : ℕ) (why : W) (p : Plan W) (w : List Lit) → IsFine count p → LeadTo why p w → AreSmall w }
 {}

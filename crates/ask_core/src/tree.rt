@@ -177,7 +177,8 @@ impl<'a> Tokens<'a> {
     /// The same, of which nothing is copied.
     #[inline]
     pub fn next_ref(&mut self) -> Option<TokRef<'a>>
-        ensures token { MatchOption result ((self.old ≡ []) × (self.new ≡ [])) (λ tok. self.old ≡ token_at tok ∷ self.new) }
+        ensures token { MatchOption result ((self.old ≡ []) × (self.new ≡ []))
+            (λ tok. self.old ≡ token_at tok ∷ self.new) }
         ensures few { IfSome result (λ tok. length (numbers_of (token_at tok)) ≤ MAX_PICKS) }
     {
         let (first, rest) = self.marks.split_first()?;

@@ -20,7 +20,8 @@ abbrev pub open_branches : {A N W : Type 0} → (A → N → Plan W) → Judging
 open_branches plan c = branches_at (plan c.asker) c.places
 
 -- the places are the asker's own, and tokens that complete them show that the asker's plan holds
-pub record IsUnderWay {N W : Type 0} (is_own : N → Type 0) (plan : N → Plan W) (root : Plan W) (places : List (OpenPlace N)) : Type 0 where
+pub record IsUnderWay {N W : Type 0} (is_own : N → Type 0) (plan : N → Plan W) (root : Plan W)
+    (places : List (OpenPlace N)) : Type 0 where
   pub own : AreOwn is_own places
   pub follows : (tokens : List Tok) → Completes tokens (branches_at plan places) → (v : ℕ → ℤ) → value root v ≡ true
 

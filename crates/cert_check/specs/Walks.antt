@@ -13,4 +13,5 @@ pub record Closes (lits : List Lit) (name to : ℕ) (sum : ℤ) (picks : List �
 
 -- picks named the literals of a walk: further ones that close it make all of them a negative cycle
 abbrev pub IsWalkOf : List Lit → List ℕ → Walk → Type 0
-IsWalkOf lits picks w = (more : List ℕ) → Closes lits w.name w.start w.sum more → pick_verdict lits (picks ++ more) ≡ Ok tt
+IsWalkOf lits picks w = (more : List ℕ) → Closes lits w.name w.start w.sum more
+    → pick_verdict lits (picks ++ more) ≡ Ok tt

@@ -1,5 +1,6 @@
 //! The checker of trees over any asker.
-ghost use Rattle.std.specs.Prelude.{◌≡◌, ◌≢◌, ◌↔◌, ℕ, ℤ, ◌<◌, ◌≤◌, true, false, List, [], ◌∷◌, length, Some, None, Ok, Err, OnErr, IfOk, IfErr, IsTrue};
+ghost use Rattle.std.specs.Prelude.{◌≡◌, ◌≢◌, ◌↔◌, ℕ, ℤ, ◌<◌, ◌≤◌, true, false, List, [], ◌∷◌, length, Some, None, Ok};
+ghost use Rattle.std.specs.Prelude.{Err, OnErr, IfOk, IfErr, IsTrue};
 ghost use Rattle.diff_graph.specs.Cycles.{pick_verdict};
 ghost use Rattle.ask_core.specs.declared.picks.TheConstants.{MAX_PICKS};
 ghost use Rattle.ask_core.specs.declared.tree.Tok.TheVariants as token;
@@ -43,7 +44,8 @@ impl<A: Asker> Checker<A> {
     /// A checker with one open branch: the asker's plan after no answers.
     pub fn new(alloc: Global, asker: A) -> Result<Checker<A>, NoMemory>
         requires { A.name_count asker ≤ MAX_NAMES }
-        ensures branches { IfOk result (λ c. open_branches A.plan c ≡ record { plan = A.root asker; answers = [] } ∷ []) }
+        ensures branches { IfOk result (λ c. open_branches A.plan c ≡ record { plan = A.root asker; answers = [] }
+            ∷ []) }
         ensures root { IfOk result (λ c. A.root c.asker ≡ A.root asker) }
         ensures refusal { IfOk result (λ c. c.refusal ≡ None) }
     {
@@ -63,8 +65,10 @@ impl<A: Asker> Checker<A> {
         requires { 0 < length self.old.places }
 
         // What a token that is taken leaves, and that the last one shows what the tree is for.
-        ensures step { IfOk result (λ p. after tok (open_branches A.plan self.old) ≡ Ok (open_branches A.plan self.new)) }
-        ensures completes { IfOk result (λ p. IsStep p tok (open_branches A.plan self.old) (open_branches A.plan self.new)) }
+        ensures step { IfOk result (λ p. after tok (open_branches A.plan self.old)
+            ≡ Ok (open_branches A.plan self.new)) }
+        ensures completes { IfOk result (λ p. IsStep p tok (open_branches A.plan self.old)
+            (open_branches A.plan self.new)) }
         ensures done { result ≡ Ok progress.Done → (v : ℕ → ℤ) → value (A.root self.old.asker) v ≡ true }
         ensures open { result ≡ Ok progress.More → 0 < length self.new.places }
         ensures closed { result ≡ Ok progress.Done → self.new.places ≡ [] }
@@ -89,15 +93,18 @@ impl<A: Asker> Checker<A> {
         requires { 0 < length self.old.places }
 
         // What a token that is taken leaves, and that the last one shows what the tree is for.
-        ensures step { IfOk result (λ p. after tok.now (open_branches A.plan self.old) ≡ Ok (open_branches A.plan self.new)) }
-        ensures completes { IfOk result (λ p. IsStep p tok.now (open_branches A.plan self.old) (open_branches A.plan self.new)) }
+        ensures step { IfOk result (λ p. after tok.now (open_branches A.plan self.old)
+            ≡ Ok (open_branches A.plan self.new)) }
+        ensures completes { IfOk result (λ p. IsStep p tok.now (open_branches A.plan self.old)
+            (open_branches A.plan self.new)) }
         ensures done { result ≡ Ok progress.Done → (v : ℕ → ℤ) → value (A.root self.old.asker) v ≡ true }
         ensures open { result ≡ Ok progress.More → 0 < length self.new.places }
         ensures closed { result ≡ Ok progress.Done → self.new.places ≡ [] }
         ensures none_before { IfOk result (λ p. (self.old.refusal ≡ None) × (self.new.refusal ≡ None)) }
 
         // When each refusal comes, and that it stays.
-        ensures why { self.old.refusal ≡ None → IfErr result (λ e. IsCauseOf e tok.now (open_branches A.plan self.old)) }
+        ensures why { self.old.refusal ≡ None → IfErr result
+            (λ e. IsCauseOf e tok.now (open_branches A.plan self.old)) }
         ensures refused { self.old.refusal ≡ None
             → IfErr result (λ e. e ≢ end.NoMemory → BeginsNothing tok.now (open_branches A.plan self.old)) }
         ensures stays { IfErr result (λ e. self.new.refusal ≡ Some e) }
@@ -137,12 +144,13 @@ impl<A: Asker> Checker<A> {
         self.path.answers()
     }
 
-    /// Takes the next token where it may stand at the first open place and there is memory: whether it did. Otherwise all
-    /// is as it was, and `judge` says why. It is for a checker that has not refused.
+    /// Takes the next token where it may stand at the first open place and there is memory: whether it did. Otherwise
+    /// all is as it was, and `judge` says why. It is for a checker that has not refused.
     #[inline(always)]
     pub fn takes(&mut self, tok: &Tok) -> bool
         requires { 0 < length self.old.places }
-        ensures taken { IsTrue result → after tok.now (open_branches A.plan self.old) ≡ Ok (open_branches A.plan self.new) }
+        ensures taken { IsTrue result → after tok.now (open_branches A.plan self.old)
+            ≡ Ok (open_branches A.plan self.new) }
         ensures not_taken { result ≡ false → self.new.places ≡ self.old.places }
         ensures same { result ≡ false → open_branches A.plan self.new ≡ open_branches A.plan self.old }
         ensures refusal { self.new.refusal ≡ self.old.refusal }
@@ -159,7 +167,8 @@ impl<A: Asker> Checker<A> {
     #[inline(always)]
     pub fn close(&mut self)
         requires open { 0 < length self.old.places }
-        requires cycle { (picks : List ℕ) × (length picks ≤ MAX_PICKS) × (pick_verdict (first_answers self.old.places) picks ≡ Ok tt) }
+        requires cycle { (picks : List ℕ) × (length picks ≤ MAX_PICKS)
+            × (pick_verdict (first_answers self.old.places) picks ≡ Ok tt) }
         ensures taken { (picks : List ℕ) → pick_verdict (first_answers self.old.places) picks ≡ Ok tt
             → after (token.Cycle picks) (open_branches A.plan self.old) ≡ Ok (open_branches A.plan self.new) }
         ensures refusal { self.new.refusal ≡ self.old.refusal }

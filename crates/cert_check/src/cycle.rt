@@ -63,7 +63,8 @@ impl Walk {
     /// The walk with one more literal, if the pick names one that begins where the walk ends.
     #[inline(always)]
     pub fn further(self, lits: &[Lit], pick: u32) -> Option<Walk>
-        ensures { (picks : List ℕ) → IsWalkOf lits.now picks self → IfSome result (IsWalkOf lits.now (picks ++ pick ∷ [])) }
+        ensures { (picks : List ℕ) → IsWalkOf lits.now picks self
+            → IfSome result (IsWalkOf lits.now (picks ++ pick ∷ [])) }
     {
         let lit = lits.get(pick as usize)?;
         let Lit { x, y: name, k } = *lit;
@@ -78,7 +79,8 @@ impl Walk {
     /// Whether it ends where it began, below 0.
     #[inline(always)]
     pub fn is_negative_cycle(self) -> bool
-        ensures { (lits : List Lit) (picks : List ℕ) → IsWalkOf lits picks self → result ≡ true → pick_verdict lits picks ≡ Ok tt }
+        ensures { (lits : List Lit) (picks : List ℕ) → IsWalkOf lits picks self → result ≡ true
+            → pick_verdict lits picks ≡ Ok tt }
     {
         self.name == self.start && self.sum < 0
     }

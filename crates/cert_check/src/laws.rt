@@ -7,12 +7,14 @@ ghost use Rattle.cert_check.specs.Steps.{after, HasFewPicks};
 
 use ask_core::trees_are_judged_token_by_token;
 
-/// Tokens complete open branches exactly where the first is taken and the others complete what it leaves. One that is refused
-/// begins no tokens that complete them.
+/// Tokens complete open branches exactly where the first is taken and the others complete what it leaves. One that is
+/// refused begins no tokens that complete them.
 pub fn tokens_are_taken_one_by_one<W: Copy>()
-    ensures taken { (t : Tok) (tokens : List Tok) (branches next : List (Branch W)) → HasFewPicks t → after t branches ≡ Ok next
+    ensures taken { (t : Tok) (tokens : List Tok) (branches next : List (Branch W)) → HasFewPicks t
+        → after t branches ≡ Ok next
         → (Completes (t ∷ tokens) branches ↔ Completes tokens next) }
-    ensures refused { (t : Tok) (tokens : List Tok) (branches : List (Branch W)) (why : CheckError) → after t branches ≡ Err why
+    ensures refused { (t : Tok) (tokens : List Tok) (branches : List (Branch W)) (why : CheckError)
+        → after t branches ≡ Err why
         → Completes (t ∷ tokens) branches → ⊥ }
 {
     trees_are_judged_token_by_token::<W>();

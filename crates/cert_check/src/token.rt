@@ -20,7 +20,8 @@ pub fn take_cycle<N: Copy>(path: &mut Path<N>, picks: &Picks) -> Result<(), Chec
     ensures closed { OnOk result (path.new ≡ drop 1 path.old) }
     ensures ok { OnOk result (pick_verdict (first_answers path.old) picks.now ≡ Ok tt) }
     ensures err { OnErr result (path.new ≡ path.old) }
-    ensures why { IfErr result (λ e. (p : PickError) × (pick_verdict (first_answers path.old) picks.now ≡ Err p) × (e ≡ end_of_cycle p)) }
+    ensures why { IfErr result (λ e. (p : PickError) × (pick_verdict (first_answers path.old) picks.now ≡ Err p)
+        × (e ≡ end_of_cycle p)) }
 {
     if !is_plain_cycle(path.answers(), picks.as_slice()) {
         is_negative_cycle(path.answers(), picks.as_slice())?;
@@ -34,7 +35,8 @@ pub fn take_cycle<N: Copy>(path: &mut Path<N>, picks: &Picks) -> Result<(), Chec
 pub fn take_end<A: Asker>(asker: &mut A, path: &mut Path<A::Node>) -> Result<(), CheckError>
     requires open { 0 < length path.old }
     requires own { AreOwn (A.is_own asker.old) path.old }
-    ensures ok { OnOk result (after token.Holds (branches_at (A.plan asker.old) path.old) ≡ Ok (branches_at (A.plan asker.new) path.new)) }
+    ensures ok { OnOk result (after token.Holds (branches_at (A.plan asker.old) path.old)
+        ≡ Ok (branches_at (A.plan asker.new) path.new)) }
     ensures own { AreOwn (A.is_own asker.new) path.new }
     ensures err { OnErr result (path.new ≡ path.old) }
     ensures why { IfErr result (λ e. IsCauseOf e token.Holds (branches_at (A.plan asker.old) path.old)) }
@@ -56,7 +58,8 @@ pub fn take_end<A: Asker>(asker: &mut A, path: &mut Path<A::Node>) -> Result<(),
 pub fn take_question<A: Asker>(asker: &mut A, path: &mut Path<A::Node>) -> Result<(), CheckError>
     requires open { 0 < length path.old }
     requires own { AreOwn (A.is_own asker.old) path.old }
-    ensures ok { OnOk result (after token.Ask (branches_at (A.plan asker.old) path.old) ≡ Ok (branches_at (A.plan asker.new) path.new)) }
+    ensures ok { OnOk result (after token.Ask (branches_at (A.plan asker.old) path.old)
+        ≡ Ok (branches_at (A.plan asker.new) path.new)) }
     ensures own { AreOwn (A.is_own asker.new) path.new }
     ensures err { OnErr result (path.new ≡ path.old) }
     ensures why { IfErr result (λ e. IsCauseOf e token.Ask (branches_at (A.plan asker.old) path.old)) }
@@ -83,7 +86,8 @@ pub fn take_token<A: Asker>(
 ) -> Result<(), CheckError>
     requires open { 0 < length path.old }
     requires own { AreOwn (A.is_own asker.old) path.old }
-    ensures ok { OnOk result (after tok.now (branches_at (A.plan asker.old) path.old) ≡ Ok (branches_at (A.plan asker.new) path.new)) }
+    ensures ok { OnOk result (after tok.now (branches_at (A.plan asker.old) path.old)
+        ≡ Ok (branches_at (A.plan asker.new) path.new)) }
     ensures few { OnOk result (HasFewPicks tok.now) }
     ensures own { AreOwn (A.is_own asker.new) path.new }
     ensures err { OnErr result (path.new ≡ path.old) }

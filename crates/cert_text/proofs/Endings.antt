@@ -1,6 +1,7 @@
 -- Behind any place any bytes go on with a part, or end there: what they begin with is looked for among the parts that
 -- may stand there.
-use Rattle.std.proofs.Common.{◌≡◌, ◌≢◌, ℕ, ◌+◌, ◌-◌, ◌*◌, ◌<◌, ◌≤◌, eqb, leb, true, false, ◌⊎◌, inl, inr, ⊎_elim, Option, Some, None, Result, Ok, Err, List, [], ◌∷◌, ◌++◌, length, get_or, refl, sym, ap, ◌∙◌, arith, subst, length-append, zero, suc}
+use Rattle.std.proofs.Common.{◌≡◌, ◌≢◌, ℕ, ◌+◌, ◌-◌, ◌*◌, ◌<◌, ◌≤◌, eqb, leb, true, false, ◌⊎◌, inl, inr, ⊎_elim, Option, Some, None, Result, Ok, Err, List, []}
+use Rattle.std.proofs.Common.{◌∷◌, ◌++◌, length, get_or, refl, sym, ap, ◌∙◌, arith, subst, length-append, zero, suc}
 use Rattle.std.proofs.lemmas.Bool.Decides.{eqb_tells, leb_tells}
 use Rattle.std.proofs.lemmas.List.{append-nil}
 use Rattle.std.proofs.Math.Seq.{append_snoc}
@@ -19,7 +20,8 @@ use Rattle.cert_text.specs.Numbers.{AreShort, IsSpellableCycle, PICK_LIMIT}
 use Rattle.cert_text.specs.Places.{Place, Start, Line, Tree, Finish, Stands, names_of, part_text, place_after}
 use Rattle.cert_text.specs.Reading.{Progress, Reading, Refused, EndsThere, HasNoPart, IsFrontOfPart, Reads, ReadsFrom}
 use Rattle.cert_text.specs.Spelling.{IsSpellable, header_text, token_text}
-use Rattle.cert_text.proofs.CycleLemmas.{AreShort-push, byte_is_wrong, digit_is_too_much, digit_is_wanted, front_of_cycle, front_with_digit, front_with_more_digits, other_byte_is_wrong, with_comma, with_end}
+use Rattle.cert_text.proofs.CycleLemmas.{AreShort-push, byte_is_wrong, digit_is_too_much, digit_is_wanted, front_of_cycle, front_with_digit}
+use Rattle.cert_text.proofs.CycleLemmas.{front_with_more_digits, other_byte_is_wrong, with_comma, with_end}
 use Rattle.cert_text.proofs.PartLemmas.{end_part, ob_part, start_parts}
 use Rattle.cert_text.proofs.ReadingLemmas.{more_has_no_part, some_text, wrong_byte}
 

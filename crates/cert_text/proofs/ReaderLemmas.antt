@@ -1,5 +1,6 @@
 -- What a reader's fields say of what it gives.
-use Rattle.std.proofs.Common.{◌≡◌, ◌≢◌, ℕ, ◌+◌, ◌↔◌, Option, Some, None, Result, Ok, Err, List, [], ◌∷◌, ◌++◌, length, refl, sym, ◌∙◌, arith, subst, length-append}
+use Rattle.std.proofs.Common.{◌≡◌, ◌≢◌, ℕ, ◌+◌, ◌↔◌, Option, Some, None, Result, Ok, Err, List, [], ◌∷◌, ◌++◌, length, refl, sym, ◌∙◌, arith, subst}
+use Rattle.std.proofs.Common.{length-append}
 use Rattle.fn_rules.specs.declared.function.ObName.{ObName}
 use Rattle.cert_text.specs.declared.item.Part.{Part}
 use Rattle.cert_text.specs.declared.item.Item.{Item}
@@ -31,7 +32,8 @@ not_finished tp1 tp2 (stage.Tree level came branches) other is = cc
 not_finished tp1 tp2 stage.Over other is = other refl
 
 -- the fields of a reader that did not refuse
-reading : (refused : Option CertError) (place : Place) (offset : ℕ) (bytes : List ℕ) → refused ≡ None → progress_at refused place offset bytes ≡ Reading place offset bytes
+reading : (refused : Option CertError) (place : Place) (offset : ℕ) (bytes : List ℕ) → refused ≡ None
+    → progress_at refused place offset bytes ≡ Reading place offset bytes
 reading refused place offset bytes none = rw none refl
 
 -- what came is a front of a part, where no byte was refused

@@ -1,5 +1,6 @@
 -- What a reader gives for a byte is what the bytes from there on give.
-use Rattle.std.proofs.Common.{◌≡◌, ◌≢◌, ℕ, ◌+◌, ◌<◌, ◌⊎◌, ◌↔◌, inl, inr, ⊎_elim, Option, Some, None, Result, Ok, Err, List, [], ◌∷◌, ◌++◌, length, refl, sym, ap, ◌∙◌, arith, subst, append_assoc, length-append}
+use Rattle.std.proofs.Common.{◌≡◌, ◌≢◌, ℕ, ◌+◌, ◌<◌, ◌⊎◌, ◌↔◌, inl, inr, ⊎_elim, Option, Some, None, Result, Ok, Err, List, [], ◌∷◌, ◌++◌, length, refl, sym}
+use Rattle.std.proofs.Common.{ap, ◌∙◌, arith, subst, append_assoc, length-append}
 use Rattle.std.proofs.lemmas.List.{append-nil}
 use Rattle.std.proofs.Math.Seq.{append_snoc}
 use Rattle.ask_core.specs.declared.tree.Tok.{Tok}
@@ -164,8 +165,10 @@ reads_bad place offset byte at begun g rest items end =
     let same : (begun ++ byte ∷ []) ++ rest ≡ begun ++ byte ∷ rest = append_snoc begun byte rest in
     let none : HasNoPart place (begun ++ byte ∷ rest) =
     subst (HasNoPart place) same (more_has_no_part place (begun ++ byte ∷ []) rest g.3) in
-    let some : 0 < length (begun ++ byte ∷ rest) = omega (arith, length-append begun (byte ∷ rest)) in
-    (to place offset at (begun ++ byte ∷ rest) items end g.0 g.1 some none, λ h. from place offset at (begun ++ byte ∷ rest) items end g.0 g.1 some none h.0 h.1)
+    let some : 0 < length (begun ++ byte ∷ rest) = omega (arith, length-append begun (byte ∷ rest)) in (
+      to place offset at (begun ++ byte ∷ rest) items end g.0 g.1 some none,
+      λ h. from place offset at (begun ++ byte ∷ rest) items end g.0 g.1 some none h.0 h.1,
+    )
   where
     to :
         (place : Place) (offset at : ℕ) (bytes : List ℕ) (items : List Item) (end : Result (Unit {0}) CertError) → at ≡ offset → place ≢ Finish

@@ -39,7 +39,8 @@ IsNoFront picks number b =
 
 -- what a byte makes of it: more of it, a whole cycle, or the front of none
 abbrev pub CycleStepsTo : Cycle → ℕ → CycleStep → Type 0
-CycleStepsTo c byte (step.More d) = IsBegunCycle d × (cycle_text d.picks d.number ≡ cycle_text c.picks c.number ++ byte ∷ [])
+CycleStepsTo c byte (step.More d) = IsBegunCycle d × (cycle_text d.picks d.number ≡ cycle_text c.picks c.number ++ byte
+    ∷ [])
 CycleStepsTo c byte (step.Whole picks) =
     IsSpellableCycle picks × (token_text (token.Cycle picks) ≡ cycle_text c.picks c.number ++ byte ∷ [])
 CycleStepsTo c byte step.Wrong =

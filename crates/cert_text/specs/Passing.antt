@@ -22,8 +22,8 @@ abbrev pub AreOpen : ℕ → List Tok → ℕ → Type 0
 AreOpen branches [] behind = behind ≡ branches
 AreOpen branches (t ∷ tokens) behind = (0 < branches) × IsSpellable t × AreOpen (open_after branches t) tokens behind
 
--- a reader stands in a tree, between two parts, and the bytes are tokens that may stand there, behind which so many branches
--- are open
+-- a reader stands in a tree, between two parts, and the bytes are tokens that may stand there, behind which so many
+-- branches are open
 abbrev pub IsPassed : Progress → List ℕ → ℕ → Type 0
 IsPassed (Reading (Tree came names branches) offset begun) bytes behind =
     (begun ≡ []) × ((tokens : List Tok) × AreOpen branches tokens behind × (tokens_text tokens ≡ bytes))
@@ -34,7 +34,8 @@ IsPassed (Refused refusal) bytes behind = ⊥
 
 -- the reader behind so many bytes, where so many branches are open
 abbrev pub passed : Progress → ℕ → ℕ → Progress
-passed (Reading (Tree came names branches) offset begun) len behind = Reading (Tree came names behind) (offset + len) begun
+passed (Reading (Tree came names branches) offset begun) len behind = Reading (Tree came names behind) (offset + len)
+    begun
 passed (Reading (Start tp1 tp2) offset begun) len behind = Reading (Start tp1 tp2) offset begun
 passed (Reading (Line came names) offset begun) len behind = Reading (Line came names) offset begun
 passed (Reading Finish offset begun) len behind = Reading Finish offset begun

@@ -1,5 +1,6 @@
 -- What a reader makes of the bytes that are still to come: which parts they give, and where they end.
-use Rattle.std.specs.Prelude.{◌≡◌, ◌≢◌, ℕ, ◌+◌, ◌<◌, List, [], ◌∷◌, ◌++◌, length, Option, Some, None, Result, Ok, Err, ◌⊎◌}
+use Rattle.std.specs.Prelude.{◌≡◌, ◌≢◌, ℕ, ◌+◌, ◌<◌, List, [], ◌∷◌, ◌++◌, length, Option, Some, None, Result, Ok, Err}
+use Rattle.std.specs.Prelude.{◌⊎◌}
 use Rattle.cert_text.specs.declared.item.Part.{Part}
 use Rattle.cert_text.specs.declared.item.Item.{Item}
 use Rattle.cert_text.specs.declared.item.CertError.{CertError}
@@ -47,7 +48,8 @@ Reads (Reading place offset begun) bytes items end = ReadsFrom place offset (beg
 Reads (Refused refusal) bytes items end = (items ≡ []) × (end ≡ Err refusal)
 
 -- the same of what a reader gave for a byte and the bytes behind it
-abbrev pub ReadsOn : Result (Option Item) CertError → Progress → List ℕ → List Item → Result (Unit {0}) CertError → Type 0
+abbrev pub ReadsOn : Result (Option Item) CertError → Progress → List ℕ → List Item → Result (Unit {0}) CertError
+    → Type 0
 ReadsOn (Ok None) now rest items end = Reads now rest items end
 ReadsOn (Ok (Some item)) now rest [] end = ⊥
 ReadsOn (Ok (Some item)) now rest (first ∷ items) end = (first ≡ item) × Reads now rest items end

@@ -62,7 +62,8 @@ PartStepsTo tp1 tp2 at came byte (step.Whole p next) =
     Stands (place_of tp1 tp2 at) p × (part_text (place_of tp1 tp2 at) p ≡ came ++ byte ∷ [])
     × (place_of tp1 tp2 next ≡ place_after (place_of tp1 tp2 at) p) × (branches_of next ≤ branches_of at + 1)
 PartStepsTo tp1 tp2 at came byte step.Wrong =
-    (p : Part) (more : List ℕ) → Stands (place_of tp1 tp2 at) p → part_text (place_of tp1 tp2 at) p ≡ came ++ byte ∷ more → ⊥
+    (p : Part) (more : List ℕ) → Stands (place_of tp1 tp2 at) p
+    → part_text (place_of tp1 tp2 at) p ≡ came ++ byte ∷ more → ⊥
 
 -- the same where only this part may stand, with this line as its text
 abbrev pub LineStepsTo : List ℕ → List ℕ → Part → Stage → Step → Type 0

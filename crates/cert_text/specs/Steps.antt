@@ -19,4 +19,5 @@ FitsHeader names level front fit.Whole = (0 < length names) × (header_text name
 FitsHeader names level front fit.Front =
     (0 < length names) × (length front < LINE_ROOM)
     × ((more : List ℕ) × (0 < length more) × (header_text names level ≡ front ++ more))
-FitsHeader names level front fit.Other = 0 < length names → (more : List ℕ) → header_text names level ≡ front ++ more → ⊥
+FitsHeader names level front fit.Other = 0 < length names → (more : List ℕ) → header_text names level ≡ front ++ more
+    → ⊥

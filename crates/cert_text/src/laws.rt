@@ -22,15 +22,18 @@ pub fn written_certificates_are_read()
 
 /// A law and no code: what a new reader accepts is what the writers append for the parts that it gave.
 pub fn read_certificates_are_written()
-    ensures { (tp1 tp2 : List ObName) (bytes : List ℕ) (items : List Item) → Reads (Reading (Start tp1 tp2) 0 []) bytes items (Ok tt)
-        → (level : Level) × (trees : List AnswerTree) × (0 < length (names_of tp1 tp2 level)) × HasTrees (names_of tp1 tp2 level) trees
+    ensures { (tp1 tp2 : List ObName) (bytes : List ℕ) (items : List Item)
+        → Reads (Reading (Start tp1 tp2) 0 []) bytes items (Ok tt)
+        → (level : Level) × (trees : List AnswerTree) × (0 < length (names_of tp1 tp2 level))
+        × HasTrees (names_of tp1 tp2 level) trees
         × (bytes ≡ certificate_text (names_of tp1 tp2 level) level trees)
         × (items ≡ placed (Start tp1 tp2) 0 (certificate_parts level trees)) }
 {}
 
 /// A law and no code: whatever bytes are still to come, they give a reader some parts, and end in some way.
 pub fn all_bytes_are_read()
-    ensures { (reader : Progress) (bytes : List ℕ) → (items : List Item) × (end : Result (Unit {0}) CertError) × Reads reader bytes items end }
+    ensures { (reader : Progress) (bytes : List ℕ) → (items : List Item) × (end : Result (Unit {0}) CertError)
+        × Reads reader bytes items end }
 {}
 
 /// A law and no code: two parts that may stand at a place, and that the same bytes begin with, are the same; and each

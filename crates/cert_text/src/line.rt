@@ -1,7 +1,8 @@
 //! The lines of a certificate beside its trees, each by its one spelling.
 ghost use Rattle.std.specs.Prelude.{◌≡◌, ℕ, ◌+◌, ◌<◌, ◌≤◌, List, [], ◌∷◌, ◌++◌, length};
 ghost use Rattle.std.specs.List.{list_any};
-ghost use Rattle.cert_text.specs.Spelling.{end_text, has_update, header_text, kind_text, level_text, ob_text, version_text};
+ghost use Rattle.cert_text.specs.Spelling.{end_text, has_update, header_text, kind_text, level_text, ob_text};
+ghost use Rattle.cert_text.specs.Spelling.{version_text};
 ghost use Rattle.cert_text.specs.Steps.{FitsHeader, FitsLine};
 
 use fn_rules::{Level, ObName};

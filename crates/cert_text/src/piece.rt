@@ -43,7 +43,8 @@ fn whole_numbers(bytes: &[u8], picks: &mut Picks) -> Option<usize>
 /// Otherwise it is not said what `tok` is.
 #[inline(always)]
 pub(crate) fn whole_token(alloc: Global, bytes: &[u8], tok: &mut Tok) -> Option<usize>
-    ensures { IfSome result (λ len. IsSpellable tok.new × (len ≤ length bytes.now) × (token_text tok.new ≡ take len bytes.now)) }
+    ensures { IfSome result (λ len. IsSpellable tok.new × (len ≤ length bytes.now)
+        × (token_text tok.new ≡ take len bytes.now)) }
 {
     let (first, rest) = bytes.split_first()?;
     match *first {
@@ -80,8 +81,8 @@ pub(crate) fn branches_behind(branches: u64, tok: &Tok) -> u64
     }
 }
 
-/// The number of a cycle at the front of the bytes, and how many digits it has. Where the digits of no such number stand
-/// there, or the bytes end with them, there is none.
+/// The number of a cycle at the front of the bytes, and how many digits it has. Where the digits of no such number
+/// stand there, or the bytes end with them, there is none.
 #[inline(always)]
 pub fn number_front(bytes: &[u8]) -> Option<(u32, usize)>
     ensures { IfSome result (λ x. (x.0 < PICK_LIMIT) × (x.1 < length bytes.now) × (decimal x.0 ≡ take x.1 bytes.now)) }

@@ -1,5 +1,6 @@
 //! Certificates, byte by byte.
-ghost use Rattle.std.specs.Prelude.{◌≡◌, ◌↔◌, ℕ, ◌+◌, ◌^◌, ◌<◌, ◌≤◌, List, [], ◌∷◌, ◌++◌, Option, Some, None, Result, Ok, length, take, IfSome, IfNone};
+ghost use Rattle.std.specs.Prelude.{◌≡◌, ◌↔◌, ℕ, ◌+◌, ◌^◌, ◌<◌, ◌≤◌, List, [], ◌∷◌, ◌++◌, Option, Some, None, Result};
+ghost use Rattle.std.specs.Prelude.{Ok, length, take, IfSome, IfNone};
 ghost use Rattle.cert_text.specs.declared.item.Item.{Item};
 ghost use Rattle.cert_text.specs.declared.item.CertError.{CertError};
 ghost use Rattle.cert_text.specs.Places.{Line, Start};
@@ -142,9 +143,9 @@ impl Reader {
         }
     }
 
-    /// Takes the whole token of a tree at the front of a piece, where nothing of it came before, and puts it into `tok`:
-    /// how many bytes of the file stand before it, and how many it has. This is what `feed_piece` gives of the piece.
-    /// Where there is none it takes nothing, and it is not said what `tok` is.
+    /// Takes the whole token of a tree at the front of a piece, where nothing of it came before, and puts it into
+    /// `tok`: how many bytes of the file stand before it, and how many it has. This is what `feed_piece` gives of the
+    /// piece. Where there is none it takes nothing, and it is not said what `tok` is.
     #[inline(always)]
     pub fn feed_token(&mut self, piece: &[u8], tok: &mut Tok) -> Option<(u64, usize)>
         requires { fed_to self.old + length piece.now ≤ 2 ^ 63 }
@@ -179,8 +180,8 @@ impl Reader {
         }
     }
 
-    /// Passes whole tokens of a tree that the caller took itself, behind which so many branches are open, where nothing of
-    /// the first one came before. What is behind them is read as if they had been fed.
+    /// Passes whole tokens of a tree that the caller took itself, behind which so many branches are open, where nothing
+    /// of the first one came before. What is behind them is read as if they had been fed.
     #[inline(always)]
     pub fn pass(&mut self, bytes: &[u8], branches: u64)
         requires room { fed_to self.old + length bytes.now ≤ 2 ^ 63 }

@@ -3,7 +3,8 @@ ghost use Rattle.std.specs.Prelude.{◌≡◌, ℕ, ◌+◌, ◌^◌, ◌<◌, �
 ghost use Rattle.fn_rules.specs.declared.function.ObName.{ObName};
 ghost use Rattle.cert_text.specs.Cycles.{IsBegunCycle, cycle_text};
 ghost use Rattle.cert_text.specs.Places.{Line, Start, names_of};
-ghost use Rattle.cert_text.specs.Stages.{IsLineSound, IsSound, KnowsLength, LineStepsTo, PartStepsTo, begun_text, branches_of, place_of};
+ghost use Rattle.cert_text.specs.Stages.{IsLineSound, IsSound, KnowsLength, LineStepsTo, PartStepsTo, begun_text};
+ghost use Rattle.cert_text.specs.Stages.{branches_of, place_of};
 
 use crate::cycle::{Cycle, CycleStep};
 use crate::line::{Fit, LineBytes, end_line, header_fit, ob_line};
@@ -89,7 +90,8 @@ fn next_line_step(
 ) -> Step
     requires few { length names.now < 2 ^ 32 }
     requires sound { IsLineSound (Line came (drop came names.now)) begun }
-    ensures { (tp1 tp2 : List ObName) → names_of tp1 tp2 level ≡ names.now → PartStepsTo tp1 tp2 (Stage.Line level came) begun byte result }
+    ensures { (tp1 tp2 : List ObName) → names_of tp1 tp2 level ≡ names.now
+        → PartStepsTo tp1 tp2 (Stage.Line level came) begun byte result }
 {
     begun.push(byte);
     match names.get(came as usize) {
@@ -135,7 +137,8 @@ fn cycle_step(cycle: Cycle, level: Level, came: u32, branches: u64, byte: u8) ->
     requires sound { IsBegunCycle cycle }
     requires len { cycle.len < 2 ^ 63 }
     requires still_open { 0 < branches }
-    ensures { (tp1 tp2 : List ObName) → PartStepsTo tp1 tp2 (Stage.Tree level came branches) (cycle_text cycle.picks cycle.number) byte result }
+    ensures { (tp1 tp2 : List ObName) → PartStepsTo tp1 tp2 (Stage.Tree level came branches)
+        (cycle_text cycle.picks cycle.number) byte result }
 {
     match cycle.step(byte) {
         CycleStep::More(cycle) => Step::More(Begun::Cycle(cycle)),

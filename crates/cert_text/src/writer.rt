@@ -131,7 +131,8 @@ fn write_more_numbers(numbers: &[u32], out: &mut Vec<u8>) -> Result<(), NoMemory
 #[inline(always)]
 fn write_numbers(numbers: &[u32], out: &mut Vec<u8>) -> Result<(), NoMemory>
     ensures ok { OnOk result (out.new.items ≡ out.old.items ++ 120 ∷ numbers_text numbers.now) }
-    ensures err { OnErr result (AppendsFront (Some out.old.items) (120 ∷ numbers_text numbers.now) (Some out.new.items)) }
+    ensures err { OnErr result (AppendsFront (Some out.old.items) (120 ∷ numbers_text numbers.now)
+        (Some out.new.items)) }
 {
     let Some((first, rest)) = numbers.split_first() else {
         return append_byte(b'x', out);
@@ -143,7 +144,8 @@ fn write_numbers(numbers: &[u32], out: &mut Vec<u8>) -> Result<(), NoMemory>
 #[inline(always)]
 fn write_token(tok: TokRef<'_>, out: &mut Vec<u8>) -> Result<(), NoMemory>
     ensures ok { OnOk result (out.new.items ≡ out.old.items ++ token_text (token_at tok.entry)) }
-    ensures err { OnErr result (AppendsFront (Some out.old.items) (token_text (token_at tok.entry)) (Some out.new.items)) }
+    ensures err { OnErr result (AppendsFront (Some out.old.items) (token_text (token_at tok.entry))
+        (Some out.new.items)) }
 {
     match tok {
         TokRef::Ask => append_byte(b'?', out),

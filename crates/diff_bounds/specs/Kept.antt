@@ -29,7 +29,8 @@ IsNoLower (Some way) (Some rest) (Some kept) = kept.k ≤ℤ (way.k +ℤ rest.k)
 abbrev pub IsLed : List (Option Hop) → ℕ → ℕ → List (Option Hop) → Type 0
 IsLed ways first from row =
     IsNoLower (slice_index_or ways first None) (slice_index_or row from None) (slice_index_or row first None)
-    → (x : ℕ) → x < length row → IsNoLower (slice_index_or ways x None) (slice_index_or row from None) (slice_index_or row x None)
+    → (x : ℕ) → x < length row → IsNoLower (slice_index_or ways x None) (slice_index_or row from None)
+    (slice_index_or row x None)
 
 -- the least offset for which `x <= y + k` follows from the list, or none where none follows
 abbrev pub IsTightest : List Lit → ℕ → ℕ → Option ℤ → Type 0

@@ -1,7 +1,9 @@
 //! The table of distances.
-ghost use Rattle.std.specs.Prelude.{◌≡◌, ◌↔◌, ℕ, ◌<◌, ◌≤◌, IsTrue, true, false, List, [], ◌∷◌, ◌++◌, Option, IfOk, OnOk};
+ghost use Rattle.std.specs.Prelude.{◌≡◌, ◌↔◌, ℕ, ◌<◌, ◌≤◌, IsTrue, true, false, List, [], ◌∷◌, ◌++◌, Option, IfOk};
+ghost use Rattle.std.specs.Prelude.{OnOk};
 ghost use Rattle.diff_graph.specs.declared.hop.Hop.{Hop};
-ghost use Rattle.diff_graph.specs.Tables.{IsNamed, IsSmall, Numbered, literals_of, kept_of, StandsFor, Follows, IsPossibleWith, IsCycleOf};
+ghost use Rattle.diff_graph.specs.Tables.{IsNamed, IsSmall, Numbered, literals_of, kept_of, StandsFor, Follows};
+ghost use Rattle.diff_graph.specs.Tables.{IsPossibleWith, IsCycleOf};
 ghost use Rattle.diff_bounds.specs.Kept.{AreBounds, has_room, IsTightest};
 
 use crate::rows::{allows, begin_rows, insert, kept, write_cycle};

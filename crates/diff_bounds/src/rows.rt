@@ -1,7 +1,9 @@
 //! The rows of a table in arrays. The row of a name keeps what is known from each name to it.
-ghost use Rattle.std.specs.Prelude.{◌≡◌, ℕ, ◌<◌, ◌≤◌, true, false, List, [], ◌∷◌, ◌++◌, length, slice_index_or, Option, Some, None, OnOk};
+ghost use Rattle.std.specs.Prelude.{◌≡◌, ℕ, ◌<◌, ◌≤◌, true, false, List, [], ◌∷◌, ◌++◌, length, slice_index_or, Option};
+ghost use Rattle.std.specs.Prelude.{Some, None, OnOk};
 ghost use Rattle.diff_graph.specs.Tables.{IsNamed, IsSmall, Numbered, kept_of, StandsFor, IsAtMost};
-ghost use Rattle.diff_graph.specs.Steps.{added, keeps, numbers_along, IsModest, IsNewRow, AreNewRows, IsSquare, AreModest, IsLowered};
+ghost use Rattle.diff_graph.specs.Steps.{added, keeps, numbers_along, IsModest, IsNewRow, AreNewRows, IsSquare};
+ghost use Rattle.diff_graph.specs.Steps.{AreModest, IsLowered};
 ghost use Rattle.diff_bounds.specs.Kept.{has_room, IsLed, IsNoLower};
 
 use diff_graph::table::{begin_ways, keeps, leaves_room, lower_row, push_chain};
@@ -106,8 +108,8 @@ fn add<const N: usize>(rows: &mut [[Option<Hop>; N]], lit: Lit, number: u32)
     lowered_rows_keep_the_step();
 }
 
-/// Lowers each row by the ways to `from`, each gone on by what the row keeps from there. Where the way of `first` goes on
-/// no lower, none does.
+/// Lowers each row by the ways to `from`, each gone on by what the row keeps from there. Where the way of `first` goes
+/// on no lower, none does.
 fn lower_rows<const N: usize>(
     rows: &mut [[Option<Hop>; N]],
     ways: &[Option<Hop>],

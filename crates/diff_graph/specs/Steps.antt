@@ -78,10 +78,10 @@ pub record IsLowered (ways : List (Option Hop)) (from : ℕ) (old new : List (Op
 
 -- below a place each row is lowered, and from there on it is as it was
 pub record AreLowered (ways : List (Option Hop)) (from : ℕ) (old new : List (List (Option Hop))) (place : ℕ) : Type 0
-    where
-  pub len : length new ≡ length old
-  pub done : (y : ℕ) → y < place → IsLowered ways from (slice_index_or old y []) (slice_index_or new y [])
-  pub left : (y : ℕ) → place ≤ y → slice_index_or new y [] ≡ slice_index_or old y []
+  where
+    pub len : length new ≡ length old
+    pub done : (y : ℕ) → y < place → IsLowered ways from (slice_index_or old y []) (slice_index_or new y [])
+    pub left : (y : ℕ) → place ≤ y → slice_index_or new y [] ≡ slice_index_or old y []
 
 -- the numbers of the literals on the chain from one name to another, where it has no more than is said
 abbrev pub numbers_along : (ℕ → Option Hop) → ℕ → ℕ → ℕ → List ℕ

@@ -107,7 +107,7 @@ IsWithin-result_of m results.Nop a b small near_a near_b = (omega (arith, ints),
 is_valid_res-valid : (chars : Bool) (one : GuardedCase) → is_valid_case chars one ≡ true → is_valid_res one.res ≡ true
 is_valid_res-valid chars one valid =
     (and_parts (has_valid_atoms chars one.guard && nat_le (atoms_of one.guard) MAX_ATOMS && nat_le (nesting_of Loose one.guard) MAX_NESTING)
-        (is_valid_res one.res) valid).1
+    (is_valid_res one.res) valid).1
 
 -- the result of the first case that holds is at most 99 further on
 IsWithin-first_result : (m : ℕ) (chars : Bool) (cases : List GuardedCase) (a b c : Op) → list_all (is_valid_case chars) cases ≡ true →
@@ -136,7 +136,7 @@ IsWithin-by_kinds m f a b c (Some k) None valid near_a near_b is =
 IsWithin-by_kinds m f a b c (Some k) (Some l) valid near_a near_b is =
     IsWithin-first_result m (compares_chars k l) (cases_of f k l) a b c
     ((and_parts (nat_le (length (cases_of f k l)) MAX_CASES) (list_all (is_valid_case (compares_chars k l)) (cases_of f k l))
-        (are_valid_cases-valid f k l valid)).1)
+    (are_valid_cases-valid f k l valid)).1)
     near_a near_b is
 
 -- a position moves by at most 99 from one of the two positions

@@ -53,7 +53,7 @@ is_compared Eq x y = int_eq x y
 abbrev pub atom_holds : Atom → Op → Op → Bool
 atom_holds atom a b =
     is_compared atom.cmp (thing_of atom.sort (of_side atom.left a b))
-        (thing_of atom.sort (of_side (other_side atom.left) a b) +ℤ atom.k)
+    (thing_of atom.sort (of_side (other_side atom.left) a b) +ℤ atom.k)
 
 -- the truth of a guard at two operations
 abbrev pub holds_of : Formula → Op → Op → Bool

@@ -59,7 +59,7 @@ moved_down = when (p1_to_p2 Le (pos 0)) (p1_plus (pos 0)) ∷ when Always (p1_pl
 abbrev pub moved_down_or_gone : List GuardedCase
 moved_down_or_gone =
     when (p1_to_p2 Lt (pos 0)) (p1_plus (pos 0)) ∷ when (p2_to_p1 Lt) (p1_plus (negsuc 0)) ∷ when Always results.Nop
-        ∷ []
+    ∷ []
 
 -- a function for both kinds that assumes that sites differ
 abbrev pub by_sites : Mode → Head
@@ -87,7 +87,7 @@ abbrev pub offby : Function
 offby =
     function_from (by_sites Plain)
     (with_deletions (when (p1_to_p2 Lt (pos 0)) (p1_plus (pos 0)) ∷ when Always (p1_plus (negsuc 0)) ∷ [])
-        moved_down_or_gone)
+    moved_down_or_gone)
 
 -- `sites`, but a second deletion of one cell deletes its neighbour
 abbrev pub twice : Function
@@ -96,8 +96,14 @@ twice = function_from (by_sites Plain) (with_deletions moved_down moved_down)
 -- a plain function for insertions alone
 abbrev pub for_insertions : Bool → List GuardedCase → Function
 for_insertions sites_differ cases =
-    function_from (record { mode = Plain; ins = true; del = false; upd = false; sites_differ = sites_differ;
-        chars_differ = false }) (block Ins Ins cases ∷ [])
+    function_from (record {
+      mode = Plain;
+      ins = true;
+      del = false;
+      upd = false;
+      sites_differ = sites_differ;
+      chars_differ = false;
+    }) (block Ins Ins cases ∷ [])
 
 -- insertions alone; those at one position have no result
 abbrev pub ties : Function
@@ -110,8 +116,14 @@ far = for_insertions false (when (p1_to_p2 Le (pos 99)) (p1_plus (pos 0)) ∷ []
 -- deletions that leave tombstones, alone
 abbrev pub marks : Function
 marks =
-    function_from (record { mode = Tomb; ins = false; del = true; upd = false; sites_differ = false;
-        chars_differ = false }) (block Del Del stays ∷ [])
+    function_from (record {
+      mode = Tomb;
+      ins = false;
+      del = true;
+      upd = false;
+      sites_differ = false;
+      chars_differ = false;
+    }) (block Del Del stays ∷ [])
 
 -- two updates: of one cell, that of the smaller site stays
 abbrev pub smaller_site_updates : List GuardedCase
@@ -121,14 +133,26 @@ smaller_site_updates =
 -- `ttf` with updates, which move nothing
 abbrev pub ttfu : Function
 ttfu =
-    function_from (record { mode = Tomb; ins = true; del = true; upd = true; sites_differ = true;
-        chars_differ = false })
+    function_from (record {
+      mode = Tomb;
+      ins = true;
+      del = true;
+      upd = true;
+      sites_differ = true;
+      chars_differ = false;
+    })
     (with_deletions stays stays
     ++ block Ins Upd stays ∷ block Del Upd stays ∷ block Upd Ins moved_up ∷ block Upd Del stays
-        ∷ block Upd Upd smaller_site_updates ∷ [])
+    ∷ block Upd Upd smaller_site_updates ∷ [])
 
 -- updates alone, of which the last one wins
 abbrev pub lastu : Function
 lastu =
-    function_from (record { mode = Plain; ins = false; del = false; upd = true; sites_differ = false;
-        chars_differ = false }) (block Upd Upd stays ∷ [])
+    function_from (record {
+      mode = Plain;
+      ins = false;
+      del = false;
+      upd = true;
+      sites_differ = false;
+      chars_differ = false;
+    }) (block Upd Upd stays ∷ [])

@@ -71,7 +71,7 @@ is_valid_res results.Nop = true
 abbrev pub is_valid_case : Bool → GuardedCase → Bool
 is_valid_case chars c =
     has_valid_atoms chars c.guard && nat_le (atoms_of c.guard) MAX_ATOMS && nat_le (nesting_of Loose c.guard)
-        MAX_NESTING && is_valid_res c.res
+    MAX_NESTING && is_valid_res c.res
 
 -- the cases of a block: not too many, and each may stand there
 abbrev pub are_valid_cases : Bool → List GuardedCase → Bool
@@ -85,7 +85,7 @@ compares_chars k l = has_char k && has_char l
 abbrev pub is_valid_block : Function → Kind → Kind → Bool
 is_valid_block f k l =
     are_valid_cases (compares_chars k l) (cases_of f k l) &&
-        (is_declared_pair f.head k l || nat_eq (length (cases_of f k l)) 0)
+    (is_declared_pair f.head k l || nat_eq (length (cases_of f k l)) 0)
 
 -- a function within the limits, for operations of at least one kind
 abbrev pub is_valid : Function → Bool

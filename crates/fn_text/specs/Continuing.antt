@@ -29,17 +29,17 @@ use Rattle.fn_text.specs.Grammar.{block_made}
 abbrev pub is_allowed_case_with : ℕ → Bool → WrittenCase → Bool
 is_allowed_case_with atoms chars c =
     is_allowed chars c.guard && nat_le (atoms_in c.guard) atoms && nat_le (nesting_in c.guard) MAX_NESTING &&
-        is_allowed_result c.result
+    is_allowed_result c.result
 
 abbrev pub is_allowed_block_with : ℕ → WrittenBlock → Bool
 is_allowed_block_with atoms block =
     nat_le (length block.cases) MAX_CASES && list_all (is_allowed_case_with atoms
-        (compares_chars block.first block.second)) block.cases
+    (compares_chars block.first block.second)) block.cases
 
 abbrev pub is_allowed_file_with : ℕ → Language → Head → List WrittenBlock → Bool
 is_allowed_file_with atoms language head blocks =
     declares_some head && has_own_blocks head (map (block_made to_formulas) blocks) && list_all
-        (is_allowed_block_with atoms) blocks
+    (is_allowed_block_with atoms) blocks
     && has_words language head
 
 -- the cases of blocks that have more atoms than a case may have

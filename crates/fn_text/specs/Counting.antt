@@ -34,7 +34,7 @@ abbrev pub language_before : List Token → Language
 language_before [] = One
 language_before (Number n ∷ before) =
     if is_behind_otfn before then elim (language_numbered n) [ Some language ↦ language | None ↦ One ]
-        else language_before before
+    else language_before before
 language_before (token ∷ before) = language_before before
 
 -- the kind has a word in it

@@ -51,7 +51,7 @@ written_as (Compare sort left cmp) =
     Known (words.Thing sort left) ∷ Comparison cmp ∷ Known (words.Thing sort (other_side left)) ∷ []
 written_as (Shifted left cmp sign n) =
     Known (words.Thing Pos left) ∷ Comparison cmp ∷ Known (words.Thing Pos (other_side left)) ∷ tokens.Sign sign
-        ∷ Number n ∷ []
+    ∷ Number n ∷ []
 written_as (Negated u) = Known words.Not ∷ written_as u
 written_as (Round d) = Open ∷ (written_as d ++ Close ∷ [])
 written_as (One u) = written_as u
@@ -153,12 +153,12 @@ is_allowed_result (written.Moved side sign n) = is_offset_number n
 abbrev pub is_allowed_case : Bool → WrittenCase → Bool
 is_allowed_case chars c =
     is_allowed chars c.guard && nat_le (atoms_in c.guard) MAX_ATOMS && nat_le (nesting_in c.guard) MAX_NESTING &&
-        is_allowed_result c.result
+    is_allowed_result c.result
 
 abbrev pub is_allowed_block : WrittenBlock → Bool
 is_allowed_block block =
     nat_le (length block.cases) MAX_CASES && list_all (is_allowed_case (compares_chars block.first block.second))
-        block.cases
+    block.cases
 
 -- at least one kind, one block for each ordered pair of kinds and no other, each within the limits, and a word of the
 -- language for each kind

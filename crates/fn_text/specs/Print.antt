@@ -33,7 +33,7 @@ offset_tokens (negsuc n) = Sign Minus ∷ Number (suc n) ∷ []
 abbrev pub atom_tokens : Atom → List Token
 atom_tokens a =
     Known (words.Thing a.sort a.left) ∷ Comparison a.cmp ∷ Known (words.Thing a.sort (other_side a.left))
-        ∷ offset_tokens a.k
+    ∷ offset_tokens a.k
 
 -- in parentheses, where they are needed
 abbrev pub enclosed : Bool → List Token → List Token
@@ -75,7 +75,7 @@ case_tokens kind c = Known words.Case ∷ guard_tokens Loose c.guard ++ Colon �
 abbrev pub block_tokens : Kind → Kind → List GuardedCase → List Token
 block_tokens first second cases =
     Known words.Block ∷ Known (words.Kind first) ∷ Known (words.Kind second) ∷ LineEnd
-        ∷ flat_map (case_tokens first) cases
+    ∷ flat_map (case_tokens first) cases
 
 -- tokens that are there if the test is true
 abbrev pub present : Bool → List Token → List Token

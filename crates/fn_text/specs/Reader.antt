@@ -102,8 +102,10 @@ closed m s (level ∷ levels) = left_for (record s { last = m.round (disjunction
 abbrev pub control_behind : Control → Move → Control
 control_behind c (moves.Skip want) = with_want c want
 control_behind c (moves.SetLanguage language) = record c { want = wants.LineEnd nexts.Text; language = language }
-control_behind c (moves.SetMode mode) = record c { want = wants.LineEnd nexts.Kinds;
-    head = record c.head { mode = mode } }
+control_behind c (moves.SetMode mode) = record c {
+  want = wants.LineEnd nexts.Kinds;
+  head = record c.head { mode = mode };
+}
 control_behind c (moves.Declare kind) = record c { want = wants.NextKind; head = with_kind c.head kind }
 control_behind c moves.AssumeSites = record c { want = wants.Differ; head = record c.head { sites_differ = true } }
 control_behind c moves.AssumeChars = record c { want = wants.Differ; head = record c.head { chars_differ = true } }
@@ -192,8 +194,14 @@ abbrev pub first_control : Control
 first_control = record {
   want = wants.Otfn;
   language = languages.One;
-  head = record { mode = modes.Plain; ins = false; del = false; upd = false; sites_differ = false;
-      chars_differ = false };
+  head = record {
+    mode = modes.Plain;
+    ins = false;
+    del = false;
+    upd = false;
+    sites_differ = false;
+    chars_differ = false;
+  };
   line = 0;
   column = 0;
   begun = false;

@@ -46,7 +46,7 @@ parentheses_in (token ∷ tokens) = parentheses_in tokens
 abbrev pub PrintsHaveFewestParentheses : Type 0
 PrintsHaveFewestParentheses =
     (g : Formula) (p : Phrase Loose) → made to_formulas p ≡ g
-        → parentheses_in (guard_tokens Loose g) ≤ parentheses_in (written_as p)
+    → parentheses_in (guard_tokens Loose g) ≤ parentheses_in (written_as p)
 
 -- the state behind tokens that can all go on
 abbrev pub state_behind : {V : Tightness → Type 0} {K B : Type 0} → Maker V K B → State V K B → List Placed

@@ -252,7 +252,7 @@ text_then token tokens line column after lexes lines others =
     rw (f.is)
     (lexes line column f.sep after f.rest f.ends
     ∙ ap (λ ts. token ∷ ts) (ap (seen (spot line (further (length (token_bytes token)) column) true 0)) (sym f.is) ∙ others line
-        (further (length (token_bytes token)) column)))
+    (further (length (token_bytes token)) column)))
 
 -- tokens in whole lines are read back from their bytes
 pub lines_lex : (begins : Bool) (tokens : List Token) (line column : ℕ) → InLines begins tokens →

@@ -64,7 +64,7 @@ front_number byte rest more =
 abbrev pub front_less : List ℕ → Front
 front_less rest =
     if begins_with_equals rest then record { token = Comparison Le; more = 1 } else record
-        { token = Comparison Lt; more = 0 }
+    { token = Comparison Lt; more = 0 }
 
 -- the longest token at a byte that is no blank, no line's end and no number sign
 unfoldable pub front_of : ℕ → List ℕ → Front
@@ -100,7 +100,7 @@ place_after at byte rest =
     (if is_line_end byte then below at else
     (if is_blank byte then stepped at at.after 0 else
     (if byte == 35 then stepped at at.after (prefix_len (is_in runs.Comment) rest) else stepped at true
-        (front_of byte rest).more)))
+    (front_of byte rest).more)))
 
 -- the tokens that begin at a byte: at most one
 abbrev pub tokens_at : Cursor → ℕ → List ℕ → List Placed

@@ -20,7 +20,8 @@ use Rattle.ot_terms.specs.Starting.{enabled_form}
 abbrev pub same_documents : DocTree → DocTree → ℤ → GoalTree
 same_documents left right off =
     If (Le zero_place (index_and (pos 0)))
-    (If (Lt (index_and (pos 0)) (length_and off)) (Same (At left (index_and (pos 0))) (At right (index_and (pos 0)))) Holds)
+    (If (Lt (index_and (pos 0)) (length_and off)) (Same (At left (index_and (pos 0))) (At right (index_and (pos 0))))
+    Holds)
     Holds
 
 -- both ways have one length, and then the same cells

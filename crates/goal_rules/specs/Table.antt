@@ -1,5 +1,6 @@
 -- The rules by which a goal is rewritten at its front.
-use Rattle.std.specs.Prelude.{ℕ, suc, pos, negsuc, if◌then◌else◌, nat_eq, nat_lt, int_le, List, [], ◌∷◌, drop, Option, Some, None, slice_set}
+use Rattle.std.specs.Prelude.{ℕ, suc, pos, negsuc, if◌then◌else◌, nat_eq, nat_lt, int_le, List, [], ◌∷◌, drop, Option}
+use Rattle.std.specs.Prelude.{Some, None, slice_set}
 use Rattle.ot_model.specs.declared.op.Kind.{Kind}
 use Rattle.ot_model.specs.declared.op.Mode.{Mode}
 use Rattle.fn_rules.specs.declared.function.ObName.{ObName}
@@ -55,7 +56,12 @@ rewrite_choose f case a b plan = choose_by_kinds f case a b (sym_kind a) (sym_ki
 
 -- the progress with one more result
 abbrev pub with_result : Progress → SymOp → Progress
-with_result plan r = record { ob = plan.ob; ops = plan.ops; got = slice_set plan.got plan.count r; count = suc plan.count }
+with_result plan r = record {
+  ob = plan.ob;
+  ops = plan.ops;
+  got = slice_set plan.got plan.count r;
+  count = suc plan.count;
+}
 
 -- the next transformation, or the end of the obligation
 abbrev pub go_on : Function → Progress → Option (SymOp × SymOp) → GoalTree
@@ -63,7 +69,8 @@ go_on f plan (Some pair) = Choose 0 pair.0 pair.1 plan
 go_on f plan None = end_goal f.head.mode plan.ob plan.ops (results_of plan)
 
 abbrev pub rewrite_deliver : Function → SymOp → Progress → GoalTree
-rewrite_deliver f r plan = go_on f (with_result plan r) (next_operands plan.ob plan.ops (results_of (with_result plan r)))
+rewrite_deliver f r plan = go_on f (with_result plan r)
+    (next_operands plan.ob plan.ops (results_of (with_result plan r)))
 
 -- two characters are the same: one base cell's, or those of two names
 abbrev pub same_source : Source → Source → Why → GoalTree

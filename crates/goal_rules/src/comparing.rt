@@ -78,7 +78,8 @@ fn compare_read<'a>(
     left: CellT<'a>,
     right: CellT<'a>,
 ) -> Result<Option<Front<'a>>, NoMemory>
-    ensures { IfOk result (λ r. option_map front_tree r ≡ table.rewrite_right (cell_tree left.entry) (cell_tree right.entry) None) }
+    ensures { IfOk result (λ r. option_map front_tree r
+        ≡ table.rewrite_right (cell_tree left.entry) (cell_tree right.entry) None) }
 {
     let CellT::If { form, yes, no } = right else {
         return Ok(both_finished(bump, finished(left), finished(right))?);
@@ -99,7 +100,8 @@ fn compare_right<'a>(
 ) -> Result<Option<Front<'a>>, NoMemory>
     requires { IsReadable (cell_tree right) }
     ensures { IfOk result (λ r. option_map front_tree r
-        ≡ table.rewrite_right (cell_tree left.entry) (cell_tree right.entry) (cells.read_step (cell_tree right.entry))) }
+        ≡ table.rewrite_right (cell_tree left.entry) (cell_tree right.entry)
+        (cells.read_step (cell_tree right.entry))) }
 {
     match read_step(bump, right)? {
         Some(read) => Ok(Some(Front::Same { left, right: read })),
@@ -115,7 +117,8 @@ pub(crate) fn compare<'a>(
 ) -> Result<Option<Front<'a>>, NoMemory>
     requires left_readable { IsReadable (cell_tree left) }
     requires right_readable { IsReadable (cell_tree right) }
-    ensures { IfOk result (λ r. option_map front_tree r ≡ table.rewrite_same (cell_tree left.entry) (cell_tree right.entry)) }
+    ensures { IfOk result (λ r. option_map front_tree r
+        ≡ table.rewrite_same (cell_tree left.entry) (cell_tree right.entry)) }
 {
     match read_step(bump, left)? {
         Some(read) => Ok(Some(Front::Same { left: read, right })),

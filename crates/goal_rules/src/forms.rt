@@ -47,7 +47,8 @@ fn by_eq<'a>(
     yes: &'a Goal<'a>,
     no: &'a Goal<'a>,
 ) -> Result<Front<'a>, NoMemory>
-    ensures { IfOk result (λ r. Some (front_tree r) ≡ rewrite_if (trees.Eq x y) (goal_tree yes.now) (goal_tree no.now)) }
+    ensures { IfOk result (λ r. Some (front_tree r) ≡ rewrite_if (trees.Eq x y) (goal_tree yes.now)
+        (goal_tree no.now)) }
 {
     let back = Form::le(bump, y, x)?;
     Ok(Front::If {
@@ -97,7 +98,8 @@ fn by_or<'a>(
 
 #[inline]
 fn by_not<'a>(form: &'a Form<'a>, yes: &'a Goal<'a>, no: &'a Goal<'a>) -> Front<'a>
-    ensures { Some (front_tree result) ≡ rewrite_if (trees.Not (form_tree form.now)) (goal_tree yes.now) (goal_tree no.now) }
+    ensures { Some (front_tree result) ≡ rewrite_if (trees.Not (form_tree form.now)) (goal_tree yes.now)
+        (goal_tree no.now) }
 {
     Front::If {
         form: *form,
@@ -115,7 +117,8 @@ pub(crate) fn by_form<'a>(
     no: &'a Goal<'a>,
 ) -> Result<Option<Front<'a>>, NoMemory>
     requires { IsLowered (form_tree form) }
-    ensures { IfOk result (λ r. option_map front_tree r ≡ rewrite_if (form_tree form.entry) (goal_tree yes.now) (goal_tree no.now)) }
+    ensures { IfOk result (λ r. option_map front_tree r
+        ≡ rewrite_if (form_tree form.entry) (goal_tree yes.now) (goal_tree no.now)) }
 {
     match form {
         Form::True => Ok(Some(Front::of(yes))),

@@ -44,8 +44,8 @@ fn by_order<'a>(
     Ok(no)
 }
 
-// One of two goals, by a form. All questions of the form share the two goals.
-fn by_form<'a>(
+/// One of two goals, by a form. All questions of the form share the two goals.
+pub fn by_form<'a>(
     bump: &'a Bump,
     form: &Form<'a>,
     yes: &'a Goal<'a>,

@@ -6,4 +6,4 @@ mod kept;
 mod laying;
 
 pub use kept::Behind;
-pub use laying::laid_out;
+pub use laying::{by_form, laid_out};

@@ -45,7 +45,8 @@ case_reached xs i x a b own g below is here behind =
     ∙ ap (λ cs. unless_true cs a b (at_own (slice_get (map case_of xs) i) a b)) (front_cases xs i)
 
 -- a target of as many cases
-pub target_there : (xs : List Case) (cs : List GuardedCase) (target : Target) → map case_of xs ≡ cs → IsTargetOf (length cs) target → IsTargetOf (length xs) target
+pub target_there : (xs : List Case) (cs : List GuardedCase) (target : Target) → map case_of xs ≡ cs → IsTargetOf (length cs) target
+    → IsTargetOf (length xs) target
 target_there xs cs target e h =
     let same : length xs ≡ length cs = sym (length-map xs case_of) ∙ ap length e in
     subst (λ n. IsTargetOf n target) (sym same) h

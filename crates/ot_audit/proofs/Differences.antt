@@ -168,7 +168,8 @@ pub goes_to :
 goes_to v ask go None goes = goes go
 goes_to v ask go (Some r) (x, stands, goes) = (x, stands, goes go)
 
-module _ (at_most : EndsAtMost) (ends_guard : EndsGuard) (ends_allowed : EndsAllowed) (asks_guard : AsksGuard) (asks_allowed : AsksAllowed) (tests : TestsAllowed)
+module _ (at_most : EndsAtMost) (ends_guard : EndsGuard) (ends_allowed : EndsAllowed) (asks_guard : AsksGuard) (asks_allowed : AsksAllowed)
+    (tests : TestsAllowed)
     (results : EndsResult) (one : EndsOneForm) (keeps : KeepsForm)
     (f g : Function) (k l : Kind) (v : ℕ → ℤ) (a b : Op) (declared : is_declared_pair f.head k l ≡ true) (names : NamesTwo k l v a b) where
   abbrev ended : GoalTree → Option Why

@@ -1,6 +1,7 @@
 -- Where the plan of a goal about guards ends at one valuation, whose names stand for two operations: in a failing end
 -- exactly where the operations are meant and the target is reached there.
-use Rattle.std.proofs.Common.{◌≡◌, ℕ, ℤ, pos, ◌+ℤ◌, ◌≤ℤ◌, Bool, true, false, if◌then◌else◌, int_le, Option, Some, None, List, [], ◌∷◌, take, refl, sym, ◌∙◌, ap, subst, arith}
+use Rattle.std.proofs.Common.{◌≡◌, ℕ, ℤ, pos, ◌+ℤ◌, ◌≤ℤ◌, Bool, true, false, if◌then◌else◌, int_le, Option, Some, None, List, [], ◌∷◌, take, refl, sym, ◌∙◌, ap}
+use Rattle.std.proofs.Common.{subst, arith}
 use Rattle.std.specs.Prelude.{slice_get}
 use Rattle.std.proofs.lemmas.Int.{ints}
 use Rattle.ot_model.specs.declared.op.Kind.{Kind}
@@ -131,7 +132,8 @@ module _ (at_most : EndsAtMost) (f : Function) (v : ℕ → ℤ) (z : v zero_nam
       (first.0, second.0)
 
 -- at names that stand for two operations of the kinds
-module _ (at_most : EndsAtMost) (ends_guard : EndsGuard) (ends_allowed : EndsAllowed) (asks_guard : AsksGuard) (asks_allowed : AsksAllowed) (tests : TestsAllowed)
+module _ (at_most : EndsAtMost) (ends_guard : EndsGuard) (ends_allowed : EndsAllowed) (asks_guard : AsksGuard) (asks_allowed : AsksAllowed)
+    (tests : TestsAllowed)
     (f : Function) (k l : Kind) (v : ℕ → ℤ) (a b : Op) (declared : is_declared_pair f.head k l ≡ true) (names : NamesTwo k l v a b) where
   abbrev ended : GoalTree → Option Why
   ended g = end_of (ask_goal f g) v

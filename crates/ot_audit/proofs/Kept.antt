@@ -1,5 +1,6 @@
 -- The plans of goals about guards keep the limits of plans, and compare like with like.
-use Rattle.std.proofs.Common.{◌≡◌, ℕ, ◌+◌, ◌*◌, ◌<◌, ◌≤◌, ℤ, pos, Bool, true, ◌&&◌, nat_le, IsTrue, Option, Some, None, List, [], ◌∷◌, length, take, refl, sym, subst, arith, lit<, lit≤}
+use Rattle.std.proofs.Common.{◌≡◌, ℕ, ◌+◌, ◌*◌, ◌<◌, ◌≤◌, ℤ, pos, Bool, true, ◌&&◌, nat_le, IsTrue, Option, Some, None, List, [], ◌∷◌, length, take, refl, sym}
+use Rattle.std.proofs.Common.{subst, arith, lit<, lit≤}
 use Rattle.std.specs.Prelude.{slice_get}
 use Rattle.std.specs.List.{AllByRecursion, list_all, sum_by}
 use Rattle.std.proofs.lemmas.Bool.{and_parts}
@@ -38,7 +39,8 @@ use Rattle.ot_terms.specs.Standing.{ask_form, ask_goal}
 use Rattle.ot_terms.specs.Starting.{if_allowed}
 use Rattle.ot_audit.specs.declared.target.Target.{Target}
 use Rattle.ot_audit.specs.declared.target.Target.TheVariants.{Case, Open}
-use Rattle.ot_audit.specs.Goals.{found, if_there, if_meant, unless_true, at_own, at_target, target_goal, with_result, unless_same, unless_agreed, difference_goal}
+use Rattle.ot_audit.specs.Goals.{found, if_there, if_meant, unless_true, at_own, at_target, target_goal, with_result, unless_same, unless_agreed}
+use Rattle.ot_audit.specs.Goals.{difference_goal}
 use Rattle.ot_audit.proofs.Ends.{AsksGuard, AsksAllowed}
 use Rattle.ot_audit.proofs.Differences.{ask_goal-unless_one_place, left_asked, right_asked}
 use Rattle.ot_audit.proofs.Names.{IfThere, all_taken, all_got}
@@ -185,7 +187,8 @@ wider_99_500 off near = record { low = omega (arith, ints, near.low); high = ome
 pub near_zero : IsNear 500 (pos 0)
 near_zero = record { low = omega (arith, ints); high = omega (arith, ints) }
 
-module _ (named : StandsNamed) (comparison : KeepsComparison) (guard : KeepsGuard) (allowed : KeepsAllowed) (asks_guard : AsksGuard) (asks_allowed : AsksAllowed)
+module _ (named : StandsNamed) (comparison : KeepsComparison) (guard : KeepsGuard) (allowed : KeepsAllowed) (asks_guard : AsksGuard)
+    (asks_allowed : AsksAllowed)
     (f : Function) (k l : Kind) where
   abbrev first_op : SymOp
   first_op = sym_op k A

@@ -1,6 +1,7 @@
 -- One walk through the goals about guards: what holds of the places of two operations, also moved by a small offset,
 -- holds of each place of the goal. So the goals have places over few names, and ask of the operations alone.
-use Rattle.std.proofs.Common.{◌≡◌, ℕ, zero, suc, ◌<◌, ℤ, pos, negsuc, ◌-ℤ◌, int_le, Bool, true, false, ◌||◌, nat_eq, Option, Some, None, List, [], ◌∷◌, take, if◌then◌else◌, refl, sym, subst, arith, lit<, ◌⊎◌, inl, inr}
+use Rattle.std.proofs.Common.{◌≡◌, ℕ, zero, suc, ◌<◌, ℤ, pos, negsuc, ◌-ℤ◌, int_le, Bool, true, false, ◌||◌, nat_eq, Option, Some, None, List, [], ◌∷◌, take}
+use Rattle.std.proofs.Common.{if◌then◌else◌, refl, sym, subst, arith, lit<, ◌⊎◌, inl, inr}
 use Rattle.std.specs.Prelude.{slice_get}
 use Rattle.std.specs.List.{AllByRecursion}
 use Rattle.std.proofs.lemmas.Bool.{false≢true}
@@ -33,7 +34,8 @@ use Rattle.ot_questions.specs.declared.place.SymOp.TheVariants.{Ins, Del, Upd, N
 use Rattle.ot_questions.specs.declared.why.Why.{Why}
 use Rattle.ot_questions.specs.Names.{position_name, site_name, char_name}
 use Rattle.ot_questions.specs.Nears.{IsNear, HasNearAtoms, IsNearCase}
-use Rattle.ot_questions.specs.Places.{place, plus, zero_place, place_of_name, sym_op, sym_at, sym_kind, sym_site, sym_char, sym_placed, sym_result, sym_thing, offset_of}
+use Rattle.ot_questions.specs.Places.{place, plus, zero_place, place_of_name, sym_op, sym_at, sym_kind, sym_site, sym_char, sym_placed, sym_result, sym_thing}
+use Rattle.ot_questions.specs.Places.{offset_of}
 use Rattle.ot_questions.specs.Questions.{ask_le, ask_lt, ask_eq}
 use Rattle.ot_questions.specs.Sorts.{speaks_of}
 use Rattle.ot_terms.specs.Belonging.{HasParts, HasPlaces, IsPlace, IsLowerable}
@@ -119,8 +121,10 @@ module _ (Q : Place → Type 0) (at_zero : Serves Q zero_place) where
   module _ (a b : SymOp) (ha : OpServes Q a) (hb : OpServes Q b) where
     atom_places : (atom : Atom) (side : Side) → IsNear 99 atom.k
         → PlacesOf Q (compared atom.cmp (sym_thing atom.sort (of_side side a b)) (plus (sym_thing atom.sort (of_side (other_side side) a b)) atom.k))
-    atom_places atom First near = compared_places atom.cmp (sym_thing atom.sort a) (plus (sym_thing atom.sort b) atom.k) (ha atom.sort).0 ((hb atom.sort).1 atom.k near)
-    atom_places atom Second near = compared_places atom.cmp (sym_thing atom.sort b) (plus (sym_thing atom.sort a) atom.k) (hb atom.sort).0 ((ha atom.sort).1 atom.k near)
+    atom_places atom First near = compared_places atom.cmp (sym_thing atom.sort a) (plus (sym_thing atom.sort b) atom.k) (ha atom.sort).0
+        ((hb atom.sort).1 atom.k near)
+    atom_places atom Second near = compared_places atom.cmp (sym_thing atom.sort b) (plus (sym_thing atom.sort a) atom.k) (hb atom.sort).0
+        ((ha atom.sort).1 atom.k near)
 
     pub guard_places : (g : Formula) → HasNearAtoms g → PlacesOf Q (guard_form g a b)
     guard_places guards.Always near = tt
@@ -174,7 +178,8 @@ module _ (Q : Place → Type 0) (at_zero : Serves Q zero_place) where
     own_of (Some c) near = (guard_places c.guard near.0, tt, tt)
 
     pub target_of : (cs : List GuardedCase) (target : Target) → AllByRecursion IsNearCase cs → GoalOf Q (at_target cs target a b)
-    target_of cs (Case i) near = unless_true_of (take i cs) (at_own (slice_get cs i) a b) (all_taken IsNearCase cs i near) (own_of (slice_get cs i) (all_got IsNearCase cs i near))
+    target_of cs (Case i) near = unless_true_of (take i cs) (at_own (slice_get cs i) a b) (all_taken IsNearCase cs i near)
+        (own_of (slice_get cs i) (all_got IsNearCase cs i near))
     target_of cs Open near = unless_true_of cs found near tt
 
     -- goes on with results of which it holds

@@ -24,7 +24,8 @@ use Rattle.ot_audit.specs.declared.target.Target.{Target}
 use Rattle.ot_audit.specs.Goals.{if_meant, at_target, target_goal, unless_agreed, difference_goal}
 use Rattle.ot_audit.specs.Searchable.{IsSearchable}
 use Rattle.ot_audit.proofs.Ends.{EndsAtMost, positions_passed}
-use Rattle.ot_audit.proofs.Names.{GoalOf, IsSmallPlace, OfName, OpServes, agreed_of, asks_goal, meant_of, name_serves, op_serves, parts_small, small_first, small_position, small_second, small_zero, spoken, target_of}
+use Rattle.ot_audit.proofs.Names.{GoalOf, IsSmallPlace, OfName, OpServes, agreed_of, asks_goal, meant_of, name_serves, op_serves, parts_small, small_first}
+use Rattle.ot_audit.proofs.Names.{small_position, small_second, small_zero, spoken, target_of}
 
 abbrev pub FineKept : Type 0
 FineKept = (count m : ℕ) (p : Plan Why) → m ≤ MAX_QUESTIONS → IsKept count m p → IsFine count p

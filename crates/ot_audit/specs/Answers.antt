@@ -1,5 +1,5 @@
--- What is answered of a target of a block, and of two functions on a block: what the search finds, and what that says of
--- all operations.
+-- What is answered of a target of a block, and of two functions on a block: what the search finds, and what that says
+-- of all operations.
 use Rattle.std.specs.Prelude.{◌≡◌, ℕ}
 use Rattle.ot_model.specs.declared.op.Kind.{Kind}
 use Rattle.ot_model.specs.declared.op.Op.{Op}

@@ -27,7 +27,8 @@ found_of (Some ops) = founds.Pair ops.0 ops.1
 -- what is found of the cases of a block from a number on
 abbrev pub AreCases : Function → Kind → Kind → ℕ → ℕ → List (Option (Op × Op)) → Type 0
 AreCases f k l budget i [] = Unit {0}
-AreCases f k l budget i (x ∷ xs) = IsReachedAs f k l (targets.Case i) budget (found_of x) × AreCases f k l budget (i + 1) xs
+AreCases f k l budget i (x ∷ xs) = IsReachedAs f k l (targets.Case i) budget (found_of x)
+    × AreCases f k l budget (i + 1) xs
 
 -- what is found of a block: of each of its cases, and of its open end
 pub record IsBlockAudit (f : Function) (budget : ℕ) (block : Kind × Kind) (x : BlockAudit) : Type 0 where
@@ -70,9 +71,11 @@ GoesOn block agrees.Spent Behind same = same ≡ sames.Spent
 abbrev pub AreCompared : Function → Function → ℕ → List (Kind × Kind) → Same → Type 0
 AreCompared f g budget [] same = same ≡ sames.Everywhere
 AreCompared f g budget (block ∷ blocks) same =
-    (agree : Agree) × IsAgreedAs f g block.0 block.1 budget agree × GoesOn block agree (AreCompared f g budget blocks) same
+    (agree : Agree) × IsAgreedAs f g block.0 block.1 budget agree
+    × GoesOn block agree (AreCompared f g budget blocks) same
 
 -- what is answered of two functions: that their heads differ, or what they are on the blocks
 abbrev pub IsComparedAs : Function → Function → ℕ → Same → Type 0
 IsComparedAs f g budget same =
-    ((f.head ≢ g.head) × (same ≡ sames.Heads)) ⊎ ((f.head ≡ g.head) × AreCompared f g budget (declared_pairs f.head) same)
+    ((f.head ≢ g.head) × (same ≡ sames.Heads)) ⊎ ((f.head ≡ g.head)
+    × AreCompared f g budget (declared_pairs f.head) same)

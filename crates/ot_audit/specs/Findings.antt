@@ -57,7 +57,8 @@ IsNearSought sought.Spent = Unit {0}
 -- else there are none
 abbrev pub TellsList : Kind → Kind → ℕ → Questions Why → Found → Type 0
 TellsList k l budget q Never = (length q.asked ≤ budget) × (q.failing ≡ None)
-TellsList k l budget q (Pair a b) = (length q.asked ≤ budget) × MatchOption q.failing ⊥ (λ e. AreLeastOps k l e.answers a b)
+TellsList k l budget q (Pair a b) = (length q.asked ≤ budget)
+    × MatchOption q.failing ⊥ (λ e. AreLeastOps k l e.answers a b)
 TellsList k l budget q Spent = budget < length q.asked
 
 -- it is so of the question list of the goal's plan

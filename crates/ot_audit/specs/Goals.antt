@@ -77,7 +77,8 @@ unless_agreed cs ds a b = with_result cs a b (λ x. with_result ds a b (λ y. un
 -- where two functions of one head do not agree on the block of two kinds
 abbrev pub difference_goal : Function → Function → Kind → Kind → GoalTree
 difference_goal f g k l =
-    if_meant f.head (sym_op k A) (sym_op l B) (unless_agreed (cases_of f k l) (cases_of g k l) (sym_op k A) (sym_op l B))
+    if_meant f.head (sym_op k A) (sym_op l B) (unless_agreed (cases_of f k l) (cases_of g k l) (sym_op k A)
+    (sym_op l B))
 
 -- the target is one of so many cases, or the open end
 abbrev pub IsTargetOf : ℕ → Target → Type 0

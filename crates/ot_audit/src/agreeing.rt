@@ -42,9 +42,9 @@ fn differ_in<'a>(
 
 /// Whether two functions of one head agree on the block of two kinds, decided by at most `budget` questions.
 ///
-/// `Same` comes exactly where they agree at all operations that are meant, `Pair` exactly where they do not, and then with
-/// two at which they do not, both where there are no more questions; and `Spent` exactly where there are more. The two
-/// operations are the least ones of the first failing end. The error is want of memory.
+/// `Same` comes exactly where they agree at all operations that are meant, `Pair` exactly where they do not, and then
+/// with two at which they do not, both where there are no more questions; and `Spent` exactly where there are more. The
+/// two operations are the least ones of the first failing end. The error is want of memory.
 pub fn agree(
     alloc: Global,
     rules: &Rules,

@@ -123,7 +123,8 @@ fn audit_blocks(
     audits: &mut List<BlockAudit>,
 ) -> Result<(), Stop>
     requires declared { AllByRecursion (λ name. is_declared_of (function_of rules.now).head name ≡ true) names.now }
-    ensures ok { OnOk result ((xs : List AuditedBlock) × (audits.new ≡ audits.old ++ xs) × AreAudits (function_of rules.now) budget names.now xs) }
+    ensures ok { OnOk result ((xs : List AuditedBlock) × (audits.new ≡ audits.old ++ xs)
+        × AreAudits (function_of rules.now) budget names.now xs) }
     ensures spent { IsErrOf result stops.Spent → HasLong (function_of rules.now) budget names.now }
 {
     match names {

@@ -60,10 +60,11 @@ fn same_headed(alloc: Global, rules: &Rules, others: &Rules, budget: u64) -> Res
     Ok(same_blocks(alloc, rules, others, &names, budget)?)
 }
 
-/// Whether two functions are the same: of one head, and on each block of the same results at all operations that are meant.
+/// Whether two functions are the same: of one head, and on each block of the same results at all operations that are
+/// meant.
 ///
-/// Where the heads differ nothing is asked. The blocks are gone over in canonical order, each by at most `budget` questions,
-/// up to the first on which the functions do not agree, or which has more. The error is want of memory.
+/// Where the heads differ nothing is asked. The blocks are gone over in canonical order, each by at most `budget`
+/// questions, up to the first on which the functions do not agree, or which has more. The error is want of memory.
 pub fn same_all(alloc: Global, rules: &Rules, others: &Rules, budget: u64) -> Result<Same, NoMemory>
     ensures { IfOk result (IsComparedAs (function_of rules.now) (function_of others.now) budget) }
 {

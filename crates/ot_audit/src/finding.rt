@@ -59,8 +59,8 @@ fn least_instance(
 
 /// What the search of a goal comes to, by at most `budget` questions.
 ///
-/// `Nowhere` comes exactly where no end of the goal's plan fails, `At` exactly where one does, both where there are no more
-/// questions; and `Spent` exactly where there are more. The error is want of memory.
+/// `Nowhere` comes exactly where no end of the goal's plan fails, `At` exactly where one does, both where there are no
+/// more questions; and `Spent` exactly where there are more. The error is want of memory.
 pub fn seek<'a>(
     alloc: Global,
     bump: &'a Bump,

@@ -191,8 +191,8 @@ fn unless_same<'a>(
     }
 }
 
-/// The same of two results of one operation that are there: it holds where both are nop, or both stand at one place. The
-/// error is want of memory.
+/// The same of two results of one operation that are there: it holds where both are nop, or both stand at one place.
+/// The error is want of memory.
 pub fn unless_one_place<'a>(
     bump: &'a Bump,
     left: SymOp,
@@ -227,7 +227,8 @@ fn with_right<'a>(
     requires a_near { IsNearOp 200 a }
     requires b_near { IsNearOp 200 b }
     requires near { AllByRecursion IsNearCase (map case_of cases.now) }
-    ensures { IfOk result (λ r. goal_tree r.now ≡ goals.with_result (map case_of cases.now) a b (λ y. goals.unless_same left y)) }
+    ensures { IfOk result (λ r. goal_tree r.now ≡ goals.with_result (map case_of cases.now) a b
+        (λ y. goals.unless_same left y)) }
 {
     match cases {
         [] => Ok(unless_same(bump, left, None)?),
@@ -252,7 +253,8 @@ fn unless_agreed<'a>(
     requires b_near { IsNearOp 200 b }
     requires near { AllByRecursion IsNearCase (map case_of cases.now) }
     requires others_near { AllByRecursion IsNearCase (map case_of others.now) }
-    ensures { IfOk result (λ r. goal_tree r.now ≡ goals.unless_agreed (map case_of cases.now) (map case_of others.now) a b) }
+    ensures { IfOk result (λ r. goal_tree r.now ≡ goals.unless_agreed (map case_of cases.now) (map case_of others.now) a
+        b) }
 {
     match cases {
         [] => Ok(with_right(bump, others, a, b, None)?),
@@ -294,7 +296,8 @@ pub fn difference_goal<'a>(
 ) -> Result<&'a Goal<'a>, NoMemory>
     requires declared { IsTrue (is_declared_pair (function_of rules.now).head first second) }
     requires heads { (function_of others.now).head ≡ (function_of rules.now).head }
-    ensures { IfOk result (λ r. goal_tree r.now ≡ goals.difference_goal (function_of rules.now) (function_of others.now) first second) }
+    ensures { IfOk result (λ r. goal_tree r.now ≡ goals.difference_goal (function_of rules.now) (function_of others.now)
+        first second) }
 {
     let a = SymOp::named(first, Who::A);
     let b = SymOp::named(second, Who::B);

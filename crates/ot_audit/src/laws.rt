@@ -70,10 +70,11 @@ pub fn goals_fail_where_it_is_sought()
     transform_keeps_all_but_the_position();
 }
 
-/// The goals of functions within the limits keep those of plans, ask like with like, and no position is negative that answers to
-/// a failing end speak of.
+/// The goals of functions within the limits keep those of plans, ask like with like, and no position is negative that
+/// answers to a failing end speak of.
 pub fn goals_are_searchable()
-    ensures target { (f : Function) (k l : Kind) (target : Target) → IsTrue (is_valid f) → IsTrue (is_declared_pair f.head k l)
+    ensures target { (f : Function) (k l : Kind) (target : Target) → IsTrue (is_valid f)
+        → IsTrue (is_declared_pair f.head k l)
         → IsSearchable f k l (target_goal f k l target) }
     ensures difference { (f g : Function) (k l : Kind) → IsTrue (is_valid f) → IsTrue (is_valid g)
         → IsTrue (is_declared_pair f.head k l) → IsSearchable f k l (difference_goal f g k l) }
@@ -84,10 +85,11 @@ pub fn goals_are_searchable()
     answers_lead_to_ends::<Why>();
 }
 
-/// What a search finds tells of all operations. Where it finds none, a target is reached at no operations that are meant,
-/// and two functions agree at all of them; and where it finds two, these are such operations.
+/// What a search finds tells of all operations. Where it finds none, a target is reached at no operations that are
+/// meant, and two functions agree at all of them; and where it finds two, these are such operations.
 pub fn findings_tell_of_all_operations()
-    ensures target { (f : Function) (k l : Kind) (target : Target) (budget : ℕ) (found : Found) → IsTrue (is_declared_pair f.head k l)
+    ensures target { (f : Function) (k l : Kind) (target : Target) (budget : ℕ) (found : Found)
+        → IsTrue (is_declared_pair f.head k l)
         → IsFoundIn f k l (target_goal f k l target) budget found → TellsTarget f k l target found }
     ensures same { (f g : Function) (k l : Kind) (budget : ℕ) → IsTrue (is_declared_pair f.head k l)
         → IsFoundIn f k l (difference_goal f g k l) budget Never → (a b : Op) → AreMeant f k l a b → Agree f g a b }
@@ -100,7 +102,8 @@ pub fn findings_tell_of_all_operations()
     any_operations_have_names();
 }
 
-/// What is answered is one: of a goal, of a target of a block, of two functions on a block, of a whole function, and of two.
+/// What is answered is one: of a goal, of a target of a block, of two functions on a block, of a whole function, and of
+/// two.
 pub fn findings_are_one()
     ensures sought { (f : Function) (k l : Kind) (g : GoalTree) (budget : ℕ) (one other : Sought)
         → IsSoughtIn f k l g budget one → IsSoughtIn f k l g budget other → one ≡ other }
@@ -108,8 +111,10 @@ pub fn findings_are_one()
         → IsReachedAs f k l target budget one → IsReachedAs f k l target budget other → one ≡ other }
     ensures agreed { (f g : Function) (k l : Kind) (budget : ℕ) (one other : AgreeAnswer)
         → IsAgreedAs f g k l budget one → IsAgreedAs f g k l budget other → one ≡ other }
-    ensures audited { (f : Function) (budget : ℕ) (one other : Audit) → IsAuditedAs f budget one → IsAuditedAs f budget other → one ≡ other }
-    ensures compared { (f g : Function) (budget : ℕ) (one other : Same) → IsComparedAs f g budget one → IsComparedAs f g budget other
+    ensures audited { (f : Function) (budget : ℕ) (one other : Audit) → IsAuditedAs f budget one
+        → IsAuditedAs f budget other → one ≡ other }
+    ensures compared { (f g : Function) (budget : ℕ) (one other : Same) → IsComparedAs f g budget one
+        → IsComparedAs f g budget other
         → one ≡ other }
 {
     plans_have_one_question_list::<Why>();

@@ -42,9 +42,9 @@ fn reach_in<'a>(
 
 /// Whether the target of the block of two kinds is ever reached, decided by at most `budget` questions.
 ///
-/// `Never` comes exactly where it is reached at no operations that are meant, `Pair` exactly where it is reached at some,
-/// and then with two at which it is, both where there are no more questions; and `Spent` exactly where there are more.
-/// The two operations are the least ones of the first failing end. The error is want of memory.
+/// `Never` comes exactly where it is reached at no operations that are meant, `Pair` exactly where it is reached at
+/// some, and then with two at which it is, both where there are no more questions; and `Spent` exactly where there are
+/// more. The two operations are the least ones of the first failing end. The error is want of memory.
 pub fn reach(
     alloc: Global,
     rules: &Rules,

@@ -246,7 +246,7 @@ module _ (f : Function) (both : CarriesForms f) (no_chars : f.head.chars_differ 
             ap₂ (transformed f)
             (below.same_forms o (without x l) (without x m) (omega (arith, short, at_x.shorter)) (at_x.next, at_x.closed) (at_m.next, at_m.closed) one_set)
             (below.same_forms x (without x l) (without x m) (omega (arith, short, at_x.shorter)) (at_x.next_member, at_x.closed) (at_m.next_member, at_m.closed)
-                one_set)
+            one_set)
             ∙ ap (λ z. transformed f (form f past o (without z m)) (form f past z (without z m))) one)
         | inr differ ↦ (let at_x : IsOpening past o l x = IsOpening-newest_open past order o l x ready_l found_x in
             let at_y : IsOpening past o m y = IsOpening-newest_open past order o m y ready_m found_y in

@@ -26,7 +26,7 @@ IsSound-new f d session is_new = record {
   closed = λ s site. subst (λ (l : List ℕ). IsClosed session.past l) (sym (is_new.seen s site)) tt;
   documents = λ s site.
       ap (state f session.past session.first) (is_new.seen s site) ∙ state-nil f session.past session.first ∙ ap Some
-          (is_new.first ∙ sym (is_new.documents s site));
+      (is_new.first ∙ sym (is_new.documents s site));
   sites = λ o made. absurd (omega (arith, made, is_new.nothing));
   own = λ o made. absurd (omega (arith, made, is_new.nothing));
 }

@@ -1,7 +1,8 @@
 -- What the search of obligations comes to, by the search of the first and of those behind it, over any family of plans.
 use Rattle.std.specs.Prelude.{IsTrue}
 use Rattle.std.specs.declared.alloc.Global.{Global}
-use Rattle.std.proofs.Common.{◌≡◌, ℕ, ◌+◌, ◌-◌, ◌*◌, ◌≤◌, List, [], ◌∷◌, ◌++◌, length, Option, Some, None, MatchOption, Vec, arith, refl, sym, ap, subst, ◌∙◌, append_assoc}
+use Rattle.std.proofs.Common.{◌≡◌, ℕ, ◌+◌, ◌-◌, ◌*◌, ◌≤◌, List, [], ◌∷◌, ◌++◌, length, Option, Some, None, MatchOption, Vec, arith, refl, sym, ap, subst, ◌∙◌}
+use Rattle.std.proofs.Common.{append_assoc}
 use Rattle.std.proofs.lemmas.List.{append-nil}
 use Rattle.std.proofs.Math.ListN.{length-append}
 use Rattle.diff_graph.specs.Literals.{IsPossible}

@@ -23,8 +23,8 @@ pub record AreProved (plan : ObName → Plan Why) (obs : List ObName) (budget : 
   pub written : after ≡ before ++ sections_text obs trees
   pub few_bytes : length (sections_text obs trees) ≤ 74 * count_in lists + 89 * length obs
 
--- what the search of obligations comes to, by these question lists of theirs: all hold, or the first that fails, or there
--- are more questions than the budget allows
+-- what the search of obligations comes to, by these question lists of theirs: all hold, or the first that fails, or
+-- there are more questions than the budget allows
 abbrev pub Settles :
     Head → (ObName → Plan Why) → List ObName → ℕ → List (ObQuestions Why) → List ℕ → List ℕ → Search → Type 0
 Settles head plan obs budget lists before after AllHold = AreProved plan obs budget lists before after

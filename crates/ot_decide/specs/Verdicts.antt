@@ -1,5 +1,6 @@
 -- What a function comes to at a level: the questions of its obligations in order, and what they decide.
-use Rattle.std.specs.Prelude.{◌≡◌, ℕ, ◌+◌, ◌<◌, ◌≤◌, IsTrue, List, [], ◌∷◌, length, Option, Some, None, MatchOption, option_map}
+use Rattle.std.specs.Prelude.{◌≡◌, ℕ, ◌+◌, ◌<◌, ◌≤◌, IsTrue, List, [], ◌∷◌, length, Option, Some, None, MatchOption}
+use Rattle.std.specs.Prelude.{option_map}
 use Rattle.std.specs.Option.{option_or}
 use Rattle.diff_graph.specs.Literals.{IsPossible}
 use Rattle.fn_rules.specs.declared.function.Head.{Head}
@@ -46,7 +47,8 @@ pub record FailingOb (W : Type 0) : Type 0 where
 -- the first failing end
 abbrev pub failing_in : {W : Type 0} → List (ObQuestions W) → Option (FailingOb W)
 failing_in [] = None
-failing_in (l ∷ lists) = option_or (option_map (λ e. record { ob = l.ob; end = e }) l.questions.failing) (failing_in lists)
+failing_in (l ∷ lists) = option_or (option_map (λ e. record { ob = l.ob; end = e }) l.questions.failing)
+    (failing_in lists)
 
 -- the answers in front of the questions of each tree, in preorder, are the question list of its obligation
 abbrev pub AskTheQuestions : {W : Type 0} → (ObName → Plan W) → List AnswerTree → List (ObQuestions W) → Type 0
@@ -63,8 +65,8 @@ pub record IsProof (f : Function) (level : Level) (lists : List (ObQuestions Why
   pub ask : AskTheQuestions (plan_of f) trees lists
   pub text : bytes ≡ certificate_text (obligations_of f.head level) level trees
 
--- the obligation, one of the head's, is the first that fails: the answers lead through its plan to its first failing end,
--- and some integers meet them
+-- the obligation, one of the head's, is the first that fails: the answers lead through its plan to its first failing
+-- end, and some integers meet them
 pub record IsRefutation (head : Head) (plan : ObName → Plan Why) (lists : List (ObQuestions Why)) (ob : ObName)
     (answers : List Answer) (why : Why) : Type 0 where
   pub first : failing_in lists ≡ Some (record { ob = ob; end = record { answers = answered_by answers; why = why } })

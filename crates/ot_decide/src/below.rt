@@ -10,8 +10,8 @@ ghost use Rattle.ot_decide.specs.Below.{IsBound};
 
 use ot_questions::plans_keep_limits;
 
-// The plans of obligations keep the limits of plans on the documents of fewer cells than a bound too. This function works
-// nothing out: its contract is the law.
+// The plans of obligations keep the limits of plans on the documents of fewer cells than a bound too. This function
+// works nothing out: its contract is the law.
 pub(crate) fn shorter_plans_keep_limits()
     ensures { (f : Function) (below : Option ℕ) (ob : ObName) → IsTrue (is_valid f) → IsBound below
         → IsFine (name_count ob) (plan_below f below ob) }

@@ -12,8 +12,8 @@ ghost use Rattle.ot_decide.specs.Verdicts.{AreAsked, ObQuestions, count_in};
 use fn_rules::levels_have_few_obligations;
 use ot_questions::atoms_bound_questions;
 
-/// A level has at most 24 obligations, and each of them has at most `2 ^ (12 g + 40)` questions, where `g` is the number
-/// of the function's atoms. So a budget of 24 times as many is always enough.
+/// A level has at most 24 obligations, and each of them has at most `2 ^ (12 g + 40)` questions, where `g` is the
+/// number of the function's atoms. So a budget of 24 times as many is always enough.
 pub fn atoms_bound_the_budget()
     ensures { (f : Function) (level : Level) (lists : List (ObQuestions Why)) → IsTrue (is_valid f)
         → AreAsked (plan_of f) (obligations_of f.head level) lists

@@ -1,7 +1,7 @@
 //! The search of obligations: a certificate of a function, or the first of its obligations that fails.
 //!
-//! Obligations are searched in order with one budget of questions for all of them together, on documents of any length or
-//! on those of fewer cells than a bound. What is written of those that hold is judged anew by whoever is handed it.
+//! Obligations are searched in order with one budget of questions for all of them together, on documents of any length
+//! or on those of fewer cells than a bound. What is written of those that hold is judged anew by whoever is handed it.
 #![tactic(auto)]
 
 mod below;

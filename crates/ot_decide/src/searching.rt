@@ -97,8 +97,9 @@ fn search_ob(
     }
 }
 
-/// Searches obligations in order by at most `budget` questions of all of them together, and appends the section of each that
-/// holds, up to the first that does not. With `below` they are searched on the documents of fewer cells than that alone.
+/// Searches obligations in order by at most `budget` questions of all of them together, and appends the section of each
+/// that holds, up to the first that does not. With `below` they are searched on the documents of fewer cells than that
+/// alone.
 ///
 /// `Spent` comes exactly where there are more questions, `Fails` exactly where there are not and one of the obligations
 /// fails, and else `AllHold`, with sections that have exactly these questions. The error is want of memory.
@@ -112,7 +113,8 @@ pub fn search_all(
 ) -> Result<Search, NoMemory>
     requires listed { list_all (is_obligation (function_of rules.now).head) names.now ≡ true }
     requires bounded { IsBound below }
-    ensures settled { IfOk result (AreSettled (function_of rules.now).head (plan_below (function_of rules.now) below) names.now budget
+    ensures settled { IfOk result (AreSettled (function_of rules.now).head (plan_below (function_of rules.now) below)
+        names.now budget
         bytes.old.items bytes.new.items) }
 {
     obligations_have_one_question_list();

@@ -24,8 +24,8 @@ use ot_prove::{plans_have_one_question_list, question_lists_tell_where_plans_fai
 use ot_questions::{Why, pair_plans_mean_tp1};
 
 /// Any obligations of a function have exactly one list of their question lists, and so has each level. So each verdict
-/// comes exactly where its condition holds, since the conditions exclude one another. And so it is on the documents of fewer
-/// cells than a bound.
+/// comes exactly where its condition holds, since the conditions exclude one another. And so it is on the documents of
+/// fewer cells than a bound.
 pub fn obligations_have_one_question_list()
     ensures some { (f : Function) (obs : List ObName) → IsTrue (is_valid f)
         → (lists : List (ObQuestions Why)) × AreAsked (plan_of f) obs lists }
@@ -46,15 +46,16 @@ pub fn proofs_are_certificates()
         → IsDecidedAs f level budget (Yes bytes) → IsCertificate bytes.items f level }
 {}
 
-/// The trees of a `Yes` by at most 1,000,000 questions have at most 1,000,024 leaves together, each of at most 73 bytes:
-/// one leaf more than questions in each tree, and at most 24 trees.
+/// The trees of a `Yes` by at most 1,000,000 questions have at most 1,000,024 leaves together, each of at most 73
+/// bytes: one leaf more than questions in each tree, and at most 24 trees.
 pub fn certificates_have_few_leaves()
-    ensures { (f : Function) (level : Level) (budget : ℕ) (bytes : Vec ℕ Global) (decided : IsDecidedAs f level budget (Yes bytes))
+    ensures { (f : Function) (level : Level) (budget : ℕ) (bytes : Vec ℕ Global)
+        (decided : IsDecidedAs f level budget (Yes bytes))
         → budget ≤ 1000000 → HaveFewLeaves 1000024 73 decided.2.2.trees }
 {}
 
-/// A function whose first failing end at level tp2 is one of a triple has the first property: the pairs are asked before
-/// the triples, so the plans of all of them hold.
+/// A function whose first failing end at level tp2 is one of a triple has the first property: the pairs are asked
+/// before the triples, so the plans of all of them hold.
 pub fn failing_triples_show_tp1()
     ensures { (f : Function) (lists : List (ObQuestions Why)) (k l m : Kind) (end : FailingEnd Why)
         → AreAsked (plan_of f) (obligations_of f.head Tp2) lists

@@ -19,7 +19,7 @@ further_cases (suc k) = when (p1_to_p2 Lt (negsuc k)) (p1_plus (pos 0)) ∷ furt
 abbrev pub drill_blocks : ℕ → List PairCases
 drill_blocks n =
     block Ins Ins (further_cases n ++ smaller_stays) ∷ block Ins Del stays ∷ block Del Ins moved_up
-        ∷ block Del Del stays ∷ []
+    ∷ block Del Del stays ∷ []
 
 -- `ttf` with so many cases more, each of which the case behind them implies
 abbrev pub drill_function : ℕ → Function

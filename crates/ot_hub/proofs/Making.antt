@@ -53,7 +53,7 @@ module _ (f : Function) (keeps : KeepsForms f) (converging : ConvergesOnForms f)
       downs = downs;
       kept_is = from_place-same client.received k.list
           (downs-places f c client.received (edited mode o client).pending (drop client.received server.log) (s.forms ++ item client.received k.op ∷ []) k.list
-              downs);
+          downs);
       received = s.received;
       made = all-push (λ message. message.place ≤ client.received) client.messages (item client.received o) s.made (omega arith);
       doc = ap (document_after mode o) s.doc ∙ sym (document_after_all-push mode client.pending (item client.received o) base);

@@ -107,7 +107,7 @@ module _ (f : Function) (keeps : KeepsForms f) (converging : ConvergesOnForms f)
       beside : CarriesAcross f before entry.op client.pending
       beside = CarriesAcross-tp1 f keeps converging before entry.op client.pending
           (integrable_next f first server.log r entry next in_step.chain) s.pending
-              (allowed_with_own f keeps any_chars is_form c entry.op client.pending is_others s.own)
+          (allowed_with_own f keeps any_chars is_form c entry.op client.pending is_others s.own)
 
       one : beside.carried ≡ theirs.carried
       one = let both : Some beside.carried ≡ Some theirs.carried = sym beside.is ∙ theirs.is in cc

@@ -93,7 +93,7 @@ some_first (first ∷ others) message is = omega arith
 -- a part that refused a step leaves the whole closed, and as it was
 pub HasMoved-refused : {X : Type 0} (hub new_hub : HubData) (c : ℕ) → IsClient (length hub.clients) c → (old new : X) (step : Step X) (whole : X → HubData)
     (r : Move) → HasStepped {X = X} {R = Unit {0}} old new step (Err r) → (new ≡ old → new_hub ≡ closed hub)
-        → HasMoved hub new_hub c (step_map whole step) (Err r)
+    → HasMoved hub new_hub c (step_map whole step) (Err r)
 HasMoved-refused hub new_hub c there old new step whole moves.NoSite stepped same = absurd stepped
 HasMoved-refused hub new_hub c there old new step whole moves.Stuck stepped same = (there, ap (step_map whole) stepped.0, same stepped.1)
 HasMoved-refused hub new_hub c there old new step whole moves.NoMemory stepped same = (there, IsTo-map whole step stepped.0, same stepped.1)

@@ -13,7 +13,7 @@ use Rattle.ot_hub.specs.declared.placed.Placed.{Placed}
 abbrev pub crossed : Function → Op → Op → Option Crossed
 crossed f own other =
     option_and_then (λ p. option_map (λ q. record { own = p; other = q }) (transform_of f other own))
-        (transform_of f own other)
+    (transform_of f own other)
 
 -- an operation that was carried over a list, and the list that was carried over it
 pub record Carried : Type 0 where
@@ -30,7 +30,7 @@ abbrev pub carry : Function → Op → List Placed → Option Carried
 carry f o [] = Some (record { op = o; list = [] })
 carry f o (b ∷ bs) =
     option_and_then (λ both. option_map (behind (record b { op = both.other } ∷ [])) (carry f both.own bs))
-        (crossed f o b.op)
+    (crossed f o b.op)
 
 -- those of a list from a place of the log on
 abbrev pub from_place : ℕ → List Placed → List Placed

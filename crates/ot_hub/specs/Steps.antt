@@ -78,7 +78,7 @@ client_step f c entry client =
     if nat_eq entry.client c
     then To (confirmed client)
     else goes_on (carry f entry.op client.pending) (length client.doc)
-        (λ carried. client_after f.head.mode carried client)
+    (λ carried. client_after f.head.mode carried client)
 
 -- the step leads on
 abbrev pub IsTo : {X : Type 0} → Step X → Type 0

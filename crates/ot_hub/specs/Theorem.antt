@@ -14,6 +14,6 @@ pub record FollowsLog (hub : HubData) : Type 0 where
   pub clients : (c : ℕ) → IsClient (length hub.clients) c → (client_of hub c).doc
       ≡ document_after_all hub.function.head.mode (client_of hub c).pending
       (document_after_all hub.function.head.mode (operations (take (client_of hub c).received hub.server.log))
-          hub.first)
+      hub.first)
   pub one_document : (c : ℕ) → IsClient (length hub.clients) c → (client_of hub c).received ≡ length hub.server.log
       → (client_of hub c).pending ≡ [] → (client_of hub c).doc ≡ hub.server.doc

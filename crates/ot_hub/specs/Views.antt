@@ -65,8 +65,10 @@ all_edits hub = sum_by (λ client. client.edits) hub.clients
 
 -- the hub after a client made an operation
 abbrev pub after_edit : HubData → ℕ → Op → HubData
-after_edit hub c o = record hub { clients = slice_set hub.clients (c - 1)
-    (edited hub.function.head.mode o (client_of hub c)) }
+after_edit hub c o = record hub {
+  clients = slice_set hub.clients (c - 1)
+      (edited hub.function.head.mode o (client_of hub c));
+}
 
 -- the tests that an operation passes that a client makes, in their order
 pub record PassesSite (hub : HubData) (c : ℕ) (o : Op) : Type 0 where
@@ -97,8 +99,11 @@ HasEdited old new c o (Err edits.NoMemory) = PassesAll old c o × (all_edits old
 abbrev pub up_with : HubData → ℕ → List Placed → Step HubData
 up_with hub c [] = Nothing
 up_with hub c (message ∷ others) =
-    step_map (λ server. record hub { server = server; clients = slice_set hub.clients (c - 1)
-        (sent (client_of hub c)) })
+    step_map (λ server. record hub {
+      server = server;
+      clients = slice_set hub.clients (c - 1)
+          (sent (client_of hub c));
+    })
     (server_step hub.function c message hub.server)
 
 abbrev pub up_step : HubData → ℕ → Step HubData
@@ -109,7 +114,7 @@ abbrev pub down_with : HubData → ℕ → Option Entry → Step HubData
 down_with hub c None = Nothing
 down_with hub c (Some entry) =
     step_map (λ client. record hub { clients = slice_set hub.clients (c - 1) client })
-        (client_step hub.function c entry (client_of hub c))
+    (client_step hub.function c entry (client_of hub c))
 
 abbrev pub down_step : HubData → ℕ → Step HubData
 down_step hub c = down_with hub c (slice_get hub.server.log (client_of hub c).received)

@@ -44,7 +44,7 @@ HasNoHeaderBy bytes judge.NoMemory = ⊥
 abbrev pub IsNoHeaderBehind : {F : Type 0} → Ghosts F → F → F → JudgeError → Type 0
 IsNoHeaderBehind feeds old new e =
     IsRefused e → (all : Whole) → Has feeds new all → (bytes : List ℕ) × Yields feeds old all bytes
-        × HasNoHeaderBy bytes e
+    × HasNoHeaderBy bytes e
 
 -- behind the first line
 abbrev pub behind_header : Function → Level → ℕ → Point Why

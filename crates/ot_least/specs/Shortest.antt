@@ -95,15 +95,15 @@ IsShort f budget short =
 -- bytes certify; and the answers lead through the plan of the obligation, without the question whether the document is
 -- short, to a failing end whose document has so many cells
 pub record IsLeast (f : Function) (ob : ObName) (answers : List Answer) (why : Why) (cells : ℕ) (cert : List ℕ) : Type 0
-    where
-  pub broken : IsBroken f (level_of ob)
-  pub breaks : ¬ HasAt f (level_of ob) cells
-  pub holds_below : (n : ℕ) → n < cells → HasAt f (level_of ob) n
-  pub low : IsLow cert f (level_of ob) cells
-  pub listed : IsTrue (is_obligation f.head ob)
-  pub way : AreAnswersTo (plan_of f ob) answers (Fails why)
-  pub possible : IsPossible (answered_by answers)
-  pub length : HasCells ob (answered_by answers) cells
+  where
+    pub broken : IsBroken f (level_of ob)
+    pub breaks : ¬ HasAt f (level_of ob) cells
+    pub holds_below : (n : ℕ) → n < cells → HasAt f (level_of ob) n
+    pub low : IsLow cert f (level_of ob) cells
+    pub listed : IsTrue (is_obligation f.head ob)
+    pub way : AreAnswersTo (plan_of f ob) answers (Fails why)
+    pub possible : IsPossible (answered_by answers)
+    pub length : HasCells ob (answered_by answers) cells
 
 -- what an answer says of the function
 abbrev pub IsTrueOf : Function → Short → Type 0

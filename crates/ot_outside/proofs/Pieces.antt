@@ -213,7 +213,7 @@ pub slice_of_hand :
     → take count (take room (drop at (take filled piece))) ≡ take count (drop at piece)
 slice_of_hand room count at filled piece ordered within few =
     let read : length (drop at (take filled piece)) ≡ filled - at = length-drop at (take filled piece) ∙ ap (λ n. n - at) (length-take-le filled piece within)
-        in
+    in
     let taken = length-take room (drop at (take filled piece)) in
     take_first count room (drop at (take filled piece)) (omega (arith, few, taken))
     ∙ ap (take count) (sym (hand_is_part at filled piece ordered))

@@ -11,8 +11,12 @@ pub record Reads : Type 0 where
 
 -- a name was opened, and these bytes were given of it
 abbrev pub after_reading : List ℕ → List ℕ → Reads → Reads
-after_reading name bytes reads = record { name = name; bytes = bytes; before = (reads.name, reads.bytes)
-    ∷ reads.before }
+after_reading name bytes reads = record {
+  name = name;
+  bytes = bytes;
+  before = (reads.name, reads.bytes)
+      ∷ reads.before;
+}
 
 -- these bytes were given behind the others
 abbrev pub gone_on : List ℕ → Reads → Reads

@@ -14,7 +14,8 @@ use Rattle.ot_questions.specs.declared.place.SymOp.TheVariants as ops
 use Rattle.ot_questions.specs.Names.{name_count}
 use Rattle.ot_questions.specs.Places.{sym_kind}
 use Rattle.ot_terms.specs.declared.goal.Progress.{Progress}
-use Rattle.ot_terms.specs.Belonging.{AreMade, AreResults, HasNames, HasParts, HasPlaces, IsCellOf, IsChoiceOf, IsDocOf, IsMade, IsMoved, IsNextResult, IsProgressOf, next_operands, reach_of}
+use Rattle.ot_terms.specs.Belonging.{AreMade, AreResults, HasNames, HasParts, HasPlaces, IsCellOf, IsChoiceOf, IsDocOf}
+use Rattle.ot_terms.specs.Belonging.{IsMade, IsMoved, IsNextResult, IsProgressOf, next_operands, reach_of}
 use Rattle.ot_terms.specs.Cells as cells
 use Rattle.ot_terms.specs.Cells.{CellTree}
 use Rattle.ot_terms.specs.Documents as documents

@@ -59,7 +59,8 @@ fn literal(x: Place, y: Place) -> Lit
 fn laid_obligation<'a>(bump: &'a Bump, rules: &Rules, ob: ObName) -> Result<&'a Goal<'a>, NoMemory>
     requires { IsTrue (is_obligation (function_of rules.now).head ob) }
     ensures node { IfOk result (λ g. IsNode (function_of rules.now) ob (goal_tree g.now)) }
-    ensures plan { IfOk result (λ g. ask_goal (function_of rules.now) (goal_tree g.now) ≡ plan_of (function_of rules.now) ob) }
+    ensures plan { IfOk result (λ g. ask_goal (function_of rules.now) (goal_tree g.now)
+        ≡ plan_of (function_of rules.now) ob) }
 {
     plans_keep_limits();
     first_goals_stand_for_obligations();
@@ -71,7 +72,8 @@ fn laid_obligation<'a>(bump: &'a Bump, rules: &Rules, ob: ObName) -> Result<&'a 
 
 /// What an obligation of a function asks, or a goal that is given. Its nodes are goals in an arena that stands outside.
 /// `start` lays the questions of the obligation out there, and what is asked after equal results is there once: a turn
-/// looks at its goal. What there was no room for is rewritten when its turn is asked for, and so is a goal that is given.
+/// looks at its goal. What there was no room for is rewritten when its turn is asked for, and so is a goal that is
+/// given.
 #[derive(Drop)]
 pub struct PathAsker<'a> {
     bump: &'a Bump,
@@ -88,7 +90,8 @@ impl<'a> PathAsker<'a> {
         requires { IsTrue (is_obligation (function_of rules.now).head ob) }
         ensures rules { result.rules.now ≡ rules.now }
         ensures obligation { result.ob ≡ ob }
-        ensures root { own_plan (function_of result.rules.now) result.ob result.goal ≡ plan_of (function_of rules.now) ob }
+        ensures root { own_plan (function_of result.rules.now) result.ob result.goal
+            ≡ plan_of (function_of rules.now) ob }
     {
         PathAsker {
             bump,
@@ -98,13 +101,14 @@ impl<'a> PathAsker<'a> {
         }
     }
 
-    /// The asker of a goal that is a node: of the function and the obligation, within the limits of plans. The goal is not
-    /// laid out: of a large condition few parts are asked.
+    /// The asker of a goal that is a node: of the function and the obligation, within the limits of plans. The goal is
+    /// not laid out: of a large condition few parts are asked.
     pub fn over(bump: &'a Bump, rules: &'a Rules, ob: ObName, goal: &'a Goal<'a>) -> PathAsker<'a>
         requires { IsNode (function_of rules.now) ob (goal_tree goal.now) }
         ensures rules { result.rules.now ≡ rules.now }
         ensures obligation { result.ob ≡ ob }
-        ensures root { own_plan (function_of result.rules.now) result.ob result.goal ≡ ask_goal (function_of rules.now) (goal_tree goal.now) }
+        ensures root { own_plan (function_of result.rules.now) result.ob result.goal
+            ≡ ask_goal (function_of rules.now) (goal_tree goal.now) }
     {
         PathAsker {
             bump,
@@ -117,11 +121,13 @@ impl<'a> PathAsker<'a> {
     // How the plan of a question begins, with a goal for each answer.
     #[inline(always)]
     fn asked(&self, form: Form<'a>, yes: &'a Goal<'a>, no: &'a Goal<'a>) -> Turn<&'a Goal<'a>, Why>
-        requires node { IsNode (function_of self.now.rules.now) self.now.ob (If (form_tree form) (goal_tree yes.now) (goal_tree no.now)) }
+        requires node { IsNode (function_of self.now.rules.now) self.now.ob
+            (If (form_tree form) (goal_tree yes.now) (goal_tree no.now)) }
         requires question { IsTrue (is_question (form_tree form)) }
         ensures { Begins (λ n. IsNode (function_of self.now.rules.now) self.now.ob (goal_tree n.now))
             (λ n. ask_goal (function_of self.now.rules.now) (goal_tree n.now)) result
-            (ask_goal (function_of self.now.rules.now) (If (form_tree form.entry) (goal_tree yes.now) (goal_tree no.now))) }
+            (ask_goal (function_of self.now.rules.now)
+            (If (form_tree form.entry) (goal_tree yes.now) (goal_tree no.now))) }
     {
         match form {
             Form::Le(x, y) => Turn::Ask {

@@ -1,5 +1,6 @@
 -- How far a search of a plan has come: the open branches, the tokens written and the questions asked.
-use Rattle.std.specs.Prelude.{◌≡◌, ◌⊎◌, ℕ, Bool, true, false, ◌+◌, ◌<◌, ◌≤◌, List, [], ◌∷◌, ◌++◌, length, map, drop, reverse, Option, Some, None, MatchOption}
+use Rattle.std.specs.Prelude.{◌≡◌, ◌⊎◌, ℕ, Bool, true, false, ◌+◌, ◌<◌, ◌≤◌, List, [], ◌∷◌, ◌++◌, length, map, drop}
+use Rattle.std.specs.Prelude.{reverse, Option, Some, None, MatchOption}
 use Rattle.std.specs.List.{AllByRecursion}
 use Rattle.diff_graph.specs.declared.lit.Lit.{Lit}
 use Rattle.diff_graph.specs.Literals.{answered_of}
@@ -54,13 +55,15 @@ whole p = record { plan = p; answers = [] } ∷ []
 
 -- what answers the open branches answers the plan, behind the tokens and the questions so far, and the
 -- plan's questions are those so far and then those of the open branches
-pub record HasCome {W : Type 0} (root : Plan W) (tokens : List Tok) (asked : List (List Lit)) (open_ones : List (Branch W)) : Type 0 where
+pub record HasCome {W : Type 0} (root : Plan W) (tokens : List Tok) (asked : List (List Lit))
+    (open_ones : List (Branch W)) : Type 0 where
   pub trees :
       (rest : List Tok) (later : List (List Lit)) → Answered rest later open_ones
       → Answered (tokens ++ rest) (asked ++ later) (whole root)
   pub lists :
       (q : Questions W) → QuestionList root [] q
-      → (later : Questions W) × Listed open_ones later × (q ≡ joined (record { asked = asked; failing = later.failing }) later)
+      → (later : Questions W) × Listed open_ones later
+      × (q ≡ joined (record { asked = asked; failing = later.failing }) later)
 
 -- the answers of each place
 abbrev pub answers_at : {N : Type 0} → List (OpenPlace N) → List (List Lit)
@@ -88,7 +91,8 @@ AreShort branches = AllByRecursion IsShort branches
 -- a search of the asker's plan under way: its open places, what is known of each, the tree so far and how
 -- many questions it has
 pub record IsSearching {N W : Type 0} (is_own : N → Type 0) (plan : N → Plan W) (root : Plan W) (budget : ℕ)
-    (places : List (OpenPlace N)) (cycles : List (Option (List ℕ))) (tables : List Rows) (tree : List Tok) (asked : ℕ) : Type 0 where
+    (places : List (OpenPlace N)) (cycles : List (Option (List ℕ))) (tables : List Rows) (tree : List Tok) (asked : ℕ) :
+    Type 0 where
   pub own : AreOwn is_own places
   pub short : AreShort (branches_at plan places)
   pub reached : AreReached root (branches_at plan places)
@@ -135,7 +139,8 @@ HasAsked l on_yes on_no before after =
 abbrev pub HasClosed : {N : Type 0} → Search N → Search N → Bool → Type 0
 HasClosed before after true =
     (picks : List ℕ) × (known_of before ≡ Some picks ∷ known_of after) × (after.path ≡ drop 1 before.path)
-    × (after.tables.items ≡ before.tables.items) × (after.tree ≡ before.tree ++ token.Cycle picks ∷ []) × (after.asked ≡ before.asked)
+    × (after.tables.items ≡ before.tables.items) × (after.tree ≡ before.tree ++ token.Cycle picks ∷ [])
+    × (after.asked ≡ before.asked)
 HasClosed before after false =
     (after.possible ≡ true) × (known_of before ≡ known_of after) × (after.path ≡ before.path)
     × (after.tables.items ≡ before.tables.items) × (after.tree ≡ before.tree) × (after.asked ≡ before.asked)
@@ -145,7 +150,8 @@ abbrev pub AgreesWithLists : {W : Type 0} → Plan W → ℕ → Outcome W → T
 AgreesWithLists {W = W} p budget o = (q : Questions W) → QuestionList p [] q → Decides p budget q o
 
 -- a step leaves a search under way, or the outcome
-abbrev pub IsUnderWayOr : {N W : Type 0} → (N → Type 0) → (N → Plan W) → Plan W → ℕ → Search N → Option (Outcome W) → Type 0
+abbrev pub IsUnderWayOr : {N W : Type 0} → (N → Type 0) → (N → Plan W) → Plan W → ℕ → Search N → Option (Outcome W)
+    → Type 0
 IsUnderWayOr is_own plan root budget s r =
     MatchOption r (IsUnderWay is_own plan root budget s) (λ o. AgreesWithLists root budget o)
 

@@ -1,6 +1,7 @@
 -- What is known of the open places of a search, the first place first: a negative cycle of its answers, or
 -- else a table that stands for them.
-use Rattle.std.specs.Prelude.{◌≡◌, ℕ, ◌-◌, ◌≤◌, neg_ℤ, ◌≤ℤ◌, Bool, true, false, List, [], ◌∷◌, ◌++◌, length, slice_index_or, slice_set, Option, Some, None}
+use Rattle.std.specs.Prelude.{◌≡◌, ℕ, ◌-◌, ◌≤◌, neg_ℤ, ◌≤ℤ◌, Bool, true, false, List, [], ◌∷◌, ◌++◌, length}
+use Rattle.std.specs.Prelude.{slice_index_or, slice_set, Option, Some, None}
 use Rattle.diff_graph.specs.declared.lit.Lit.{Lit}
 use Rattle.diff_graph.specs.declared.lit.TheConstants.{MAX_LITERAL_OFFSET}
 use Rattle.diff_graph.specs.declared.hop.Hop.{Hop}
@@ -77,7 +78,8 @@ cycles_of OnlyNo numbers cycles = Some numbers ∷ None ∷ cycles
 -- the last table is now that for no, and the one for yes stands behind it
 abbrev pub HasSplit : ℕ → Lit → List Rows → List Rows → Type 0
 HasSplit number l before after =
-    (of_yes of_no : Rows) × AddsAnswer number l true (last_rows before) of_yes × AddsAnswer number l false (last_rows before) of_no
+    (of_yes of_no : Rows) × AddsAnswer number l true (last_rows before) of_yes
+    × AddsAnswer number l false (last_rows before) of_no
     × (after ≡ slice_set before (length before - 1) of_no ++ of_yes ∷ [])
 
 -- where a place with so many answers has the first table, both its sides are judged after the question

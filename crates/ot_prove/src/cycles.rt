@@ -9,8 +9,8 @@ use std::alloc::Global;
 use std::marker::Model;
 
 /// For each place that waits, a negative cycle of its answers, or none where some integers meet them. It is seen as
-/// their list, that of the innermost place first. The numbers of all cycles stand in one list: each cycle has those from
-/// its start on, as long as no other one stands behind it.
+/// their list, that of the innermost place first. The numbers of all cycles stand in one list: each cycle has those
+/// from its start on, as long as no other one stands behind it.
 #[derive(Drop)]
 pub struct Cycles {
     starts: Vec<Option<usize>>,

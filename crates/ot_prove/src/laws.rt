@@ -34,7 +34,8 @@ pub fn question_lists_are_possible<W: Copy>()
 /// A question list tells of its plan: without a failing end the plan holds at every valuation, and with
 /// one it fails at the valuations that meet the answers there, of which there are some.
 pub fn question_lists_tell_where_plans_fail<W: Copy>()
-    ensures { (p : Plan W) (q : Questions W) → QuestionList p [] q → MatchOption q.failing (HoldsEverywhere p) (λ e. FailsAt p e) }
+    ensures { (p : Plan W) (q : Questions W) → QuestionList p [] q
+        → MatchOption q.failing (HoldsEverywhere p) (λ e. FailsAt p e) }
 {
     valuations_answer_questions();
 }

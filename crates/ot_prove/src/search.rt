@@ -1,5 +1,6 @@
 //! A search under way: the open places, what is known of each, and the tree so far.
-ghost use Rattle.std.specs.Prelude.{◌≡◌, ◌+◌, ◌<◌, ◌≤◌, ◌^◌, [], ◌∷◌, ◌++◌, true, length, drop, slice_index_or, map, IfOk, OnOk};
+ghost use Rattle.std.specs.Prelude.{◌≡◌, ◌+◌, ◌<◌, ◌≤◌, ◌^◌, [], ◌∷◌, ◌++◌, true, length, drop, slice_index_or, map};
+ghost use Rattle.std.specs.Prelude.{IfOk, OnOk};
 ghost use Rattle.diff_graph.specs.Tables.{IsNamed, StandsFor, kept_of};
 ghost use Rattle.diff_graph.specs.declared.lit.Lit.{Lit};
 ghost use Rattle.ask_core.specs.Askers.{SamePlans};
@@ -39,7 +40,8 @@ impl<N: Copy> Search<N> {
     pub fn begin(alloc: Global, first: N) -> Result<Search<N>, NoMemory>
         ensures path { IfOk result (λ s. s.path ≡ record { node = first; answers = [] } ∷ []) }
         ensures cycles { IfOk result (λ s. (s.possible ≡ true) × (s.cycles ≡ [])) }
-        ensures tables { IfOk result (λ s. (length s.tables.items ≡ 1) × StandsFor MAX_NAMES (kept_of (slice_index_or s.tables.items 0 [])) []) }
+        ensures tables { IfOk result (λ s. (length s.tables.items ≡ 1)
+            × StandsFor MAX_NAMES (kept_of (slice_index_or s.tables.items 0 [])) []) }
         ensures nothing { IfOk result (λ s. (s.tree ≡ []) × (s.asked ≡ 0)) }
     {
         let mut tables = Vec::new(alloc);
@@ -59,7 +61,8 @@ impl<N: Copy> Search<N> {
     #[inline(always)]
     pub fn close_holds(&mut self) -> Result<(), NoMemory>
         requires { 0 < length self.old.path }
-        ensures { OnOk result (self.new ≡ record self.old { path = drop 1 self.old.path; tree = self.old.tree ++ Holds ∷ [] }) }
+        ensures { OnOk result (self.new ≡ record self.old
+            { path = drop 1 self.old.path; tree = self.old.tree ++ Holds ∷ [] }) }
     {
         self.tree.push_holds()?;
         self.path.close();
@@ -136,7 +139,8 @@ fn take_turn<A: Asker>(
     requires opened { 0 < length search.old.path }
     requires possible { search.old.possible ≡ true }
     requires searching { IsUnderWay (A.is_own asker.old) (A.plan asker.old) (A.root asker.old) budget search.old }
-    ensures step { IfOk result (λ r. IsUnderWayOr (A.is_own asker.new) (A.plan asker.new) (A.root asker.new) budget search.new r) }
+    ensures step { IfOk result (λ r. IsUnderWayOr (A.is_own asker.new) (A.plan asker.new) (A.root asker.new) budget
+        search.new r) }
     ensures falls { IfOk result (λ r. WeighsLess (A.plan asker.old) (A.plan asker.new) search.old search.new r) }
     ensures same { SamePlans (A.is_own asker.old) (A.is_own asker.new) (A.plan asker.old) (A.plan asker.new) }
     ensures root { A.root asker.new ≡ A.root asker.old }
@@ -175,7 +179,8 @@ pub fn step<A: Asker>(
     requires names { A.name_count asker.old ≤ MAX_NAMES }
     requires opened { 0 < length search.old.path }
     requires searching { IsUnderWay (A.is_own asker.old) (A.plan asker.old) (A.root asker.old) budget search.old }
-    ensures step { IfOk result (λ r. IsUnderWayOr (A.is_own asker.new) (A.plan asker.new) (A.root asker.new) budget search.new r) }
+    ensures step { IfOk result (λ r. IsUnderWayOr (A.is_own asker.new) (A.plan asker.new) (A.root asker.new) budget
+        search.new r) }
     ensures falls { IfOk result (λ r. WeighsLess (A.plan asker.old) (A.plan asker.new) search.old search.new r) }
     ensures same { SamePlans (A.is_own asker.old) (A.is_own asker.new) (A.plan asker.old) (A.plan asker.new) }
     ensures root { A.root asker.new ≡ A.root asker.old }

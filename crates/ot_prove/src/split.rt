@@ -3,7 +3,8 @@ ghost use Rattle.std.specs.Prelude.{◌≡◌, ℕ, ◌<◌, true, false, List, 
 ghost use Rattle.diff_graph.specs.Literals.{answered_of};
 ghost use Rattle.diff_graph.specs.Tables.{IsNamed, kept_of};
 ghost use Rattle.diff_bounds.specs.Kept.{has_room};
-ghost use Rattle.ot_prove.specs.Sides.{AddsAnswer, HasFew, HasRoom, HasSplit, IsAsked, JudgesSides, StandsForSome, cycles_of, last_rows};
+ghost use Rattle.ot_prove.specs.Sides.{AddsAnswer, HasFew, HasRoom, HasSplit, IsAsked, JudgesSides, StandsForSome};
+ghost use Rattle.ot_prove.specs.Sides.{cycles_of, last_rows};
 
 use crate::NoMemory;
 use diff_bounds::Bounds;
@@ -97,7 +98,8 @@ pub fn judge_sides(
     requires asked { IsAsked lit }
     requires stands { StandsForSome MAX_NAMES (last_rows tables.old.items) }
     ensures judged { IfOk result (λ room. (cycles : List (Option (List ℕ)))
-        → JudgesSides lit number cycles (reverse tables.old.items) (cycles_of room numbers.new.items cycles) (reverse tables.new.items)) }
+        → JudgesSides lit number cycles (reverse tables.old.items) (cycles_of room numbers.new.items cycles)
+        (reverse tables.new.items)) }
     ensures few { IfOk result (HasFew numbers.new.items) }
 {
     let last = tables.len() - 1;

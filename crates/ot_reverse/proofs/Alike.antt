@@ -1,5 +1,6 @@
 -- Functions that are alike are for the same kinds, and forms can be transformed further.
-use Rattle.std.proofs.Common.{◌≡◌, true, Bool, Option, Some, None, IsTrue, refl, ap, sym, subst, inl, inr, ◌∙◌, ◌+◌, ◌≤◌, ◌&&◌, List, [], ◌∷◌, get_or, length, arith}
+use Rattle.std.proofs.Common.{◌≡◌, true, Bool, Option, Some, None, IsTrue, refl, ap, sym, subst, inl, inr, ◌∙◌, ◌+◌, ◌≤◌, ◌&&◌, List, [], ◌∷◌, get_or, length}
+use Rattle.std.proofs.Common.{arith}
 use Rattle.std.specs.List.{AllByRecursion}
 use Rattle.std.proofs.lemmas.Int.{ints}
 use Rattle.ot_model.specs.declared.op.Kind.{Kind}

@@ -1,6 +1,7 @@
 -- Where the plan of a goal ends at one valuation, whose names stand for two operations and for the length of a document:
 -- in a failing end exactly where the operations are concurrent on it and the first one is not taken back.
-use Rattle.std.proofs.Common.{◌≡◌, ◌≢◌, ◌⊎◌, ℕ, ℤ, pos, ◌+ℤ◌, int_le, true, if◌then◌else◌, Option, Some, None, List, [], ◌∷◌, length, refl, sym, ◌∙◌, ap, subst, inl, inr, arith}
+use Rattle.std.proofs.Common.{◌≡◌, ◌≢◌, ◌⊎◌, ℕ, ℤ, pos, ◌+ℤ◌, int_le, true, if◌then◌else◌, Option, Some, None, List, [], ◌∷◌, length, refl, sym, ◌∙◌, ap, subst}
+use Rattle.std.proofs.Common.{inl, inr, arith}
 use Rattle.std.proofs.lemmas.Bool.{and_parts}
 use Rattle.std.proofs.lemmas.Int.{ints}
 use Rattle.ot_model.specs.declared.cell.Cell.{Cell}
@@ -246,7 +247,8 @@ module _ (at_most : EndsAtMost) (ends_enabled : EndsEnabled) (ends_allowed : End
       Comes v (λ x. ask_goal f (unless_there (cases_of e k l) first_op second_op x)) (ended whole_goal) (transform_of f a b)
   forms_come =
       subst (λ plan. Comes v (λ x. ask_goal f (unless_there (cases_of e k l) first_op second_op x)) (end_of plan v) (transform_of f a b))
-      (sym (back_asked f f first_op second_op k l (unless_there (cases_of e k l) first_op second_op) (names.first.kind ∙ first_kind) (names.second.kind ∙ second_kind)))
+      (sym (back_asked f f first_op second_op k l (unless_there (cases_of e k l) first_op second_op) (names.first.kind ∙ first_kind)
+      (names.second.kind ∙ second_kind)))
       (goes_to v (ask_result f first_op second_op) (λ x. ask_goal f (unless_there (cases_of e k l) first_op second_op x)) (transform_of f a b)
       (results f v first_op second_op a b names.zero names.first names.second))
 

@@ -25,7 +25,8 @@ use Rattle.ot_terms.proofs.Starts.{ask_form-enabled_form}
 use Rattle.ot_audit.specs.Goals.{with_result}
 use Rattle.ot_audit.proofs.Asked.{ask_goal-if_allowed}
 use Rattle.ot_audit.proofs.Differences.{ask_goal-unless_one_place}
-use Rattle.ot_audit.proofs.Kept.{KeepsAllowed, KeepsComparison, KeepsOneForm, KeepsResult, StandsNamed, ValidCases, fails_kept, few_atoms, holds_kept, kind_of_named, longer_kept, near_zero, op_wider}
+use Rattle.ot_audit.proofs.Kept.{KeepsAllowed, KeepsComparison, KeepsOneForm, KeepsResult, StandsNamed, ValidCases, fails_kept, few_atoms, holds_kept}
+use Rattle.ot_audit.proofs.Kept.{kind_of_named, longer_kept, near_zero, op_wider}
 use Rattle.ot_reverse.specs.Goals.{reversal_goal, undefined, unless_back, unless_same, unless_taken_back, unless_there}
 use Rattle.ot_reverse.proofs.Ends.{back_asked}
 

@@ -21,7 +21,8 @@ use Rattle.ot_questions.specs.Nears.{IsNear, IsNearCase}
 use Rattle.ot_questions.specs.Places.{length_and, offset_of, place, plus, sym_at, sym_kind, sym_op, sym_placed, sym_result, zero_place}
 use Rattle.ot_terms.specs.Goals.{GoalTree}
 use Rattle.ot_terms.specs.Starting.{if_all_enabled, if_allowed, if_enabled, if_length}
-use Rattle.ot_audit.proofs.Names.{GoalOf, IsSmallPlace, OfName, OpServes, Serves, allowed_of, guard_places, one_place_of, op_serves, small_name, small_moved, with_result_of}
+use Rattle.ot_audit.proofs.Names.{GoalOf, IsSmallPlace, OfName, OpServes, Serves, allowed_of, guard_places, one_place_of, op_serves, small_name, small_moved}
+use Rattle.ot_audit.proofs.Names.{with_result_of}
 use Rattle.ot_reverse.specs.Goals.{unless_back, unless_same, unless_taken_back}
 
 -- it holds of a place, and of the place moved once and twice
@@ -61,7 +62,8 @@ module _ (Q : Place → Type 0) (at_zero : Serves Q zero_place) (at_length : Q (
     result_serves (results.Keep Second k) near = placed_serves a (plus (sym_at b) k) (once a ha) ((hb Pos).1 k near)
     result_serves results.Nop near = nop_serves
 
-    back_of : (ds : List GuardedCase) (there : SymOp) (k : Option Kind) → AllByRecursion IsNearCase ds → OpServes Q there → GoalOf Q (unless_back ds a b there k)
+    back_of : (ds : List GuardedCase) (there : SymOp) (k : Option Kind) → AllByRecursion IsNearCase ds → OpServes Q there
+        → GoalOf Q (unless_back ds a b there k)
     back_of ds there None near h = tt
     back_of ds there (Some k) near h =
         with_result_of Q at_zero there b h (once b hb) ds (unless_same a) near tt

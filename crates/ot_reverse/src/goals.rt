@@ -41,7 +41,8 @@ fn if_both_enabled<'a>(
     b: SymOp,
     next: &'a Goal<'a>,
 ) -> Result<&'a Goal<'a>, NoMemory>
-    ensures { IfOk result (λ r. goal_tree r.now ≡ starting.if_length (starting.if_all_enabled (a ∷ b ∷ []) (goal_tree next.now))) }
+    ensures { IfOk result (λ r. goal_tree r.now ≡ starting.if_length
+        (starting.if_all_enabled (a ∷ b ∷ []) (goal_tree next.now))) }
 {
     let second = if_enabled(bump, b, next)?;
     let first = if_enabled(bump, a, second)?;
@@ -70,7 +71,8 @@ fn with_back<'a>(
     requires b_near { IsNearOp 200 b }
     requires there_near { IsNearOp 200 there }
     requires near { AllByRecursion IsNearCase (map case_of cases.now) }
-    ensures { IfOk result (λ r. goal_tree r.now ≡ with_result (map case_of cases.now) there b (λ back. goals.unless_same a back)) }
+    ensures { IfOk result (λ r. goal_tree r.now ≡ with_result (map case_of cases.now) there b
+        (λ back. goals.unless_same a back)) }
 {
     match cases {
         [] => Ok(unless_same(bump, a, None)?),
@@ -94,7 +96,8 @@ fn unless_back<'a>(
     requires b_near { IsNearOp 200 b }
     requires there_near { IsNearOp 200 there }
     requires near { AllByRecursion IsNearCase (map case_of cases.now) }
-    ensures { IfOk result (λ r. goal_tree r.now ≡ goals.unless_back (map case_of cases.now) a b there (sym_kind there)) }
+    ensures { IfOk result (λ r. goal_tree r.now ≡ goals.unless_back (map case_of cases.now) a b there
+        (sym_kind there)) }
 {
     match there.kind() {
         None => Ok(Goal::holds(bump)?),
@@ -133,7 +136,8 @@ fn unless_taken_back<'a>(
     requires b_near { IsNearOp 101 b }
     requires near { AllByRecursion IsNearCase (map case_of cases.now) }
     requires others_near { AllByRecursion IsNearCase (map case_of others.now) }
-    ensures { IfOk result (λ r. goal_tree r.now ≡ goals.unless_taken_back (map case_of cases.now) (map case_of others.now) a b) }
+    ensures { IfOk result (λ r. goal_tree r.now ≡ goals.unless_taken_back (map case_of cases.now)
+        (map case_of others.now) a b) }
 {
     match cases {
         [] => Ok(unless_there(bump, others, a, b, None)?),
@@ -146,8 +150,8 @@ fn unless_taken_back<'a>(
     }
 }
 
-/// The goal of where the second function does not take back what the first one makes of operations of the two kinds. The
-/// error is want of memory.
+/// The goal of where the second function does not take back what the first one makes of operations of the two kinds.
+/// The error is want of memory.
 pub fn reversal_goal<'a>(
     bump: &'a Bump,
     rules: &Rules,
@@ -157,7 +161,8 @@ pub fn reversal_goal<'a>(
 ) -> Result<&'a Goal<'a>, NoMemory>
     requires declared { IsTrue (is_declared_pair (function_of rules.now).head first second) }
     requires alike { AreAlike (function_of rules.now).head (function_of others.now).head }
-    ensures { IfOk result (λ r. goal_tree r.now ≡ goals.reversal_goal (function_of rules.now) (function_of others.now) first second) }
+    ensures { IfOk result (λ r. goal_tree r.now ≡ goals.reversal_goal (function_of rules.now) (function_of others.now)
+        first second) }
 {
     let a = SymOp::named(first, Who::A);
     let b = SymOp::named(second, Who::B);

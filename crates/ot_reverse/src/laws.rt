@@ -32,8 +32,8 @@ use ot_questions::{
 };
 
 /// At a valuation whose names stand for two operations and for the length of a document, the plan of a goal fails only
-/// where the operations are concurrent on the document and the first one is not taken back; and where they are, it holds
-/// only where the first one is.
+/// where the operations are concurrent on the document and the first one is not taken back; and where they are, it
+/// holds only where the first one is.
 pub fn goals_fail_where_nothing_comes_back()
     ensures sought { (f e : Function) (k l : Kind) (v : ℕ → ℤ) (d : List Cell) (a b : Op) (why : Why)
         → NamesPair f k l v (length d) a b → end_of (ask_goal f (reversal_goal f e k l)) v ≡ Some why
@@ -50,7 +50,8 @@ pub fn goals_fail_where_nothing_comes_back()
 /// The goals of functions within the limits keep those of plans, ask like with like, and no position is negative that
 /// answers to a failing end speak of.
 pub fn goals_are_searchable()
-    ensures { (f e : Function) (k l : Kind) → IsTrue (is_valid f) → IsTrue (is_valid e) → IsTrue (is_declared_pair f.head k l)
+    ensures { (f e : Function) (k l : Kind) → IsTrue (is_valid f) → IsTrue (is_valid e)
+        → IsTrue (is_declared_pair f.head k l)
         → IsSearchable f k l (reversal_goal f e k l) }
 {
     cases_are_valid();
@@ -59,14 +60,16 @@ pub fn goals_are_searchable()
     answers_lead_to_ends::<Why>();
 }
 
-/// What the searches come to tells of all documents: where they find nothing, the second function reverses the first; and
-/// where one finds a length and two operations, these are concurrent on the document of so many live cells, and the first
-/// one is not taken back.
+/// What the searches come to tells of all documents: where they find nothing, the second function reverses the first;
+/// and where one finds a length and two operations, these are concurrent on the document of so many live cells, and the
+/// first one is not taken back.
 pub fn answers_tell_of_all_documents()
-    ensures instance { (f e : Function) (k l : Kind) (budget cells : ℕ) (a b : Op) → IsTrue (is_declared_pair f.head k l)
+    ensures instance { (f e : Function) (k l : Kind) (budget cells : ℕ) (a b : Op)
+        → IsTrue (is_declared_pair f.head k l)
         → IsSoughtIn f k l (reversal_goal f e k l) budget (At cells a b)
         → AreConcurrent f (live_cells cells) (a ∷ b ∷ []) × (IsTakenBack f e a b → ⊥) }
-    ensures whole { (f e : Function) (budget : ℕ) (answer : Back) → AreSearched f e budget (declared_pairs f.head) answer
+    ensures whole { (f e : Function) (budget : ℕ) (answer : Back)
+        → AreSearched f e budget (declared_pairs f.head) answer
         → TellsReversal f e answer }
 {
     goals_fail_where_nothing_comes_back();

@@ -163,13 +163,13 @@ fn reverses_pairs(
 }
 
 /// Whether the second function reverses the first: whether on every document, for all operations of the kinds that are
-/// enabled on it and that the first function allows with each other, the first one has a form behind the second, and what
-/// the second function makes of that form is the first operation again, but where the form is nop. Both are of one mode
-/// and for the same kinds.
+/// enabled on it and that the first function allows with each other, the first one has a form behind the second, and
+/// what the second function makes of that form is the first operation again, but where the form is nop. Both are of one
+/// mode and for the same kinds.
 ///
 /// The ordered pairs of kinds are gone through in canonical order, each with at most `budget` questions. `Yes` comes
-/// exactly where it reverses it and no pair has more questions, `No` exactly where a pair has a failing end and neither it
-/// nor one before it has more, and `Spent` exactly where a pair has more and none before it has a failing end. The
+/// exactly where it reverses it and no pair has more questions, `No` exactly where a pair has a failing end and neither
+/// it nor one before it has more, and `Spent` exactly where a pair has more and none before it has a failing end. The
 /// document and the operations are of the least values of the first failing end. The error is want of memory.
 pub fn reverses(alloc: Global, rules: &Rules, others: &Rules, budget: u64) -> Result<Back, NoMemory>
     requires { AreAlike (function_of rules.now).head (function_of others.now).head }

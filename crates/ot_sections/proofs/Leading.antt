@@ -16,7 +16,8 @@ use Rattle.ot_sections.specs.declared.refusal.JudgeError.{JudgeError}
 use Rattle.ot_sections.specs.Parts.{IsJudged, IsRefused, Point, branches_behind, end_of_token, point_behind}
 use Rattle.ot_outside.specs.declared.feed.Feed.{Ghosts}
 use Rattle.ot_sections.specs.Feeding.{Fed, fed}
-use Rattle.ot_sections.specs.Stands.{Came, IsBetween, IsJudgedBehind, IsMisspeltBehind, IsRefusedAnyway, IsRefusedBehind, IsTreeOf, Leads, Stand, place_of, offset_of, point_of, stand, tree_with}
+use Rattle.ot_sections.specs.Stands.{Came, IsBetween, IsJudgedBehind, IsMisspeltBehind, IsRefusedAnyway, IsRefusedBehind, IsTreeOf, Leads, Stand, place_of}
+use Rattle.ot_sections.specs.Stands.{offset_of, point_of, stand, tree_with}
 use Rattle.ot_sections.proofs.Fitting.{judged_behind}
 use Rattle.ot_sections.proofs.Tokens.{open_as_counted}
 

@@ -13,7 +13,8 @@ use Rattle.ot_sections.specs.declared.refusal.JudgeError.{JudgeError}
 use Rattle.ot_sections.specs.Parts.{IsJudged, branches_behind}
 use Rattle.ot_outside.specs.declared.feed.Feed.{Ghosts}
 use Rattle.ot_sections.specs.Feeding.{Fed, Yields}
-use Rattle.ot_sections.specs.Stands.{Came, IsJudgedBehind, IsMisspeltBehind, IsOver, IsRefusedAnyway, IsRefusedBehind, Leads, LeadsAnyway, opened, offset_of, place_of, point_of, stand, tree_with}
+use Rattle.ot_sections.specs.Stands.{Came, IsJudgedBehind, IsMisspeltBehind, IsOver, IsRefusedAnyway, IsRefusedBehind, Leads, LeadsAnyway, opened, offset_of}
+use Rattle.ot_sections.specs.Stands.{place_of, point_of, stand, tree_with}
 use Rattle.ot_sections.specs.Sections.{IsLineWith}
 use Rattle.ot_sections.proofs.Fitting.{last_line_fits}
 use Rattle.ot_sections.proofs.Leading.{judged_through, leads_on, misspelt_refused, part_leads, refused_through}

@@ -1,5 +1,6 @@
 -- Tokens that are taken where they are read.
-use Rattle.std.proofs.Common.{◌≡◌, ℕ, ◌+◌, ◌-◌, ◌≤◌, ◌<◌, List, [], ◌∷◌, ◌++◌, length, get_or, take, drop, take-add, add-one, add-zero, Result, Ok, refl, sym, ap, subst, ◌∙◌, arith, append_assoc, length-append, length-drop}
+use Rattle.std.proofs.Common.{◌≡◌, ℕ, ◌+◌, ◌-◌, ◌≤◌, ◌<◌, List, [], ◌∷◌, ◌++◌, length, get_or, take, drop, take-add, add-one, add-zero, Result, Ok, refl, sym}
+use Rattle.std.proofs.Common.{ap, subst, ◌∙◌, arith, append_assoc, length-append, length-drop}
 use Rattle.std.specs.Fmt.{decimal}
 use Rattle.std.proofs.lemmas.List.{append-nil, take_more}
 use Rattle.std.proofs.Math.Seq.{take-length}
@@ -164,7 +165,8 @@ behind_passed (Reading (Line came names) offset begun) now len old new between t
 behind_passed (Reading Finish offset begun) now len old new between tree is = absurd tree
 behind_passed (Refused e) now len old new between tree is = absurd tree
 
-pub tree_there : (place : Place) (old new : ℕ) → IsTreeOf old place → IsTreeOf new (tree_with new place) × (tree_with 0 (tree_with new place) ≡ tree_with 0 place)
+pub tree_there : (place : Place) (old new : ℕ) → IsTreeOf old place → IsTreeOf new (tree_with new place)
+    × (tree_with 0 (tree_with new place) ≡ tree_with 0 place)
 tree_there (Tree came names branches) old new is = (refl, refl)
 tree_there (Start tp1 tp2) old new is = absurd is
 tree_there (Line came names) old new is = absurd is

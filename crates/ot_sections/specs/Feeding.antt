@@ -11,7 +11,8 @@ use Rattle.ot_sections.specs.declared.refusal.JudgeError.TheVariants as judge
 
 -- no call lets the count of a feed's faults fall, or its bound rise, or puts another object in the place of the
 -- one that it holds, or gives up what the feed kept until then
-pub record IsKept {F : Type 0} (faults bound : F → ℕ) (held : F → Option ℕ) (keeps : F → F → Type 0) (old new : F) : Type 0 where
+pub record IsKept {F : Type 0} (faults bound : F → ℕ) (held : F → Option ℕ) (keeps : F → F → Type 0) (old new : F) :
+    Type 0 where
   pub more_faults : faults old ≤ faults new
   pub no_more_bytes : bound new ≤ bound old
   pub same_object : held new ≡ held old
@@ -35,7 +36,8 @@ pub record Whole : Type 0 where
 
 -- a feed is taken to give these bytes and then to end: what it gave until then and these are all of it
 unfoldable pub MayGiveOf : {F : Type 0} → (F → Option (List ℕ)) → (F → ℕ) → (F → List ℕ) → F → Whole → List ℕ → Type 0
-MayGiveOf left bound gave feed all bytes = (all.may ≡ true → MayGive left bound feed bytes) × (all.bytes ≡ gave feed ++ bytes)
+MayGiveOf left bound gave feed all bytes = (all.may ≡ true → MayGive left bound feed bytes)
+    × (all.bytes ≡ gave feed ++ bytes)
 
 -- these are all of a feed: what it gave, and then some bytes, of which there are none where nothing is left
 abbrev pub MayHave :
@@ -66,8 +68,8 @@ fed reader feed = record { reader = reader; feed = feed }
 abbrev pub count_of : {F : Type 0} → Ghosts F → Fed F → ℕ
 count_of feeds at = fed_to at.reader + feeds.bound at.feed
 
--- how a call leaves a reader and its feed, whatever it judges: nothing is given up, what is still to come is no more, bytes that
--- end too early are all that there are, and it says that the feed failed only where that did
+-- how a call leaves a reader and its feed, whatever it judges: nothing is given up, what is still to come is no more,
+-- bytes that end too early are all that there are, and it says that the feed failed only where that did
 pub record Leaves {F T : Type 0} (feeds : Ghosts F) (was now : Fed F) (answer : Result T JudgeError) : Type 0 where
   pub kept : IsKept feeds.faults feeds.bound feeds.held feeds.keeps was.feed now.feed
   pub room : IfOk answer (λ _. count_of feeds now ≤ count_of feeds was)

@@ -64,7 +64,8 @@ pub record Comes (was : Progress) (item : Item) (now : Progress) : Type 0 where
   pub offset : item.offset ≡ offset_of was
   pub stands : Stands (place_of was) item.part
   pub behind :
-      now ≡ Reading (place_after (place_of was) item.part) (offset_of was + length (part_text (place_of was) item.part)) []
+      now ≡ Reading (place_after (place_of was) item.part) (offset_of was + length (part_text (place_of was) item.part))
+      []
 
 -- and its bytes are taken of the feed: before them it might give these and then what it may give behind them
 pub record Came {F : Type 0} (feeds : Ghosts F) (was now : Fed F) (item : Item) : Type 0 where
@@ -84,18 +85,21 @@ IsMisspeltBehind feeds was now e =
     → (bytes : List ℕ) × Yields feeds was.feed all bytes
     × ((c : CertError) × EndsThere (place_of was.reader) (offset_of was.reader) bytes (Err c) × (e ≡ end_of_spelling c))
 
--- what is judged at a later stand, of bytes that the feed may give there, is judged at the earlier one, of bytes that it might give
+-- what is judged at a later stand, of bytes that the feed may give there, is judged at the earlier one, of bytes that
+-- it might give
 abbrev pub Leads : {F W : Type 0} → Ghosts F → (ObName → Plan W) → Stand F W → Stand F W → Type 0
 Leads feeds plan was now =
     (all : Whole) (rest : List ℕ) → Yields feeds now.at.feed all rest
     → (bytes : List ℕ) × Yields feeds was.at.feed all bytes
-    × ((end : Result (Unit {0}) JudgeError) → IsJudged plan end (point_of now) rest → IsJudged plan end (point_of was) bytes)
+    × ((end : Result (Unit {0}) JudgeError) → IsJudged plan end (point_of now) rest
+    → IsJudged plan end (point_of was) bytes)
 
 -- some bytes that the feed might give behind a stand are judged so
 abbrev pub IsJudgedBehind :
     {F W : Type 0} → Ghosts F → (ObName → Plan W) → Stand F W → F → Result (Unit {0}) JudgeError → Type 0
 IsJudgedBehind feeds plan was now end =
-    (all : Whole) → Has feeds now all → (bytes : List ℕ) × Yields feeds was.at.feed all bytes × IsJudged plan end (point_of was) bytes
+    (all : Whole) → Has feeds now all → (bytes : List ℕ) × Yields feeds was.at.feed all bytes
+    × IsJudged plan end (point_of was) bytes
 
 -- they are refused so, if that is a refusal
 abbrev pub IsRefusedBehind : {F W : Type 0} → Ghosts F → (ObName → Plan W) → Stand F W → F → JudgeError → Type 0

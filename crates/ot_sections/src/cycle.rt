@@ -7,8 +7,8 @@ use cert_check::Walk;
 use cert_text::number_front;
 use diff_graph::Lit;
 
-/// How many of the bytes behind an `x` are its cycle, where that is a negative one of the literals. No list of its numbers is
-/// made. Where there is none, a reader and a checker say why.
+/// How many of the bytes behind an `x` are its cycle, where that is a negative one of the literals. No list of its
+/// numbers is made. Where there is none, a reader and a checker say why.
 #[inline(always)]
 pub(crate) fn cycle_front(lits: &[Lit], bytes: &[u8]) -> Option<usize>
     ensures { IfSome result (IsCycleFront lits.now bytes.now) }

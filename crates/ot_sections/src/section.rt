@@ -1,5 +1,6 @@
 //! The judge of sections: what a certificate has for obligations of a function, and its last line.
-ghost use Rattle.std.specs.Prelude.{◌≡◌, ℕ, ◌+◌, ◌^◌, ◌<◌, ◌≤◌, true, List, [], ◌∷◌, Ok, IfErr, IfOk, IfSome, OnOk, IsTrue};
+ghost use Rattle.std.specs.Prelude.{◌≡◌, ℕ, ◌+◌, ◌^◌, ◌<◌, ◌≤◌, true, List, [], ◌∷◌, Ok, IfErr, IfOk, IfSome, OnOk};
+ghost use Rattle.std.specs.Prelude.{IsTrue};
 ghost use Rattle.std.specs.List.{list_all};
 ghost use Rattle.fn_rules.specs.declared.function.ObName.{ObName};
 ghost use Rattle.fn_rules.specs.Obligations.{is_obligation};
@@ -10,7 +11,8 @@ ghost use Rattle.ot_questions.specs.declared.why.Why.{Why};
 ghost use Rattle.ot_questions.specs.Obligation.{plan_below};
 ghost use Rattle.ot_sections.specs.Feeding.{IsSpent, Leaves, fed};
 ghost use Rattle.ot_sections.specs.Sections.{IsLineWith};
-ghost use Rattle.ot_sections.specs.Stands.{IsBetween, IsJudgedBehind, IsRefusedAnyway, IsRefusedBehind, Leads, place_of, stand};
+ghost use Rattle.ot_sections.specs.Stands.{IsBetween, IsJudgedBehind, IsRefusedAnyway, IsRefusedBehind, Leads};
+ghost use Rattle.ot_sections.specs.Stands.{place_of, stand};
 
 use crate::obligation::judge_in;
 use crate::part::{expect_part, next_part};
@@ -37,7 +39,8 @@ fn judge_section<F: Feed>(
     requires line { (others : List ObName) × IsLineWith (ob ∷ others) (place_of reader.old) }
     requires room { fed_to reader.old + F.bound feed.old < 2 ^ 63 }
     ensures behind { OnOk result (IsBetween reader.new
-        × ((others : List ObName) → IsLineWith (ob ∷ others) (place_of reader.old) → IsLineWith others (place_of reader.new))) }
+        × ((others : List ObName) → IsLineWith (ob ∷ others) (place_of reader.old)
+        → IsLineWith others (place_of reader.new))) }
     ensures leads { OnOk result (Leads F.Feed (plan_below (function_of rules.now) below)
         (stand (fed reader.old feed.old) []) (stand (fed reader.new feed.new) [])) }
     ensures refused { IfErr result (IsRefusedBehind F.Feed (plan_below (function_of rules.now) below)
@@ -83,7 +86,8 @@ fn read_end<F: Feed>(reader: &mut Reader, feed: &mut F) -> Result<(), JudgeError
     requires between { IsBetween reader.old }
     requires line { IsLineWith [] (place_of reader.old) }
     requires room { fed_to reader.old + F.bound feed.old < 2 ^ 63 }
-    ensures whole { OnOk result ((plan : ObName → Plan Why) → IsJudgedBehind F.Feed plan (stand (fed reader.old feed.old) []) feed.new (Ok tt)) }
+    ensures whole { OnOk result ((plan : ObName → Plan Why)
+        → IsJudgedBehind F.Feed plan (stand (fed reader.old feed.old) []) feed.new (Ok tt)) }
     ensures refused { IfErr result (IsRefusedAnyway {W = Why} F.Feed (stand (fed reader.old feed.old) []) feed.new) }
     ensures nothing_left { OnOk result (IsSpent F.left F.hand feed.new) }
     ensures leaves { Leaves F.Feed (fed reader.old feed.old) (fed reader.new feed.new) result }

@@ -1,12 +1,14 @@
 //! The tree of an obligation, judged token by token.
-ghost use Rattle.std.specs.Prelude.{◌≡◌, ℕ, ◌+◌, ◌^◌, ◌<◌, ◌≤◌, [], Ok, length, take, IfErr, IfNone, IfOk, IfSome, OnOk, IsTrue};
+ghost use Rattle.std.specs.Prelude.{◌≡◌, ℕ, ◌+◌, ◌^◌, ◌<◌, ◌≤◌, [], Ok, length, take, IfErr, IfNone, IfOk, IfSome};
+ghost use Rattle.std.specs.Prelude.{OnOk, IsTrue};
 ghost use Rattle.ask_core.specs.Askers.{has_fine_literals, is_fine_literal, longest_path};
 ghost use Rattle.ask_core.specs.Plans.{premised};
 ghost use Rattle.cert_check.specs.Judging.{open_branches};
 ghost use Rattle.cert_text.specs.Reading.{fed_to};
 ghost use Rattle.ot_sections.specs.Parts.{end_of_token};
 ghost use Rattle.ot_sections.specs.Feeding.{Leaves, fed};
-ghost use Rattle.ot_sections.specs.Stands.{Came, IsBetween, IsMisspeltBehind, IsRefusedAnyway, IsTreeOf, LeadsAnyway, opened, place_of, stand, tree_with};
+ghost use Rattle.ot_sections.specs.Stands.{Came, IsBetween, IsMisspeltBehind, IsRefusedAnyway, IsTreeOf, LeadsAnyway};
+ghost use Rattle.ot_sections.specs.Stands.{opened, place_of, stand, tree_with};
 ghost use Rattle.ot_sections.specs.Taking.{AreTaken, IsTakenFront};
 
 use crate::cycle::cycle_front;
@@ -77,8 +79,8 @@ fn next_token<F: Feed>(reader: &mut Reader, feed: &mut F, tok: &mut Tok) -> Resu
     Ok(offset)
 }
 
-// Takes the token at the front of some bytes where it stands there whole and may be taken: how many bytes it has, and how
-// many branches are open behind it.
+// Takes the token at the front of some bytes where it stands there whole and may be taken: how many bytes it has, and
+// how many branches are open behind it.
 #[inline(always)]
 fn take_front<A: Asker>(
     checker: &mut Checker<A>,
@@ -88,7 +90,8 @@ fn take_front<A: Asker>(
     requires some { 0 < length checker.old.places }
     requires count { branches ≡ length (open_branches A.plan checker.old) }
     requires few { branches < 2 ^ 63 }
-    ensures taken { IfSome result (λ x. IsTakenFront (open_branches A.plan checker.old) (open_branches A.plan checker.new) bytes.now x.0) }
+    ensures taken { IfSome result (λ x. IsTakenFront (open_branches A.plan checker.old)
+        (open_branches A.plan checker.new) bytes.now x.0) }
     ensures more { IfSome result (λ x. 0 < x.0) }
     ensures count { IfSome result (λ x. x.1 ≡ length (open_branches A.plan checker.new)) }
     ensures none { IfNone result (open_branches A.plan checker.new ≡ open_branches A.plan checker.old) }
@@ -107,13 +110,14 @@ fn take_front<A: Asker>(
     }
 }
 
-// Takes the tokens at the front of some bytes, up to the last one of the tree or the first that does not stand there whole
-// or may not be taken: how many bytes they have, and how many branches are open behind them.
+// Takes the tokens at the front of some bytes, up to the last one of the tree or the first that does not stand there
+// whole or may not be taken: how many bytes they have, and how many branches are open behind them.
 fn take_tokens<A: Asker>(checker: &mut Checker<A>, branches: u64, bytes: &[u8]) -> (usize, u64)
     requires count { branches ≡ length (open_branches A.plan checker.old) }
     requires few { branches + length bytes.now < 2 ^ 63 }
     ensures within { result.0 ≤ length bytes.now }
-    ensures taken { AreTaken (take result.0 bytes.now) (open_branches A.plan checker.old) (open_branches A.plan checker.new) }
+    ensures taken { AreTaken (take result.0 bytes.now) (open_branches A.plan checker.old)
+        (open_branches A.plan checker.new) }
     ensures count { result.1 ≡ length (open_branches A.plan checker.new) }
     ensures few { result.1 ≤ branches + result.0 }
     ensures refusal { checker.new.refusal ≡ checker.old.refusal }
@@ -167,7 +171,8 @@ pub(crate) fn judge_tree<A: Asker, F: Feed>(
     ensures closed { OnOk result (IsBetween reader.new × (place_of reader.new ≡ tree_with 0 (place_of reader.old))) }
     ensures leads { OnOk result (LeadsAnyway F.Feed (stand (fed reader.old feed.old) (opened (A.root asker)))
         (stand (fed reader.new feed.new) [])) }
-    ensures refused { IfErr result (IsRefusedAnyway F.Feed (stand (fed reader.old feed.old) (opened (A.root asker))) feed.new) }
+    ensures refused { IfErr result (IsRefusedAnyway F.Feed (stand (fed reader.old feed.old) (opened (A.root asker)))
+        feed.new) }
 
     ensures leaves { Leaves F.Feed (fed reader.old feed.old) (fed reader.new feed.new) result }
 {
@@ -203,7 +208,8 @@ pub(crate) fn judge_tree_behind<A: Asker, F: Feed>(
     requires tree { IsTreeOf 1 (place_of reader.old) }
     requires room { fed_to reader.old + F.bound feed.old < 2 ^ 63 }
     ensures closed { OnOk result (IsBetween reader.new × (place_of reader.new ≡ tree_with 0 (place_of reader.old))) }
-    ensures leads { OnOk result (LeadsAnyway F.Feed (stand (fed reader.old feed.old) (opened (premised premise (A.root asker))))
+    ensures leads { OnOk result (LeadsAnyway F.Feed (stand (fed reader.old feed.old)
+        (opened (premised premise (A.root asker))))
         (stand (fed reader.new feed.new) [])) }
     ensures refused { IfErr result (IsRefusedAnyway F.Feed
         (stand (fed reader.old feed.old) (opened (premised premise (A.root asker)))) feed.new) }

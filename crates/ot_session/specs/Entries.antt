@@ -30,12 +30,12 @@ key_of past name = record { number = name.of; counts = clock past name.behind }
 
 -- the entry is the form of an operation behind a list that was sought, under the counts of that list, and was counted
 pub record IsFormEntry (f : Function) (past : Past) (seen : List ℕ) (names : List FormName) (e : Key × Op) : Type 0
-    where
-  pub list : List ℕ
-  pub sought : IsSought past seen e.0.number list
-  pub counts : e.0.counts ≡ clock past list
-  pub is : form f past e.0.number list ≡ Some e.1
-  pub counted : is_among names (name_of e.0.number list) ≡ true
+  where
+    pub list : List ℕ
+    pub sought : IsSought past seen e.0.number list
+    pub counts : e.0.counts ≡ clock past list
+    pub is : form f past e.0.number list ≡ Some e.1
+    pub counted : is_among names (name_of e.0.number list) ≡ true
 
 -- there is a form under the key of this one
 pub record IsStored (past : Past) (entries : List (Key × Op)) (name : FormName) : Type 0 where

@@ -100,13 +100,13 @@ pub record IsSameSite (old new : Site) : Type 0 where
 
 -- an operation was executed at one of the sites, and is among those that were made
 pub record ExecutesAt (mode : Mode) (o : Op) (i : ℕ) (old_made new_made : List Made) (old new : List Site) : Type 0
-    where
-  pub before : Site
-  pub after : Site
-  pub was : slice_get old i ≡ Some before
-  pub is : new ≡ slice_set old i after
-  pub executes : Executes mode (length old_made) o before after
-  pub made : new_made ≡ old_made ++ record { op = o; known = before.integrated } ∷ []
+  where
+    pub before : Site
+    pub after : Site
+    pub was : slice_get old i ≡ Some before
+    pub is : new ≡ slice_set old i after
+    pub executes : Executes mode (length old_made) o before after
+    pub made : new_made ≡ old_made ++ record { op = o; known = before.integrated } ∷ []
 
 -- what is kept in a session
 pub record IsKept (f : Function) (first : List Cell) (made : List Made) (sites : List Site) : Type 0 where

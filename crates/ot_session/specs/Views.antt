@@ -87,8 +87,11 @@ pub record TakesAt (old new : View) (t n : ℕ) (answer : Result Took Take) : Ty
   pub after : Standing
   pub site : slice_get old.sites (t - 1) ≡ Some before
   pub takes : Takes old.function (past_of old.made) n (record { site = before; counted = old.counted }) after answer
-  pub is : new ≡ record old { sites = slice_set old.sites (t - 1) after.site; counted = after.counted;
-      is_open = is_ok answer }
+  pub is : new ≡ record old {
+    sites = slice_set old.sites (t - 1) after.site;
+    counted = after.counted;
+    is_open = is_ok answer;
+  }
 
 -- a site was asked to take an operation, and this is the answer
 abbrev pub HasTaken : View → View → ℕ → ℕ → Result Took Take → Type 0

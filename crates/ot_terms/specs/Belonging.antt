@@ -87,7 +87,7 @@ pub record IsMade (count : ℕ) (k : Kind) (a : SymOp) : Type 0 where
 abbrev pub AreMade : ObName → List SymOp → Type 0
 AreMade (Pair k l) os =
     (a b : SymOp) × (os ≡ a ∷ b ∷ ops.Nop ∷ []) × IsMade (name_count (Pair k l)) k a
-        × IsMade (name_count (Pair k l)) l b
+    × IsMade (name_count (Pair k l)) l b
 AreMade (Triple k l m) os =
     (a b c : SymOp) × (os ≡ a ∷ b ∷ c ∷ []) × IsMade (name_count (Triple k l m)) k a
     × IsMade (name_count (Triple k l m)) l b × IsMade (name_count (Triple k l m)) m c

@@ -51,7 +51,7 @@ cell_of_doc base v (Mark d at) j =
     by_place j (integer_at v at) (cell_of_doc base v d j) (killed (cell_of_doc base v d j)) (cell_of_doc base v d j)
 cell_of_doc base v (Over d at ch) j =
     by_place j (integer_at v at) (cell_of_doc base v d j) (rewritten (v ch) (cell_of_doc base v d j))
-        (cell_of_doc base v d j)
+    (cell_of_doc base v d j)
 
 -- the cell that a term is
 abbrev pub cell_of : BaseDocument → (ℕ → ℤ) → CellTree → IntegerCell

@@ -54,8 +54,13 @@ if_length next = If (Le zero_place (length_and (pos 0))) next Holds
 
 -- what the second operation becomes behind the first is the first result
 abbrev pub first_choice : ObName → SymOp → SymOp → SymOp → GoalTree
-first_choice ob a b third = Choose 0 b a (record { ob = ob; ops = a ∷ b ∷ third
-    ∷ []; got = replicate 6 Nop; count = 0 })
+first_choice ob a b third = Choose 0 b a (record {
+  ob = ob;
+  ops = a ∷ b ∷ third
+      ∷ [];
+  got = replicate 6 Nop;
+  count = 0;
+})
 
 abbrev pub start_pair : Head → Kind → Kind → GoalTree
 start_pair head k l =

@@ -1,5 +1,6 @@
 -- What completes what is wanted after a token, by what the token leaves of it.
-use Rattle.std.proofs.Common.{◌≡◌, ◌↔◌, ℕ, ◌≤◌, ◌<◌, List, [], ◌∷◌, ◌++◌, length, true, Result, Ok, Err, Option, Some, None, inl, inr, arith, refl, subst, sym, ap, ◌∙◌, append_assoc, nat_lt}
+use Rattle.std.proofs.Common.{◌≡◌, ◌↔◌, ℕ, ◌≤◌, ◌<◌, List, [], ◌∷◌, ◌++◌, length, true, Result, Ok, Err, Option, Some, None, inl, inr, arith, refl, subst, sym}
+use Rattle.std.proofs.Common.{ap, ◌∙◌, append_assoc, nat_lt}
 use Rattle.std.specs.Prelude.{slice_get}
 use Rattle.std.proofs.lemmas.Bool.{cases_Bool}
 use Rattle.std.proofs.lemmas.Bool.Decides.{nat_tests}
@@ -12,10 +13,12 @@ use Rattle.proof_trees.specs.declared.limits.TheConstants.{MAX_LEMMAS, MAX_LITER
 use Rattle.proof_trees.specs.declared.token.ProofTok.{ProofTok}
 use Rattle.proof_trees.specs.declared.token.ProofTok.TheVariants as token
 use Rattle.proof_trees.specs.Starts.{MarkedPlan, Ask, Holds, Fails, start_of, Comparison, conditions_between}
-use Rattle.proof_trees.specs.Proofs.{ProofTree, Question, End, Impossible, Lemma, Citation, Learned, with_lemma, learned, MayLearn, EachFollows, FollowsUnder, Serves, Shows}
+use Rattle.proof_trees.specs.Proofs.{ProofTree, Question, End, Impossible, Lemma, Citation, Learned, with_lemma, learned, MayLearn, EachFollows, FollowsUnder}
+use Rattle.proof_trees.specs.Proofs.{Serves, Shows}
 use Rattle.proof_trees.specs.Tokens.{tokens_of, cycle_tokens, Wanted, Tree, Cycle, Learn, wanted_cycles, Completes, HasFew}
 use Rattle.proof_check.specs.declared.verdict.ProofError.{ProofError}
-use Rattle.proof_check.specs.Steps.{Standing, settled, after_question, after_end, after_cycle, after_lemma, after_comparison, after_citation, after_at_tree, after_at_cycle, after}
+use Rattle.proof_check.specs.Steps.{Standing, settled, after_question, after_end, after_cycle, after_lemma, after_comparison, after_citation, after_at_tree}
+use Rattle.proof_check.specs.Steps.{after_at_cycle, after}
 
 -- no numbers are no cycle
 cycle_has_picks : (w : List Lit) (picks : List ℕ) → pick_verdict w picks ≡ Ok tt → 1 ≤ length picks

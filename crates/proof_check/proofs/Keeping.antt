@@ -5,7 +5,8 @@ use Rattle.std.specs.List.{AllByRecursion}
 use Rattle.diff_graph.specs.declared.lit.Lit.{Lit}
 use Rattle.proof_trees.specs.Starters.{Starts, KeepsStarts}
 use Rattle.proof_check.specs.declared.places.Known.{Known}
-use Rattle.proof_check.specs.Places.{WantedAt, Tree, Cycle, Learn, OpenProof, IsOwnPlace, AreOwnPlaces, first_node, first_list, settled_at, asked, closed, begun, cited, cycles_at, wanted_of, learned_of, standing_of}
+use Rattle.proof_check.specs.Places.{WantedAt, Tree, Cycle, Learn, OpenProof, IsOwnPlace, AreOwnPlaces, first_node, first_list, settled_at, asked, closed}
+use Rattle.proof_check.specs.Places.{begun, cited, cycles_at, wanted_of, learned_of, standing_of}
 
 module _ {N : Type 0} (is_own : N → Type 0) where
   abbrev AreOwnKnown : List (Known N) → Type 0

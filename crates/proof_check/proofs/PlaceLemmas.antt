@@ -1,7 +1,9 @@
 -- The places of a proof after each change of its path.
-use Rattle.std.proofs.Common.{get_or, ◌≡◌, ℕ, ◌+◌, ◌<◌, ◌≤◌, List, [], ◌∷◌, ◌++◌, length, take, drop, map, reverse, Option, Some, None, Bool, true, false, arith, refl, sym, ◌∙◌, ap, subst, append_assoc, zero, suc}
+use Rattle.std.proofs.Common.{get_or, ◌≡◌, ℕ, ◌+◌, ◌<◌, ◌≤◌, List, [], ◌∷◌, ◌++◌, length, take, drop, map, reverse, Option, Some, None, Bool, true, false}
+use Rattle.std.proofs.Common.{arith, refl, sym, ◌∙◌, ap, subst, append_assoc, zero, suc}
 use Rattle.std.specs.Prelude.{if◌then◌else◌, slice_get}
-use Rattle.std.proofs.lemmas.List.{reverse-append, map-append, take-take, take-append-le, take_at, drop-append-le, drop-take, length-append, length-take-le, drop_at}
+use Rattle.std.proofs.lemmas.List.{reverse-append, map-append, take-take, take-append-le, take_at, drop-append-le, drop-take, length-append, length-take-le}
+use Rattle.std.proofs.lemmas.List.{drop_at}
 use Rattle.std.proofs.Math.Seq.{take-length}
 use Rattle.std.proofs.lemmas.Option.{slice_get_read}
 use Rattle.diff_graph.specs.declared.lit.Lit.{Lit}
@@ -12,7 +14,8 @@ use Rattle.proof_check.specs.declared.places.Known.{Known}
 use Rattle.proof_check.specs.declared.places.Waiting.{Waiting}
 use Rattle.proof_check.specs.declared.places.Waiting.TheVariants as waiting
 use Rattle.proof_check.specs.Parts.{cycle_part}
-use Rattle.proof_check.specs.Places.{WantedAt, Tree, OpenProof, first_list, settled_at, closed, asked, begun, cited, cycles_at, literals_at, place_at, behind, IsNested, open_proof, IsOpenPath}
+use Rattle.proof_check.specs.Places.{WantedAt, Tree, OpenProof, first_list, settled_at, closed, asked, begun, cited, cycles_at, literals_at, place_at, behind}
+use Rattle.proof_check.specs.Places.{IsNested, open_proof, IsOpenPath}
 
 -- a last element is the first from behind
 reverse-push : {X : Type 0} (xs : List X) (x : X) → reverse (xs ++ x ∷ []) ≡ x ∷ reverse xs

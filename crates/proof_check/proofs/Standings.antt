@@ -1,5 +1,6 @@
 -- The changes of open places are those of the tokens, for nodes with their plans.
-use Rattle.std.proofs.Common.{◌≡◌, ℕ, ◌<◌, List, [], ◌∷◌, ◌++◌, length, map, drop, Option, Some, None, Ok, true, false, arith, refl, sym, ◌∙◌, ap, subst, nat_lt}
+use Rattle.std.proofs.Common.{◌≡◌, ℕ, ◌<◌, List, [], ◌∷◌, ◌++◌, length, map, drop, Option, Some, None, Ok, true, false, arith, refl, sym, ◌∙◌, ap, subst}
+use Rattle.std.proofs.Common.{nat_lt}
 use Rattle.std.specs.Prelude.{slice_get}
 use Rattle.std.proofs.lemmas.List.{map-append, length-map}
 use Rattle.std.proofs.lemmas.Option.{slice_get-map}
@@ -15,7 +16,8 @@ use Rattle.proof_trees.specs.Proofs.{Learned}
 use Rattle.proof_trees.specs.Tokens.{Wanted, wanted_cycles}
 use Rattle.proof_trees.specs.Tokens as plan
 use Rattle.proof_check.specs.declared.places.Known.{Known}
-use Rattle.proof_check.specs.Places.{WantedAt, Tree, Cycle, Learn, OpenProof, IsSettled, first_node, first_list, asked, closed, begun, cited, cycles_at, settled_at, wanted_of, learned_of, standing_of}
+use Rattle.proof_check.specs.Places.{WantedAt, Tree, Cycle, Learn, OpenProof, IsSettled, first_node, first_list, asked, closed, begun, cited, cycles_at}
+use Rattle.proof_check.specs.Places.{settled_at, wanted_of, learned_of, standing_of}
 use Rattle.proof_check.specs.Steps.{settled, IsTaken, after, after_at_cycle, after_at_tree}
 
 module _ {N S W : Type 0} (marked : N → MarkedPlan S W) where

@@ -1,5 +1,6 @@
 -- What a token makes of open places whose asker was called on the way.
-use Rattle.std.proofs.Common.{◌≡◌, ◌⊎◌, inl, inr, ℕ, ℤ, zero, suc, ◌<◌, List, [], ◌∷◌, ◌++◌, length, map, Option, Some, None, Result, Ok, Err, Bool, true, false, refl, sym, ap, ◌∙◌, subst, arith, IsTrue, ◌↔◌}
+use Rattle.std.proofs.Common.{◌≡◌, ◌⊎◌, inl, inr, ℕ, ℤ, zero, suc, ◌<◌, List, [], ◌∷◌, ◌++◌, length, map, Option, Some, None, Result, Ok, Err, Bool, true}
+use Rattle.std.proofs.Common.{false, refl, sym, ap, ◌∙◌, subst, arith, IsTrue, ◌↔◌}
 use Rattle.std.specs.Prelude.{slice_get, OnOk, IfErr}
 use Rattle.std.specs.Option.{option_map}
 use Rattle.diff_graph.specs.declared.lit.Lit.{Lit}
@@ -17,7 +18,8 @@ use Rattle.proof_trees.specs.Truth.{HoldsUnder}
 use Rattle.proof_check.specs.declared.places.Known.{Known}
 use Rattle.proof_check.specs.declared.verdict.ProofError.{ProofError}
 use Rattle.proof_check.specs.declared.verdict.ProofError.TheVariants as error
-use Rattle.proof_check.specs.Places.{WantedAt, Tree, Cycle, Learn, OpenProof, AreOwnPlaces, IsSettled, first_node, first_list, asked, closed, cited, literals_at, wanted_of, learned_of}
+use Rattle.proof_check.specs.Places.{WantedAt, Tree, Cycle, Learn, OpenProof, AreOwnPlaces, IsSettled, first_node, first_list, asked, closed, cited}
+use Rattle.proof_check.specs.Places.{literals_at, wanted_of, learned_of}
 use Rattle.proof_check.specs.Steps.{Standing, after, IsTaken}
 use Rattle.proof_check.specs.Judging.{IsUnderWay, IsUnderWayUnless, standing_over, AreCompleted, IsCauseOf, IsRefusedBy, IsWant}
 use Rattle.proof_check.proofs.Completing.{Completes-step, Completes-refused}

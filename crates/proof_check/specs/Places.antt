@@ -1,5 +1,6 @@
 -- The open places of a proof, by node: what is wanted, and the lemmas that are known.
-use Rattle.std.specs.Prelude.{ℕ, ◌+◌, ◌≤◌, ⊤, List, [], ◌∷◌, ◌++◌, zero, suc, Option, Some, None, length, map, reverse, take, drop, true, false}
+use Rattle.std.specs.Prelude.{ℕ, ◌+◌, ◌≤◌, ⊤, List, [], ◌∷◌, ◌++◌, zero, suc, Option, Some, None, length, map, reverse}
+use Rattle.std.specs.Prelude.{take, drop, true, false}
 use Rattle.std.specs.List.{AllByRecursion}
 use Rattle.diff_graph.specs.declared.lit.Lit.{Lit}
 use Rattle.ask_core.specs.Trees.{with_answer}
@@ -113,8 +114,8 @@ abbrev pub place_at : {N : Type 0} → At N → List Lit → WantedAt N
 place_at (at.Tree n) w = Tree n w
 place_at at.Cycle w = Cycle w
 
--- what waits, the innermost part first. A part shares the first literals of the list, of which the present ones begin at
--- the base. Behind a lemma the list is the one that it was begun in
+-- what waits, the innermost part first. A part shares the first literals of the list, of which the present ones begin
+-- at the base. Behind a lemma the list is the one that it was begun in
 abbrev pub behind : {N : Type 0} → ℕ → List Lit → List (Waiting N) → List (WantedAt N)
 behind base list [] = []
 behind base list (waiting.Place place depth answer ∷ parts) =
@@ -125,8 +126,10 @@ behind base list (waiting.Lemma n below count ∷ parts) =
 -- each part shares no more literals than the limit and than the one before it, and none before its base
 abbrev pub IsNested : {N : Type 0} → ℕ → ℕ → List (Waiting N) → Type 0
 IsNested base limit [] = ⊤
-IsNested base limit (waiting.Place place depth answer ∷ parts) = (base ≤ depth) × (depth ≤ limit) × IsNested base depth parts
-IsNested base limit (waiting.Lemma n below count ∷ parts) = (below ≤ base) × (base + count ≤ limit) × IsNested below base parts
+IsNested base limit (waiting.Place place depth answer ∷ parts) = (base ≤ depth) × (depth ≤ limit)
+    × IsNested base depth parts
+IsNested base limit (waiting.Lemma n below count ∷ parts) = (below ≤ base) × (base + count ≤ limit)
+    × IsNested below base parts
 
 -- the open places of a path, the parts that wait being listed with the innermost one last
 abbrev pub open_proof : {N : Type 0} → List (Known N) → Option (At N) → ℕ → List Lit → List (Waiting N) → OpenProof N

@@ -1,5 +1,6 @@
 -- What a token of a proof tree does to what is wanted and to the lemmas that are known.
-use Rattle.std.specs.Prelude.{◌≡◌, length, List, [], ◌∷◌, ◌++◌, true, false, Result, Ok, Err, Option, Some, None, if◌then◌else◌, nat_lt, slice_get}
+use Rattle.std.specs.Prelude.{◌≡◌, length, List, [], ◌∷◌, ◌++◌, true, false, Result, Ok, Err, Option, Some, None}
+use Rattle.std.specs.Prelude.{if◌then◌else◌, nat_lt, slice_get}
 use Rattle.diff_graph.specs.declared.lit.Lit.{Lit}
 use Rattle.diff_graph.specs.declared.lit.PickError.{PickError}
 use Rattle.diff_graph.specs.Cycles.{pick_verdict}
@@ -29,7 +30,8 @@ settled known (Learn p ls ∷ wanted) = settled (with_lemma known p ls) wanted
 
 -- after `?` where a tree of the plan is wanted
 abbrev pub after_question :
-    {S W : Type 0} → List (Learned S W) → MarkedPlan S W → List Lit → List (Wanted S W) → Result (Standing S W) ProofError
+    {S W : Type 0} → List (Learned S W) → MarkedPlan S W → List Lit → List (Wanted S W)
+    → Result (Standing S W) ProofError
 after_question known (Ask start l on_yes on_no) w wanted =
     Ok (record {
       known = known;
@@ -47,7 +49,8 @@ after_end known (Fails start why) wanted = Err (error.Tree check.GoalFails)
 
 -- after a cycle with this verdict
 abbrev pub after_cycle :
-    {S W : Type 0} → Result (Unit {0}) PickError → List (Learned S W) → List (Wanted S W) → Result (Standing S W) ProofError
+    {S W : Type 0} → Result (Unit {0}) PickError → List (Learned S W) → List (Wanted S W)
+    → Result (Standing S W) ProofError
 after_cycle (Ok done) known wanted = Ok (settled known wanted)
 after_cycle (Err why) known wanted = Err (error.Tree (end_of_cycle why))
 

@@ -81,7 +81,8 @@ impl<A: Starter> ProofChecker<A> {
         ensures stays { IfErr result (λ e. self.new.refusal ≡ Some e) }
         ensures again { (e : ProofError) → self.old.refusal ≡ Some e → result ≡ Err e }
         ensures err { IfErr result (λ e. IsWant e ⊎ (self.new.places ≡ self.old.places)) }
-        ensures err_open { IfErr result (λ e. IsWant e ⊎ (standing_at A.starts self.new ≡ standing_at A.starts self.old)) }
+        ensures err_open { IfErr result (λ e. IsWant e
+            ⊎ (standing_at A.starts self.new ≡ standing_at A.starts self.old)) }
 
         // What the tree is for, and how starts compare, is never changed.
         ensures root { A.root self.new.asker ≡ A.root self.old.asker }

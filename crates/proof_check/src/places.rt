@@ -1,9 +1,11 @@
 //! The open places of a proof.
-ghost use Rattle.std.specs.Prelude.{◌≡◌, ◌↔◌, IsTrue, ◌<◌, ◌≤◌, List, [], ◌∷◌, ◌++◌, Some, length, slice_get, reverse, map, OnOk, OnErr};
+ghost use Rattle.std.specs.Prelude.{◌≡◌, ◌↔◌, IsTrue, ◌<◌, ◌≤◌, List, [], ◌∷◌, ◌++◌, Some, length, slice_get, reverse};
+ghost use Rattle.std.specs.Prelude.{map, OnOk, OnErr};
 ghost use Rattle.diff_graph.specs.declared.lit.Lit.{Lit};
 ghost use Rattle.std.specs.Option.{option_map};
 ghost use Rattle.proof_trees.specs.declared.limits.TheConstants.{MAX_LITERALS};
-ghost use Rattle.proof_check.specs.Places.{OpenProof, Tree, IsSettled, first_list, first_node, closed, asked, begun, cited, literals_at};
+ghost use Rattle.proof_check.specs.Places.{OpenProof, Tree, IsSettled, first_list, first_node, closed, asked, begun};
+ghost use Rattle.proof_check.specs.Places.{cited, literals_at};
 ghost use Rattle.proof_check.specs.Parts.{cycle_part};
 
 use ask_core::NoMemory;
@@ -217,8 +219,10 @@ fn wait_for_cycles<N: Copy>(
     depth: usize,
     literals: &[Lit],
 ) -> Result<(), NoMemory>
-    ensures ok { OnOk result (reverse waiting.new.items ≡ map (cycle_part depth) literals.now ++ reverse waiting.old.items) }
-    ensures some { (ls : List Lit) × (reverse waiting.new.items ≡ map (cycle_part depth) ls ++ reverse waiting.old.items) }
+    ensures ok { OnOk result (reverse waiting.new.items ≡ map (cycle_part depth) literals.now
+        ++ reverse waiting.old.items) }
+    ensures some { (ls : List Lit) × (reverse waiting.new.items ≡ map (cycle_part depth) ls
+        ++ reverse waiting.old.items) }
 {
     let mut left = literals.len();
     while left > 0 {

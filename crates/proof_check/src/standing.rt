@@ -7,14 +7,16 @@ ghost use Rattle.proof_trees.specs.declared.token.ProofTok.{ProofTok};
 ghost use Rattle.proof_trees.specs.declared.token.ProofTok.TheVariants as token;
 ghost use Rattle.proof_trees.specs.Starts.{MarkedPlan, Ask, Holds, start_of, Comparison, conditions_between};
 ghost use Rattle.proof_check.specs.declared.places.Known.{Known};
-ghost use Rattle.proof_check.specs.Places.{OpenProof, IsSettled, first_node, first_list, asked, closed, begun, cited, standing_of};
+ghost use Rattle.proof_check.specs.Places.{OpenProof, IsSettled, first_node, first_list, asked, closed, begun, cited};
+ghost use Rattle.proof_check.specs.Places.{standing_of};
 ghost use Rattle.proof_check.specs.Steps.{IsTaken, after, after_at_cycle, after_at_tree};
 
 /// A law and no code, for any nodes with their plans: what the changes of open places do is what the tokens do. A
 /// question is asked where the plan asks; an end closes a place where the plan holds; a lemma is begun and a known
 /// one cited where a start is, and where the starts compare.
 pub fn places_change_as_tokens_say<N: Copy, S, W: Copy>()
-    ensures question { (compare : Comparison S) (marked : N → MarkedPlan S W) (p : OpenProof N) (n on_yes on_no : N) (l : Lit) (start : Option S)
+    ensures question { (compare : Comparison S) (marked : N → MarkedPlan S W) (p : OpenProof N) (n on_yes on_no : N)
+        (l : Lit) (start : Option S)
         → first_node p.wanted ≡ Some n → marked n ≡ Ask start l (marked on_yes) (marked on_no)
         → IsTaken compare token.Ask (standing_of marked p) (standing_of marked (asked l on_yes on_no p)) }
     ensures end { (compare : Comparison S) (marked : N → MarkedPlan S W) (p : OpenProof N) (n : N) (start : Option S)
@@ -23,10 +25,12 @@ pub fn places_change_as_tokens_say<N: Copy, S, W: Copy>()
     ensures cycle { (compare : Comparison S) (marked : N → MarkedPlan S W) (p : OpenProof N) (picks : List ℕ)
         → IsSettled p.wanted → 0 < length p.wanted → pick_verdict (first_list p.wanted) picks ≡ Ok tt
         → IsTaken compare (token.Cycle picks) (standing_of marked p) (standing_of marked (closed p)) }
-    ensures lemma { (compare : Comparison S) (marked : N → MarkedPlan S W) (p : OpenProof N) (n : N) (s : S) (ls : List Lit)
+    ensures lemma { (compare : Comparison S) (marked : N → MarkedPlan S W) (p : OpenProof N) (n : N) (s : S)
+        (ls : List Lit)
         → first_node p.wanted ≡ Some n → start_of (marked n) ≡ Some s → length p.known < MAX_LEMMAS
         → IsTaken compare (token.Lemma ls) (standing_of marked p) (standing_of marked (begun n ls p)) }
-    ensures citation { (compare : Comparison S) (marked : N → MarkedPlan S W) (p : OpenProof N) (n : N) (s : S) (number : ℕ)
+    ensures citation { (compare : Comparison S) (marked : N → MarkedPlan S W) (p : OpenProof N) (n : N) (s : S)
+        (number : ℕ)
         (k : Known N) (es : List Lit)
         → first_node p.wanted ≡ Some n → start_of (marked n) ≡ Some s → slice_get p.known number ≡ Some k
         → conditions_between compare (start_of (marked k.node)) (start_of (marked n)) ≡ Some es

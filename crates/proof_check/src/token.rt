@@ -29,7 +29,8 @@ fn take_cycle<N: Copy>(places: &mut Places<N>, picks: &Picks) -> Result<(), Proo
     ensures ok { OnOk result (pick_verdict (first_list places.old.wanted) picks.now ≡ Ok tt) }
     ensures kept { IfErr result (λ e. IsWant e ⊎ (places.new ≡ places.old)) }
     ensures why { IfErr result (λ e. IsWant e
-        ⊎ ((p : PickError) × (pick_verdict (first_list places.old.wanted) picks.now ≡ Err p) × (e ≡ error.Tree (end_of_cycle p)))) }
+        ⊎ ((p : PickError) × (pick_verdict (first_list places.old.wanted) picks.now ≡ Err p)
+        × (e ≡ error.Tree (end_of_cycle p)))) }
 {
     is_negative_cycle(places.list(), picks.as_slice())?;
     places.close()?;

@@ -7,7 +7,8 @@ use Rattle.std.specs.Fmt.{decimal}
 use Rattle.proof_text.specs.declared.unread.Unread.TheVariants.{Misspelt, Cut}
 use Rattle.proof_text.specs.Fronts.{Front, Found, Missing, and_then, found_as, fixed_front}
 use Rattle.proof_text.specs.Numbers.{number_before, number_front}
-use Rattle.proof_text.proofs.Spells.{Spells, IsAnything, cut_is_not_misspelt, found_is_not_missing, pair_front, pairs_spelled, renamed_spelled, same_found, same_spelled}
+use Rattle.proof_text.proofs.Spells.{Spells, IsAnything, cut_is_not_misspelt, found_is_not_missing, pair_front, pairs_spelled, renamed_spelled, same_found}
+use Rattle.proof_text.proofs.Spells.{same_spelled}
 use Rattle.proof_text.proofs.NumberLemmas.{numbers_spelled}
 
 -- two bytes are the same or not

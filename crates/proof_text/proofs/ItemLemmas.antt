@@ -1,12 +1,14 @@
 -- Lists are found exactly where their items stand with a byte between two of them and one that ends them.
-use Rattle.std.proofs.Common.{◌≡◌, ◌≢◌, ⊎_elim, ℕ, zero, suc, ◌-◌, ◌<◌, ◌≤◌, true, false, List, [], ◌∷◌, ◌++◌, length, refl, sym, ap, ◌∙◌, arith, subst, append_assoc}
+use Rattle.std.proofs.Common.{◌≡◌, ◌≢◌, ⊎_elim, ℕ, zero, suc, ◌-◌, ◌<◌, ◌≤◌, true, false, List, [], ◌∷◌, ◌++◌, length, refl, sym, ap, ◌∙◌, arith, subst}
+use Rattle.std.proofs.Common.{append_assoc}
 use Rattle.std.proofs.lemmas.List.{append-nil}
 use Rattle.std.specs.List.{AllByRecursion}
 use Rattle.std.specs.Prelude.{nat_eq}
 use Rattle.proof_text.specs.declared.unread.Unread.{Unread}
 use Rattle.proof_text.specs.declared.unread.Unread.TheVariants.{Misspelt, Cut}
 use Rattle.proof_text.specs.Fronts.{Front, Found, Missing, after_item, and_then, found_as, items_front}
-use Rattle.proof_text.proofs.Spells.{Spells, IsAnything, and_then_found, and_then_missing, cut_is_not_misspelt, found_as_found, found_as_missing, found_is_not_missing, found_stays, same_found}
+use Rattle.proof_text.proofs.Spells.{Spells, IsAnything, and_then_found, and_then_missing, cut_is_not_misspelt, found_as_found, found_as_missing}
+use Rattle.proof_text.proofs.Spells.{found_is_not_missing, found_stays, same_found}
 use Rattle.proof_text.proofs.FixedLemmas.{other_byte, same_byte, same_byte_or_not}
 
 -- what stands behind an item: the others, each after the byte between, and the last byte

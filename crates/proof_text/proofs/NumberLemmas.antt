@@ -1,5 +1,6 @@
 -- Numbers are found exactly where their digits stand with no digit behind them.
-use Rattle.std.proofs.Common.{◌≡◌, ◌⊎◌, inl, inr, ⊎_elim, ℕ, zero, suc, ◌+◌, ◌-◌, ◌*◌, ◌/◌, ◌%◌, ◌^◌, ◌<◌, ◌≤◌, true, false, List, [], ◌∷◌, ◌++◌, refl, sym, ap, ◌∙◌, arith, subst, append_assoc}
+use Rattle.std.proofs.Common.{◌≡◌, ◌⊎◌, inl, inr, ⊎_elim, ℕ, zero, suc, ◌+◌, ◌-◌, ◌*◌, ◌/◌, ◌%◌, ◌^◌, ◌<◌, ◌≤◌, true, false, List, [], ◌∷◌, ◌++◌, refl, sym, ap}
+use Rattle.std.proofs.Common.{◌∙◌, arith, subst, append_assoc}
 use Rattle.std.proofs.lemmas.Bool.Decides.{nat_tests}
 use Rattle.std.proofs.lemmas.List.{append-nil}
 use Rattle.std.proofs.lemmas.Fmt.{decimal_digit, decimal_step}
@@ -109,7 +110,8 @@ digits_read short n m (b ∷ bytes) rest below few is =
     ⊎_elim
     (λ (digit : is_ascii_digit b ≡ true).
     ⊎_elim
-    (λ (more : (nat_lt 0 n && nat_lt n short ≡ true) × (0 < n) × (n < short)). goes_on short n m b bytes rest few digit more.0 more.1 more.2 (λ k less e. digits_read short k m bytes rest less few e) is)
+    (λ (more : (nat_lt 0 n && nat_lt n short ≡ true) × (0 < n) × (n < short)). goes_on short n m b bytes rest few digit more.0 more.1 more.2
+    (λ k less e. digits_read short k m bytes rest less few e) is)
     (λ (more : nat_lt 0 n && nat_lt n short ≡ false).
     absurd (found_is_not_missing m rest Misspelt (sym is ∙ digits_wrong short n b bytes digit more)))
     (more_digits short n))
@@ -154,7 +156,8 @@ digits_cut short n (b ∷ bytes) below few is =
     ⊎_elim
     (λ (more : (nat_lt 0 n && nat_lt n short ≡ true) × (0 < n) × (n < short)).
     goes_on short n b bytes few digit more.0 more.1 more.2 (λ k less e. digits_cut short k bytes less few e) is)
-    (λ (more : nat_lt 0 n && nat_lt n short ≡ false). absurd (cut_is_not_misspelt (digits_front short n (b ∷ bytes)) is (digits_wrong short n b bytes digit more)))
+    (λ (more : nat_lt 0 n && nat_lt n short ≡ false). absurd (cut_is_not_misspelt (digits_front short n (b ∷ bytes)) is
+    (digits_wrong short n b bytes digit more)))
     (more_digits short n))
     (λ (none : is_ascii_digit b ≡ false). absurd (found_is_not_missing n (b ∷ bytes) Cut (sym (digits_end short n b bytes none) ∙ is)))
     (digit_or_none b)

@@ -1,5 +1,6 @@
 -- Tokens are found exactly where they stand.
-use Rattle.std.proofs.Common.{◌≡◌, ◌≢◌, ⊎_elim, ℕ, ◌-◌, ◌<◌, ◌≤◌, true, false, List, [], ◌∷◌, ◌++◌, length, drop, refl, sym, ap, ◌∙◌, arith, subst, append_assoc}
+use Rattle.std.proofs.Common.{◌≡◌, ◌≢◌, ⊎_elim, ℕ, ◌-◌, ◌<◌, ◌≤◌, true, false, List, [], ◌∷◌, ◌++◌, length, drop, refl, sym, ap, ◌∙◌, arith, subst}
+use Rattle.std.proofs.Common.{append_assoc}
 use Rattle.std.specs.List.{AllByRecursion}
 use Rattle.std.specs.Prelude.{nat_eq, ℤ, pos}
 use Rattle.std.specs.Fmt.{decimal}
@@ -12,7 +13,8 @@ use Rattle.proof_text.specs.Fronts.{Front, Found, Missing, and_then, found_as}
 use Rattle.proof_text.specs.Numbers.{number_before, number_front, offset_front}
 use Rattle.proof_text.specs.Spelling.{IsShortLiteral, IsShortOffset, IsSpellable, literal_text, literals_text, more_literals_text, offset_text, token_text}
 use Rattle.proof_text.specs.Tokens.{literal_front, literals_front, numbers_front, some_literals_front, token_from, token_front}
-use Rattle.proof_text.proofs.Spells.{Spells, IsAnything, cut_is_not_misspelt, found_as_found, found_as_missing, found_is_not_missing, pair_front, pair_with, pairs_spelled, renamed_spelled, same_found, same_spelled}
+use Rattle.proof_text.proofs.Spells.{Spells, IsAnything, cut_is_not_misspelt, found_as_found, found_as_missing, found_is_not_missing, pair_front, pair_with}
+use Rattle.proof_text.proofs.Spells.{pairs_spelled, renamed_spelled, same_found, same_spelled}
 use Rattle.proof_text.proofs.NumberLemmas.{NoDigitNext, numbers_spelled}
 use Rattle.proof_text.proofs.FixedLemmas.{number_before_spelled, same_byte_or_not}
 use Rattle.proof_text.proofs.OffsetLemmas.{offsets_spelled}
@@ -60,14 +62,17 @@ literal_of p = record { x = p.0; y = p.1.0; k = p.1.1 }
 abbrev parts_of : Lit → ℕ × (ℕ × ℤ)
 parts_of l = (l.x, (l.y, l.k))
 
-literal_by_parts : (bytes : List ℕ) → found_as literal_of (pair_front (number_before 44 10) (pair_front (number_before 44 10) offset_front) bytes) ≡ literal_front bytes
+literal_by_parts : (bytes : List ℕ) → found_as literal_of (pair_front (number_before 44 10) (pair_front (number_before 44 10) offset_front) bytes)
+    ≡ literal_front bytes
 literal_by_parts bytes = names (number_before 44 10 bytes)
   where
-    offsets : (x y : ℕ) (o : Front ℤ) → found_as literal_of (found_as (pair_with x) (found_as (pair_with y) o)) ≡ found_as (λ k. record { x = x; y = y; k = k }) o
+    offsets : (x y : ℕ) (o : Front ℤ) → found_as literal_of (found_as (pair_with x) (found_as (pair_with y) o))
+        ≡ found_as (λ k. record { x = x; y = y; k = k }) o
     offsets x y (Found k rest) = refl
     offsets x y (Missing why) = refl
 
-    second : (x : ℕ) (n : Front ℕ) → found_as literal_of (found_as (pair_with x) (and_then n (λ y rest. found_as (pair_with y) (offset_front rest)))) ≡ and_then n (λ y more. found_as (λ k. record { x = x; y = y; k = k }) (offset_front more))
+    second : (x : ℕ) (n : Front ℕ) → found_as literal_of (found_as (pair_with x) (and_then n (λ y rest. found_as (pair_with y) (offset_front rest))))
+        ≡ and_then n (λ y more. found_as (λ k. record { x = x; y = y; k = k }) (offset_front more))
     second x (Found y rest) = offsets x y (offset_front rest)
     second x (Missing why) = refl
 
@@ -167,7 +172,8 @@ lemmas_spelled =
         ((r.0.1, r.0.2), r.2))
         (same_byte_or_not b 59)
 
-    cut : (bytes : List ℕ) → literals_front bytes ≡ Missing Cut → (ls : List Lit) × (more : List ℕ) × AreFewLiterals ls × (literals_text ls ++ 59 ∷ [] ≡ bytes ++ more)
+    cut : (bytes : List ℕ) → literals_front bytes ≡ Missing Cut → (ls : List Lit) × (more : List ℕ) × AreFewLiterals ls
+        × (literals_text ls ++ 59 ∷ [] ≡ bytes ++ more)
     cut [] is = ([], 59 ∷ [], (omega arith, tt), refl)
     cut (b ∷ bytes) is =
         ⊎_elim
@@ -236,21 +242,24 @@ read_holds t bytes rest is =
     subst (λ (u : ProofTok). IsSpellable u × Unit {0} × (46 ∷ bytes ≡ token_text u ++ rest)) same.0
     (tt, tt, ap (λ (l : List ℕ). 46 ∷ l) same.1)
 
-read_cycle : (t : ProofTok) (bytes rest : List ℕ) → found_as token.Cycle (numbers_front 12 bytes) ≡ Found t rest → IsSpellable t × Unit {0} × (120 ∷ bytes ≡ token_text t ++ rest)
+read_cycle : (t : ProofTok) (bytes rest : List ℕ) → found_as token.Cycle (numbers_front 12 bytes) ≡ Found t rest → IsSpellable t × Unit {0}
+    × (120 ∷ bytes ≡ token_text t ++ rest)
 read_cycle t bytes rest is =
     let found = found_as_found token.Cycle (numbers_front 12 bytes) t rest is in
     let r = cycles_spelled.read found.0 bytes rest found.1 in
     subst (λ (u : ProofTok). IsSpellable u × Unit {0} × (120 ∷ bytes ≡ token_text u ++ rest)) found.2
     (r.0, tt, ap (λ (l : List ℕ). 120 ∷ l) r.2)
 
-read_lemma : (t : ProofTok) (bytes rest : List ℕ) → found_as token.Lemma (literals_front bytes) ≡ Found t rest → IsSpellable t × Unit {0} × (108 ∷ bytes ≡ token_text t ++ rest)
+read_lemma : (t : ProofTok) (bytes rest : List ℕ) → found_as token.Lemma (literals_front bytes) ≡ Found t rest → IsSpellable t × Unit {0}
+    × (108 ∷ bytes ≡ token_text t ++ rest)
 read_lemma t bytes rest is =
     let found = found_as_found token.Lemma (literals_front bytes) t rest is in
     let r = lemmas_spelled.read found.0 bytes rest found.1 in
     subst (λ (u : ProofTok). IsSpellable u × Unit {0} × (108 ∷ bytes ≡ token_text u ++ rest)) found.2
     (r.0, tt, ap (λ (l : List ℕ). 108 ∷ l) r.2)
 
-read_cite : (t : ProofTok) (bytes rest : List ℕ) → found_as token.Cite (number_before 59 100000 bytes) ≡ Found t rest → IsSpellable t × Unit {0} × (99 ∷ bytes ≡ token_text t ++ rest)
+read_cite : (t : ProofTok) (bytes rest : List ℕ) → found_as token.Cite (number_before 59 100000 bytes) ≡ Found t rest → IsSpellable t × Unit {0}
+    × (99 ∷ bytes ≡ token_text t ++ rest)
 read_cite t bytes rest is =
     let found = found_as_found token.Cite (number_before 59 100000 bytes) t rest is in
     let r = cites_spelled.read found.0 bytes rest found.1 in
@@ -303,7 +312,8 @@ tokens_spelled =
               let c = lemmas_spelled.cut bytes (found_as_missing token.Lemma (literals_front bytes) Cut (ap (λ (k : ℕ). token_from k bytes) (sym e) ∙ is)) in
               (token.Lemma c.0, c.1, c.2, at_first b 108 bytes c.1 (literals_text c.0 ++ 59 ∷ []) e c.3)
           | IsCite e ↦
-              let c = cites_spelled.cut bytes (found_as_missing token.Cite (number_before 59 100000 bytes) Cut (ap (λ (k : ℕ). token_from k bytes) (sym e) ∙ is)) in
+              let c = cites_spelled.cut bytes (found_as_missing token.Cite (number_before 59 100000 bytes) Cut
+              (ap (λ (k : ℕ). token_from k bytes) (sym e) ∙ is)) in
               (token.Cite c.0, c.1, c.2, at_first b 99 bytes c.1 (decimal c.0 ++ 59 ∷ []) e c.3)
           | IsNone none ↦ absurd (cut_is_not_misspelt (token_front (b ∷ bytes)) is (none bytes))
         ]
@@ -316,13 +326,16 @@ tokens_spelled =
           | IsHolds e ↦ absurd (found_is_not_missing token.Holds bytes Misspelt (ap (λ (k : ℕ). token_from k bytes) (sym e) ∙ is))
           | IsCycle e ↦
               ap (λ (k : ℕ). token_from k (bytes ++ more)) e
-              ∙ ap (found_as token.Cycle) (cycles_spelled.misspelt bytes more (found_as_missing token.Cycle (numbers_front 12 bytes) Misspelt (ap (λ (k : ℕ). token_from k bytes) (sym e) ∙ is)))
+              ∙ ap (found_as token.Cycle) (cycles_spelled.misspelt bytes more
+              (found_as_missing token.Cycle (numbers_front 12 bytes) Misspelt (ap (λ (k : ℕ). token_from k bytes) (sym e) ∙ is)))
           | IsLemma e ↦
               ap (λ (k : ℕ). token_from k (bytes ++ more)) e
-              ∙ ap (found_as token.Lemma) (lemmas_spelled.misspelt bytes more (found_as_missing token.Lemma (literals_front bytes) Misspelt (ap (λ (k : ℕ). token_from k bytes) (sym e) ∙ is)))
+              ∙ ap (found_as token.Lemma) (lemmas_spelled.misspelt bytes more
+              (found_as_missing token.Lemma (literals_front bytes) Misspelt (ap (λ (k : ℕ). token_from k bytes) (sym e) ∙ is)))
           | IsCite e ↦
               ap (λ (k : ℕ). token_from k (bytes ++ more)) e
-              ∙ ap (found_as token.Cite) (cites_spelled.misspelt bytes more (found_as_missing token.Cite (number_before 59 100000 bytes) Misspelt (ap (λ (k : ℕ). token_from k bytes) (sym e) ∙ is)))
+              ∙ ap (found_as token.Cite) (cites_spelled.misspelt bytes more
+              (found_as_missing token.Cite (number_before 59 100000 bytes) Misspelt (ap (λ (k : ℕ). token_from k bytes) (sym e) ∙ is)))
           | IsNone none ↦ none (bytes ++ more)
         ]
 

@@ -14,10 +14,13 @@ BeginNone {A} text Spelled bytes =
 
 -- a value is found exactly where its spelling is in front, with what stands behind it; the bytes are cut exactly where
 -- they end within a spelling; and misspelt exactly where none begins so
-pub record FindsExactly {A : Type 0} (front : List ℕ → Front A) (text : A → List ℕ) (Spelled : A → Type 0) : Type 0 where
-  pub found : (a : A) (bytes rest : List ℕ) → (front bytes ≡ Found a rest) ↔ (Spelled a × (bytes ≡ text a ++ rest))
-  pub cut : (bytes : List ℕ) → (front bytes ≡ Missing Cut) ↔ EndWithin text Spelled bytes
-  pub misspelt : (bytes : List ℕ) → (front bytes ≡ Missing Misspelt) ↔ BeginNone text Spelled bytes
-  -- and neither changes where more bytes follow
-  pub found_longer : (a : A) (bytes rest more : List ℕ) → front bytes ≡ Found a rest → front (bytes ++ more) ≡ Found a (rest ++ more)
-  pub misspelt_longer : (bytes more : List ℕ) → front bytes ≡ Missing Misspelt → front (bytes ++ more) ≡ Missing Misspelt
+pub record FindsExactly {A : Type 0} (front : List ℕ → Front A) (text : A → List ℕ) (Spelled : A → Type 0) : Type 0
+  where
+    pub found : (a : A) (bytes rest : List ℕ) → (front bytes ≡ Found a rest) ↔ (Spelled a × (bytes ≡ text a ++ rest))
+    pub cut : (bytes : List ℕ) → (front bytes ≡ Missing Cut) ↔ EndWithin text Spelled bytes
+    pub misspelt : (bytes : List ℕ) → (front bytes ≡ Missing Misspelt) ↔ BeginNone text Spelled bytes
+    -- and neither changes where more bytes follow
+    pub found_longer : (a : A) (bytes rest more : List ℕ) → front bytes ≡ Found a rest
+        → front (bytes ++ more) ≡ Found a (rest ++ more)
+    pub misspelt_longer : (bytes more : List ℕ) → front bytes ≡ Missing Misspelt
+        → front (bytes ++ more) ≡ Missing Misspelt

@@ -5,7 +5,8 @@ ghost use Rattle.proof_text.specs.Answers.{Answers};
 ghost use Rattle.proof_trees.specs.declared.token.ProofTok.TheVariants as token;
 ghost use Rattle.proof_text.specs.Fronts.{Found, Missing, found_as};
 ghost use Rattle.proof_text.specs.Numbers.{number_before};
-ghost use Rattle.proof_text.specs.Tokens.{literal_front, literals_front, numbers_front, some_literals_front, token_front};
+ghost use Rattle.proof_text.specs.Tokens.{literal_front, literals_front, numbers_front, some_literals_front};
+ghost use Rattle.proof_text.specs.Tokens.{token_front};
 
 use crate::Unread;
 use crate::number::{before, number, offset};
@@ -63,7 +64,8 @@ fn some_literals<'a>(bytes: &'a [u8], literals: &mut Literals) -> Result<&'a [u8
     requires { length literals.old < MAX_LITERALS }
     ensures found { IfOk result (λ rest. (ls : List Lit) × (literals.new ≡ literals.old ++ ls)
         × (some_literals_front (MAX_LITERALS - length literals.old) bytes.now ≡ Found ls rest.now)) }
-    ensures missing { IfErr result (λ why. some_literals_front (MAX_LITERALS - length literals.old) bytes.now ≡ Missing why) }
+    ensures missing { IfErr result (λ why. some_literals_front (MAX_LITERALS - length literals.old) bytes.now
+        ≡ Missing why) }
 {
     let (first, rest) = match literal(bytes) {
         Ok(found) => found,
@@ -86,7 +88,8 @@ fn some_literals<'a>(bytes: &'a [u8], literals: &mut Literals) -> Result<&'a [u8
 }
 
 fn cycle<'a>(alloc: Global, bytes: &'a [u8], tok: &mut ProofTok) -> Result<&'a [u8], Unread>
-    ensures found { IfOk result (λ rest. found_as token.Cycle (numbers_front MAX_PICKS bytes.now) ≡ Found tok.new rest.now) }
+    ensures found { IfOk result (λ rest. found_as token.Cycle (numbers_front MAX_PICKS bytes.now)
+        ≡ Found tok.new rest.now) }
     ensures missing { IfErr result (λ why. found_as token.Cycle (numbers_front MAX_PICKS bytes.now) ≡ Missing why) }
 {
     let mut picks = Picks::new(alloc);
@@ -113,7 +116,8 @@ fn lemma<'a>(bytes: &'a [u8], tok: &mut ProofTok) -> Result<&'a [u8], Unread>
 }
 
 fn cite<'a>(bytes: &'a [u8], tok: &mut ProofTok) -> Result<&'a [u8], Unread>
-    ensures found { IfOk result (λ rest. found_as token.Cite (number_before 59 100000 bytes.now) ≡ Found tok.new rest.now) }
+    ensures found { IfOk result (λ rest. found_as token.Cite (number_before 59 100000 bytes.now)
+        ≡ Found tok.new rest.now) }
     ensures missing { IfErr result (λ why. found_as token.Cite (number_before 59 100000 bytes.now) ≡ Missing why) }
 {
     let (number, rest) = before(b';', 100_000, bytes)?;

@@ -3,7 +3,8 @@ ghost use Rattle.std.specs.Prelude.{◌≡◌, ◌+◌, ◌<◌, ◌∷◌, ◌+
 ghost use Rattle.std.specs.Fmt.{decimal};
 ghost use Rattle.cert_text.specs.Numbers.{more_numbers_text, numbers_text};
 ghost use Rattle.cert_text.specs.Spelling.{ob_text};
-ghost use Rattle.proof_text.specs.Spelling.{header_text, literal_text, literals_text, more_literals_text, name_text, newline_text, offset_text, token_text};
+ghost use Rattle.proof_text.specs.Spelling.{header_text, literal_text, literals_text, more_literals_text, name_text};
+ghost use Rattle.proof_text.specs.Spelling.{newline_text, offset_text, token_text};
 ghost use Rattle.ot_outside.specs.Whole.{AppendsFront};
 
 use crate::line::{header_line, ob_line};

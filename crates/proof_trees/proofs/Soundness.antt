@@ -9,7 +9,8 @@ use Rattle.ask_core.specs.Plans.{Plan, value}
 use Rattle.ask_core.specs.Plans as plain
 use Rattle.ask_core.specs.Trees.{with_answer}
 use Rattle.proof_trees.specs.Starts.{MarkedPlan, Ask, Holds, Fails, unmarked, start_of, StandsFor, IsMarkedBy, Comparison, conditions_between, IsLawful}
-use Rattle.proof_trees.specs.Proofs.{ProofTree, Question, End, Impossible, Lemma, Citation, Learned, with_lemma, learned, EachFollows, FollowsUnder, Serves, Shows}
+use Rattle.proof_trees.specs.Proofs.{ProofTree, Question, End, Impossible, Lemma, Citation, Learned, with_lemma, learned, EachFollows, FollowsUnder, Serves}
+use Rattle.proof_trees.specs.Proofs.{Shows}
 use Rattle.proof_trees.specs.Truth.{HoldsUnder, AreTrue}
 
 -- the literals of two lists are met where those of both together are

@@ -3,7 +3,8 @@ use Rattle.std.specs.Prelude.{◌≡◌, ◌↔◌}
 use Rattle.ask_core.specs.declared.turn.Turn.{Turn}
 use Rattle.ask_core.specs.declared.turn.Turn.TheVariants as turn
 use Rattle.ask_core.specs.Plans.{Plan}
-use Rattle.proof_trees.specs.Starts.{MarkedPlan, Ask, Holds, Fails, start_of, unmarked, Comparison, IsMarkedBy, IsLawful}
+use Rattle.proof_trees.specs.Starts.{MarkedPlan, Ask, Holds, Fails, start_of, unmarked, Comparison, IsMarkedBy}
+use Rattle.proof_trees.specs.Starts.{IsLawful}
 
 -- the plan of each node with its starts, the asker's own one, how starts compare, and the plan that a start stands for
 pub record Starts (N S W : Type 0) : Type 0 where

@@ -15,7 +15,12 @@ startless (plain.Fails why) = Fails None why
 -- the plans of an asker without starts. None compare, since there are none
 abbrev pub no_starts : {N W : Type 0} → (N → Plan W) → Plan W → Starts N (Unit {0}) W
 no_starts plan root =
-    record { marked = λ n. startless (plan n); root = startless root; compare = λ s here. None; meaning = λ s. plain.Holds }
+    record {
+      marked = λ n. startless (plan n);
+      root = startless root;
+      compare = λ s here. None;
+      meaning = λ s. plain.Holds;
+    }
 
 pub unmarked-startless : {W : Type 0} (S : Type 0) (p : Plan W) → unmarked (startless {S = S} p) ≡ p
 unmarked-startless S (plain.Ask l on_yes on_no) = rw (unmarked-startless S on_yes, unmarked-startless S on_no) refl

@@ -7,7 +7,8 @@ use Rattle.proof_trees.specs.declared.limits.TheConstants.{MAX_LITERALS}
 use Rattle.proof_trees.specs.declared.token.ProofTok.{ProofTok}
 use Rattle.proof_trees.specs.declared.token.ProofTok.TheVariants as token
 use Rattle.proof_trees.specs.Starts.{MarkedPlan, Comparison}
-use Rattle.proof_trees.specs.Proofs.{ProofTree, Question, End, Impossible, Lemma, Citation, Learned, with_lemma, learned, Shows}
+use Rattle.proof_trees.specs.Proofs.{ProofTree, Question, End, Impossible, Lemma, Citation, Learned, with_lemma}
+use Rattle.proof_trees.specs.Proofs.{learned, Shows}
 
 -- a token for each cycle
 abbrev pub cycle_tokens : List (List ℕ) → List ProofTok
@@ -22,8 +23,8 @@ tokens_of (Impossible picks) = token.Cycle picks ∷ []
 tokens_of (Lemma ls t u) = token.Lemma ls ∷ (tokens_of t ++ tokens_of u)
 tokens_of (Citation number cycles) = token.Cite number ∷ cycle_tokens cycles
 
--- what is wanted at a place: a tree that shows the plan after the literals; or a cycle of the literals; or no token, but
--- the lemma is known from here on
+-- what is wanted at a place: a tree that shows the plan after the literals; or a cycle of the literals; or no token,
+-- but the lemma is known from here on
 pub data Wanted (S W : Type 0) : Type 0 where
   Tree : MarkedPlan S W → List Lit → Wanted S W
   Cycle : List Lit → Wanted S W

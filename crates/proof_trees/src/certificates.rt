@@ -9,9 +9,11 @@ ghost use Rattle.proof_trees.specs.Proofs.{ProofTree, Learned, proof_of, HasNoLe
 /// tree shows a plan exactly where it fits the plan without its starts, whatever the comparison and the
 /// lemmas that are known, and teaches none.
 pub fn certificates_are_proofs<S: Copy, W: Copy>()
-    ensures shows { (compare : Comparison S) (t : AnswerTree) (p : MarkedPlan S W) (w : List Lit) (known : List (Learned S W))
+    ensures shows { (compare : Comparison S) (t : AnswerTree) (p : MarkedPlan S W) (w : List Lit)
+        (known : List (Learned S W))
         → (Shows compare (proof_of t) p w known ↔ Fits t (unmarked p) w) }
-    ensures teaches { (t : AnswerTree) (p : MarkedPlan S W) (known : List (Learned S W)) → learned (proof_of t) p known ≡ known }
+    ensures teaches { (t : AnswerTree) (p : MarkedPlan S W) (known : List (Learned S W))
+        → learned (proof_of t) p known ≡ known }
     ensures all { (t : ProofTree) → HasNoLemmas t → (u : AnswerTree) × (t ≡ proof_of u) }
     ensures none { (t : AnswerTree) → HasNoLemmas (proof_of t) }
 {}

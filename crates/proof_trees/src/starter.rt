@@ -23,13 +23,15 @@ pub trait Starter: Asker {
 
     /// A node of the asker's own plan.
     fn first(&mut self) -> Result<Self::Node, NoMemory>
-        ensures begins { IfOk result (λ n. Self.is_own self.new n × ((starts self.new).marked n ≡ (starts self.new).root)) }
+        ensures begins { IfOk result (λ n. Self.is_own self.new n
+            × ((starts self.new).marked n ≡ (starts self.new).root)) }
         ensures same { KeepsStarts (Self.is_own self.old) (Self.is_own self.new) (starts self.old) (starts self.new) };
 
     /// How the plan of a node begins.
     fn follow(&mut self, node: Self::Node) -> Result<Turn<Self::Node, Self::Why>, NoMemory>
         requires { Self.is_own self.old node }
-        ensures begins { IfOk result (λ t. BeginsAt (Self.is_own self.new) (starts self.new).marked t ((starts self.new).marked node)) }
+        ensures begins { IfOk result (λ t. BeginsAt (Self.is_own self.new) (starts self.new).marked t
+            ((starts self.new).marked node)) }
         ensures same { KeepsStarts (Self.is_own self.old) (Self.is_own self.new) (starts self.old) (starts self.new) };
 
     /// Whether a start is at a node.
@@ -48,7 +50,8 @@ pub trait Starter: Asker {
         requires lemma { Self.is_own self.old lemma }
         requires here { Self.is_own self.old here }
         ensures conditions { IfOk result (λ found. found
-            ≡ conditions_between (starts self.new).compare (start_of ((starts self.new).marked lemma)) (start_of ((starts self.new).marked here))) }
+            ≡ conditions_between (starts self.new).compare (start_of ((starts self.new).marked lemma))
+            (start_of ((starts self.new).marked here))) }
         ensures same { KeepsStarts (Self.is_own self.old) (Self.is_own self.new) (starts self.old) (starts self.new) };
 
     /// The asker's own plan is the one with its starts; they stand for what is there; and a valuation that meets

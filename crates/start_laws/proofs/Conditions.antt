@@ -1,5 +1,6 @@
 -- A valuation that meets the conditions between two starts gives both one end.
-use Rattle.std.proofs.Common.{◌≡◌, ◌⊎◌, ℕ, zero, suc, ℤ, ◌+ℤ◌, ◌-ℤ◌, ◌≤ℤ◌, Bool, true, false, ◌&&◌, if◌then◌else◌, nat_eq, Option, Some, None, List, [], ◌∷◌, ◌++◌, length, refl, ap, sym, ◌∙◌, subst, inl, inr, arith}
+use Rattle.std.proofs.Common.{◌≡◌, ◌⊎◌, ℕ, zero, suc, ℤ, ◌+ℤ◌, ◌-ℤ◌, ◌≤ℤ◌, Bool, true, false, ◌&&◌, if◌then◌else◌, nat_eq, Option, Some, None, List, [], ◌∷◌}
+use Rattle.std.proofs.Common.{◌++◌, length, refl, ap, sym, ◌∙◌, subst, inl, inr, arith}
 use Rattle.std.specs.Prelude.{is_none}
 use Rattle.std.specs.Option.{option_eq}
 use Rattle.std.specs.Ordering.{int_eq}
@@ -23,7 +24,8 @@ use Rattle.ot_questions.specs.declared.place.SymOp.TheVariants.{Ins, Del, Upd, N
 use Rattle.ot_questions.specs.Places.{integer_at, sym_kind, sym_at, sym_site, sym_char, sym_placed}
 use Rattle.ot_questions.proofs.Listed.{each_of_both}
 use Rattle.ot_terms.specs.Standing.{ask_after}
-use Rattle.start_laws.specs.Starts.{Start, meaning, still_read, is_same_ob, is_same_place, is_same_but_position, is_same_op, conditions_at, conditions_of, all_conditions, conditions_of_each, compare_starts}
+use Rattle.start_laws.specs.Starts.{Start, meaning, still_read, is_same_ob, is_same_place, is_same_but_position, is_same_op, conditions_at, conditions_of}
+use Rattle.start_laws.specs.Starts.{all_conditions, conditions_of_each, compare_starts}
 use Rattle.start_laws.proofs.Agreement.{Agree, placed_is}
 use Rattle.start_laws.proofs.After.{AllAgree, after_alike}
 

@@ -53,7 +53,13 @@ progress_begun ob plan h =
     let few = taken_few plan.count plan.got in
     let awaited = h.awaited in
     let most = few_transforms ob in
-    record { room = h.room; few = omega arith; count = omega arith; near = each_near plan.ob plan.ops [] (results_of plan) (subst (λ o. AreResults o plan.ops [] (results_of plan)) (sym h.same) h.results) }
+    record {
+      room = h.room;
+      few = omega arith;
+      count = omega arith;
+      near = each_near plan.ob plan.ops [] (results_of plan)
+          (subst (λ o. AreResults o plan.ops [] (results_of plan)) (sym h.same) h.results);
+    }
 
 pub result_begun :
     (ob : ObName) (plan : Progress) (r : SymOp) → IsProgressOf ob plan → IsNextResult ob plan.ops (results_of plan) r

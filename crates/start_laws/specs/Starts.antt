@@ -1,6 +1,7 @@
 -- Starts of an obligation: the places where a transformation begins; and under which conditions two of them have one
 -- value.
-use Rattle.std.specs.Prelude.{◌-ℤ◌, Bool, false, ◌&&◌, if◌then◌else◌, nat_eq, Option, Some, None, List, [], ◌∷◌, ◌++◌, length}
+use Rattle.std.specs.Prelude.{◌-ℤ◌, Bool, false, ◌&&◌, if◌then◌else◌, nat_eq, Option, Some, None, List, [], ◌∷◌, ◌++◌}
+use Rattle.std.specs.Prelude.{length}
 use Rattle.std.specs.Option.{option_eq}
 use Rattle.std.specs.Ordering.{int_eq}
 use Rattle.std.specs.Cmp.Lexicographic.{pointwise}
@@ -82,6 +83,7 @@ conditions_of_each (o ∷ os) (r ∷ rs) = all_conditions (conditions_of o r) (c
 -- transformations of one obligation was done, with the same operations. Results that are not read any more may be any.
 abbrev pub compare_starts : Start → Start → Option (List Lit)
 compare_starts there here =
-    if nat_eq (length there.got) (length here.got) && is_same_ob there.ob here.ob && pointwise is_same_op there.ops here.ops
+    if nat_eq (length there.got) (length here.got) && is_same_ob there.ob here.ob && pointwise is_same_op there.ops
+    here.ops
     then conditions_of_each (still_read there.ob there.got) (still_read here.ob here.got)
     else None

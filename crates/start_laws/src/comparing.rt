@@ -177,7 +177,8 @@ pub fn compare(
     requires lemma_begun { IsBegun lemma.now.plan.now lemma.now.last }
     requires here_begun { IsBegun here.now.plan.now here.now.last }
     ensures { IfOk result (λ found. found
-        ≡ starts.compare_starts (start_after lemma.now.plan.now lemma.now.last) (start_after here.now.plan.now here.now.last)) }
+        ≡ starts.compare_starts (start_after lemma.now.plan.now lemma.now.last)
+        (start_after here.now.plan.now here.now.last)) }
 {
     let there = lemma.results();
     let got = here.results();

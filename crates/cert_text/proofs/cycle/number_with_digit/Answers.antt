@@ -24,4 +24,5 @@ returns-in-Some-2-clause-wrong c =
     digit_is_too_much picks c.args.number c.in-Some-2.field-0 c.args.digit picks_short c.in-Some-2.is short
     (λ positive few.
     let same : c.in-Some-2.field-0 ≡ c.in-Some.number = cc in
-    let taken = c.takes_digit.ensures.1 (omega (arith, same), omega (arith, same)) in let no = c.if-takes_digit.false in cc (taken, no)) c.requires.low c.requires.high
+    let taken = c.takes_digit.ensures.1 (omega (arith, same), omega (arith, same)) in let no = c.if-takes_digit.false in cc (taken, no)) c.requires.low
+    c.requires.high

@@ -4,7 +4,8 @@ use Rattle.cert_text.specs.Cycles.{IsShortNumber}
 use Rattle.cert_text.proofs.CycleLemmas.{AreShort-push, front_with_comma, whole_with_end}
 use Rattle.cert_text.proofs.PieceLemmas.{front_grows}
 use Rattle.cert_text.proofs.piece.whole_numbers.Goals as goal
-use Rattle.cert_text.proofs.piece.whole_numbers.Goals.{then-byte-ge48+then-byte-le57+in_ok-number_with_digit, else-byte-ge48+then-byte-eq44+else-as_slice-eq-MAX_PICKS+in_ok-number}
+use Rattle.cert_text.proofs.piece.whole_numbers.Goals.{then-byte-ge48+then-byte-le57+in_ok-number_with_digit}
+use Rattle.cert_text.proofs.piece.whole_numbers.Goals.{else-byte-ge48+then-byte-eq44+else-as_slice-eq-MAX_PICKS+in_ok-number}
 
 pub returns-then-byte-eq59 : goal.returns-then-byte-eq59
 returns-then-byte-eq59 c =

@@ -23,7 +23,7 @@ cross-requires-clause-own c =
     let f : Function = function_of c.args.rules.now in
     let i : ℕ = c.loop-other.other-index in
     (CanCross-next f (keeps_near f c.functions_keep_forms.ensures c.transform_stays_near.ensures c.enabled_operations_are_near.ensures.wider
-        c.head-head.ensures.valid)
+    c.head-head.ensures.valid)
     c.args.list.now (farthest (length c.args.list.now)) i c.loop-other.form c.loop-other-test.true c.loop-other.invariant.usable c.requires.usable.list
     (omega (arith, c.loop-other-test.true, c.requires.usable.few))).own
 

@@ -41,7 +41,7 @@ loop-other-preserved c =
     let near : IsWithin (most_cells + 99 * i + 99) p =
     c.transform_stays_near.ensures f o e p (most_cells + 99 * i) c.head-head.ensures.valid
     c.loop-other.invariant.near (c.enabled_operations_are_near.ensures.wider most_cells (most_cells + 99 * i) e (omega arith) other.near)
-        (sym c.in_ok-form.ensures) in
+    (sym c.in_ok-form.ensures) in
     record {
       form = c.loop-other.invariant.form ∙ through-next f o p c.args.executed.now i no_op c.loop-other-test.true (sym c.in_ok-form.ensures);
       declared = (c.functions_keep_forms.ensures f).declared o e p (sym c.in_ok-form.ensures) c.loop-other.invariant.declared;

@@ -7,7 +7,8 @@ use Rattle.ot_prove.specs.Searching.{LeadsTo}
 use Rattle.ot_prove.proofs.Steps.{SamePlans-trans}
 use Rattle.ot_prove.proofs.Ways.{side_has, way_on, left_on, said_on, ended_way, whole_way}
 use Rattle.ot_prove.proofs.answers.answers_along.Goals as goal
-use Rattle.ot_prove.proofs.answers.answers_along.Goals.{else-loop-literal-test, then-loop-literal-test+in_ok-lit+in-Holds, then-loop-literal-test+in_ok-lit+in-Fails}
+use Rattle.ot_prove.proofs.answers.answers_along.Goals.{else-loop-literal-test, then-loop-literal-test+in_ok-lit+in-Holds}
+use Rattle.ot_prove.proofs.answers.answers_along.Goals.{then-loop-literal-test+in_ok-lit+in-Fails}
 
 pub loop-literal-preserved : goal.loop-literal-preserved
 loop-literal-preserved g c =

@@ -8,7 +8,8 @@ use Rattle.ask_core.specs.Questions.{QuestionList}
 use Rattle.ot_prove.specs.Sides.{Rows}
 use Rattle.ot_prove.specs.Searching.{LeadsTo, IsSearching, known_by}
 use Rattle.ot_prove.specs.Outcomes.{AreAnswersTo}
-use Rattle.ot_prove.proofs.Steps.{IsSearching-same, IsSearching-asked, IsSearching-holds, spent_at_first, failing_at_first, first_is_reached, first_has_table, asked_literal, weight_of-asked, weight_of-close, without_last}
+use Rattle.ot_prove.proofs.Steps.{IsSearching-same, IsSearching-asked, IsSearching-holds, spent_at_first, failing_at_first, first_is_reached, first_has_table}
+use Rattle.ot_prove.proofs.Steps.{asked_literal, weight_of-asked, weight_of-close, without_last}
 use Rattle.ot_prove.proofs.search.take_turn.Goals as goal
 
 -- a first place that is known to be possible

@@ -28,8 +28,10 @@ loop-reader-preserved g c =
     let gives = rw (c.in_ok-item.was, c.in_default.is) at c.feed_piece-taken.ensures.gives in
     record {
       reads =
-          reads_more g.F.Feed (fed c.args.reader.now c.args.feed.now) (fed c.loop-reader.reader c.loop-reader.feed) (fed c.feed_piece-taken.new.self c.consume.new.self) c.loop-reader.invariant.reads c.at_hand.result.now c.feed_piece-taken.result.0 took gives;
-      leaves = leaves_on g.F.Feed (fed c.args.reader.now c.args.feed.now) (fed c.loop-reader.reader c.loop-reader.feed) (fed c.feed_piece-taken.new.self c.consume.new.self) (Ok tt) c.loop-reader.invariant.leaves step;
+          reads_more g.F.Feed (fed c.args.reader.now c.args.feed.now) (fed c.loop-reader.reader c.loop-reader.feed)
+          (fed c.feed_piece-taken.new.self c.consume.new.self) c.loop-reader.invariant.reads c.at_hand.result.now c.feed_piece-taken.result.0 took gives;
+      leaves = leaves_on g.F.Feed (fed c.args.reader.now c.args.feed.now) (fed c.loop-reader.reader c.loop-reader.feed)
+          (fed c.feed_piece-taken.new.self c.consume.new.self) (Ok tt) c.loop-reader.invariant.leaves step;
     }
 
 pub returns-in_err-more-clause-leaves : goal.returns-in_err-more-clause-leaves
@@ -46,7 +48,8 @@ returns-in_err-more-clause-leaves g c =
       spent = tt;
       failed = tt;
     } in
-    let on = leaves_on g.F.Feed (fed c.args.reader.now c.args.feed.now) (fed c.loop-reader.reader c.loop-reader.feed) (fed c.loop-reader.reader c.more.new.self) (Ok tt) c.loop-reader.invariant.leaves step in
+    let on = leaves_on g.F.Feed (fed c.args.reader.now c.args.feed.now) (fed c.loop-reader.reader c.loop-reader.feed) (fed c.loop-reader.reader c.more.new.self)
+    (Ok tt) c.loop-reader.invariant.leaves step in
     rw (p.1, p.2)
     (leaves_failed g.F.Feed (fed c.args.reader.now c.args.feed.now) (fed c.loop-reader.reader c.more.new.self) on
     (rose_later g.F.Feed c.args.feed.now c.loop-reader.feed c.more.new.self c.loop-reader.invariant.leaves.kept c.in_err-more.ensures.failed))
@@ -59,7 +62,9 @@ returns-in-Some-clause-came g c =
     (c.at_hand.ensures.hand, c.feed_piece-taken.ensures.within) same
     (record { left = c.consume.ensures.left; bound = c.consume.ensures.bound; gave = c.consume.ensures.gave }) in
     let gives = rw (c.in_ok-item.was, c.in-Some.is) at c.feed_piece-taken.ensures.gives in
-    part_comes g.F.Feed (fed c.args.reader.now c.args.feed.now) (fed c.loop-reader.reader c.loop-reader.feed) (fed c.feed_piece-taken.new.self c.consume.new.self) c.loop-reader.invariant.reads c.at_hand.result.now c.feed_piece-taken.result.0 c.in-Some.item took gives
+    part_comes g.F.Feed (fed c.args.reader.now c.args.feed.now) (fed c.loop-reader.reader c.loop-reader.feed)
+    (fed c.feed_piece-taken.new.self c.consume.new.self) c.loop-reader.invariant.reads c.at_hand.result.now c.feed_piece-taken.result.0 c.in-Some.item took
+    gives
 
 pub returns-in-Some-clause-leaves : goal.returns-in-Some-clause-leaves
 returns-in-Some-clause-leaves g c =
@@ -74,7 +79,9 @@ returns-in-Some-clause-leaves g c =
       spent = tt;
       failed = tt;
     } in
-    leaves_on g.F.Feed (fed c.args.reader.now c.args.feed.now) (fed c.loop-reader.reader c.loop-reader.feed) (fed c.feed_piece-taken.new.self c.consume.new.self) (Ok _) c.loop-reader.invariant.leaves (goes_on_with g.F.Feed (fed c.loop-reader.reader c.loop-reader.feed) (fed c.feed_piece-taken.new.self c.consume.new.self) _ step)
+    leaves_on g.F.Feed (fed c.args.reader.now c.args.feed.now) (fed c.loop-reader.reader c.loop-reader.feed)
+    (fed c.feed_piece-taken.new.self c.consume.new.self) (Ok _) c.loop-reader.invariant.leaves
+    (goes_on_with g.F.Feed (fed c.loop-reader.reader c.loop-reader.feed) (fed c.feed_piece-taken.new.self c.consume.new.self) _ step)
 
 pub returns-in_err-item-clause-misspelt : goal.returns-in_err-item-clause-misspelt
 returns-in_err-item-clause-misspelt g c =
@@ -85,7 +92,8 @@ returns-in_err-item-clause-misspelt g c =
     (c.at_hand.ensures.hand, c.feed_piece-taken.ensures.within) same
     (record { left = c.consume.ensures.left; bound = c.consume.ensures.bound; gave = c.consume.ensures.gave }) in
     rw p.1
-    (bytes_misspelt g.F.Feed (fed c.args.reader.now c.args.feed.now) (fed c.loop-reader.reader c.loop-reader.feed) c.loop-reader.invariant.reads (take c.feed_piece-taken.result.0 c.at_hand.result.now)
+    (bytes_misspelt g.F.Feed (fed c.args.reader.now c.args.feed.now) (fed c.loop-reader.reader c.loop-reader.feed) c.loop-reader.invariant.reads
+    (take c.feed_piece-taken.result.0 c.at_hand.result.now)
     c.in_err-item.field-0.0 c.feed_piece-taken.new.self (rw c.in_err-item.was at c.feed_piece-taken.ensures.reads) p.0 c.consume.new.self took p.2)
 
 pub returns-in_err-item-clause-leaves : goal.returns-in_err-item-clause-leaves
@@ -103,8 +111,11 @@ returns-in_err-item-clause-leaves g c =
       failed = tt;
     } in
     rw p.1
-    (leaves_with g.F.Feed (fed c.args.reader.now c.args.feed.now) (fed c.feed_piece-taken.new.self c.consume.new.self) p.0 (leaves_on g.F.Feed (fed c.args.reader.now c.args.feed.now) (fed c.loop-reader.reader c.loop-reader.feed) (fed c.feed_piece-taken.new.self c.consume.new.self) (Ok tt) c.loop-reader.invariant.leaves step)
-    (refused_early g.F.Feed (fed c.args.reader.now c.args.feed.now) (fed c.loop-reader.reader c.loop-reader.feed) c.loop-reader.invariant.reads (take c.feed_piece-taken.result.0 c.at_hand.result.now)
+    (leaves_with g.F.Feed (fed c.args.reader.now c.args.feed.now) (fed c.feed_piece-taken.new.self c.consume.new.self) p.0
+    (leaves_on g.F.Feed (fed c.args.reader.now c.args.feed.now) (fed c.loop-reader.reader c.loop-reader.feed)
+    (fed c.feed_piece-taken.new.self c.consume.new.self) (Ok tt) c.loop-reader.invariant.leaves step)
+    (refused_early g.F.Feed (fed c.args.reader.now c.args.feed.now) (fed c.loop-reader.reader c.loop-reader.feed) c.loop-reader.invariant.reads
+    (take c.feed_piece-taken.result.0 c.at_hand.result.now)
     c.in_err-item.field-0.0 c.feed_piece-taken.new.self (rw c.in_err-item.was at c.feed_piece-taken.ensures.reads) p.0 p.2)
     (spelling_no_failure c.in_err-item.field-0.0 p.0 p.2))
 
@@ -116,7 +127,8 @@ returns-in_err-finish-clause-misspelt g c =
     let spent = spent_by g.F.Feed c.loop-reader.feed c.more.new.self same (c.in_ok-more.ensures.end c.if-branch.false)
     (c.in_ok-more.ensures.none c.if-branch.false) in
     rw p.1
-    (end_misspelt g.F.Feed (fed c.args.reader.now c.args.feed.now) (fed c.loop-reader.reader c.loop-reader.feed) c.loop-reader.invariant.reads c.finish.result c.more.new.self (over_by g.F.Feed (fed c.loop-reader.reader c.loop-reader.feed) c.more.new.self same spent)
+    (end_misspelt g.F.Feed (fed c.args.reader.now c.args.feed.now) (fed c.loop-reader.reader c.loop-reader.feed) c.loop-reader.invariant.reads c.finish.result
+    c.more.new.self (over_by g.F.Feed (fed c.loop-reader.reader c.loop-reader.feed) c.more.new.self same spent)
     c.finish.ensures.reads c.in_err-finish.field-0.0 p.0 c.in_err-finish.was p.2)
 
 pub returns-in_err-finish-clause-leaves : goal.returns-in_err-finish-clause-leaves
@@ -137,8 +149,15 @@ returns-in_err-finish-clause-leaves g c =
       spent = tt;
       failed = tt;
     } in
-    let on = leaves_on g.F.Feed (fed c.args.reader.now c.args.feed.now) (fed c.loop-reader.reader c.loop-reader.feed) (fed c.loop-reader.reader c.more.new.self) (Ok tt) c.loop-reader.invariant.leaves step in
-    rw p.1 (record { kept = on.kept; room = tt; spent = λ is. spent; failed = λ is. absurd {A = Rose (g.F.Feed.faults c.args.feed.now) (g.F.Feed.faults c.more.new.self)} (spelling_no_failure c.in_err-finish.field-0.0 p.0 p.2 is) })
+    let on = leaves_on g.F.Feed (fed c.args.reader.now c.args.feed.now) (fed c.loop-reader.reader c.loop-reader.feed) (fed c.loop-reader.reader c.more.new.self)
+    (Ok tt) c.loop-reader.invariant.leaves step in
+    rw p.1 (record {
+      kept = on.kept;
+      room = tt;
+      spent = λ is. spent;
+      failed = λ is. absurd
+          {A = Rose (g.F.Feed.faults c.args.feed.now) (g.F.Feed.faults c.more.new.self)} (spelling_no_failure c.in_err-finish.field-0.0 p.0 p.2 is);
+    })
 
 pub returns-clause-finish : goal.returns-clause-finish
 returns-clause-finish g c =
@@ -146,7 +165,8 @@ returns-clause-finish g c =
     record { left = c.more.ensures.left; bound = c.more.ensures.bound; gave = c.more.ensures.gave } in
     let spent = spent_by g.F.Feed c.loop-reader.feed c.more.new.self same (c.in_ok-more.ensures.end c.if-branch.false)
     (c.in_ok-more.ensures.none c.if-branch.false) in
-    (finished_whole g.F.Feed (fed c.args.reader.now c.args.feed.now) (fed c.loop-reader.reader c.loop-reader.feed) c.loop-reader.invariant.reads c.finish.result c.more.new.self (over_by g.F.Feed (fed c.loop-reader.reader c.loop-reader.feed) c.more.new.self same spent)
+    (finished_whole g.F.Feed (fed c.args.reader.now c.args.feed.now) (fed c.loop-reader.reader c.loop-reader.feed) c.loop-reader.invariant.reads c.finish.result
+    c.more.new.self (over_by g.F.Feed (fed c.loop-reader.reader c.loop-reader.feed) c.more.new.self same spent)
     c.finish.ensures.reads c.in_ok-finish.was).0
 
 pub returns-clause-over : goal.returns-clause-over
@@ -155,7 +175,8 @@ returns-clause-over g c =
     record { left = c.more.ensures.left; bound = c.more.ensures.bound; gave = c.more.ensures.gave } in
     let spent = spent_by g.F.Feed c.loop-reader.feed c.more.new.self same (c.in_ok-more.ensures.end c.if-branch.false)
     (c.in_ok-more.ensures.none c.if-branch.false) in
-    (finished_whole g.F.Feed (fed c.args.reader.now c.args.feed.now) (fed c.loop-reader.reader c.loop-reader.feed) c.loop-reader.invariant.reads c.finish.result c.more.new.self (over_by g.F.Feed (fed c.loop-reader.reader c.loop-reader.feed) c.more.new.self same spent)
+    (finished_whole g.F.Feed (fed c.args.reader.now c.args.feed.now) (fed c.loop-reader.reader c.loop-reader.feed) c.loop-reader.invariant.reads c.finish.result
+    c.more.new.self (over_by g.F.Feed (fed c.loop-reader.reader c.loop-reader.feed) c.more.new.self same spent)
     c.finish.ensures.reads c.in_ok-finish.was).1
 
 pub returns-clause-nothing_left : goal.returns-clause-nothing_left
@@ -179,4 +200,5 @@ returns-clause-leaves g c =
       spent = tt;
       failed = tt;
     } in
-    leaves_on g.F.Feed (fed c.args.reader.now c.args.feed.now) (fed c.loop-reader.reader c.loop-reader.feed) (fed c.loop-reader.reader c.more.new.self) (Ok _) c.loop-reader.invariant.leaves (goes_on_with g.F.Feed (fed c.loop-reader.reader c.loop-reader.feed) (fed c.loop-reader.reader c.more.new.self) _ step)
+    leaves_on g.F.Feed (fed c.args.reader.now c.args.feed.now) (fed c.loop-reader.reader c.loop-reader.feed) (fed c.loop-reader.reader c.more.new.self) (Ok _)
+    c.loop-reader.invariant.leaves (goes_on_with g.F.Feed (fed c.loop-reader.reader c.loop-reader.feed) (fed c.loop-reader.reader c.more.new.self) _ step)

@@ -14,14 +14,17 @@ pub returns-in_err-offset-clause-refused : goal.returns-in_err-offset-clause-ref
 returns-in_err-offset-clause-refused g c =
     let p = err_from_is_err_and c.from_residual-in_err-offset.result c.from_residual-in_err-offset.ensures.1 in
     rw (p.1, p.2)
-    (refused_bytes g.F.Feed (stand (fed c.args.reader.now c.args.feed.now) (opened (g.A.Asker.root c.args.asker))) (fed c.loop-tok.reader c.loop-tok.feed) (open_branches g.A.Asker.plan c.loop-tok.checker) c.loop-tok.invariant.leads c.next_token.new.feed c.in_err-offset.field-0.0 c.in_err-offset.ensures.misspelt)
+    (refused_bytes g.F.Feed (stand (fed c.args.reader.now c.args.feed.now) (opened (g.A.Asker.root c.args.asker))) (fed c.loop-tok.reader c.loop-tok.feed)
+    (open_branches g.A.Asker.plan c.loop-tok.checker) c.loop-tok.invariant.leads c.next_token.new.feed c.in_err-offset.field-0.0
+    c.in_err-offset.ensures.misspelt)
 
 pub returns-in_err-offset-clause-leaves : goal.returns-in_err-offset-clause-leaves
 returns-in_err-offset-clause-leaves g c =
     let p = err_from_is_err_and c.from_residual-in_err-offset.result c.from_residual-in_err-offset.ensures.1 in
     rw (p.1, p.2)
     (leaves_as g.F.Feed (fed c.args.reader.now c.args.feed.now) (fed c.next_token.new.reader c.next_token.new.feed) c.in_err-offset.field-0.0
-    (leaves_on g.F.Feed (fed c.args.reader.now c.args.feed.now) (fed c.loop-tok.reader c.loop-tok.feed) (fed c.next_token.new.reader c.next_token.new.feed) _ c.loop-tok.invariant.leaves (rw c.in_err-offset.was at c.next_token.ensures.leaves)))
+    (leaves_on g.F.Feed (fed c.args.reader.now c.args.feed.now) (fed c.loop-tok.reader c.loop-tok.feed) (fed c.next_token.new.reader c.next_token.new.feed) _
+    c.loop-tok.invariant.leaves (rw c.in_err-offset.was at c.next_token.ensures.leaves)))
 
 pub loop-tok-preserved : goal.loop-tok-preserved
 loop-tok-preserved g c =
@@ -29,7 +32,8 @@ loop-tok-preserved g c =
     counted (g.A.Asker.plan c.loop-tok.checker.asker) c.loop-tok.checker.places in
     let here : IsTreeOf (length (open_branches g.A.Asker.plan c.loop-tok.checker)) (place_of c.loop-tok.reader) =
     subst (λ (n : ℕ). IsTreeOf n (place_of c.loop-tok.reader)) (sym counts) c.loop-tok.invariant.tree in
-    let behind = behind_token g.F.Feed (fed c.loop-tok.reader c.loop-tok.feed) (fed c.next_token.new.reader c.next_token.new.feed) c.in_ok-offset.offset c.next_token.new.tok (open_branches g.A.Asker.plan c.loop-tok.checker) (open_branches g.A.Asker.plan c.judge.new.self) c.in_ok-offset.ensures.token here
+    let behind = behind_token g.F.Feed (fed c.loop-tok.reader c.loop-tok.feed) (fed c.next_token.new.reader c.next_token.new.feed) c.in_ok-offset.offset
+    c.next_token.new.tok (open_branches g.A.Asker.plan c.loop-tok.checker) (open_branches g.A.Asker.plan c.judge.new.self) c.in_ok-offset.ensures.token here
     c.in-Ok-More.ensures.step in
     record {
       between = c.take_at_hand.ensures.between;
@@ -43,13 +47,18 @@ loop-tok-preserved g c =
           leads_on g.F.Feed plan (stand (fed c.args.reader.now c.args.feed.now) (opened (g.A.Asker.root c.args.asker)))
           (stand (fed c.next_token.new.reader c.next_token.new.feed) (open_branches g.A.Asker.plan c.judge.new.self))
           (stand (fed c.take_at_hand.new.reader c.take_at_hand.new.feed) (open_branches g.A.Asker.plan c.take_at_hand.new.checker))
-          (leads_token g.F.Feed (stand (fed c.args.reader.now c.args.feed.now) (opened (g.A.Asker.root c.args.asker))) (fed c.loop-tok.reader c.loop-tok.feed) (open_branches g.A.Asker.plan c.loop-tok.checker) c.loop-tok.invariant.leads (fed c.next_token.new.reader c.next_token.new.feed) c.in_ok-offset.offset c.next_token.new.tok (open_branches g.A.Asker.plan c.judge.new.self)
+          (leads_token g.F.Feed (stand (fed c.args.reader.now c.args.feed.now) (opened (g.A.Asker.root c.args.asker))) (fed c.loop-tok.reader c.loop-tok.feed)
+          (open_branches g.A.Asker.plan c.loop-tok.checker) c.loop-tok.invariant.leads (fed c.next_token.new.reader c.next_token.new.feed)
+          c.in_ok-offset.offset c.next_token.new.tok (open_branches g.A.Asker.plan c.judge.new.self)
           c.in_ok-offset.ensures.token c.in-Ok-More.ensures.step plan)
           (c.take_at_hand.ensures.leads plan);
       leaves =
-          leaves_on g.F.Feed (fed c.args.reader.now c.args.feed.now) (fed c.next_token.new.reader c.next_token.new.feed) (fed c.take_at_hand.new.reader c.take_at_hand.new.feed) (Ok tt)
-          (leaves_on g.F.Feed (fed c.args.reader.now c.args.feed.now) (fed c.loop-tok.reader c.loop-tok.feed) (fed c.next_token.new.reader c.next_token.new.feed) (Ok tt) c.loop-tok.invariant.leaves
-          (goes_on_by g.F.Feed (fed c.loop-tok.reader c.loop-tok.feed) (fed c.next_token.new.reader c.next_token.new.feed) _ (rw c.in_ok-offset.was at c.next_token.ensures.leaves)))
+          leaves_on g.F.Feed (fed c.args.reader.now c.args.feed.now) (fed c.next_token.new.reader c.next_token.new.feed)
+          (fed c.take_at_hand.new.reader c.take_at_hand.new.feed) (Ok tt)
+          (leaves_on g.F.Feed (fed c.args.reader.now c.args.feed.now) (fed c.loop-tok.reader c.loop-tok.feed)
+          (fed c.next_token.new.reader c.next_token.new.feed) (Ok tt) c.loop-tok.invariant.leaves
+          (goes_on_by g.F.Feed (fed c.loop-tok.reader c.loop-tok.feed) (fed c.next_token.new.reader c.next_token.new.feed) _
+          (rw c.in_ok-offset.was at c.next_token.ensures.leaves)))
           c.take_at_hand.ensures.leaves;
     }
 
@@ -65,15 +74,20 @@ returns-then-not-is_open-clause-leads g c =
     (leads_on g.F.Feed plan (stand (fed c.args.reader.now c.args.feed.now) (opened (g.A.Asker.root c.args.asker)))
     (stand (fed c.next_token.new.reader c.next_token.new.feed) (open_branches g.A.Asker.plan c.judge.new.self))
     (stand (fed c.take_at_hand.new.reader c.take_at_hand.new.feed) (open_branches g.A.Asker.plan c.take_at_hand.new.checker))
-    (leads_token g.F.Feed (stand (fed c.args.reader.now c.args.feed.now) (opened (g.A.Asker.root c.args.asker))) (fed c.loop-tok.reader c.loop-tok.feed) (open_branches g.A.Asker.plan c.loop-tok.checker) c.loop-tok.invariant.leads (fed c.next_token.new.reader c.next_token.new.feed) c.in_ok-offset.offset c.next_token.new.tok (open_branches g.A.Asker.plan c.judge.new.self)
+    (leads_token g.F.Feed (stand (fed c.args.reader.now c.args.feed.now) (opened (g.A.Asker.root c.args.asker))) (fed c.loop-tok.reader c.loop-tok.feed)
+    (open_branches g.A.Asker.plan c.loop-tok.checker) c.loop-tok.invariant.leads (fed c.next_token.new.reader c.next_token.new.feed) c.in_ok-offset.offset
+    c.next_token.new.tok (open_branches g.A.Asker.plan c.judge.new.self)
     c.in_ok-offset.ensures.token c.in-Ok-More.ensures.step plan)
     (c.take_at_hand.ensures.leads plan))
 
 pub returns-then-not-is_open-clause-leaves : goal.returns-then-not-is_open-clause-leaves
 returns-then-not-is_open-clause-leaves g c =
-    leaves_on g.F.Feed (fed c.args.reader.now c.args.feed.now) (fed c.next_token.new.reader c.next_token.new.feed) (fed c.take_at_hand.new.reader c.take_at_hand.new.feed) (Ok tt)
-    (leaves_on g.F.Feed (fed c.args.reader.now c.args.feed.now) (fed c.loop-tok.reader c.loop-tok.feed) (fed c.next_token.new.reader c.next_token.new.feed) (Ok tt) c.loop-tok.invariant.leaves
-    (goes_on_by g.F.Feed (fed c.loop-tok.reader c.loop-tok.feed) (fed c.next_token.new.reader c.next_token.new.feed) _ (rw c.in_ok-offset.was at c.next_token.ensures.leaves)))
+    leaves_on g.F.Feed (fed c.args.reader.now c.args.feed.now) (fed c.next_token.new.reader c.next_token.new.feed)
+    (fed c.take_at_hand.new.reader c.take_at_hand.new.feed) (Ok tt)
+    (leaves_on g.F.Feed (fed c.args.reader.now c.args.feed.now) (fed c.loop-tok.reader c.loop-tok.feed) (fed c.next_token.new.reader c.next_token.new.feed)
+    (Ok tt) c.loop-tok.invariant.leaves
+    (goes_on_by g.F.Feed (fed c.loop-tok.reader c.loop-tok.feed) (fed c.next_token.new.reader c.next_token.new.feed) _
+    (rw c.in_ok-offset.was at c.next_token.ensures.leaves)))
     c.take_at_hand.ensures.leaves
 
 pub returns-in-Ok-Done-clause-closed : goal.returns-in-Ok-Done-clause-closed
@@ -84,7 +98,8 @@ returns-in-Ok-Done-clause-closed g c =
     subst (λ (n : ℕ). IsTreeOf n (place_of c.loop-tok.reader)) (sym counts) c.loop-tok.invariant.tree in
     let closed : c.judge.new.self.places ≡ [] = c.in-Ok-Done.ensures.closed (cc) in
     let none = no_branch (g.A.Asker.plan c.judge.new.self.asker) c.judge.new.self.places closed in
-    let behind = behind_token g.F.Feed (fed c.loop-tok.reader c.loop-tok.feed) (fed c.next_token.new.reader c.next_token.new.feed) c.in_ok-offset.offset c.next_token.new.tok (open_branches g.A.Asker.plan c.loop-tok.checker) [] c.in_ok-offset.ensures.token here
+    let behind = behind_token g.F.Feed (fed c.loop-tok.reader c.loop-tok.feed) (fed c.next_token.new.reader c.next_token.new.feed) c.in_ok-offset.offset
+    c.next_token.new.tok (open_branches g.A.Asker.plan c.loop-tok.checker) [] c.in_ok-offset.ensures.token here
     (c.in-Ok-Done.ensures.step ∙ ap Ok none) in (
       between_parts g.F.Feed (fed c.loop-tok.reader c.loop-tok.feed) (fed c.next_token.new.reader c.next_token.new.feed) _ c.in_ok-offset.ensures.token,
       tree_is (place_of c.next_token.new.reader) 0 behind.0 ∙ behind.1 ∙ c.loop-tok.invariant.same_tree,
@@ -94,24 +109,32 @@ pub returns-in-Ok-Done-clause-leads : goal.returns-in-Ok-Done-clause-leads
 returns-in-Ok-Done-clause-leads g c =
     let closed : c.judge.new.self.places ≡ [] = c.in-Ok-Done.ensures.closed (cc) in
     let none = no_branch (g.A.Asker.plan c.judge.new.self.asker) c.judge.new.self.places closed in
-    leads_token g.F.Feed (stand (fed c.args.reader.now c.args.feed.now) (opened (g.A.Asker.root c.args.asker))) (fed c.loop-tok.reader c.loop-tok.feed) (open_branches g.A.Asker.plan c.loop-tok.checker) c.loop-tok.invariant.leads (fed c.next_token.new.reader c.next_token.new.feed) c.in_ok-offset.offset c.next_token.new.tok [] c.in_ok-offset.ensures.token
+    leads_token g.F.Feed (stand (fed c.args.reader.now c.args.feed.now) (opened (g.A.Asker.root c.args.asker))) (fed c.loop-tok.reader c.loop-tok.feed)
+    (open_branches g.A.Asker.plan c.loop-tok.checker) c.loop-tok.invariant.leads (fed c.next_token.new.reader c.next_token.new.feed) c.in_ok-offset.offset
+    c.next_token.new.tok [] c.in_ok-offset.ensures.token
     (c.in-Ok-Done.ensures.step ∙ ap Ok none)
 
 pub returns-in-Ok-Done-clause-leaves : goal.returns-in-Ok-Done-clause-leaves
 returns-in-Ok-Done-clause-leaves g c =
-    leaves_on g.F.Feed (fed c.args.reader.now c.args.feed.now) (fed c.loop-tok.reader c.loop-tok.feed) (fed c.next_token.new.reader c.next_token.new.feed) (Ok tt) c.loop-tok.invariant.leaves
-    (goes_on_by g.F.Feed (fed c.loop-tok.reader c.loop-tok.feed) (fed c.next_token.new.reader c.next_token.new.feed) _ (rw c.in_ok-offset.was at c.next_token.ensures.leaves))
+    leaves_on g.F.Feed (fed c.args.reader.now c.args.feed.now) (fed c.loop-tok.reader c.loop-tok.feed) (fed c.next_token.new.reader c.next_token.new.feed)
+    (Ok tt) c.loop-tok.invariant.leaves
+    (goes_on_by g.F.Feed (fed c.loop-tok.reader c.loop-tok.feed) (fed c.next_token.new.reader c.next_token.new.feed) _
+    (rw c.in_ok-offset.was at c.next_token.ensures.leaves))
 
 pub returns-in-Err-clause-refused : goal.returns-in-Err-clause-refused
 returns-in-Err-clause-refused g c =
     rw c.end_at.ensures
-    (refused_token g.F.Feed (stand (fed c.args.reader.now c.args.feed.now) (opened (g.A.Asker.root c.args.asker))) (fed c.loop-tok.reader c.loop-tok.feed) (open_branches g.A.Asker.plan c.loop-tok.checker) c.loop-tok.invariant.leads (fed c.next_token.new.reader c.next_token.new.feed) c.in_ok-offset.offset c.next_token.new.tok c.in-Err.end
+    (refused_token g.F.Feed (stand (fed c.args.reader.now c.args.feed.now) (opened (g.A.Asker.root c.args.asker))) (fed c.loop-tok.reader c.loop-tok.feed)
+    (open_branches g.A.Asker.plan c.loop-tok.checker) c.loop-tok.invariant.leads (fed c.next_token.new.reader c.next_token.new.feed) c.in_ok-offset.offset
+    c.next_token.new.tok c.in-Err.end
     c.in_ok-offset.ensures.token (c.in-Err.ensures.why c.loop-tok.invariant.unrefused))
 
 pub returns-in-Err-clause-leaves : goal.returns-in-Err-clause-leaves
 returns-in-Err-clause-leaves g c =
     rw c.end_at.ensures
     (leaves_with g.F.Feed (fed c.args.reader.now c.args.feed.now) (fed c.next_token.new.reader c.next_token.new.feed) _
-    (leaves_on g.F.Feed (fed c.args.reader.now c.args.feed.now) (fed c.loop-tok.reader c.loop-tok.feed) (fed c.next_token.new.reader c.next_token.new.feed) (Ok tt) c.loop-tok.invariant.leaves
-    (goes_on_by g.F.Feed (fed c.loop-tok.reader c.loop-tok.feed) (fed c.next_token.new.reader c.next_token.new.feed) _ (rw c.in_ok-offset.was at c.next_token.ensures.leaves)))
+    (leaves_on g.F.Feed (fed c.args.reader.now c.args.feed.now) (fed c.loop-tok.reader c.loop-tok.feed) (fed c.next_token.new.reader c.next_token.new.feed)
+    (Ok tt) c.loop-tok.invariant.leaves
+    (goes_on_by g.F.Feed (fed c.loop-tok.reader c.loop-tok.feed) (fed c.next_token.new.reader c.next_token.new.feed) _
+    (rw c.in_ok-offset.was at c.next_token.ensures.leaves)))
     (token_not_early c.in_ok-offset.offset c.in-Err.end) (token_no_failure c.in_ok-offset.offset c.in-Err.end))

@@ -8,4 +8,9 @@ pub returns-in_ok-len-in-120-clause-count : goal.returns-in_ok-len-in-120-clause
 returns-in_ok-len-in-120-clause-count g c =
     let front = c.in_ok-len-in-120.ensures in
     let taken = c.close.ensures.taken front.1.0 (rw (← c.answers.ensures) front.1.3) in
-    omega (arith, c.requires.count, open_as_counted (token.Cycle front.1.0) (open_branches g.A.Asker.plan c.args.checker.now) (open_branches g.A.Asker.plan c.close.new.self) taken)
+    omega (
+      arith,
+      c.requires.count,
+      open_as_counted (token.Cycle front.1.0) (open_branches g.A.Asker.plan c.args.checker.now)
+          (open_branches g.A.Asker.plan c.close.new.self) taken,
+    )

@@ -27,7 +27,7 @@ returns-then-not-enabled c =
     let entry : Entry = c.args.entry.now in (
       client_step-other f c.args.number entry client c.if-entry-number.false
           ∙ goes_on-refused (carry f entry.op (from_place 0 client.pending)) c.in-Some.form (length client.doc)
-              (λ carried. client_after f.head.mode carried client)
+          (λ carried. client_after f.head.mode carried client)
           (rw (← c.as_slice.ensures) c.in-Some.ensures) (ap (is_enabled c.in-Some.form) (sym c.len.ensures) ∙ sym c.if-not-enabled.ensures.test),
       refl,
     )
@@ -61,7 +61,7 @@ returns c =
     let entry : Entry = c.args.entry.now in
     let op : Some c.in-Some.form ≡ carried_op (carry f entry.op (from_place 0 client.pending)) = rw (← c.as_slice.ensures) c.in-Some.ensures in
     let list : carried_list (carry f entry.op (from_place 0 client.pending))
-        ≡ Some c.in_ok-pending.pending = rw (← c.as_slice-2.ensures) c.in_ok-pending.ensures in
+    ≡ Some c.in_ok-pending.pending = rw (← c.as_slice-2.ensures) c.in_ok-pending.ensures in
     rw c.in_ok-execute.ensures.ok
     (client_step-other f c.args.number entry client c.if-entry-number.false
     ∙ goes_on-done (carry f entry.op (from_place 0 client.pending)) c.in-Some.form c.in_ok-pending.pending (length client.doc)

@@ -122,15 +122,15 @@ returns-in-Err-clause-moved c =
     let next : slice_get s.server.log one.received ≡ Some entry = rw client_is (sym c.in-Some.ensures) in
     let new : List Client = c.take_at.new.clients in
     let refused : HasStepped {X = List Client} {R = Unit {0}} all new (step_map (slice_set all place) (client_step f (place + 1) entry one))
-        (Err c.in-Err.refusal) =
+    (Err c.in-Err.refusal) =
     subst (λ (clients : List Client). HasStepped {X = List Client} {R = Unit {0}} clients new
     (step_map (slice_set clients place) (client_step f (place + 1) entry (client_at clients place))) (Err c.in-Err.refusal)) c.deref_mut.ensures.value
-        c.in-Err.ensures in
+    c.in-Err.ensures in
     let same : new ≡ all = refused-same all new (step_map (slice_set all place) (client_step f (place + 1) entry one)) c.in-Err.refusal refused in
     let items : (with_items s.clients new).items ≡ new = items_same s.clients new same ∙ sym same in
     let hub : HubData = view_of s in
     subst (λ (clients : List Client). HasMoved hub (record hub { clients = clients; is_open = false }) c.args.client (down_step hub c.args.client)
-        (Err c.in-Err.refusal))
+    (Err c.in-Err.refusal))
     (sym items) (down-refused hub c.args.client there entry next new c.in-Err.refusal refused)
 
 pub returns-in-Err-clause-never_stuck : goal.returns-in-Err-clause-never_stuck
@@ -146,10 +146,10 @@ returns-in-Err-clause-never_stuck c tp1 chars is =
     let next : slice_get s.server.log one.received ≡ Some entry = rw client_is (sym c.in-Some.ensures) in
     let new : List Client = c.take_at.new.clients in
     let refused : HasStepped {X = List Client} {R = Unit {0}} all new (step_map (slice_set all place) (client_step f (place + 1) entry one))
-        (Err c.in-Err.refusal) =
+    (Err c.in-Err.refusal) =
     subst (λ (clients : List Client). HasStepped {X = List Client} {R = Unit {0}} clients new
     (step_map (slice_set clients place) (client_step f (place + 1) entry (client_at clients place))) (Err c.in-Err.refusal)) c.deref_mut.ensures.value
-        c.in-Err.ensures in
+    c.in-Err.ensures in
     let stuck : c.in-Err.refusal ≡ moves.Stuck = cc in
     let number : c.args.client ≡ place + 1 = omega (arith, there.low) in
     ∥∥₁_elim (s.in_step tp1 chars) (hlevel) (λ k.

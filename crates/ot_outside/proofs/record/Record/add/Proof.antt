@@ -81,7 +81,7 @@ module _ {M : Type 1} {𝓤 : Ura M} (𝓛 : Logic 𝓤) (at_mem : Memory → SP
   exits =
       qed 𝓛 (‵ (fobs γ ((T.the_row).coded.code h')) ∷ ‵ (fbor κ (Body (mem T.the_row) b o γ)) ∷ ‵ (flft κ q) ∷ ‵ rest ∷ (‵ (flft κ' q') ⊛ ‵ ftrue) ∷ []) ∵
       suffices ! _ (ends_at 𝓛 it.ended stayed (it.clauses 𝓛 at_mem run) (((κ, (κ', tt)), (q, (q', tt)), tt, x, at), tt) vunit tt (h', (tt, (tt, tt)))
-          (tt, (tt, (tt, tt)))) $ says ! (reads_after is_name s.now h) $ move ! (2 ∷ 4 ∷ []) $ join ! $
+      (tt, (tt, (tt, tt)))) $ says ! (reads_after is_name s.now h) $ move ! (2 ∷ 4 ∷ []) $ join ! $
       frame ! $ feq_i ! (List Val) (vptr b o ∷ []) (vptr b o ∷ []) refl $ fjoin3 ! $ fjoin ! $
       feq_i ! (List Val) (vunit ∷ []) (vunit ∷ []) refl $ move ! (1 ∷ 0 ∷ []) $ done !
 
@@ -90,7 +90,7 @@ module _ {M : Type 1} {𝓤 : Ura M} (𝓛 : Logic 𝓤) (at_mem : Memory → SP
         (WpFn 𝓤 H C Λ code.function (vptr b o ∷ vbool is_name ∷ slice_val s.ref_ptr (length s.now) ∷ []) Post)
     walk fs =
         qed 𝓛 ((‵ (flft κ q) ⊛ (‵ (flft κ' q') ⊛ ‵ ftrue)) ∷ ‵ (owns (MutRef (named 0) κ T.the_row ∷ Boolean ∷ ShrSlice (named 1) κ' u8 ∷ []) x at) ∷ []) ∵
-            split ! $ move ! (2 ∷ []) $ fsplit ! $ fsplit3 ! $ drop ! $ move ! (0 ∷ 1 ∷ 3 ∷ []) $
+        split ! $ move ! (2 ∷ []) $ fsplit ! $ fsplit3 ! $ drop ! $ move ! (0 ∷ 1 ∷ 3 ∷ []) $
         enter ! C Λ code.function (vptr b o ∷ vbool is_name ∷ slice_val s.ref_ptr (length s.now) ∷ []) _ $
         alloc_all ! (λ l. pass_all ! refl ((tt, tt), ((tt, tt), ((tt, (tt, (record { fits = fs }, tt))), tt))) $
         move ! (0 ∷ 1 ∷ 2 ∷ []) $ opens ! tt T.the_row {h = h} b o (λ vs.
@@ -106,11 +106,16 @@ module _ {M : Type 1} {𝓤 : Ura M} (𝓛 : Logic 𝓤) (at_mem : Memory → SP
   walks C Λ = walked 𝓛 it.ended stayed (it.clauses 𝓛 at_mem run) (WpFn 𝓤 H C Λ code.function) (λ κs. (mut_vals, (bool_vals, (shr_slice_vals, tt))))
       (λ κs. (mut_Tells (named 0) κs.0 T.the_row, (bool_Tells, (shr_slice_Tells (named 1) κs.1.0 u8, tt))))
       (λ κs qs bounds a _ are. via 𝓤 _ (fst∗ 𝓤 _ (emp 𝓤)) (walk 𝓛 at_mem run κs.0 κs.1.0 qs.0 qs.1.0 a.0.ref_ptr.0 a.0.ref_ptr.1 a.0.ghost_name a.0.now a.1.0
-          a.1.1.0 C Λ are.1.1.0.0.1.0))
+      a.1.1.0 C Λ are.1.1.0.0.1.0))
 
   goes : AllGo 𝓛 2 (it.signature).params (it.ended).kept stayed
-  goes = (Goes-ref 𝓛 2 0 tt (plain (λ _. T.the_row)), (Goes-none 𝓛 2 (λ _. Boolean) yes (λ κs x f. refl),
-      (Goes-none_slice 𝓛 2 (1 ∷ []) tt (plain (λ _. u8)) yes, tt)))
+  goes = (
+    Goes-ref 𝓛 2 0 tt (plain (λ _. T.the_row)),
+    (
+      Goes-none 𝓛 2 (λ _. Boolean) yes (λ κs x f. refl),
+      (Goes-none_slice 𝓛 2 (1 ∷ []) tt (plain (λ _. u8)) yes, tt),
+    ),
+  )
 
 meets : {M : Type 1} {𝓤 : Ura M} (𝓛 : Logic 𝓤) → (at_mem : Memory → SProp 𝓤) (run : Routine → Fun 𝓤) (𝓣 : Tables 𝓤 𝓛.H)
     → Meets 𝓛 it.signature (WpFn 𝓤 𝓛.H 𝓣.C 𝓣.Λ code.function) (it.spec 𝓛 at_mem run)

@@ -149,7 +149,7 @@ returns-in-Ok-clause-made c =
     let before : View = record { function = f; first = s.first; made = made; sites = map view_site sites; counted = s.counted; is_open = s.is_open } in
     subst (λ (ss : List Site).
     HasMade before (record { function = f; first = s.first; made = new_made; sites = map view_site ss; counted = s.counted; is_open = s.is_open }) t o
-        c.in-Ok.number)
+    c.in-Ok.number)
     items
     (record {
       number = c.in-Ok.ensures.number;

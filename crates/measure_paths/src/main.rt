@@ -1,0 +1,102 @@
+//! A measure, and no part of the product: searches a plan with 99,999 questions on one path, feeds the tree
+//! to the checker, and says how both end. `bench/deep_path.py` reports time and memory.
+#![tactic(auto)]
+
+ghost use Rattle.std.specs.Prelude.{◌≡◌, ◌≤◌};
+ghost use Rattle.ask_core.specs.declared.asker.TheConstants.{MAX_QUESTIONS};
+
+use ask_core::{Asker, MAX_QUESTIONS, NoMemory, Tree, Turn};
+use cert_check::{CheckError, Checker, Progress};
+use diff_graph::Lit;
+use ot_prove::{Outcome, prove};
+use std::alloc::Global;
+use std::io;
+
+/// An asker whose plan asks one literal again and again, as long as it is answered by yes.
+#[derive(Drop)]
+pub struct Deep {
+    depth: u32,
+    ghost small: { depth ≤ MAX_QUESTIONS },
+}
+
+impl Asker for Deep {
+    ghost use Rattle.std.specs.Prelude.{◌≤◌};
+    ghost use Rattle.ask_core.specs.declared.asker.TheConstants.{MAX_QUESTIONS};
+    ghost use Rattle.measure_paths.specs.Deep.{deep_plan, IsFine-deep_plan};
+
+    type Node = u32;
+
+    type Why = u8;
+
+    ghost is_own = { λ _ n. n ≤ MAX_QUESTIONS };
+
+    ghost plan = { λ _ n. deep_plan n };
+
+    ghost root = { λ a. deep_plan a.depth };
+
+    ghost name_count = { λ _. 2 };
+
+    fn names(&self) -> u8 {
+        2
+    }
+
+    fn start(&mut self) -> Result<u32, NoMemory> {
+        Ok(self.depth)
+    }
+
+    fn turn(&mut self, node: u32) -> Result<Turn<u32, u8>, NoMemory> {
+        if node == 0 {
+            Ok(Turn::Holds)
+        } else {
+            Ok(Turn::Ask {
+                lit: Lit { x: 0, y: 1, k: 0 },
+                yes: node - 1,
+                no: 0,
+            })
+        }
+    }
+
+    ghost fine = { λ a n own. IsFine-deep_plan n own };
+}
+
+fn whole_depth() -> Deep {
+    Deep {
+        depth: MAX_QUESTIONS,
+    }
+}
+
+// Feeds the tokens to a checker, and says how it ends.
+fn check(alloc: Global, tree: &Tree) -> Result<Result<Progress, CheckError>, NoMemory> {
+    let mut checker = Checker::new(alloc, whole_depth())?;
+    let mut tokens = tree.tokens();
+    while let Some(tok) = tokens.next(alloc) {
+        match checker.feed(tok) {
+            Ok(Progress::More) => {}
+            other => return Ok(other),
+        }
+    }
+    Ok(Ok(Progress::More))
+}
+
+// Says how the search ends, and how the checker takes the tree that it finds.
+fn run(rt: HostRuntime, budget: u64) -> io::Result<()> {
+    match prove(rt.alloc(), &mut whole_depth(), budget) {
+        Ok(Outcome::Yes { tree, asked }) => match check(rt.alloc(), &tree) {
+            Ok(answer) => println!(rt; "{asked} questions: {answer:?}"),
+            Err(_) => println!(rt; "no memory"),
+        },
+        Ok(
+            Outcome::No {
+                answers: _answers,
+                why,
+            },
+        ) => println!(rt; "fails with {why}"),
+        Ok(Outcome::Spent) => println!(rt; "more than {budget} questions"),
+        Err(_) => println!(rt; "no memory"),
+    }
+}
+
+fn main(rt: HostRuntime) -> io::Result<()> {
+    run(rt, u64::from(MAX_QUESTIONS))?;
+    run(rt, u64::from(MAX_QUESTIONS - 1))
+}

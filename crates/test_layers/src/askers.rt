@@ -1,0 +1,64 @@
+//! The questions of a guard alone. Those of obligations are rows of `test_commands`.
+ghost use Rattle.std.specs.Prelude.{IsTrue};
+ghost use Rattle.fn_rules.specs.Obligations.{is_obligation};
+ghost use Rattle.fn_rules.specs.Rules.{function_of};
+
+use crate::functions::{MARKS, staying};
+use ask_core::{Asker, NoMemory, Turn};
+use bumpalo::Bump;
+use diff_graph::Lit;
+use fn_rules::{Atom, Cmp, Guard, ObName, Rules, Side, Sort};
+use ot_model::Kind;
+use ot_paths::{PathAsker, conditions_are_nodes};
+use ot_questions::Who;
+use ot_terms::{Goal, SymOp, Why, place_form};
+use std::process::Abort;
+use std::test::Fail;
+
+// Over a goal that holds where the first deletion is before the second, and fails where it is not.
+fn asker_of_guard<'a>(bump: &'a Bump, rules: &'a Rules) -> Result<PathAsker<'a>, NoMemory>
+    requires { IsTrue (is_obligation (function_of rules.now).head (ObName.Pair Kind.Del Kind.Del)) }
+{
+    conditions_are_nodes();
+    let before = Guard::Atom(Atom {
+        sort: Sort::Pos,
+        left: Side::First,
+        cmp: Cmp::Lt,
+        k: 0,
+    });
+    let a = SymOp::named(Kind::Del, Who::A);
+    let b = SymOp::named(Kind::Del, Who::B);
+    let form = place_form(bump, &before, a, b)?;
+    let on_yes = Goal::holds(bump)?;
+    let on_no = Goal::fails(bump, Why::Undefined)?;
+    let goal = Goal::either(bump, form, on_yes, on_no)?;
+    Ok(PathAsker::over(bump, rules, ObName::Pair(Kind::Del, Kind::Del), goal))
+}
+
+// The guard is asked, and nothing of the obligation.
+fn guard_is_asked(rt: &impl Abort, asker: &mut PathAsker<'_>) -> Result<(), NoMemory> {
+    let start = asker.start()?;
+    match asker.turn(start)? {
+        Turn::Ask { lit, yes, no } => {
+            assert_eq!(rt; lit, Lit { x: 3, y: 6, k: -1 });
+            let behind_yes = asker.turn(yes)?;
+            assert!(rt; matches!(behind_yes, Turn::Holds));
+            let behind_no = asker.turn(no)?;
+            assert!(rt; matches!(behind_no, Turn::Fails(Why::Undefined)));
+        }
+        _ => rt.abort(),
+    }
+    Ok(())
+}
+
+#[test]
+fn a_goal_of_a_guard_asks_the_guard_alone(rt: HostRuntime) -> Result<(), Fail> {
+    let rules = staying(&rt, rt.alloc(), MARKS)?;
+    let head = rules.head();
+    assert!(rt; head.declares_pair(Kind::Del, Kind::Del));
+    let bump = Bump::new(rt.alloc());
+    let mut asker = asker_of_guard(&bump, &rules)?;
+    assert_eq!(rt; asker.names(), 9);
+    guard_is_asked(&rt, &mut asker)?;
+    Ok(())
+}

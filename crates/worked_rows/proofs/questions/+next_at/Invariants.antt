@@ -1,5 +1,0 @@
-use Rattle.std.proofs.Common.{length}
-use Rattle.worked_rows.proofs.questions.+next_at.Given as goal
-
-abbrev pub decreases-next_at : goal.decreases-next_at
-decreases-next_at l = length l.answers.now
