@@ -60,6 +60,7 @@ module _ (past : Past) (order : IsOrderly past) where
     ];
   }
 
+  -- two operations that are each before no member can be taken out in either order
   pub IsDiamond-free : (x y : ℕ) (l m : List ℕ) → x ≢ y → IsClosed past l → IsClosed past m → HaveOneSet l m
       → has l x ≡ true → has m y ≡ true → IsFree past x l → IsFree past y m → IsDiamond past x y l m (without y (without x l))
   IsDiamond-free x y l m differ closed_l closed_m same x_in_l y_in_m free_x free_y = record {

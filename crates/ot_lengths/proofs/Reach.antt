@@ -128,6 +128,7 @@ module _ (Inner : ℕ → Type 0) where
   form_at n (Upd at ch site) k e h = h.0
   form_at n Nop k e h = absurd (cc)
 
+  -- what a guard compares of a form is its position, or a site or character
   pub form_thing :
       (n : ℕ) (sort : Sort) (o : SymOp) (k : Kind) → sym_kind o ≡ Some k → HasThing sort o → IsForm n o → IsThing n (sym_thing sort o)
   form_thing n Pos o k e there h = inl (form_at n o k e h)

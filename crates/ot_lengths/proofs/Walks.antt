@@ -123,6 +123,7 @@ module _ (Inner : ℕ → Type 0) where
   -- of two forms of these kinds, in whose block the guard may stand
   module _ (k l : Kind) (a b : SymOp) (ea : sym_kind a ≡ Some k) (eb : sym_kind b ≡ Some l) (ha : IsForm Inner 99 a)
       (hb : IsForm Inner 99 b) where
+    -- the questions of an atom, which compares the forms either way, are short
     by_side :
         (atom : Atom) (side : Side) (p q : Plan Why) → IsThing Inner 99 (sym_thing atom.sort a)
         → IsThing Inner 99 (sym_thing atom.sort b)
@@ -160,6 +161,7 @@ module _ (Inner : ℕ → Type 0) where
   abbrev pub GoesOnAfter : ℕ → (Option SymOp → Plan Why) → Type 0
   GoesOnAfter n go = Short (go None) × ((r : SymOp) → IsForm Inner n r → Short (go (Some r)))
 
+  -- the questions of the cases of a block, in their order, are short
   walk_first_result :
       (n : ℕ) (k l : Kind) (cs : List GuardedCase) (a b : SymOp) (go : Option SymOp → Plan Why) → n ≤ 99 → sym_kind a ≡ Some k
       → sym_kind b ≡ Some l → list_all (is_valid_case (compares_chars k l)) cs ≡ true → IsForm Inner n a → IsForm Inner n b

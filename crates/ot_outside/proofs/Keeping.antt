@@ -6,6 +6,7 @@ use Rattle.ot_outside.specs.Reads.{IsSameReading, Reads}
 use Rattle.ot_outside.specs.Unchanged.{Unchanged}
 use Rattle.ot_outside.specs.ShelfFeed.{KeepsShelf, IsAllOfReads, beyond_limit, gave_by, room_of, shelf_of}
 
+-- a call that leaves the shelf unchanged and reads on keeps what was kept before it
 pub kept_on :
     {S : Type 0} {shelf : Ghosts S} (before old new : ShelfFeed S shelf) → KeepsShelf before old
     → Unchanged shelf.holds shelf.offered shelf.faults (shelf_of old) (shelf_of new)

@@ -136,6 +136,7 @@ module _ (mode : Mode) (count : ℕ) (some : 2 < count) where
   step_given : (old named got : CellTree) → Some named ≡ Some got → IsStep mode count old named → IsStep mode count old got
   step_given old named got e h = let same : named ≡ got = cc in subst (IsStep mode count old) same h
 
+  -- a step by the last change of a document gives a cell that is the same and is of the mode
   change_step :
       (d : DocTree) (j : Place) (got : CellTree) → read_change d j ≡ Some got → IsCellOf mode count (At d j)
       → IsStep mode count (At d j) got

@@ -106,7 +106,7 @@ module _ (f : Function) (a b : SymOp) (k l : Kind) (there : sym_kind a ≡ Some 
 
   -- the parts, of operands and cases that are not far
   module _ (ob : ObName) (valid : IsTrue (is_valid f)) where
-    -- so has the choice by the first case that is left
+    -- the choice by the first case that is left has parts of the obligation
     parts_of_cases :
         (cs : List GuardedCase) (n : ℕ) (plan : Progress) → drop n (f.cases k l) ≡ cs → IsTrue (is_obligation f.head ob)
         → IsChoiceOf f ob n a b plan → HasParts f ob (choose_case cs n a b plan)

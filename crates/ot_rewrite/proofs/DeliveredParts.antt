@@ -104,6 +104,7 @@ module _ (f : Function) (ob : ObName) where
     high = let near : IsNear 99 (sym_at o).off = h.near in omega (arith, ints, near.high);
   }
 
+  -- the test that an operation is enabled has places below the count
   enabled_places :
       (o : SymOp) (off : ℤ) → IsNear 1 off → IsPlace (name_count ob) (sym_at o) → HasPlaces (name_count ob) (enabled_form o off)
   enabled_places o off near at =
@@ -133,6 +134,7 @@ module _ (f : Function) (ob : ObName) where
   -- two operations, each with a form behind the other
   module _ (a b_after_a b a_after_b : SymOp) (ha : IsOperand f ob 99 a) (hx : IsOperand f ob 99 b_after_a)
       (hb : IsOperand f ob 99 b) (hy : IsOperand f ob 99 a_after_b) where
+    -- the comparison of the two documents has parts of the obligation
     parts_of_documents :
         (off : ℤ) → IsNear 2 off
         → HasParts f ob
@@ -159,6 +161,7 @@ module _ (f : Function) (ob : ObName) where
           tt,
         )
 
+    -- so has the goal at the end of a pair, both ways
     parts_of_both_ways : HasParts f ob (both_ways f.head.mode a b_after_a b a_after_b)
     parts_of_both_ways =
         let mode = f.head.mode in
@@ -195,6 +198,7 @@ module _ (f : Function) where
       parts_of_both_ways f ob a x b y (IsOperand-more f ob 0 99 a (omega arith) both.0) results.0
       (IsOperand-more f ob 0 99 b (omega arith) both.1) results.1
 
+  -- the goal at the end of a triple has parts of the triple
   end_of_three :
       (k l m : Kind) (a b c : SymOp) (os got : List SymOp)
       → IsOperand f (Triple k l m) 0 a × IsOperand f (Triple k l m) 0 b × IsOperand f (Triple k l m) 0 c
@@ -248,6 +252,7 @@ module _ (f : Function) (r : SymOp) (plan : Progress) (d : IsTrue (is_obligation
       (sym (results_of-with_result plan r (within_room plan.ob plan h)))
       (AreResults-more plan.ob plan.ops [] (results_of plan) r h.results next)
 
+  -- what comes after a result, the next transformation or the end, has parts of the obligation
   go_on_has_parts :
       (next : Option (SymOp × SymOp)) → next_operands plan.ob plan.ops (results_of (with_result plan r)) ≡ next
       → HasParts f plan.ob (Deliver r plan) → HasParts f plan.ob (go_on f (with_result plan r) next)

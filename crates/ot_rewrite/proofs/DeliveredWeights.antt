@@ -167,6 +167,7 @@ module _ (f : Function) where
   end_falls : (weight rest : ℕ) → weight ≤ 200 → weight < 1 + (rest + 200)
   end_falls weight rest h = omega arith
 
+  -- what comes after a result is lighter than its delivery
   go_on_falls :
       (r : SymOp) (plan : Progress) (next : Option (SymOp × SymOp)) → plan.count < length plan.got
       → next_operands plan.ob plan.ops (results_of (with_result plan r)) ≡ next

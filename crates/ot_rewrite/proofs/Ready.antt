@@ -19,6 +19,7 @@ use Rattle.ot_terms.specs.Belonging.{HasPlaces, IsCellOf, HasParts, IsGoalOf}
 use Rattle.cell_rules.specs.Cells.{IsReadable}
 use Rattle.goal_rules.specs.Steps.{IsLowered, IsReady}
 
+-- offsets of places are small enough for a literal
 lowered : (count : ℕ) (g : FormTree) → HasPlaces count g → IsLowered g
 lowered count forms.True h = tt
 lowered count (forms.Le x y) h = tt

@@ -113,6 +113,7 @@ abbrev pub IsSourceOf : ℕ → Source → Type 0
 IsSourceOf count (sources.Base off) = Unit {0}
 IsSourceOf count (sources.Named c) = c < count
 
+-- the character of a finished cell has a name below the count
 pub finished_source :
     (mode : Mode) (count : ℕ) (cell : CellTree) (x : Finished) → finished_cell cell ≡ Some x → IsCellOf mode count cell
     → IsSourceOf count x.source

@@ -49,6 +49,7 @@ module _ (count : ℕ) (some : 0 < count) where
 
   -- of operations whose names are below the count and whose offsets are small
   module _ (a b : SymOp) (ha : HasNames count a) (hb : HasNames count b) (na : IsNearOp 99 a) (nb : IsNearOp 99 b) where
+    -- an atom has places below the count, either way round
     HasPlaces-sides :
         (c : Cmp) (sort : Sort) (side : Side) (k : ℤ) → IsNear 99 k
         → HasPlaces count (compared c (sym_thing sort (of_side side a b)) (plus (sym_thing sort (of_side (other_side side) a b)) k))

@@ -92,6 +92,7 @@ module _ (v : ℕ → ℤ) where
         (end-enabled_form q (growth mode b) (ask_lengths mode a p b q) (Fails OutOfRange)
         ∙ ap (λ e. if form_holds v (enabled_form q (growth mode b)) then e else Some OutOfRange) end-lengths)
 
+    -- both ways give one document exactly where the questions about them end with no cause
     pub ways_hold : GiveOneDocument v mode a p b q ↔ (end_of (ask_ways mode a p b q) v ≡ None)
     ways_hold =
         let lengths = Decides-int_eq (growth mode a +ℤ growth mode p) (growth mode b +ℤ growth mode q) in

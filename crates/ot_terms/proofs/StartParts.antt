@@ -52,6 +52,7 @@ module _ (count : ℕ) where
   IsMade-sym_op kinds.Del who h = record { kind = refl; at = refl; names = (position_below who h, site_below who h) }
   IsMade-sym_op kinds.Upd who h = record { kind = refl; at = refl; names = (position_below who h, h, site_below who h) }
 
+  -- the test that an operation as it was made is enabled has places below the count
   HasPlaces-enabled_form :
       (k : Kind) (who : Who) → char_name who < count → HasPlaces count (enabled_form (sym_op k who) (pos 0))
   HasPlaces-enabled_form k who h =

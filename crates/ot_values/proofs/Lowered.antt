@@ -169,7 +169,7 @@ gap_at : (p q r m : ℤ) → pos 102 ≤ℤ p → pos 100 ≤ℤ m → m ≤ℤ 
 gap_at p q r m high low most hq hr =
     record { m = m; low = low; high = most; p_free = λ e. omega (arith, ints); q_free = hq; r_free = hr }
 
--- of three characters, one of which is at least 102, two leave a gap
+-- beside a character that is at least 102, two others leave a value from 99 to 101 free
 gap : (p q r : ℤ) → pos 102 ≤ℤ p → Gap p q r
 gap p q r high =
     elim (taken q r (pos 101)) [
