@@ -1,3 +1,4 @@
 pub mod Trees
 pub mod Holding
 pub mod Sections
+pub mod Standing

@@ -12,7 +12,7 @@ mod line;
 mod refusal;
 mod tree;
 
-pub use laws::accepted_proofs_hold;
+pub use laws::{accepted_proofs_hold, refusals_stand};
 pub use line::{judge_end, judge_header, judge_line_end, judge_ob};
 pub use refusal::{ConfirmError, ProofRefusal};
 pub use tree::{judge_tree, unread_part};
