@@ -28,16 +28,17 @@ fn are_same(left: &[SymOp], right: &[SymOp]) -> bool
     }
 }
 
-fn is_same_progress(left: &Progress, right: &Progress) -> bool
+/// Whether the transformations of two obligations have come equally far, by equal results.
+pub fn is_same_progress(left: &Progress, right: &Progress) -> bool
     ensures { IsTrue result → left.now ≡ right.now }
 {
     if left.count != right.count || left.ob != right.ob {
         return false;
     }
-    if !are_same(&left.ops, &right.ops) {
+    if !are_same(&left.got, &right.got) {
         return false;
     }
-    are_same(&left.got, &right.got)
+    are_same(&left.ops, &right.ops)
 }
 
 fn is_for(known: &Behind<'_>, op: SymOp, plan: &Progress) -> bool
@@ -52,7 +53,8 @@ fn is_for(known: &Behind<'_>, op: SymOp, plan: &Progress) -> bool
 
 /// What is left behind the result, if it is known.
 pub(crate) fn found<'a>(known: &[Behind<'a>], op: SymOp, plan: &Progress) -> Option<&'a Goal<'a>>
-    ensures { (f : Function) → All (IsKept f) known.now → IfSome result (λ g. StandsAlike f (Deliver op plan.now) (goal_tree g.now)) }
+    ensures { (f : Function) → All (IsKept f) known.now
+        → IfSome result (λ g. StandsAlike f (Deliver op plan.now) (goal_tree g.now)) }
 {
     for at in 0..known.len() {
         let one = &known[at];

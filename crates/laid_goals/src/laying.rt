@@ -52,7 +52,8 @@ pub fn by_form<'a>(
     no: &'a Goal<'a>,
 ) -> Result<&'a Goal<'a>, NoMemory>
     requires { HasLowOffsets (form_tree form.now) }
-    ensures { IfOk result (λ r. goal_tree r.now ≡ laid_form (form_tree form.now) (goal_tree yes.now) (goal_tree no.now)) }
+    ensures { IfOk result (λ r. goal_tree r.now ≡ laid_form (form_tree form.now) (goal_tree yes.now)
+        (goal_tree no.now)) }
 {
     match form {
         Form::True => Ok(yes),
@@ -78,7 +79,8 @@ pub fn by_form<'a>(
 fn stepped<'a>(bump: &'a Bump, rules: &Rules, goal: &'a Goal<'a>) -> Result<&'a Goal<'a>, NoMemory>
     requires { (ob : ObName) × IsGoalOf (function_of rules.now) ob (goal_tree goal.now) }
     ensures alike { IfOk result (λ r. StandsAlike (function_of rules.now) (goal_tree goal.now) (goal_tree r.now)) }
-    ensures weighs { IfOk result (λ r. goal_weight (function_of rules.now) (goal_tree r.now) ≤ goal_weight (function_of rules.now) (goal_tree goal.now)) }
+    ensures weighs { IfOk result (λ r. goal_weight (function_of rules.now) (goal_tree r.now)
+        ≤ goal_weight (function_of rules.now) (goal_tree goal.now)) }
 {
     match step(bump, rules, goal)? {
         Some(next) => Ok(next),
@@ -90,7 +92,8 @@ fn stepped<'a>(bump: &'a Bump, rules: &Rules, goal: &'a Goal<'a>) -> Result<&'a 
 fn first_form<'a>(bump: &'a Bump, rules: &Rules, goal: &'a Goal<'a>) -> Result<Front<'a>, NoMemory>
     requires { (ob : ObName) × IsGoalOf (function_of rules.now) ob (goal_tree goal.now) }
     ensures alike { IfOk result (λ r. StandsAlike (function_of rules.now) (goal_tree goal.now) (front_tree r)) }
-    ensures weighs { IfOk result (λ r. goal_weight (function_of rules.now) (front_tree r) ≤ goal_weight (function_of rules.now) (goal_tree goal.now)) }
+    ensures weighs { IfOk result (λ r. goal_weight (function_of rules.now) (front_tree r)
+        ≤ goal_weight (function_of rules.now) (goal_tree goal.now)) }
 {
     match goal {
         Goal::Choose { .. } => Ok(Front::of(stepped(bump, rules, goal)?)),
@@ -107,7 +110,8 @@ fn next_of<'a>(
     plan: &'a Progress,
 ) -> Result<Option<&'a Goal<'a>>, NoMemory>
     requires { (ob : ObName) × IsGoalOf (function_of rules.now) ob (Deliver op plan.now) }
-    ensures { IfOk result (λ r. IfSome r (λ next. IsStep (function_of rules.now) (Deliver op plan.now) (goal_tree next.now))) }
+    ensures { IfOk result (λ r. IfSome r (λ next. IsStep (function_of rules.now) (Deliver op plan.now)
+        (goal_tree next.now))) }
 {
     if bump.allocated_bytes() > ROOM {
         return Ok(None);

@@ -5,5 +5,6 @@ mod behind;
 mod kept;
 mod laying;
 
+pub use behind::is_same_progress;
 pub use kept::Behind;
 pub use laying::{by_form, laid_out};

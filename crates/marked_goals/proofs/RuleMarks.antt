@@ -1,5 +1,6 @@
 -- What the rules keep of the starts of a goal: all of them, but that a choice of the first case has one.
-use Rattle.std.proofs.Common.{◌≡◌, ℕ, zero, suc, ◌+◌, ◌-◌, ◌<◌, negsuc, ◌+ℤ◌, Bool, true, false, if◌then◌else◌, nat_eq, int_le, Option, Some, None, List, [], ◌∷◌, ◌++◌, drop, take, slice_set, length, refl, ap, sym, subst, ◌∙◌, arith}
+use Rattle.std.proofs.Common.{◌≡◌, ℕ, zero, suc, ◌+◌, ◌-◌, ◌<◌, negsuc, ◌+ℤ◌, Bool, true, false, if◌then◌else◌, nat_eq, int_le, Option, Some, None, List, []}
+use Rattle.std.proofs.Common.{◌∷◌, ◌++◌, drop, take, slice_set, length, refl, ap, sym, subst, ◌∙◌, arith}
 use Rattle.std.specs.Ordering.{int_eq}
 use Rattle.ot_model.specs.declared.op.Kind.{Kind}
 use Rattle.ot_model.specs.declared.op.Mode.{Mode}
@@ -33,10 +34,12 @@ use Rattle.ot_terms.specs.Standing.{ask_form, ask_goal, ask_after, results_of}
 use Rattle.ot_terms.specs.Weights.{transforms_of}
 use Rattle.cell_rules.specs.Cells.{read_step, finished_cell}
 use Rattle.goal_rules.specs.Ends.{end_goal, end_of_pair, end_of_triple, same_documents, same_lengths, one_place}
-use Rattle.goal_rules.specs.Table.{rewrite_if, choose_case, choose_by_kinds, rewrite_choose, with_result, go_on, rewrite_deliver, same_source, both_finished, parted, rewrite_right, rewrite_left, rewrite_same, rewritten}
+use Rattle.goal_rules.specs.Table.{rewrite_if, choose_case, choose_by_kinds, rewrite_choose, with_result, go_on, rewrite_deliver, same_source, both_finished}
+use Rattle.goal_rules.specs.Table.{parted, rewrite_right, rewrite_left, rewrite_same, rewritten}
 use Rattle.start_laws.specs.Begun.{start_after}
 use Rattle.start_laws.specs.Starts.{Start}
-use Rattle.marked_goals.specs.Marking.{Marked, with_start, marked_le, marked_form, marked_cases, marked_by_kinds, marked_transform, marked_next, marked_after, marked_with, marked_goal}
+use Rattle.marked_goals.specs.Marking.{Marked, with_start, marked_le, marked_form, marked_cases, marked_by_kinds, marked_transform, marked_next, marked_after}
+use Rattle.marked_goals.specs.Marking.{marked_with, marked_goal}
 use Rattle.marked_goals.specs.Settled.{is_begun}
 
 -- a list behind the element at a number

@@ -1,5 +1,6 @@
 -- Each start of a goal's plan stands for the plan that is there.
-use Rattle.std.proofs.Common.{◌≡◌, ℕ, zero, suc, ◌+◌, ◌-◌, negsuc, Bool, true, false, nat_eq, int_le, Option, Some, None, List, [], ◌∷◌, ◌++◌, drop, IsTrue, refl, sym, subst, ◌∙◌}
+use Rattle.std.proofs.Common.{◌≡◌, ℕ, zero, suc, ◌+◌, ◌-◌, negsuc, Bool, true, false, nat_eq, int_le, Option, Some, None, List, [], ◌∷◌, ◌++◌, drop, IsTrue}
+use Rattle.std.proofs.Common.{refl, sym, subst, ◌∙◌}
 use Rattle.ot_model.specs.declared.op.Kind.{Kind}
 use Rattle.fn_rules.specs.declared.function.ObName.{ObName}
 use Rattle.fn_rules.specs.Functions.{Function, GuardedCase}
@@ -22,7 +23,8 @@ use Rattle.ot_terms.specs.Weights.{transforms_of}
 use Rattle.ot_terms.proofs.StartParts.{start_of_belongs}
 use Rattle.start_laws.specs.Begun.{start_after}
 use Rattle.start_laws.specs.Starts.{Start, meaning}
-use Rattle.marked_goals.specs.Marking.{Marked, with_start, marked_le, marked_form, marked_cases, marked_by_kinds, marked_transform, marked_next, marked_after, marked_with, begun, marked_goal, marked_plan}
+use Rattle.marked_goals.specs.Marking.{Marked, with_start, marked_le, marked_form, marked_cases, marked_by_kinds, marked_transform, marked_next, marked_after}
+use Rattle.marked_goals.specs.Marking.{marked_with, begun, marked_goal, marked_plan}
 use Rattle.marked_goals.proofs.Unmarked.{unmarked-transform, unmarked-choice, unmarked-after, next_asks}
 
 module _ (f : Function) where

@@ -1,5 +1,6 @@
 -- The plan of a goal with its starts, without them, is the plan of the goal.
-use Rattle.std.proofs.Common.{◌≡◌, ℕ, zero, suc, ◌+◌, ◌-◌, negsuc, Bool, true, false, nat_eq, int_le, Option, Some, None, List, [], ◌∷◌, ◌++◌, drop, refl, ap, subst, ◌∙◌}
+use Rattle.std.proofs.Common.{◌≡◌, ℕ, zero, suc, ◌+◌, ◌-◌, negsuc, Bool, true, false, nat_eq, int_le, Option, Some, None, List, [], ◌∷◌, ◌++◌, drop, refl, ap}
+use Rattle.std.proofs.Common.{subst, ◌∙◌}
 use Rattle.ot_model.specs.declared.op.Kind.{Kind}
 use Rattle.fn_rules.specs.declared.function.ObName.{ObName}
 use Rattle.fn_rules.specs.declared.function.ObName.TheVariants.{Pair, Triple}
@@ -26,7 +27,8 @@ use Rattle.ot_terms.specs.Weights.{transforms_of}
 use Rattle.ot_terms.proofs.GuardForms.{ask_form_guard_form}
 use Rattle.ot_terms.proofs.Starts.{ask_goal_start_of}
 use Rattle.start_laws.specs.Starts.{Start}
-use Rattle.marked_goals.specs.Marking.{Marked, with_start, marked_le, marked_form, marked_cases, marked_by_kinds, marked_transform, marked_next, marked_after, marked_with, begun, marked_goal, marked_plan}
+use Rattle.marked_goals.specs.Marking.{Marked, with_start, marked_le, marked_form, marked_cases, marked_by_kinds, marked_transform, marked_next, marked_after}
+use Rattle.marked_goals.specs.Marking.{marked_with, begun, marked_goal, marked_plan}
 
 pub unmarked-with_start : (start : Option Start) (p : Marked) → unmarked (with_start start p) ≡ unmarked p
 unmarked-with_start start (Ask other l on_yes on_no) = refl

@@ -1,5 +1,6 @@
 -- The plan that a goal stands for, with a start at each place where a transformation begins.
-use Rattle.std.specs.Prelude.{ℕ, zero, suc, ◌+◌, ◌-◌, negsuc, ◌-ℤ◌, if◌then◌else◌, nat_eq, int_le, Option, Some, None, List, [], ◌∷◌, ◌++◌, drop}
+use Rattle.std.specs.Prelude.{ℕ, zero, suc, ◌+◌, ◌-◌, negsuc, ◌-ℤ◌, if◌then◌else◌, nat_eq, int_le, Option, Some, None}
+use Rattle.std.specs.Prelude.{List, [], ◌∷◌, ◌++◌, drop}
 use Rattle.ot_model.specs.declared.op.Kind.{Kind}
 use Rattle.fn_rules.specs.declared.function.ObName.{ObName}
 use Rattle.fn_rules.specs.Functions.{Function, GuardedCase}

@@ -28,7 +28,8 @@ front_start (Fails why) = None
 front_start (If g on_yes on_no) = None
 front_start (Choose zero a b plan) = Some (start_after plan None)
 front_start (Choose (suc case) a b plan) = None
-front_start (Deliver o plan) = if nat_lt (1 + plan.count) (transforms_of plan.ob) then Some (start_after plan (Some o)) else None
+front_start (Deliver o plan) = if nat_lt (1 + plan.count) (transforms_of plan.ob) then Some (start_after plan (Some o))
+    else None
 front_start (Same left right) = None
 
 -- at the front of the goal a transformation begins, or a question or an end stands

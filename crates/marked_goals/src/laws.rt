@@ -16,12 +16,15 @@ ghost use Rattle.marked_goals.specs.Settled.{is_begun, front_start, is_settled};
 
 use ot_rewrite::rules_keep_what_is_asked;
 
-/// Without its starts the plan is that of the goal or of the obligation, and each start stands for the plan that is there.
+/// Without its starts the plan is that of the goal or of the obligation, and each start stands for the plan that is
+/// there.
 pub fn marked_plans_are_plans()
     ensures goals { (f : Function) (g : GoalTree) → unmarked (marked_goal f g) ≡ ask_goal f g }
     ensures obligations { (f : Function) (ob : ObName) → unmarked (marked_plan f ob) ≡ plan_of f ob }
-    ensures starts { (f : Function) (ob : ObName) (g : GoalTree) → IsGoalOf f ob g → IsMarkedBy (meaning f) (marked_goal f g) }
-    ensures whole { (f : Function) (ob : ObName) → IsTrue (is_obligation f.head ob) → IsMarkedBy (meaning f) (marked_plan f ob) }
+    ensures starts { (f : Function) (ob : ObName) (g : GoalTree) → IsGoalOf f ob g
+        → IsMarkedBy (meaning f) (marked_goal f g) }
+    ensures whole { (f : Function) (ob : ObName) → IsTrue (is_obligation f.head ob)
+        → IsMarkedBy (meaning f) (marked_plan f ob) }
 {}
 
 /// A rule keeps the starts of a goal, but for the one at its front, which is lost where the first case of a
@@ -29,7 +32,8 @@ pub fn marked_plans_are_plans()
 /// there, the start at the front is that of the transformation, if one begins.
 pub fn rules_keep_starts()
     ensures kept { (f : Function) (ob : ObName) (g h : GoalTree)
-        → IsTrue (is_valid f) → IsGoalOf f ob g → rewritten f g ≡ Some h → is_begun g ≡ false → marked_goal f h ≡ marked_goal f g }
+        → IsTrue (is_valid f) → IsGoalOf f ob g → rewritten f g ≡ Some h → is_begun g ≡ false
+        → marked_goal f h ≡ marked_goal f g }
     ensures opened { (f : Function) (ob : ObName) (g h : GoalTree)
         → IsTrue (is_valid f) → IsGoalOf f ob g → rewritten f g ≡ Some h
         → with_start None (marked_goal f h) ≡ with_start None (marked_goal f g) }

@@ -1,2 +1,3 @@
+pub mod LaidMarks
 pub mod SettledGoals
 pub mod Turns

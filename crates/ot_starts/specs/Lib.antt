@@ -1,3 +1,4 @@
+pub mod Kept
 pub mod Nodes
 pub mod Turns
 pub mod Whole

@@ -12,8 +12,8 @@ use Rattle.ot_paths.specs.Nodes.{IsNode}
 use Rattle.marked_goals.specs.Marking.{Marked, marked_goal, with_start}
 use Rattle.ot_starts.specs.Nodes.{IsStop}
 
--- where the goal is a node of an obligation, each plan that is its plan but for the start at the front begins as the turn
--- says, and the turn's nodes are those of the obligation
+-- where the goal is a node of an obligation, each plan that is its plan but for the start at the front begins as the
+-- turn says, and the turn's nodes are those of the obligation
 abbrev pub TurnsAs : Function → GoalTree → Turn (Bor Goal) Why → Type 0
 TurnsAs f g t =
     (ob : ObName) (p : Marked) → IsNode f ob g → with_start None p ≡ with_start None (marked_goal f g)

@@ -10,49 +10,31 @@ ghost use Rattle.ot_questions.specs.Obligation.{plan_of};
 ghost use Rattle.ot_terms.specs.Goals.{goal_tree};
 ghost use Rattle.ot_terms.specs.Standing.{ask_goal};
 ghost use Rattle.start_laws.specs.Starts.{compare_starts, meaning};
-ghost use Rattle.marked_goals.specs.Marking.{marked_goal, marked_plan};
+ghost use Rattle.marked_goals.specs.Marking.{marked_goal};
 ghost use Rattle.ot_starts.specs.Nodes.{IsStop, starts_of};
 
 use crate::begun::Begun;
 use crate::fronts::{compared, is_begun};
-use crate::settling::settled;
-use crate::walking::turn_of;
+use crate::laid::Laid;
 use ask_core::{Asker, NoMemory, Turn};
 use bumpalo::Bump;
 use diff_graph::Lit;
-use first_goals::start_goal;
 use fn_rules::{ObName, Rules};
 use marked_goals::{marked_plans_are_plans, rules_keep_starts};
-use ot_questions::plans_keep_limits;
-use ot_terms::{Goal, Why, first_goals_stand_for_obligations};
+use ot_terms::{Goal, Why};
 use plain_list::List;
 use proof_trees::Starter;
 use start_laws::starts_have_one_value;
 use std::alloc::Global;
 
-// What an obligation begins with, as far as to its first question.
-fn first_stop<'a>(bump: &'a Bump, rules: &Rules, ob: ObName) -> Result<&'a Goal<'a>, NoMemory>
-    requires { IsTrue (is_obligation (function_of rules.now).head ob) }
-    ensures stop { IfOk result (λ g. IsStop (function_of rules.now) ob (goal_tree g.now)) }
-    ensures plan { IfOk result (λ g. ask_goal (function_of rules.now) (goal_tree g.now) ≡ plan_of (function_of rules.now) ob) }
-    ensures marked { IfOk result (λ g. marked_goal (function_of rules.now) (goal_tree g.now) ≡ marked_plan (function_of rules.now) ob) }
-{
-    plans_keep_limits();
-    first_goals_stand_for_obligations();
-    let _head = rules.head();
-    let start = start_goal(bump, rules, ob)?;
-    Ok(settled(bump, rules, start)?)
-}
-
-/// What an obligation of a function asks, with a start wherever a transformation begins. Its nodes are goals in an arena
-/// that stands outside.
+/// What an obligation of a function asks, with a start wherever a transformation begins. Its nodes are goals in an
+/// arena that stands outside.
 #[derive(Drop)]
 pub struct StartAsker<'a> {
-    bump: &'a Bump,
-    rules: &'a Rules,
+    laid: Laid<'a>,
     ob: ObName,
-    ghost listed: { IsTrue (is_obligation (function_of rules.now).head ob) },
-    ghost lawful: { IsLawful compare_starts (meaning (function_of rules.now)) },
+    ghost listed: { IsTrue (is_obligation (function_of laid).head ob) },
+    ghost lawful: { IsLawful compare_starts (meaning (function_of laid)) },
 }
 
 impl<'a> StartAsker<'a> {
@@ -64,21 +46,27 @@ impl<'a> StartAsker<'a> {
         ensures starts { ⟦<StartAsker<'a> as Starter>⟧.starts result ≡ starts_of (function_of rules.now) ob }
     {
         starts_have_one_value();
-        StartAsker { bump, rules, ob }
+        StartAsker {
+            laid: Laid::new(bump, rules),
+            ob,
+        }
     }
 
     // How the plan of a node begins, with its starts and without them.
-    fn walked(&self, node: &'a Goal<'a>) -> Result<Turn<&'a Goal<'a>, Why>, NoMemory>
-        requires { IsStop (function_of self.now.rules.now) self.now.ob (goal_tree node.now) }
-        ensures marked { IfOk result (λ t. BeginsAt (λ n. IsStop (function_of self.now.rules.now) self.now.ob (goal_tree n.now))
-            (λ n. marked_goal (function_of self.now.rules.now) (goal_tree n.now)) t
-            (marked_goal (function_of self.now.rules.now) (goal_tree node.now))) }
-        ensures plain { IfOk result (λ t. Begins (λ n. IsStop (function_of self.now.rules.now) self.now.ob (goal_tree n.now))
-            (λ n. ask_goal (function_of self.now.rules.now) (goal_tree n.now)) t
-            (ask_goal (function_of self.now.rules.now) (goal_tree node.now))) }
+    fn walked(&mut self, node: &'a Goal<'a>) -> Result<Turn<&'a Goal<'a>, Why>, NoMemory>
+        requires { IsStop (function_of self.old.laid) self.old.ob (goal_tree node.now) }
+        ensures marked { IfOk result (λ t. BeginsAt (λ n. IsStop (function_of self.old.laid) self.old.ob
+            (goal_tree n.now))
+            (λ n. marked_goal (function_of self.old.laid) (goal_tree n.now)) t
+            (marked_goal (function_of self.old.laid) (goal_tree node.now))) }
+        ensures plain { IfOk result (λ t. Begins (λ n. IsStop (function_of self.old.laid) self.old.ob (goal_tree n.now))
+            (λ n. ask_goal (function_of self.old.laid) (goal_tree n.now)) t
+            (ask_goal (function_of self.old.laid) (goal_tree node.now))) }
+        ensures laid { self.new.laid ≡ self.old.laid }
+        ensures ob { self.new.ob ≡ self.old.ob }
     {
         marked_plans_are_plans();
-        Ok(turn_of(self.bump, self.rules, node)?)
+        Ok(self.laid.turn(node)?)
     }
 }
 
@@ -94,11 +82,11 @@ impl<'a> Asker for StartAsker<'a> {
 
     type Why = Why;
 
-    ghost is_own = { λ a n. IsStop (function_of a.rules.now) a.ob (goal_tree n.now) };
+    ghost is_own = { λ a n. IsStop (function_of a.laid) a.ob (goal_tree n.now) };
 
-    ghost plan = { λ a n. ask_goal (function_of a.rules.now) (goal_tree n.now) };
+    ghost plan = { λ a n. ask_goal (function_of a.laid) (goal_tree n.now) };
 
-    ghost root = { λ a. plan_of (function_of a.rules.now) a.ob };
+    ghost root = { λ a. plan_of (function_of a.laid) a.ob };
 
     ghost name_count = { λ a. names.name_count a.ob };
 
@@ -110,7 +98,7 @@ impl<'a> Asker for StartAsker<'a> {
     }
 
     fn start(&mut self) -> Result<&'a Goal<'a>, NoMemory> {
-        Ok(first_stop(self.bump, self.rules, self.ob)?)
+        Ok(self.laid.first(self.ob)?)
     }
 
     fn turn(&mut self, node: &'a Goal<'a>) -> Result<Turn<&'a Goal<'a>, Why>, NoMemory> {
@@ -127,10 +115,10 @@ impl<'a> Starter for StartAsker<'a> {
 
     type Start = Begun;
 
-    ghost starts = { λ a. starts_of (function_of a.rules.now) a.ob };
+    ghost starts = { λ a. starts_of (function_of a.laid) a.ob };
 
     fn first(&mut self) -> Result<&'a Goal<'a>, NoMemory> {
-        Ok(first_stop(self.bump, self.rules, self.ob)?)
+        Ok(self.laid.first(self.ob)?)
     }
 
     fn follow(&mut self, node: &'a Goal<'a>) -> Result<Turn<&'a Goal<'a>, Why>, NoMemory> {
@@ -149,8 +137,8 @@ impl<'a> Starter for StartAsker<'a> {
         here: &'a Goal<'a>,
     ) -> Result<Option<List<Lit>>, NoMemory> {
         rules_keep_starts();
-        Ok(compared(alloc, self.rules, lemma, here)?)
+        Ok(compared(alloc, self.laid.rules(), lemma, here)?)
     }
 
-    ghost whole = { λ a. IsWhole-starts (function_of a.rules.now) a.ob a.listed a.lawful };
+    ghost whole = { λ a. IsWhole-starts (function_of a.laid) a.ob a.listed a.lawful };
 }

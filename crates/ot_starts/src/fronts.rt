@@ -66,7 +66,8 @@ pub(crate) fn is_at_front(goal: &Goal<'_>) -> bool
 #[inline]
 pub(crate) fn start_at<'a>(goal: &Goal<'a>) -> Option<StartAt<'a>>
     ensures start { option_map (λ s. start_after s.plan.now s.last) result ≡ marks.front_start (goal_tree goal.now) }
-    ensures begun { (f : Function) (ob : ObName) → IsGoalOf f ob (goal_tree goal.now) → IfSome result (λ s. IsBegun s.plan.now s.last) }
+    ensures begun { (f : Function) (ob : ObName) → IsGoalOf f ob (goal_tree goal.now)
+        → IfSome result (λ s. IsBegun s.plan.now s.last) }
 {
     results_stay_near();
     match *goal {
@@ -103,7 +104,8 @@ pub(crate) fn compared(
     requires lemma { (ob : ObName) × IsGoalOf (function_of rules.now) ob (goal_tree lemma.now) }
     requires here { (ob : ObName) × IsGoalOf (function_of rules.now) ob (goal_tree here.now) }
     ensures { IfOk result (λ found. found
-        ≡ conditions_between compare_starts (marks.front_start (goal_tree lemma.now)) (marks.front_start (goal_tree here.now))) }
+        ≡ conditions_between compare_starts (marks.front_start (goal_tree lemma.now))
+        (marks.front_start (goal_tree here.now))) }
 {
     let Some(shown) = start_at(lemma) else {
         return Ok(None);

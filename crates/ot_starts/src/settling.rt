@@ -1,20 +1,27 @@
 //! Goals as far as to where something is asked or begins.
 ghost use Rattle.std.specs.Prelude.{◌≡◌, ◌<◌, IsTrue, false, IfOk};
 ghost use Rattle.fn_rules.specs.declared.function.ObName.{ObName};
+ghost use Rattle.fn_rules.specs.Obligations.{is_obligation};
 ghost use Rattle.fn_rules.specs.Rules.{function_of};
+ghost use Rattle.ot_questions.specs.Obligation.{plan_of};
 ghost use Rattle.ot_terms.specs.Belonging.{IsGoalOf};
 ghost use Rattle.ot_terms.specs.Goals.{goal_tree};
+ghost use Rattle.ot_terms.specs.Standing.{ask_goal};
 ghost use Rattle.ot_terms.specs.Weights.{goal_weight};
+ghost use Rattle.marked_goals.specs.Marking.{marked_goal, marked_plan};
 ghost use Rattle.marked_goals.specs.Settled as marks;
 ghost use Rattle.marked_goals.specs.Settled.{StandsMarked};
+ghost use Rattle.ot_starts.specs.Nodes.{IsStop};
 
 use crate::fronts::{is_at_front, start_at};
 use ask_core::NoMemory;
 use bumpalo::Bump;
-use fn_rules::Rules;
+use first_goals::start_goal;
+use fn_rules::{ObName, Rules};
 use marked_goals::rules_keep_starts;
+use ot_questions::plans_keep_limits;
 use ot_rewrite::step;
-use ot_terms::Goal;
+use ot_terms::{Goal, first_goals_stand_for_obligations};
 
 // Whether the goal is one that an asker stops at.
 #[inline]
@@ -26,11 +33,16 @@ fn is_settled(goal: &Goal<'_>) -> bool
 }
 
 // The goal after one rule, which is not one that an asker stops at.
-fn next_of<'a>(bump: &'a Bump, rules: &Rules, goal: &'a Goal<'a>) -> Result<&'a Goal<'a>, NoMemory>
+pub(crate) fn next_of<'a>(
+    bump: &'a Bump,
+    rules: &Rules,
+    goal: &'a Goal<'a>,
+) -> Result<&'a Goal<'a>, NoMemory>
     requires goal { (ob : ObName) × IsGoalOf (function_of rules.now) ob (goal_tree goal.now) }
     requires open { marks.is_settled (goal_tree goal.now) ≡ false }
     ensures alike { IfOk result (λ r. StandsMarked (function_of rules.now) (goal_tree goal.now) (goal_tree r.now)) }
-    ensures lighter { IfOk result (λ r. goal_weight (function_of rules.now) (goal_tree r.now) < goal_weight (function_of rules.now) (goal_tree goal.now)) }
+    ensures lighter { IfOk result (λ r. goal_weight (function_of rules.now) (goal_tree r.now) < goal_weight
+        (function_of rules.now) (goal_tree goal.now)) }
 {
     rules_keep_starts();
     let _head = rules.head();
@@ -56,4 +68,24 @@ pub(crate) fn settled<'a>(
     }
     let next = next_of(bump, rules, goal)?;
     Ok(settled(bump, rules, next)?)
+}
+
+/// What an obligation begins with, as far as to its first question.
+pub(crate) fn first_stop<'a>(
+    bump: &'a Bump,
+    rules: &Rules,
+    ob: ObName,
+) -> Result<&'a Goal<'a>, NoMemory>
+    requires { IsTrue (is_obligation (function_of rules.now).head ob) }
+    ensures stop { IfOk result (λ g. IsStop (function_of rules.now) ob (goal_tree g.now)) }
+    ensures plan { IfOk result (λ g. ask_goal (function_of rules.now) (goal_tree g.now)
+        ≡ plan_of (function_of rules.now) ob) }
+    ensures marked { IfOk result (λ g. marked_goal (function_of rules.now) (goal_tree g.now)
+        ≡ marked_plan (function_of rules.now) ob) }
+{
+    plans_keep_limits();
+    first_goals_stand_for_obligations();
+    let _head = rules.head();
+    let start = start_goal(bump, rules, ob)?;
+    Ok(settled(bump, rules, start)?)
 }

@@ -1,5 +1,6 @@
 //! How the plan of a goal begins, with the goals after its first question.
 ghost use Rattle.std.specs.Prelude.{◌≡◌, IsTrue, IfOk};
+ghost use Rattle.std.specs.List.{All};
 ghost use Rattle.fn_rules.specs.declared.function.ObName.{ObName};
 ghost use Rattle.fn_rules.specs.Rules.{function_of};
 ghost use Rattle.ot_questions.specs.Nears.{IsNear};
@@ -10,10 +11,13 @@ ghost use Rattle.ot_rewrite.specs.Fronts as fronts;
 ghost use Rattle.goal_rules.specs.Steps.{front_tree};
 ghost use Rattle.ot_paths.specs.Nodes as nodes;
 ghost use Rattle.marked_goals.specs.Settled.{Opens};
+ghost use Rattle.ot_starts.specs.Kept.{IsKept};
 ghost use Rattle.ot_starts.specs.Turns.{TurnsAs};
 
 use crate::fronts::question;
+use crate::kept::Kept;
 use crate::settling::settled;
+use crate::table::laid_on;
 use ask_core::{NoMemory, Turn};
 use bumpalo::Bump;
 use diff_graph::Lit;
@@ -22,6 +26,9 @@ use goal_rules::Front;
 use marked_goals::rules_keep_starts;
 use ot_rewrite::{front_of, rules_keep_what_is_asked};
 use ot_terms::{Form, Goal, Place, Why};
+
+/// How many transformations may follow one another with nothing asked between them, and one more.
+const MOST_TRANSFORMS: u32 = 7;
 
 // The literal of the question whether the first place is at most the second.
 #[inline]
@@ -45,9 +52,11 @@ fn asked<'a>(
     yes: &'a Goal<'a>,
     no: &'a Goal<'a>,
 ) -> Result<Turn<&'a Goal<'a>, Why>, NoMemory>
-    requires goal { (ob : ObName) × IsGoalOf (function_of rules.now) ob (If (form_tree form) (goal_tree yes.now) (goal_tree no.now)) }
+    requires goal { (ob : ObName) × IsGoalOf (function_of rules.now) ob
+        (If (form_tree form) (goal_tree yes.now) (goal_tree no.now)) }
     requires question { IsTrue (fronts.is_question (form_tree form)) }
-    ensures { IfOk result (λ t. TurnsAs (function_of rules.now) (If (form_tree form.entry) (goal_tree yes.now) (goal_tree no.now)) t) }
+    ensures { IfOk result (λ t. TurnsAs (function_of rules.now)
+        (If (form_tree form.entry) (goal_tree yes.now) (goal_tree no.now)) t) }
 {
     let Some((x, y)) = question(form) else {
         return Ok(Turn::Holds);
@@ -97,11 +106,15 @@ fn opened<'a>(bump: &'a Bump, rules: &Rules, goal: &'a Goal<'a>) -> Result<Front
 pub(crate) fn turn_of<'a>(
     bump: &'a Bump,
     rules: &Rules,
+    entries: &mut Vec<Kept<'a>, &'a Bump>,
     goal: &'a Goal<'a>,
 ) -> Result<Turn<&'a Goal<'a>, Why>, NoMemory>
-    requires { (ob : ObName) × IsGoalOf (function_of rules.now) ob (goal_tree goal.now) }
-    ensures { IfOk result (λ t. TurnsAs (function_of rules.now) (goal_tree goal.now) t) }
+    requires goal { (ob : ObName) × IsGoalOf (function_of rules.now) ob (goal_tree goal.now) }
+    requires kept { All (IsKept (function_of rules.now)) entries.old.items }
+    ensures turns { IfOk result (λ t. TurnsAs (function_of rules.now) (goal_tree goal.now) t) }
+    ensures kept { All (IsKept (function_of rules.now)) entries.new.items }
 {
-    let front = opened(bump, rules, goal)?;
+    let near = laid_on(bump, rules, entries, goal, MOST_TRANSFORMS)?;
+    let front = opened(bump, rules, near)?;
     Ok(turn_at(bump, rules, front)?)
 }

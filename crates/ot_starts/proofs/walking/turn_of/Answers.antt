@@ -5,12 +5,21 @@ use Rattle.goal_rules.specs.Steps.{front_tree}
 use Rattle.ot_starts.proofs.Turns.{opened_node}
 use Rattle.ot_starts.proofs.walking.turn_of.Goals as goal
 
-pub turn_at-requires-clause-goal : goal.turn_at-requires-clause-goal
-turn_at-requires-clause-goal c = (c.requires.0, c.in_ok-front.ensures.opens.belongs c.requires.0 c.requires.1)
+pub opened-requires : goal.opened-requires
+opened-requires c = (c.requires.goal.0, c.in_ok-near.ensures.opens.belongs c.requires.goal.0 c.requires.goal.1)
 
-pub returns : goal.returns
-returns c = λ ob p node e.
+pub turn_at-requires-clause-goal : goal.turn_at-requires-clause-goal
+turn_at-requires-clause-goal c = (
+  c.requires.goal.0,
+  c.in_ok-front.ensures.opens.belongs c.requires.goal.0 (c.in_ok-near.ensures.opens.belongs c.requires.goal.0 c.requires.goal.1),
+)
+
+pub returns-clause-turns : goal.returns-clause-turns
+returns-clause-turns c = λ ob p node e.
     let f = function_of c.args.rules.now in
+    let near = c.in_ok-near.ensures.opens in
+    let front = c.in_ok-front.ensures.opens in
     c.in_ok-turn_at.ensures ob p
-    (opened_node f ob (goal_tree c.args.goal.now) (front_tree c.in_ok-front.front) c.in_ok-front.ensures.opens node)
-    (e ∙ sym c.in_ok-front.ensures.opens.marked)
+    (opened_node f ob (goal_tree c.in_ok-near.near.now) (front_tree c.in_ok-front.front) front
+    (opened_node f ob (goal_tree c.args.goal.now) (goal_tree c.in_ok-near.near.now) near node))
+    (e ∙ sym near.marked ∙ sym front.marked)

@@ -5,7 +5,7 @@ use Rattle.ot_terms.specs.Goals.{goal_tree}
 use Rattle.ot_terms.specs.Standing.{ask_goal}
 use Rattle.marked_goals.specs.Marking.{marked_goal}
 use Rattle.ot_starts.proofs.Turns.{first_is_stop, alike_asks}
-use Rattle.ot_starts.proofs.asker.first_stop.Goals as goal
+use Rattle.ot_starts.proofs.settling.first_stop.Goals as goal
 
 pub settled-requires : goal.settled-requires
 settled-requires c = (

@@ -1,0 +1,74 @@
+//! What is laid out where transformations begin, kept so that each of these places is laid out once.
+ghost use Rattle.std.specs.Prelude.{◌≡◌, IsTrue, IfSome};
+ghost use Rattle.std.specs.List.{All};
+ghost use Rattle.fn_rules.specs.Functions.{Function};
+ghost use Rattle.ot_terms.specs.Goals.{goal_tree};
+ghost use Rattle.marked_goals.specs.Settled.{Opens};
+ghost use Rattle.ot_starts.specs.Kept.{IsKept};
+
+use laid_goals::is_same_progress;
+use ot_terms::{Goal, SymOp};
+
+/// The goal that is laid out where a transformation begins.
+#[derive(Clone, Copy)]
+pub struct Kept<'a> {
+    pub at: &'a Goal<'a>,
+    pub goal: &'a Goal<'a>,
+}
+
+fn are_same_two(a: SymOp, b: SymOp, c: SymOp, d: SymOp) -> bool
+    ensures first { IsTrue result → a ≡ c }
+    ensures second { IsTrue result → b ≡ d }
+{
+    if a != c {
+        return false;
+    }
+    b == d
+}
+
+// Whether the two goals are one, of goals where a transformation begins.
+fn is_same_goal(left: &Goal<'_>, right: &Goal<'_>) -> bool
+    ensures { IsTrue result → goal_tree left.now ≡ goal_tree right.now }
+{
+    match *left {
+        Goal::Deliver { op, plan } => match *right {
+            Goal::Deliver {
+                op: other,
+                plan: there,
+            } => op == other && is_same_progress(plan, there),
+            _ => false,
+        },
+        Goal::Choose { case, a, b, plan } => match *right {
+            Goal::Choose {
+                case: other,
+                a: c,
+                b: d,
+                plan: there,
+            } => {
+                if case != other {
+                    return false;
+                }
+                if !are_same_two(a, b, c, d) {
+                    return false;
+                }
+                is_same_progress(plan, there)
+            }
+            _ => false,
+        },
+        _ => false,
+    }
+}
+
+/// What is laid out there, if it is kept. A scan over all that is kept, from what was kept last.
+pub(crate) fn found<'a>(kept: &[Kept<'a>], at: &Goal<'_>) -> Option<&'a Goal<'a>>
+    ensures { (f : Function) → All (IsKept f) kept.now
+        → IfSome result (λ g. Opens f (goal_tree at.now) (goal_tree g.now)) }
+{
+    for passed in 0..kept.len() {
+        let one = &kept[kept.len() - 1 - passed];
+        if is_same_goal(at, one.at) {
+            return Some(one.goal);
+        }
+    }
+    None
+}

@@ -1,0 +1,90 @@
+//! Goals laid out where transformations begin, each of these places once.
+ghost use Rattle.std.specs.Prelude.{IfOk};
+ghost use Rattle.std.specs.List.{All};
+ghost use Rattle.fn_rules.specs.declared.function.ObName.{ObName};
+ghost use Rattle.fn_rules.specs.Rules.{function_of};
+ghost use Rattle.ot_terms.specs.Belonging.{IsGoalOf};
+ghost use Rattle.ot_terms.specs.Goals.{goal_tree};
+ghost use Rattle.marked_goals.specs.Settled.{Opens};
+ghost use Rattle.ot_starts.specs.Kept.{IsKept};
+
+use crate::fronts::is_begun;
+use crate::kept::{Kept, found};
+use crate::laying::laid;
+use ask_core::NoMemory;
+use bumpalo::Bump;
+use fn_rules::Rules;
+use marked_goals::rules_keep_starts;
+use ot_rewrite::{rules_keep_what_is_asked, step};
+use ot_terms::Goal;
+
+/// How many bytes an arena may have where more is laid out.
+const ROOM: usize = 134_217_728;
+
+// The goal after one rule, laid out.
+fn laid_behind<'a>(
+    bump: &'a Bump,
+    rules: &Rules,
+    goal: &'a Goal<'a>,
+) -> Result<&'a Goal<'a>, NoMemory>
+    requires { (ob : ObName) × IsGoalOf (function_of rules.now) ob (goal_tree goal.now) }
+    ensures { IfOk result (λ r. Opens (function_of rules.now) (goal_tree goal.now) (goal_tree r.now)) }
+{
+    rules_keep_starts();
+    let _head = rules.head();
+    match step(bump, rules, goal)? {
+        Some(next) => Ok(laid(bump, rules, next)?),
+        None => Ok(goal),
+    }
+}
+
+/// What is laid out where a transformation begins, which is kept then. Any other goal, and one for which the arena has
+/// no room, is the answer itself.
+pub(crate) fn laid_at<'a>(
+    bump: &'a Bump,
+    rules: &Rules,
+    entries: &mut Vec<Kept<'a>, &'a Bump>,
+    goal: &'a Goal<'a>,
+) -> Result<&'a Goal<'a>, NoMemory>
+    requires goal { (ob : ObName) × IsGoalOf (function_of rules.now) ob (goal_tree goal.now) }
+    requires kept { All (IsKept (function_of rules.now)) entries.old.items }
+    ensures opens { IfOk result (λ r. Opens (function_of rules.now) (goal_tree goal.now) (goal_tree r.now)) }
+    ensures kept { All (IsKept (function_of rules.now)) entries.new.items }
+{
+    if !is_begun(goal) {
+        return Ok(goal);
+    }
+    if let Some(known) = found(entries, goal) {
+        return Ok(known);
+    }
+    if bump.allocated_bytes() > ROOM {
+        return Ok(goal);
+    }
+    let built = laid_behind(bump, rules, goal)?;
+    entries.push(Kept {
+        at: goal,
+        goal: built,
+    })?;
+    Ok(built)
+}
+
+/// The goal after what is laid out where transformations begin, as long as another one begins there and at most so
+/// often.
+pub(crate) fn laid_on<'a>(
+    bump: &'a Bump,
+    rules: &Rules,
+    entries: &mut Vec<Kept<'a>, &'a Bump>,
+    goal: &'a Goal<'a>,
+    most: u32,
+) -> Result<&'a Goal<'a>, NoMemory>
+    requires goal { (ob : ObName) × IsGoalOf (function_of rules.now) ob (goal_tree goal.now) }
+    requires kept { All (IsKept (function_of rules.now)) entries.old.items }
+    ensures opens { IfOk result (λ r. Opens (function_of rules.now) (goal_tree goal.now) (goal_tree r.now)) }
+    ensures kept { All (IsKept (function_of rules.now)) entries.new.items }
+{
+    if most == 0 {
+        return Ok(goal);
+    }
+    let next = laid_at(bump, rules, entries, goal)?;
+    Ok(laid_on(bump, rules, entries, next, most - 1)?)
+}
