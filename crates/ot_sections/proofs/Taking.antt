@@ -65,12 +65,6 @@ next_number bytes text digits at len within comma text_is digits_is =
 pub bytes_from : (bytes : List ℕ) (at : ℕ) → take (length bytes - at) (drop at bytes) ≡ drop at bytes
 bytes_from bytes at = rw (← length-drop at bytes) (take-length (drop at bytes))
 
-pub first_byte : (bytes rest : List ℕ) (b : ℕ) → bytes ≡ b ∷ rest → b ∷ [] ≡ take 1 bytes
-first_byte bytes rest b is = rw is refl
-
-pub first_bytes : (bytes rest text : List ℕ) (b len : ℕ) → bytes ≡ b ∷ rest → text ≡ b ∷ take len rest → text ≡ take (len + 1) bytes
-first_bytes bytes rest text b len is text_is = rw (is, add-one len) text_is
-
 -- a token opens one branch at most
 open_after_few : (n : ℕ) (t : Tok) → open_after n t ≤ n + 1
 open_after_few n token.Ask = omega arith
@@ -145,14 +139,6 @@ module _ {W : Type 0} where
   taken_passed (Reading (Line came names) offset begun) bytes old new between tree taken = absurd tree
   taken_passed (Reading Finish offset begun) bytes old new between tree taken = absurd tree
   taken_passed (Refused e) bytes old new between tree taken = absurd tree
-
--- the open branches of a reader in a tree
-pub open_there : (reader : Progress) (count : ℕ) → IsTreeOf count (place_of reader) → open_in reader ≡ count
-open_there (Reading (Tree came names branches) offset begun) count tree = tree
-open_there (Reading (Start tp1 tp2) offset begun) count tree = absurd tree
-open_there (Reading (Line came names) offset begun) count tree = absurd tree
-open_there (Reading Finish offset begun) count tree = absurd tree
-open_there (Refused e) count tree = absurd tree
 
 -- a reader that passed tokens is behind them in the same tree
 pub behind_passed :

@@ -89,16 +89,3 @@ pub fixed_behind :
     → (length rest ≤ length all) × (at < length all - length rest) × (length all - length rest ≤ length all)
     × (drop (length all - length rest) all ≡ rest)
 fixed_behind all at text rest some within is = found_behind all at text rest within (fixed_read text (drop at all) rest tt is) some
-
-header_some : (level : Level) → 0 < length (header_text level)
-header_some Tp1 = omega arith
-header_some Tp2 = omega arith
-
--- what stands behind a header
-pub header_behind :
-    (all : List ℕ) (level : Level) (rest : List ℕ) → header_front all ≡ Found level rest
-    → (length rest ≤ length all) × (0 < length all - length rest) × (length all - length rest ≤ length all)
-    × (drop (length all - length rest) all ≡ rest)
-header_behind all level rest is =
-    let r = headers_spelled.read level all rest is in
-    found_behind all 0 (header_text level) rest (omega arith) r.2 (header_some level)
