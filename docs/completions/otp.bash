@@ -1,6 +1,6 @@
 # Completions of otp for bash: source this file.
 _otp() {
-    local commands="prove check least bound audit same reverse integrate replay hub drill"
+    local commands="prove check least bound confirm audit same reverse integrate replay hub drill"
     local word=${COMP_WORDS[COMP_CWORD]} command=${COMP_WORDS[1]} ending=
     COMPREPLY=()
     if [ "$COMP_CWORD" -eq 1 ]; then

@@ -1,5 +1,6 @@
 mod Agreeing
 mod Behind
+mod Confirming
 mod Drilling
 mod Ending
 mod Ends

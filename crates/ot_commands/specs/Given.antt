@@ -5,7 +5,7 @@ use Rattle.ot_outside.specs.Reads.{Reads, after_reading}
 use Rattle.fn_rules.specs.Functions.{Function}
 use Rattle.ot_replies.specs.declared.reply.Reply.{Reply}
 use Rattle.ot_replies.specs.declared.reply.Subject.TheVariants.{First}
-use Rattle.ot_words.specs.Commands.{Asked, Prove, Check, Integrate, Replay, Hub, Audit, Same, Reverse, Least, Bound, Drill}
+use Rattle.ot_words.specs.Commands.{Asked, Prove, Check, Integrate, Replay, Hub, Audit, Same, Reverse, Least, Bound, Confirm, Drill}
 use Rattle.ot_words.specs.Words.{asked_by}
 use Rattle.ot_commands.specs.Replies.{IsReply, IsReplyTo, IsReplyToFunction}
 use Rattle.ot_commands.specs.Steady.{AreSteady, IsSteadyReply}
@@ -41,6 +41,7 @@ HasRead old new (Same function other) = HaveRead old new function other
 HasRead old new (Reverse function other) = HaveRead old new function other
 HasRead old new (Least cert function) = new ≡ after_reading function new.bytes old
 HasRead old new (Bound function certificate) = HaveRead old new function certificate
+HasRead old new (Confirm function proof) = HaveRead old new function proof
 HasRead old new (Drill number) = Unit {0}
 
 -- of two files `holds` tells nothing but the bytes that were given
@@ -69,6 +70,7 @@ TellsGiven old new holds (Same function other) = TellBoth old new holds function
 TellsGiven old new holds (Reverse function other) = TellBoth old new holds function other
 TellsGiven old new holds (Least cert function) = ForSome (holds function) (IsReadFirst old new function)
 TellsGiven old new holds (Bound function certificate) = TellBoth old new holds function certificate
+TellsGiven old new holds (Confirm function proof) = TellBoth old new holds function proof
 TellsGiven old new holds (Drill number) = Unit {0}
 
 -- the command has read its files, and this is the reply to it, whatever is told of what was given

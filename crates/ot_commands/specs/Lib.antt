@@ -1,4 +1,5 @@
 pub mod Judgements
+pub mod Confirmations
 pub mod Verdicts
 pub mod Sessions
 pub mod Running

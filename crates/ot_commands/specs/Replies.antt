@@ -18,8 +18,9 @@ use Rattle.ot_replies.specs.declared.reply.Reply.{Reply}
 use Rattle.ot_replies.specs.declared.reply.Reply.TheVariants.{FunctionRefused, CaseRefused, Integrated, Usage}
 use Rattle.ot_replies.specs.declared.reply.Subject.{Subject}
 use Rattle.ot_replies.specs.declared.reply.Subject.TheVariants.{First, Second}
-use Rattle.ot_words.specs.Commands.{Asked, Prove, Check, Integrate, Replay, Hub, Audit, Same, Reverse, Least, Bound, Drill}
+use Rattle.ot_words.specs.Commands.{Asked, Prove, Check, Integrate, Replay, Hub, Audit, Same, Reverse, Least, Bound, Confirm, Drill}
 use Rattle.ot_commands.specs.Audits.{IsReplyToAudit, IsReplyToTwo}
+use Rattle.ot_commands.specs.Confirmations.{IsReplyToConfirmed}
 use Rattle.ot_commands.specs.Drills.{IsReplyToDrill}
 use Rattle.ot_commands.specs.Hubs.{IsReplyToHub}
 use Rattle.ot_commands.specs.Judgements.{IsReplyToBound, IsReplyToChecked}
@@ -115,6 +116,8 @@ IsReplyTo holds (Least cert function) r =
     IsReplyToFunction First (holds function) (λ f. IsReplyToLeast f cert r) r
 IsReplyTo holds (Bound function certificate) r =
     IsReplyToFunction First (holds function) (λ f. IsReplyToBound f (holds certificate) r) r
+IsReplyTo holds (Confirm function proof) r =
+    IsReplyToFunction First (holds function) (λ f. IsReplyToConfirmed f (holds proof) r) r
 IsReplyTo holds (Drill number) r = IsReplyToDrill number r
 
 -- the reply to words
@@ -137,4 +140,5 @@ AreOffered holds Offered (Same function other) = Offered function × (GoesOn (ho
 AreOffered holds Offered (Reverse function other) = Offered function × (GoesOn (holds function) → Offered other)
 AreOffered holds Offered (Least cert function) = Offered function
 AreOffered holds Offered (Bound function certificate) = Offered function × (GoesOn (holds function) → Offered certificate)
+AreOffered holds Offered (Confirm function proof) = Offered function × (GoesOn (holds function) → Offered proof)
 AreOffered holds Offered (Drill number) = Unit {0}

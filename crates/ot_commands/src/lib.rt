@@ -12,6 +12,7 @@
 //! `reverse F E` tells whether a second function takes back what the first one makes, or where it does not.
 //! `least FN` looks for the shortest document on which a function breaks a property, and certifies that none is shorter.
 //! `bound FN CERT` says whether a certificate shows that no document of fewer cells breaks a property.
+//! `confirm FN PROOF` says the same as `check` of a proof with lemmas.
 //! `drill N` generates a workload, and goes the whole way from its function to its sites.
 //!
 //! The crate above relies on one call a command, whose clauses say which reply comes, of what the shelf tells and of what
@@ -22,6 +23,7 @@ pub mod audit;
 pub mod bound;
 mod certificate;
 pub mod check;
+pub mod confirm;
 pub mod drill;
 mod halt;
 pub mod hub;

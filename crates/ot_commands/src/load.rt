@@ -51,6 +51,7 @@ pub(crate) fn limit(kind: FileKind) -> usize
     match kind {
         FileKind::Function => 1_048_576,
         FileKind::Certificate => 83_886_080,
+        FileKind::Proof => 83_886_080,
         FileKind::Case => 16_777_216,
     }
 }

@@ -1,4 +1,4 @@
--- The lines of faults: of the text of a function, of a certificate, and of a case.
+-- The lines of faults: of the text of a function, of a certificate, of a proof, and of a case.
 use Rattle.std.specs.Prelude.{ℕ, List, [], ◌∷◌, ◌++◌, codes}
 use Rattle.std.specs.Fmt.{decimal}
 use Rattle.fn_moves.specs.declared.fault.FaultKind.{FaultKind}
@@ -6,6 +6,8 @@ use Rattle.fn_moves.specs.declared.fault.FaultKind.TheVariants as kinds
 use Rattle.fn_moves.specs.declared.fault.TextFault.{TextFault}
 use Rattle.ot_sections.specs.declared.refusal.Refusal.{Refusal}
 use Rattle.ot_sections.specs.declared.refusal.Refusal.TheVariants as why
+use Rattle.proof_sections.specs.declared.refusal.ProofRefusal.{ProofRefusal}
+use Rattle.proof_sections.specs.declared.refusal.ProofRefusal.TheVariants as proof
 use Rattle.case_json.specs.declared.fault.CaseFault.{CaseFault}
 use Rattle.case_json.specs.declared.fault.CaseFault.TheVariants as faults
 use Rattle.case_json.specs.declared.fault.Name.{Name}
@@ -59,6 +61,25 @@ refusal_word why.NotNegative = codes "notnegative"
 -- the byte and the cause of a refusal
 abbrev pub refusal_text : ℕ → Refusal → List ℕ
 refusal_text offset why = codes "certificate " ++ decimal offset ++ codes " " ++ refusal_word why ++ 10 ∷ []
+
+abbrev pub proof_refusal_word : ProofRefusal → List ℕ
+proof_refusal_word proof.Token = codes "token"
+proof_refusal_word proof.Truncated = codes "truncated"
+proof_refusal_word proof.Trailing = codes "trailing"
+proof_refusal_word proof.NotAQuestion = codes "notaquestion"
+proof_refusal_word proof.NotDone = codes "notdone"
+proof_refusal_word proof.GoalFails = codes "fails"
+proof_refusal_word proof.BadPick = codes "pick"
+proof_refusal_word proof.NotACycle = codes "cycle"
+proof_refusal_word proof.NotNegative = codes "notnegative"
+proof_refusal_word proof.NoStart = codes "nostart"
+proof_refusal_word proof.TooManyLemmas = codes "lemmas"
+proof_refusal_word proof.UnknownLemma = codes "lemma"
+proof_refusal_word proof.OtherStart = codes "goal"
+
+-- the byte and the cause of a proof's refusal
+abbrev pub proof_refusal_text : ℕ → ProofRefusal → List ℕ
+proof_refusal_text offset why = codes "proof " ++ decimal offset ++ codes " " ++ proof_refusal_word why ++ 10 ∷ []
 
 abbrev pub case_text : CaseFault → List ℕ
 case_text faults.Json = codes "case json"

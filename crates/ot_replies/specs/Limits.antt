@@ -10,6 +10,7 @@ use Rattle.ot_replies.specs.declared.reply.Reply.TheVariants.{TooLong}
 abbrev pub limit_of : FileKind → ℕ
 limit_of files.Function = 1048576
 limit_of files.Certificate = 83886080
+limit_of files.Proof = 83886080
 limit_of files.Case = 16777216
 
 -- the file is longer than its limit, and the reply says so; `told` is what the file holds, where the shelf tells it

@@ -8,13 +8,13 @@ use Rattle.ot_replies.specs.declared.reply.FileKind.TheVariants as files
 use Rattle.ot_replies.specs.declared.reply.Reply.{Reply}
 use Rattle.ot_replies.specs.declared.reply.Reply.TheVariants.{Proved, Broken, Spent, Accepted, Refused, FunctionRefused}
 use Rattle.ot_replies.specs.declared.reply.Reply.TheVariants.{CaseRefused, Integrated, Usage, TooLong, EventRefused, StuckAt, Replayed, Served, Audited, Compared, Drilled}
-use Rattle.ot_replies.specs.declared.reply.Reply.TheVariants.{Reversed, Unlike, Unbroken, Shortest, Certified, BoundTooLong, AtLeast}
+use Rattle.ot_replies.specs.declared.reply.Reply.TheVariants.{Reversed, Unlike, Unbroken, Shortest, Certified, BoundTooLong, AtLeast, Confirmed, ProofRefused}
 use Rattle.ot_replies.specs.AuditTexts.{audit_status, audit_text, same_status, same_text, spent_text}
 use Rattle.ot_replies.specs.BoundTexts.{at_least_text, bound_limit_text, shortest_text, unbroken_text}
-use Rattle.ot_replies.specs.FaultTexts.{text_fault_text, case_fault_text, refusal_text}
+use Rattle.ot_replies.specs.FaultTexts.{text_fault_text, case_fault_text, proof_refusal_text, refusal_text}
 use Rattle.ot_replies.specs.OrderTexts.{orders_text}
 use Rattle.ot_replies.specs.CounterTexts.{counter_text}
-use Rattle.ot_replies.specs.LevelTexts.{accepted_text}
+use Rattle.ot_replies.specs.LevelTexts.{accepted_text, confirmed_text}
 use Rattle.ot_replies.specs.DrillTexts.{drill_text}
 use Rattle.ot_replies.specs.HubTexts.{hub_text}
 use Rattle.ot_replies.specs.ReversalTexts.{reversal_status, reversal_text, unlike_text}
@@ -47,6 +47,8 @@ status_of (Shortest counter cells) = 1
 status_of (Certified bytes) = 1
 status_of BoundTooLong = 9
 status_of (AtLeast level cells) = 0
+status_of (Confirmed level) = 0
+status_of (ProofRefused offset why) = 2
 status_of (StuckAt i) = 1
 status_of (Drilled d) = differ_status d.differ
 status_of (EventRefused i fault) = 4
@@ -59,6 +61,7 @@ status_of (TooLong kind) = 9
 abbrev pub limit_word : FileKind → List ℕ
 limit_word files.Function = codes "function"
 limit_word files.Certificate = codes "certificate"
+limit_word files.Proof = codes "proof"
 limit_word files.Case = codes "file"
 
 abbrev pub limit_text : FileKind → List ℕ
@@ -81,6 +84,8 @@ text_of (Shortest counter cells) = shortest_text counter cells
 text_of (Certified bytes) = bytes
 text_of BoundTooLong = bound_limit_text
 text_of (AtLeast level cells) = at_least_text level cells
+text_of (Confirmed level) = confirmed_text level
+text_of (ProofRefused offset why) = proof_refusal_text offset why
 text_of (StuckAt i) = stuck_text i
 text_of (Drilled d) = drill_text d
 text_of (EventRefused i fault) = event_fault_text i fault

@@ -10,6 +10,7 @@ use ot_model::Doc;
 use ot_reverse::Back;
 use ot_sections::Refusal;
 use plain_list::List;
+use proof_sections::ProofRefusal;
 
 /// What a file holds.
 #[derive(Clone, Copy, Debug, PartialEq, Eq)]
@@ -19,6 +20,9 @@ pub enum FileKind {
 
     /// A certificate.
     Certificate,
+
+    /// A proof with lemmas.
+    Proof,
 
     /// A case, a session or a hub.
     Case,
@@ -187,6 +191,18 @@ pub enum Reply {
 
     /// The file is such a certificate: the function has the level's property on every document of fewer cells.
     AtLeast(Level, u32),
+
+    /// The file is a proof with lemmas of the function at this level.
+    Confirmed(Level),
+
+    /// The file is no such proof.
+    ProofRefused {
+        /// How many bytes stand before the part that is refused, or in the file where it ends too early.
+        offset: u64,
+
+        /// The cause.
+        why: ProofRefusal,
+    },
 
     /// What came of a workload.
     Drilled(Drilled),

@@ -1,7 +1,7 @@
 //! The status and the text of a reply.
 ghost use Rattle.std.specs.Prelude.{◌≡◌, ◌++◌, [], IfOk, OnOk};
 ghost use Rattle.cert_text.specs.Spelling.{level_text};
-ghost use Rattle.ot_replies.specs.LevelTexts.{accepted_text};
+ghost use Rattle.ot_replies.specs.LevelTexts.{accepted_text, confirmed_text};
 ghost use Rattle.ot_replies.specs.Texts.{case_status, differ_status, status_of, text_of, limit_text, limit_word};
 
 mod audits;
@@ -21,7 +21,7 @@ use bounds::{write_at_least, write_shortest};
 use case_json::CaseFault;
 use counters::write_counter;
 use drills::write_drilled;
-use faults::{write_case_fault, write_refusal, write_text_fault};
+use faults::{write_case_fault, write_proof_refusal, write_refusal, write_text_fault};
 use fn_rules::Level;
 use hubs::write_hub;
 use orders::write_ends;
@@ -72,6 +72,8 @@ pub fn status(reply: &Reply) -> u8
         Reply::Certified(_) => 1,
         Reply::BoundTooLong => 9,
         Reply::AtLeast(..) => 0,
+        Reply::Confirmed(_) => 0,
+        Reply::ProofRefused { .. } => 2,
         Reply::StuckAt(_) => 1,
         Reply::EventRefused(..) => 4,
         Reply::Refused { .. } => 2,
@@ -89,6 +91,7 @@ fn limit_word(kind: FileKind) -> &'static str
     match kind {
         FileKind::Function => "function",
         FileKind::Certificate => "certificate",
+        FileKind::Proof => "proof",
         FileKind::Case => "file",
     }
 }
@@ -122,6 +125,16 @@ fn write_accepted(alloc: Global, level: Level, out: &mut Vec<u8>) -> Result<(), 
     Ok(())
 }
 
+// Writes that a proof is confirmed at a level.
+fn write_confirmed(alloc: Global, level: Level, out: &mut Vec<u8>) -> Result<(), NoMemory>
+    ensures { OnOk result (out.new.items ≡ out.old.items ++ confirmed_text level) }
+{
+    let word = level_word(level);
+    let text = format!(in alloc; "confirmed {word}\n")?;
+    out.extend_from_slice(text.as_bytes())?;
+    Ok(())
+}
+
 // The text of a reply, written anew.
 fn written(alloc: Global, reply: &Reply) -> Result<Vec<u8>, NoMemory>
     ensures { IfOk result (λ text. text.items ≡ text_of reply.now) }
@@ -151,6 +164,10 @@ fn written(alloc: Global, reply: &Reply) -> Result<Vec<u8>, NoMemory>
         Reply::Certified(bytes) => text.extend_from_slice(bytes.as_slice())?,
         Reply::BoundTooLong => text.extend_from_slice(b"limit bound\n")?,
         Reply::AtLeast(level, cells) => write_at_least(alloc, *level, *cells, &mut text)?,
+        Reply::Confirmed(level) => write_confirmed(alloc, *level, &mut text)?,
+        Reply::ProofRefused { offset, why } => {
+            write_proof_refusal(alloc, *offset, *why, &mut text)?;
+        }
         Reply::Drilled(drilled) => write_drilled(alloc, drilled, &mut text)?,
         Reply::Usage => text.extend_from_slice(b"usage: otp COMMAND ARGUMENTS\n")?,
         Reply::TooLong(kind) => write_limit(alloc, *kind, &mut text)?,

@@ -2,6 +2,7 @@ mod Asking
 mod Audited
 mod Bounded
 mod Breaking
+mod Confirmed
 mod NeverLong
 mod OneAudit
 mod OneDrill

@@ -28,15 +28,15 @@ use Rattle.ot_top.specs.Shown.{HasLevel, IsShown}
 use Rattle.ot_replies.specs.Texts.{status_of, text_of}
 
 -- a reply of another status than 0
-other_status : (r other : Reply) (status : ℕ) → 0 ≡ status_of r → r ≡ other → status_of other ≡ status → 0 < status → ⊥
+pub other_status : (r other : Reply) (status : ℕ) → 0 ≡ status_of r → r ≡ other → status_of other ≡ status → 0 < status → ⊥
 other_status r other status is_zero e named more =
     let same = is_zero ∙ (ap (λ x. status_of x) e ∙ named) in omega (arith, same, more)
 
 module _ (r : Reply) (is_zero : 0 ≡ status_of r) where
-  not_too_long : (kind : FileKind) (told : Option (List ℕ)) → IsTooLong kind told r → ⊥
+  pub not_too_long : (kind : FileKind) (told : Option (List ℕ)) → IsTooLong kind told r → ⊥
   not_too_long kind told h = other_status r (TooLong kind) 9 is_zero h.1 refl (omega arith)
 
-  not_refused : (subject : Subject) (told : Option (List ℕ)) → IsFunctionRefusal subject told r → ⊥
+  pub not_refused : (subject : Subject) (told : Option (List ℕ)) → IsFunctionRefusal subject told r → ⊥
   not_refused subject told (inl h) = not_too_long files.Function told h
   not_refused subject told (inr h) = other_status r (FunctionRefused subject h.0) 3 is_zero h.2 refl (omega arith)
 

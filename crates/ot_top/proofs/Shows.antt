@@ -12,6 +12,7 @@ use Rattle.ot_questions.specs.declared.why.Why.{Why}
 use Rattle.ot_sections.specs.declared.refusal.JudgeError.{JudgeError}
 use Rattle.ot_sections.specs.Certificates.{IsCertificate}
 use Rattle.ot_judge.specs.Refusals.{IsJudgement}
+use Rattle.ot_confirm.specs.Judgement.{judgement_of}
 use Rattle.ot_outside.specs.Reads.{Reads}
 use Rattle.ot_replies.specs.declared.reply.Reply.{Reply}
 use Rattle.ot_commands.specs.Given.{IsAnswerOfGiven}
@@ -23,6 +24,7 @@ use Rattle.ot_commands.specs.Steady.{AreSteady}
 use Rattle.ot_replies.specs.Texts.{status_of, text_of}
 use Rattle.ot_top.proofs.Audited.{audited, compared}
 use Rattle.ot_top.proofs.Bounded.{bound_judged}
+use Rattle.ot_top.proofs.Confirmed.{confirm_judged, confirmed}
 use Rattle.ot_top.proofs.Proving.{complete, proved}
 use Rattle.ot_top.proofs.Reversed.{reversed}
 use Rattle.ot_top.proofs.Showing.{shown}
@@ -48,6 +50,8 @@ of_reply status n is six seven ten = (λ e. six (sym is ∙ e), λ e. seven (sym
 module _ (words : List (List ℕ)) (holds : List ℕ → Option (List ℕ)) (IsWritten : List ℕ → Type 0) (status : ℕ)
     (answered : IsOfReply status → IsAnswered words holds status IsWritten)
     (has_level : (bytes : List ℕ) (f : Function) (level : Level) → IsCertificate bytes f level → HasLevel f level)
+    (confirm_level :
+    (f : Function) (bytes : List ℕ) (level : Level) → judgement_of f bytes ≡ Ok level → HasLevel f level)
     (is_text : (bytes : List ℕ) (f : Function) → function_in bytes ≡ Ok f → IsTextOf bytes f)
     (is_within_limits : (bytes : List ℕ) (f : Function) → IsTextOf bytes f → IsTrue (is_valid f))
     (is_read : (bytes : List ℕ) (f : Function) → IsTextOf bytes f → function_in bytes ≡ Ok f)
@@ -93,6 +97,11 @@ module _ (words : List (List ℕ)) (holds : List ℕ → Option (List ℕ)) (IsW
             let told = answered (of_reply status 0 zero (λ e. omega (arith, e)) (λ e. omega (arith, e)) (λ e. omega (arith, e))) in
             is_bounded told.0 (sym zero ∙ told.3) told.1 told.4;
         bound_judged = λ of_a_reply. bound_judged is_read words holds status IsWritten (answered of_a_reply);
+        confirmed =
+            λ zero.
+            let told = answered (of_reply status 0 zero (λ e. omega (arith, e)) (λ e. omega (arith, e)) (λ e. omega (arith, e))) in
+            confirmed confirm_level is_text words holds told.0 IsWritten (sym zero ∙ told.3) told.1 told.4;
+        confirm_judged = λ of_a_reply. confirm_judged is_read words holds status IsWritten (answered of_a_reply);
         gone_through = λ of_a_reply. gone_through words holds status IsWritten (answered of_a_reply);
         steady =
             λ name session bytes f named known text agree one.

@@ -1,5 +1,5 @@
 -- The status 3 is that of a function's file that is reached and is the text of no function.
-use Rattle.std.proofs.Common.{◌≡◌, ◌≢◌, ◌+◌, ℕ, true, false, Bool, List, [], ◌∷◌, Option, Some, None, Result, Ok, Err, refl, sym, ap, ◌∙◌, subst, inl, inr, arith}
+use Rattle.std.proofs.Common.{◌≡◌, ◌≢◌, ◌+◌, ℕ, true, false, Bool, List, [], ◌∷◌, take, Option, Some, None, Result, Ok, Err, refl, sym, ap, ◌∙◌, subst, inl, inr, arith}
 use Rattle.std.specs.Prelude.{if◌then◌else◌}
 use Rattle.diff_graph.specs.declared.lit.Lit.{Lit}
 use Rattle.fn_rules.specs.declared.function.ObName.{ObName}
@@ -21,6 +21,9 @@ use Rattle.ot_hub.specs.Views.{HubData, begun}
 use Rattle.ot_sections.specs.declared.refusal.JudgeError.{JudgeError}
 use Rattle.ot_sections.specs.declared.refusal.JudgeError.TheVariants as judge
 use Rattle.ot_judge.specs.Refusals.{IsJudgement}
+use Rattle.proof_sections.specs.declared.refusal.ConfirmError.{ConfirmError}
+use Rattle.proof_sections.specs.declared.refusal.ConfirmError.TheVariants as confirm
+use Rattle.ot_confirm.specs.Judgement.{judgement_of}
 use Rattle.ot_least.specs.declared.short.Short.{Short}
 use Rattle.ot_least.specs.declared.short.Short.TheVariants as shorts
 use Rattle.ot_least.specs.Judgements.{IsLowJudgement}
@@ -36,7 +39,7 @@ use Rattle.ot_replies.specs.declared.reply.Reply.{Reply}
 use Rattle.ot_replies.specs.declared.reply.Reply.TheVariants as replies
 use Rattle.ot_replies.specs.declared.reply.Subject.{Subject}
 use Rattle.ot_replies.specs.declared.reply.Subject.TheVariants.{First, Second}
-use Rattle.ot_words.specs.Commands.{Asked, Prove, Check, Integrate, Replay, Hub, Audit, Same, Reverse, Least, Bound, Drill}
+use Rattle.ot_words.specs.Commands.{Asked, Prove, Check, Integrate, Replay, Hub, Audit, Same, Reverse, Least, Bound, Confirm, Drill}
 use Rattle.ot_questions.specs.declared.why.Why.{Why}
 use Rattle.ot_decide.specs.Verdicts.{ObQuestions}
 use Rattle.std.specs.List.{list_all}
@@ -50,11 +53,14 @@ use Rattle.ot_replies.specs.AuditTexts.{is_total}
 use Rattle.ot_commands.specs.Audits.{IsReplyToTwo}
 use Rattle.ot_commands.specs.Drills.{IsReplyToQuestions}
 use Rattle.ot_commands.specs.Hubs.{IsDone, IsRefused, IsReplyToHub, IsReplyToHubScript, TellsHub}
+use Rattle.fn_rules.specs.declared.function.Level.{Level}
+use Rattle.ot_commands.specs.Confirmations.{IsReplyToConfirmed, TellsJudgement}
 use Rattle.ot_commands.specs.Judgements.{IsReplyToCertificate, Tells, at_least}
 use Rattle.ot_commands.specs.Replies.{IsReplyTo, IsReplyToCase, IsReplyToFile, IsReplyToFunction, IsReplyToReverser, IsReplyToSecond, IsReplyToTrial, TellsOutcomes}
 use Rattle.ot_commands.specs.Reversals.{IsReplyToReversal}
 use Rattle.ot_commands.specs.Sessions.{IsReplyToScript, IsReplyToSession, Runs, TellsNotMade, TellsNotTaken, TellsSites}
 use Rattle.ot_top.specs.Shown.{IsUnread, IsUnreadFrom, function_names}
+use Rattle.ot_replies.specs.Limits.{limit_of}
 use Rattle.ot_replies.specs.Texts.{differ_status, status_of}
 use Rattle.ot_commands.specs.Shortest.{TellsLeast, TellsShort}
 use Rattle.ot_commands.specs.Verdicts.{TellsVerdict}
@@ -100,6 +106,16 @@ certificate_other Judges accepts told r zero (contents, known, (judgement, judge
     named_so r (replies.TooLong files.Certificate) 9 longer.1.1 refl (λ e. omega (arith, e))
 certificate_other Judges accepts told r zero (contents, known, (judgement, judged, inr tells)) =
     judgement_other accepts judgement r zero tells.1
+
+told_other : (judgement : Result Level ConfirmError) (r : Reply) → TellsJudgement judgement r → status_of r ≢ 3
+told_other (Ok level) r tells = named_so r (replies.Confirmed level) 0 tells refl (λ e. omega (arith, e))
+told_other (Err (confirm.Refused offset why)) r tells = named_so r (replies.ProofRefused offset why) 2 tells refl (λ e. omega (arith, e))
+told_other (Err confirm.NoMemory) r tells = absurd tells
+
+proof_other : (f : Function) (told : Option (List ℕ)) (r : Reply) → IsReplyToConfirmed f told r → status_of r ≢ 3
+proof_other f told r (contents, known, inl longer) =
+    named_so r (replies.TooLong files.Proof) 9 longer.1.1 refl (λ e. omega (arith, e))
+proof_other f told r (contents, known, inr tells) = told_other (judgement_of f (take (limit_of files.Proof) contents)) r tells.1
 
 least_other :
     (f : Function) (cert : Bool) (ob : ObName) (w : List Lit) (why : Why) (cells : ℕ) (bytes : List ℕ) (r : Reply)
@@ -249,6 +265,8 @@ module _ (texts_are_read : (bytes : List ℕ) (f : Function) → IsTextOf bytes 
   unread_reply (Bound name certificate) reply =
       read_or_not First name [] _
       (λ f gets. certificate_other (IsLowJudgement f) at_least (holds certificate) r (λ shown. refl) gets) reply
+  unread_reply (Confirm name proof) reply =
+      read_or_not First name [] _ (λ f gets. proof_other f (holds proof) r gets) reply
   unread_reply (Drill number) reply = drilled_other number reply.0 r reply.2
 
 pub unread :

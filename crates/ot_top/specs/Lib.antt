@@ -1,5 +1,6 @@
 pub mod Audited
 pub mod Shown
 pub mod Bounded
+pub mod Confirmed
 pub mod Shows
 pub mod Answers

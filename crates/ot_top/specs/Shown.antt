@@ -25,7 +25,7 @@ use Rattle.ot_replies.specs.declared.reply.FileKind.TheVariants as files
 use Rattle.ot_replies.specs.declared.reply.Reply.{Reply}
 use Rattle.ot_replies.specs.declared.reply.Drilled.{Drilled}
 use Rattle.ot_replies.specs.declared.reply.Reply.TheVariants.{Accepted, Spent}
-use Rattle.ot_words.specs.Commands.{Asked, Prove, Check, Integrate, Replay, Hub, Audit, Same, Reverse, Least, Bound, Drill}
+use Rattle.ot_words.specs.Commands.{Asked, Prove, Check, Integrate, Replay, Hub, Audit, Same, Reverse, Least, Bound, Confirm, Drill}
 use Rattle.ot_commands.specs.Drills.{IsDrilled}
 use Rattle.ot_replies.specs.DrillTexts.{drill_text}
 use Rattle.ot_replies.specs.CounterTexts.{counter_text}
@@ -136,6 +136,7 @@ function_names (Same name other) = name ∷ other ∷ []
 function_names (Reverse name other) = name ∷ other ∷ []
 function_names (Least cert name) = name ∷ []
 function_names (Bound name certificate_name) = name ∷ []
+function_names (Confirm name proof_name) = name ∷ []
 function_names (Drill number) = []
 
 -- of the functions' files that are still to be read, where each that is reached is told and within its limit: one that is the

@@ -4,6 +4,7 @@ use Rattle.ot_outside.specs.Reads.{Reads}
 use Rattle.ot_top.specs.declared.program.TheConstants.{SHELF_FAULT, SINK_FAULT, NO_MEMORY}
 use Rattle.ot_top.specs.Audited.{IsAudited, IsCompared}
 use Rattle.ot_top.specs.Bounded.{IsBoundJudgedAs, IsBounded, IsSought}
+use Rattle.ot_top.specs.Confirmed.{IsConfirmJudgedAs, IsConfirmed}
 use Rattle.ot_commands.specs.Given.{TellsGivenOf}
 use Rattle.ot_commands.specs.Reversals.{IsReversed}
 use Rattle.ot_top.specs.Shown.{IsBroken, IsComplete, IsGoneThrough, IsJudgedAs, IsProved, IsShown, IsUnread}
@@ -13,8 +14,8 @@ use Rattle.ot_commands.specs.Steady.{IsServed, IsSteady}
 abbrev pub IsOfReply : ℕ → Type 0
 IsOfReply status = (status ≢ SHELF_FAULT) × (status ≢ SINK_FAULT) × (status ≢ NO_MEMORY)
 
--- what holds of the words where `holds` tells their files: what is accepted or proved has the properties that were written
--- or asked, what is broken fails at the instance that was written, the statuses of `prove` and `check` are those that the
+-- what holds of the words where `holds` tells their files: what is accepted, confirmed or proved has the properties that were written
+-- or asked, what is broken fails at the instance that was written, the statuses of `prove`, `check` and `confirm` are those that the
 -- questions and the judgement give, 3 comes where a function's file is reached that is the text of none, where a function makes
 -- sites agree they are not found apart, nor clients and their server, `audit`, `same` and `reverse` write what is so of all
 -- operations, no document is shorter than `least` and `bound` say, and no event of a workload is refused, no site of it is stuck, and no two
@@ -34,6 +35,8 @@ pub record Shows (words : List (List ℕ)) (holds : List ℕ → Option (List �
   pub sought : IsOfReply status → IsSought words holds IsWritten status
   pub bounded : status ≡ 0 → IsBounded words holds IsWritten
   pub bound_judged : IsOfReply status → IsBoundJudgedAs words holds status
+  pub confirmed : status ≡ 0 → IsConfirmed words holds IsWritten
+  pub confirm_judged : IsOfReply status → IsConfirmJudgedAs words holds status
   pub gone_through : IsOfReply status → IsGoneThrough words status IsWritten
 
 -- the files are known: `holds` is what the shelf tells, or it tells what the calls gave

@@ -11,6 +11,7 @@ ghost use Rattle.ot_words.specs.Words.{IsWithinBounds, asked_by};
 use ot_commands::audit::audit;
 use ot_commands::bound::bound;
 use ot_commands::check::check;
+use ot_commands::confirm::confirm;
 use ot_commands::drill::drill;
 use ot_commands::hub::hub;
 use ot_commands::integrate::integrate;
@@ -60,6 +61,7 @@ fn reply_to<H: Shelf>(alloc: Global, shelf: &mut H, command: &Command<'_>) -> Re
             function,
             certificate,
         } => bound(alloc, shelf, function, certificate),
+        Command::Confirm { function, proof } => confirm(alloc, shelf, function, proof),
         Command::Drill { number } => Ok(drill(alloc, number)?),
     }
 }

@@ -2,7 +2,7 @@
 ghost use Rattle.std.specs.Prelude.{◌≡◌, ◌≢◌, ℕ, Bool, true, false, List, Option, Some};
 ghost use Rattle.fn_rules.specs.declared.function.Level.{Level};
 ghost use Rattle.fn_rules.specs.Functions.{Function};
-ghost use Rattle.ot_words.specs.Commands.{Prove, Check, Integrate, Replay, Hub, Audit, Same, Reverse, Least, Bound, Drill};
+ghost use Rattle.ot_words.specs.Commands.{Prove, Check, Integrate, Replay, Hub, Audit, Same, Reverse, Least, Bound, Confirm, Drill};
 ghost use Rattle.ot_commands.specs.Hubs.{IsReplyToHub};
 ghost use Rattle.ot_commands.specs.Replies.{IsReplyTo};
 ghost use Rattle.ot_commands.specs.Sessions.{IsReplyToSession};
@@ -64,6 +64,9 @@ pub fn commands_have_one_reply()
     ensures bound { (holds : List ℕ → Option (List ℕ)) (name certificate_name bytes certificate : List ℕ) (one other : Reply)
         → holds name ≡ Some bytes → holds certificate_name ≡ Some certificate
         → IsReplyTo holds (Bound name certificate_name) one → IsReplyTo holds (Bound name certificate_name) other → one ≡ other }
+    ensures confirm { (holds : List ℕ → Option (List ℕ)) (name proof_name bytes proof : List ℕ) (one other : Reply)
+        → holds name ≡ Some bytes → holds proof_name ≡ Some proof
+        → IsReplyTo holds (Confirm name proof_name) one → IsReplyTo holds (Confirm name proof_name) other → one ≡ other }
     ensures least { (holds : List ℕ → Option (List ℕ)) (name bytes : List ℕ) (one other : Reply)
         → holds name ≡ Some bytes → IsReplyTo holds (Least false name) one → IsReplyTo holds (Least false name) other → one ≡ other }
     ensures certified { (holds : List ℕ → Option (List ℕ)) (name bytes : List ℕ) (one other : Reply)

@@ -15,6 +15,7 @@ ghost use Rattle.ot_words.specs.Words.{asked_by};
 use crate::answer::answer;
 use fn_text::{texts_of_functions_are_read, what_is_read_is_in_the_grammar};
 use ot_commands::load::Stop;
+use ot_confirm::proofs_show_the_properties;
 use ot_counter::failing_ends_have_counterexamples;
 use ot_decide::failing_triples_show_tp1;
 use ot_judge::{bytes_have_one_judgement, certificates_show_the_properties};
@@ -99,6 +100,7 @@ pub fn run<H: Shelf, S: Sink>(alloc: Global, words: &[String], shelf: &mut H, ou
 {
     certificates_show_the_properties();
     bytes_have_one_judgement();
+    proofs_show_the_properties();
     low_certificates_show_shorter_documents();
     bytes_have_one_low_judgement();
     failing_triples_show_tp1();

@@ -8,10 +8,10 @@ use Rattle.clap.specs.ValueTests.{is_unsigned_in}
 use Rattle.clap.specs.Words.{Row, first_of}
 use Rattle.clap.specs.declared.builder.value_parser.ValueParser.TheVariants.{Unsigned}
 use Rattle.fn_rules.specs.declared.function.Level.{Level}
-use Rattle.ot_words.specs.Commands.{Asked, Prove, Check, Integrate, Replay, Hub, Audit, Same, Reverse, Least, Bound, Drill}
+use Rattle.ot_words.specs.Commands.{Asked, Prove, Check, Integrate, Replay, Hub, Audit, Same, Reverse, Least, Bound, Confirm, Drill}
 use Rattle.ot_drill.specs.declared.limits.TheConstants.{MOST_ROUNDS}
 use Rattle.clap_words.specs.Found.{found_by}
-use Rattle.ot_words.specs.Words.{IsWithinBounds, asked_by, audit_in, bound_in, check_in, drill_app, drill_by, drill_in, hub_in, integrate_in, is_given, least_app, least_by, least_in, level_by, most_questions}
+use Rattle.ot_words.specs.Words.{IsWithinBounds, asked_by, audit_in, bound_in, check_in, confirm_in, drill_app, drill_by, drill_in, hub_in, integrate_in, is_given, least_app, least_by, least_in, level_by, most_questions}
 use Rattle.ot_words.specs.Words.{name_by, names_by, number_by, prove_app, prove_by, prove_in, replay_in, reverse_in, same_in}
 
 number_within : (most : ℕ) (text : List ℕ) (n : ℕ) → number_by most text ≡ Some n → n ≤ most
@@ -138,4 +138,6 @@ within_bounds (word ∷ words) =
     (one_of (bytes_eq word (codes "least")) (least_in words) _ (leasts_are_within words)
     (one_of (bytes_eq word (codes "bound")) (bound_in words) _
     (names_are_within (λ n. Bound n.0 n.1) (λ n. tt) (names_by (codes "bound") words))
-    (one_of (bytes_eq word (codes "drill")) (drill_in words) None (drills_are_within words) none_is_within))))))))))
+    (one_of (bytes_eq word (codes "confirm")) (confirm_in words) _
+    (names_are_within (λ n. Confirm n.0 n.1) (λ n. tt) (names_by (codes "confirm") words))
+    (one_of (bytes_eq word (codes "drill")) (drill_in words) None (drills_are_within words) none_is_within)))))))))))

@@ -26,6 +26,8 @@ pub data Asked : Type 0 where
   Least : Bool → List ℕ → Asked
   -- of a function's file and a certificate's file: the certificate is judged, as one that no shorter document breaks a property
   Bound : List ℕ → List ℕ → Asked
+  -- of a function's file and a proof's file: the proof with lemmas is judged
+  Confirm : List ℕ → List ℕ → Asked
   -- the workload of a number is gone through
   Drill : ℕ → Asked
 
@@ -40,4 +42,5 @@ asked_of (rust.Same function other) = Same function.now other.now
 asked_of (rust.Reverse function other) = Reverse function.now other.now
 asked_of (rust.Least cert function) = Least cert function.now
 asked_of (rust.Bound function certificate) = Bound function.now certificate.now
+asked_of (rust.Confirm function proof) = Confirm function.now proof.now
 asked_of (rust.Drill number) = Drill number

@@ -10,7 +10,7 @@ use Rattle.clap_words.specs.Found.{found_by}
 use Rattle.fn_rules.specs.declared.function.Level.{Level}
 use Rattle.fn_rules.specs.declared.function.Level.TheVariants.{Tp1, Tp2}
 use Rattle.ot_drill.specs.declared.limits.TheConstants.{MOST_ROUNDS}
-use Rattle.ot_words.specs.Commands.{Asked, Prove, Check, Integrate, Replay, Hub, Audit, Same, Reverse, Least, Bound, Drill}
+use Rattle.ot_words.specs.Commands.{Asked, Prove, Check, Integrate, Replay, Hub, Audit, Same, Reverse, Least, Bound, Confirm, Drill}
 
 -- the clap command of a name, with no option for help and no arguments
 abbrev pub bare_app : List ℕ → App
@@ -135,6 +135,9 @@ reverse_in words = option_map (λ names. Reverse names.0 names.1) (names_by (cod
 abbrev pub bound_in : List (List ℕ) → Option Asked
 bound_in words = option_map (λ names. Bound names.0 names.1) (names_by (codes "bound") words)
 
+abbrev pub confirm_in : List (List ℕ) → Option Asked
+confirm_in words = option_map (λ names. Confirm names.0 names.1) (names_by (codes "confirm") words)
+
 -- the command that words name: the first word says which, and the others are its arguments
 abbrev pub asked_by : List (List ℕ) → Option Asked
 asked_by [] = None
@@ -149,8 +152,9 @@ asked_by (word ∷ words) =
     else (if bytes_eq word (codes "reverse") then reverse_in words
     else (if bytes_eq word (codes "least") then least_in words
     else (if bytes_eq word (codes "bound") then bound_in words
+    else (if bytes_eq word (codes "confirm") then confirm_in words
     else (if bytes_eq word (codes "drill") then drill_in words
-    else None))))))))))
+    else None)))))))))))
 
 -- the number that is asked for is within its bounds
 abbrev pub IsWithinBounds : Asked → Type 0

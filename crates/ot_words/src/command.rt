@@ -94,6 +94,15 @@ pub enum Command<'a> {
         certificate: &'a str,
     },
 
+    /// A proof with lemmas is judged.
+    Confirm {
+        /// The name of the function's file.
+        function: &'a str,
+
+        /// The name of the proof's file.
+        proof: &'a str,
+    },
+
     /// The workload that is generated from a number is gone through.
     Drill {
         /// The number.

@@ -4,7 +4,7 @@ ghost use Rattle.clap.specs.Words.{app_of, first_of, found_of, rows_of, rule_of}
 ghost use Rattle.ot_drill.specs.declared.limits.TheConstants.{MOST_ROUNDS};
 ghost use Rattle.ot_words.specs.Commands.{asked_of};
 ghost use Rattle.clap.specs.declared.builder.value_parser.ValueParser.TheVariants.{Unsigned};
-ghost use Rattle.ot_words.specs.Words.{asked_by, audit_in, bare_app, bound_in, budget_rule, check_in, drill_app, drill_by, drill_in, flag_rule, hub_in, integrate_in, is_given};
+ghost use Rattle.ot_words.specs.Words.{asked_by, audit_in, bare_app, bound_in, budget_rule, check_in, confirm_in, drill_app, drill_by, drill_in, flag_rule, hub_in, integrate_in, is_given};
 ghost use Rattle.ot_words.specs.Words.{least_app, least_by, least_in, level_by, most_questions, name_by, names_by, number_by, number_rule, one_file, prove_app, prove_by, prove_in};
 ghost use Rattle.ot_words.specs.Words.{replay_in, required_rule, reverse_in, same_in, two_files, values_in};
 
@@ -332,6 +332,16 @@ fn bound_in<'a>(alloc: Global, words: &'a [String]) -> Result<Option<Command<'a>
     }
 }
 
+// `confirm FUNCTION PROOF`
+fn confirm_in<'a>(alloc: Global, words: &'a [String]) -> Result<Option<Command<'a>>, NoMemory>
+    ensures { IfOk result (λ command. option_map asked_of command ≡ confirm_in (map string_bytes words.entry.now)) }
+{
+    match two_names(alloc, "confirm", words)? {
+        Some((function, proof)) => Ok(Some(Command::Confirm { function, proof })),
+        None => Ok(None),
+    }
+}
+
 // The number that clap finds.
 fn drill_by<'a>(matches: &ArgMatches<'a>) -> Option<Command<'a>>
     ensures { option_map asked_of result ≡ drill_by (rows_of (found_of matches.now)) }
@@ -371,6 +381,7 @@ pub fn read_words<'a>(alloc: Global, words: &'a [String]) -> Result<Option<Comma
         "reverse" => reverse_in(alloc, arguments),
         "least" => least_in(alloc, arguments),
         "bound" => bound_in(alloc, arguments),
+        "confirm" => confirm_in(alloc, arguments),
         "drill" => drill_in(alloc, arguments),
         _ => Ok(None),
     }

@@ -1,13 +1,14 @@
 //! The lines of faults.
 ghost use Rattle.std.specs.Prelude.{◌≡◌, [], string_bytes, IfOk, OnOk};
 ghost use Rattle.case_json.specs.declared.fault.CaseFault.TheVariants.{Pair};
-ghost use Rattle.ot_replies.specs.FaultTexts.{case_text, case_fault_text, kind_word, name_word, refusal_text, refusal_word, subject_word, text_fault_text};
+ghost use Rattle.ot_replies.specs.FaultTexts.{case_text, case_fault_text, kind_word, name_word, proof_refusal_text, proof_refusal_word, refusal_text, refusal_word, subject_word, text_fault_text};
 
 use crate::reply::Subject;
 use case_json::{CaseFault, Name};
 use fn_text::{FaultKind, TextFault};
 use ot_model::NoMemory;
 use ot_sections::Refusal;
+use proof_sections::ProofRefusal;
 use std::alloc::Global;
 
 fn kind_word(kind: FaultKind) -> &'static str
@@ -72,6 +73,43 @@ pub(crate) fn write_refusal(
     let place = format!(in alloc; "certificate {offset} ")?;
     out.extend_from_slice(place.as_bytes())?;
     out.extend_from_slice(refusal_word(why).as_bytes())?;
+    out.push(b'\n')?;
+    Ok(())
+}
+
+fn proof_refusal_word(why: ProofRefusal) -> &'static str
+    ensures { result.now ≡ proof_refusal_word why }
+{
+    match why {
+        ProofRefusal::Token => "token",
+        ProofRefusal::Truncated => "truncated",
+        ProofRefusal::Trailing => "trailing",
+        ProofRefusal::NotAQuestion => "notaquestion",
+        ProofRefusal::NotDone => "notdone",
+        ProofRefusal::GoalFails => "fails",
+        ProofRefusal::BadPick => "pick",
+        ProofRefusal::NotACycle => "cycle",
+        ProofRefusal::NotNegative => "notnegative",
+        ProofRefusal::NoStart => "nostart",
+        ProofRefusal::TooManyLemmas => "lemmas",
+        ProofRefusal::UnknownLemma => "lemma",
+        ProofRefusal::OtherStart => "goal",
+    }
+}
+
+/// Writes the line of a proof that is refused.
+pub(crate) fn write_proof_refusal(
+    alloc: Global,
+    offset: u64,
+    why: ProofRefusal,
+    out: &mut Vec<u8>,
+) -> Result<(), NoMemory>
+    requires { out.old.items ≡ [] }
+    ensures { OnOk result (out.new.items ≡ proof_refusal_text offset why) }
+{
+    let place = format!(in alloc; "proof {offset} ")?;
+    out.extend_from_slice(place.as_bytes())?;
+    out.extend_from_slice(proof_refusal_word(why).as_bytes())?;
     out.push(b'\n')?;
     Ok(())
 }

@@ -3,6 +3,7 @@ use Rattle.ot_least.specs.Judgements.{IsLowJudgement}
 use Rattle.ot_replies.specs.declared.reply.Reply.TheVariants.{Accepted}
 use Rattle.ot_commands.specs.Judgements.{at_least}
 use Rattle.ot_top.proofs.OneAudit.{audit_replied_once, same_replied_once}
+use Rattle.ot_top.proofs.Confirmed.{confirm_replied_once}
 use Rattle.ot_top.proofs.OneDrill.{drill_replied_once}
 use Rattle.ot_top.proofs.OneJudgement.{both_replied_once}
 use Rattle.ot_top.proofs.OneShortest.{certified_replied_once, least_replied_once}
@@ -26,6 +27,11 @@ returns-clause-bound c =
     λ holds name certificate_name bytes certificate one other told certificate_told first second.
     both_replied_once at_least IsLowJudgement bytes (λ f read. c.bytes_have_one_low_judgement.ensures f)
     (holds name) (holds certificate_name) certificate one other told certificate_told first second
+
+pub returns-clause-confirm : goal.returns-clause-confirm
+returns-clause-confirm c =
+    λ holds name proof_name bytes proof one other told proof_told first second.
+    confirm_replied_once holds name proof_name bytes proof one other told proof_told first second
 
 pub returns-clause-least : goal.returns-clause-least
 returns-clause-least c =
