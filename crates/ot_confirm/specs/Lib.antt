@@ -1,1 +1,3 @@
 pub mod Judgement
+pub mod Certified
+pub mod Proofs

@@ -9,9 +9,11 @@ mod confirm;
 mod laws;
 mod section;
 mod soundness;
+mod spelled;
 
 pub use ask_core::NoMemory;
 pub use confirm::judge_proof;
 pub use laws::refusals_stand;
 pub use proof_sections::{ConfirmError, ProofRefusal};
 pub use soundness::proofs_show_the_properties;
+pub use spelled::{certificates_are_accepted_as_proofs, proofs_are_made_of_trees};

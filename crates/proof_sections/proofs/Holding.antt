@@ -1,7 +1,6 @@
 -- Bytes that are accepted are made of tokens that complete the plans, so the plans hold.
 use Rattle.std.proofs.Common.{◌≡◌, ◌↔◌, ℕ, zero, suc, ◌-◌, List, [], ◌∷◌, length, Result, Ok, Err, refl, sym, subst}
 use Rattle.std.specs.List.{AllByRecursion}
-use Rattle.diff_graph.specs.declared.lit.Lit.{Lit}
 use Rattle.fn_rules.specs.declared.function.Level.{Level}
 use Rattle.fn_rules.specs.declared.function.ObName.{ObName}
 use Rattle.ask_core.specs.Plans.{Plan}
@@ -15,7 +14,7 @@ use Rattle.proof_check.specs.declared.verdict.ProofError.{ProofError}
 use Rattle.proof_check.specs.Judging.{AreCompleted}
 use Rattle.proof_check.specs.Steps.{Standing, after}
 use Rattle.proof_text.specs.Fronts.{Front, Found, Missing}
-use Rattle.proof_text.specs.Lines.{header_front, ob_front, line_end_front, end_front}
+use Rattle.proof_text.specs.Lines.{header_front, ob_front, line_end_front}
 use Rattle.proof_text.specs.Spelling.{IsSpellable}
 use Rattle.proof_text.specs.Tokens.{token_front}
 use Rattle.proof_sections.specs.declared.refusal.ConfirmError.{ConfirmError}
@@ -23,7 +22,7 @@ use Rattle.proof_sections.specs.Judgement.{after_part, after_token, and_then, en
 use Rattle.proof_sections.proofs.Trees.{AreFound}
 
 -- a token with a spelling has few numbers and literals
-few_of : (tok : ProofTok) → IsSpellable tok → HasFew tok
+pub few_of : (tok : ProofTok) → IsSpellable tok → HasFew tok
 few_of token.Ask spelled = tt
 few_of token.Holds spelled = tt
 few_of (token.Cycle picks) spelled = spelled.1

@@ -1,3 +1,5 @@
+pub mod Accepting
+pub mod Made
 pub mod Trees
 pub mod Holding
 pub mod Sections

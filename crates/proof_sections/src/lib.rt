@@ -10,9 +10,11 @@
 mod laws;
 mod line;
 mod refusal;
+mod spelled;
 mod tree;
 
 pub use laws::{accepted_proofs_hold, refusals_stand};
 pub use line::{judge_end, judge_header, judge_line_end, judge_ob};
 pub use refusal::{ConfirmError, ProofRefusal};
+pub use spelled::proofs_are_accepted_exactly;
 pub use tree::{judge_tree, unread_part};
