@@ -42,7 +42,8 @@ level_is level (inl (inr wanting)) = cc
 level_is level (inr same) = cc
 
 -- no refusal comes
-pub never_refused : (offset : ℕ) (why : Refusal) → IsWant (Err (judge.Refused offset why)) ⊎ (◌≡◌ {A = Result Level JudgeError} (Err (judge.Refused offset why)) (Ok Tp2)) → ⊥
+pub never_refused : (offset : ℕ) (why : Refusal) → IsWant (Err (judge.Refused offset why))
+    ⊎ (◌≡◌ {A = Result Level JudgeError} (Err (judge.Refused offset why)) (Ok Tp2)) → ⊥
 never_refused offset why (inl (inl failed)) = cc
 never_refused offset why (inl (inr wanting)) = cc
 never_refused offset why (inr same) = cc

@@ -1,5 +1,6 @@
 -- The reply to a certificate, from the judgement of a feed and what is left of its file.
-use Rattle.std.proofs.Common.{◌≡◌, ℕ, ◌-◌, ◌≤◌, ◌<◌, zero, suc, Bool, true, false, List, [], ◌∷◌, take, drop, length, length-drop, Option, Some, None, Result, Ok, Err, IfOk, IsTrue, ◌↔◌, ◌⊎◌, inl, inr, refl, sym, ap, ◌∙◌, subst, arith}
+use Rattle.std.proofs.Common.{◌≡◌, ℕ, ◌-◌, ◌≤◌, ◌<◌, zero, suc, Bool, true, false, List, [], ◌∷◌, take, drop, length, length-drop, Option, Some, None, Result}
+use Rattle.std.proofs.Common.{Ok, Err, IfOk, IsTrue, ◌↔◌, ◌⊎◌, inl, inr, refl, sym, ap, ◌∙◌, subst, arith}
 use Rattle.std.specs.Prelude.{IfErr, option_map}
 use Rattle.std.specs.Option.{ForSome, ForNone}
 use Rattle.std.proofs.lemmas.List.{take_all}
@@ -141,7 +142,8 @@ module _ {S : Type 0} {shelf : Ghosts S} {T : Type 0} (Judges : List ℕ → Res
   -- the judgement does not rest on the end, or the file does not go on
   told_reply :
       (r : Reply) → Tells accepts judgement r
-      → (rests_on_the_end judgement ≡ true → (more : Bool) × (more ≡ false) × ForSome (file_left feed) (λ contents. IsTrue more ↔ (room_of feed < length contents)))
+      → (rests_on_the_end judgement ≡ true → (more : Bool) × (more ≡ false)
+      × ForSome (file_left feed) (λ contents. IsTrue more ↔ (room_of feed < length contents)))
       → IsReplyToCertificate Judges accepts (file_left feed) r
   told_reply r tells ends =
       let here = judged_within (not_want accepts judgement r tells) in (
@@ -164,7 +166,8 @@ module _ {S : Type 0} {shelf : Ghosts S} {T : Type 0} (Judges : List ℕ → Res
 
   pub told_replies :
       {E : Type 0} (answer : Result Reply E) → IfOk answer (λ r. Tells accepts judgement r)
-      → (rests_on_the_end judgement ≡ true → (more : Bool) × (more ≡ false) × ForSome (file_left feed) (λ contents. IsTrue more ↔ (room_of feed < length contents)))
+      → (rests_on_the_end judgement ≡ true → (more : Bool) × (more ≡ false)
+      × ForSome (file_left feed) (λ contents. IsTrue more ↔ (room_of feed < length contents)))
       → IfOk answer (λ r. IsReplyToCertificate Judges accepts (file_left feed) r)
   told_replies (Ok r) tells ends = told_reply r tells ends
   told_replies (Err e) tells ends = tt

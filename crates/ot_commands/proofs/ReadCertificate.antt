@@ -1,5 +1,6 @@
 -- The reply to a certificate, from the bytes that were read of its file.
-use Rattle.std.proofs.Common.{◌≡◌, ℕ, ◌+◌, ◌<◌, zero, suc, true, false, List, [], ◌∷◌, ◌++◌, take, length, length-append, Some, Result, Ok, Err, IfOk, ◌⊎◌, inl, inr, refl, sym, ap, ◌∙◌, subst, arith}
+use Rattle.std.proofs.Common.{◌≡◌, ℕ, ◌+◌, ◌<◌, zero, suc, true, false, List, [], ◌∷◌, ◌++◌, take, length, length-append, Some, Result, Ok, Err, IfOk, ◌⊎◌, inl}
+use Rattle.std.proofs.Common.{inr, refl, sym, ap, ◌∙◌, subst, arith}
 use Rattle.std.proofs.Math.Seq.{take-append-add}
 use Rattle.ot_outside.specs.declared.shelf.Shelf.{Ghosts}
 use Rattle.ot_outside.specs.declared.shelf_feed.ShelfFeed.{ShelfFeed}
@@ -50,7 +51,8 @@ module _ {S : Type 0} {shelf : Ghosts S} {T : Type 0} (Judges : List ℕ → Res
       ]
 
   -- the judgement does not rest on the end
-  pub unrested_reply : (r : Reply) → Tells accepts judgement r → rests_on_the_end judgement ≡ false → IsReplyToCertificate Judges accepts (Some (bytes_read new)) r
+  pub unrested_reply : (r : Reply) → Tells accepts judgement r → rests_on_the_end judgement ≡ false
+      → IsReplyToCertificate Judges accepts (Some (bytes_read new)) r
   unrested_reply r tells unrested =
       let within : gave_by new ++ hand_of new ≡ take (limit_of files.Certificate) (bytes_read new) =
       sym (take-append-add (gave_by new) (unread_of new) (room_of new))
@@ -122,7 +124,8 @@ module _ {S : Type 0} {shelf : Ghosts S} {T : Type 0} (Judges : List ℕ → Res
 
 -- a reply that is told
 pub reply_of :
-    {T E : Type 0} (accepts : T → Reply) (judgement : Result T JudgeError) (P : Reply → Type 0) (answer : Result Reply E) → IfOk answer (λ r. Tells accepts judgement r)
+    {T E : Type 0} (accepts : T → Reply) (judgement : Result T JudgeError) (P : Reply → Type 0) (answer : Result Reply E)
+    → IfOk answer (λ r. Tells accepts judgement r)
     → ((r : Reply) → Tells accepts judgement r → P r) → IfOk answer P
 reply_of accepts judgement P (Ok r) tells gets = gets r tells
 reply_of accepts judgement P (Err e) tells gets = tt

@@ -31,8 +31,8 @@ TellsJudgement (Ok level) r = r ≡ Confirmed level
 TellsJudgement (Err (confirm.Refused offset why)) r = r ≡ ProofRefused offset why
 TellsJudgement (Err confirm.NoMemory) r = ⊥
 
--- the reply to what was read of a proof's file, by how reading ended: where the file is longer than its limit, or a read
--- failed, a judgement that more bytes could change is not told
+-- the reply to what was read of a proof's file, by how reading ended: where the file is longer than its limit, or a
+-- read failed, a judgement that more bytes could change is not told
 abbrev pub IsReplyBy : Result (Unit {0}) ReadError → Result Level ConfirmError → Reply → Type 0
 IsReplyBy (Ok u) judgement r = TellsJudgement judgement r
 IsReplyBy (Err read.TooLong) judgement r =
@@ -41,11 +41,11 @@ IsReplyBy (Err read.TooLong) judgement r =
 IsReplyBy (Err read.Failed) judgement r = (rests_on_more judgement ≡ false) × TellsJudgement judgement r
 IsReplyBy (Err read.NoMemory) judgement r = ⊥
 
--- In what follows `told` is what the proof's file holds, where the shelf tells it, and `contents` are some bytes that it may
--- hold: those that are told, where they are.
+-- In what follows `told` is what the proof's file holds, where the shelf tells it, and `contents` are some bytes that
+-- it may hold: those that are told, where they are.
 
--- the reply to a judgement of the contents within the limit: the limit, where the file goes on behind it and that could change
--- the judgement, and otherwise the judgement
+-- the reply to a judgement of the contents within the limit: the limit, where the file goes on behind it and that could
+-- change the judgement, and otherwise the judgement
 abbrev pub IsReplyToJudged : Option (List ℕ) → List ℕ → Result Level ConfirmError → Reply → Type 0
 IsReplyToJudged told contents judgement r =
     (IsTrue (rests_on_more judgement) × IsTooLong files.Proof told r)

@@ -39,5 +39,6 @@ IsReplyToQuestions n lists r =
 -- the reply to the number of a workload
 abbrev pub IsReplyToDrill : ℕ → Reply → Type 0
 IsReplyToDrill n r =
-    (lists : List (ObQuestions Why)) × AreAsked (plan_of (drill_function n)) (obligations_of (drill_function n).head Tp2) lists
+    (lists : List (ObQuestions Why)) × AreAsked (plan_of (drill_function n))
+    (obligations_of (drill_function n).head Tp2) lists
     × IsReplyToQuestions n lists r

@@ -5,13 +5,14 @@ use Rattle.ot_outside.specs.Reads.{Reads, after_reading}
 use Rattle.fn_rules.specs.Functions.{Function}
 use Rattle.ot_replies.specs.declared.reply.Reply.{Reply}
 use Rattle.ot_replies.specs.declared.reply.Subject.TheVariants.{First}
-use Rattle.ot_words.specs.Commands.{Asked, Prove, Check, Integrate, Replay, Hub, Audit, Same, Reverse, Least, Bound, Confirm, Drill}
+use Rattle.ot_words.specs.Commands.{Asked, Prove, Check, Integrate, Replay, Hub, Audit, Same, Reverse, Least, Bound}
+use Rattle.ot_words.specs.Commands.{Confirm, Drill}
 use Rattle.ot_words.specs.Words.{asked_by}
 use Rattle.ot_commands.specs.Replies.{IsReply, IsReplyTo, IsReplyToFunction}
 use Rattle.ot_commands.specs.Steady.{AreSteady, IsSteadyReply}
 
--- In what follows `old` and `new` are what the calls had given before a command and behind it, and `holds` says what names
--- hold.
+-- In what follows `old` and `new` are what the calls had given before a command and behind it, and `holds` says what
+-- names hold.
 
 -- the first file that was opened has this name, and these bytes were given of it
 abbrev pub IsReadFirst : Reads → Reads → List ℕ → List ℕ → Type 0
@@ -21,13 +22,15 @@ IsReadFirst old new name bytes =
 
 -- the same of the second
 abbrev pub IsReadSecond : Reads → Reads → List ℕ → List ℕ → Type 0
-IsReadSecond old new name bytes = (first given : List ℕ) × (new ≡ after_reading name bytes (after_reading first given old))
+IsReadSecond old new name bytes = (first given : List ℕ)
+    × (new ≡ after_reading name bytes (after_reading first given old))
 
 -- the first of two files was opened first, and behind it no other than the second, or none
 abbrev pub HaveRead : Reads → Reads → List ℕ → List ℕ → Type 0
 HaveRead old new first second =
     (bytes : List ℕ)
-    × ((new ≡ after_reading first bytes old) ⊎ ((given : List ℕ) × (new ≡ after_reading second given (after_reading first bytes old))))
+    × ((new ≡ after_reading first bytes old) ⊎ ((given : List ℕ)
+    × (new ≡ after_reading second given (after_reading first bytes old))))
 
 -- a command has opened its files in their order, each once, the second one only behind the function's
 abbrev pub HasRead : Reads → Reads → Asked → Type 0
@@ -49,8 +52,8 @@ abbrev pub TellBoth : Reads → Reads → (List ℕ → Option (List ℕ)) → L
 TellBoth old new holds first second =
     ForSome (holds first) (IsReadFirst old new first) × ForSome (holds second) (IsReadSecond old new second)
 
--- both files were read, the second one only behind a function, and this is the reply to them, whatever is told of what was given;
--- `Gets` is the reply that a function gets, of what is told of the second file
+-- both files were read, the second one only behind a function, and this is the reply to them, whatever is told of what
+-- was given; `Gets` is the reply that a function gets, of what is told of the second file
 abbrev pub IsReplyOfBoth :
     Reads → Reads → List ℕ → List ℕ → (Option (List ℕ) → Function → Reply → Type 0) → Reply → Type 0
 IsReplyOfBoth old new first second Gets r =
@@ -77,7 +80,8 @@ TellsGiven old new holds (Drill number) = Unit {0}
 abbrev pub IsReplyOfGiven : Reads → Reads → Asked → Reply → Type 0
 IsReplyOfGiven old new asked r =
     HasRead old new asked
-    × ((holds : List ℕ → Option (List ℕ)) → TellsGiven old new holds asked → IsReplyTo holds asked r × IsSteadyReply holds asked r)
+    × ((holds : List ℕ → Option (List ℕ)) → TellsGiven old new holds asked → IsReplyTo holds asked r
+    × IsSteadyReply holds asked r)
 
 -- the same of words
 abbrev pub TellsGivenOf : List (List ℕ) → Reads → Reads → (List ℕ → Option (List ℕ)) → Type 0
@@ -86,4 +90,5 @@ TellsGivenOf words old new holds = IfSome (asked_by words) (TellsGiven old new h
 abbrev pub IsAnswerOfGiven : List (List ℕ) → Reads → Reads → Reply → Type 0
 IsAnswerOfGiven words old new r =
     IfSome (asked_by words) (HasRead old new)
-    × ((holds : List ℕ → Option (List ℕ)) → TellsGivenOf words old new holds → IsReply words holds r × AreSteady words holds r)
+    × ((holds : List ℕ → Option (List ℕ)) → TellsGivenOf words old new holds → IsReply words holds r
+    × AreSteady words holds r)

@@ -68,8 +68,10 @@ TellsNotMoved i moves.NoMemory r = ⊥
 
 -- the event is refused, and gets this reply
 abbrev pub IsRefused : HubData → ℕ → HubEvent → Reply → Type 0
-IsRefused hub i (events.Edit c op) r = (reason : Edit) × (new : HubData) × HasEdited hub new c op (Err reason) × TellsNotEdited i reason r
-IsRefused hub i (events.Up c) r = (reason : Move) × (new : HubData) × HasMoved hub new c (up_step hub c) (Err reason) × TellsNotMoved i reason r
+IsRefused hub i (events.Edit c op) r = (reason : Edit) × (new : HubData) × HasEdited hub new c op (Err reason)
+    × TellsNotEdited i reason r
+IsRefused hub i (events.Up c) r = (reason : Move) × (new : HubData) × HasMoved hub new c (up_step hub c) (Err reason)
+    × TellsNotMoved i reason r
 IsRefused hub i (events.Down c) r =
     (reason : Move) × (new : HubData) × HasMoved hub new c (down_step hub c) (Err reason) × TellsNotMoved i reason r
 

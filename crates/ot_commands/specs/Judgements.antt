@@ -1,5 +1,5 @@
--- Which reply a certificate gets: the judgement of its bytes within the limit, or that it is too long. It is one of any kind: what
--- its bytes are judged as and the reply to what it shows come with it.
+-- Which reply a certificate gets: the judgement of its bytes within the limit, or that it is too long. It is one of any
+-- kind: what its bytes are judged as and the reply to what it shows come with it.
 use Rattle.std.specs.Prelude.{◌≡◌, ℕ, ◌≤◌, ◌⊎◌, Bool, true, false, List, length, take, Option, Result, Ok, Err, IsTrue}
 use Rattle.std.specs.Option.{ForSome}
 use Rattle.fn_rules.specs.declared.function.Level.{Level}
@@ -34,12 +34,13 @@ Tells accepts (Err judge.Failed) r = ⊥
 Tells accepts (Err judge.NoMemory) r = ⊥
 
 -- In what follows `told` is what the certificate's file holds, where the shelf tells it, and `contents` are some bytes
--- that it may hold: those that are told, where they are. `Judges` says what bytes are judged as, and `accepts` is the reply to
--- what an accepted certificate shows.
+-- that it may hold: those that are told, where they are. `Judges` says what bytes are judged as, and `accepts` is the
+-- reply to what an accepted certificate shows.
 
 -- the reply to a judgement of the contents within the limit: the limit, where the file goes on behind it and that could
 -- change the judgement, and otherwise the judgement
-abbrev pub IsReplyToJudgement : {T : Type 0} → (T → Reply) → Option (List ℕ) → List ℕ → Result T JudgeError → Reply → Type 0
+abbrev pub IsReplyToJudgement : {T : Type 0} → (T → Reply) → Option (List ℕ) → List ℕ → Result T JudgeError → Reply
+    → Type 0
 IsReplyToJudgement accepts told contents judgement r =
     (IsTrue (rests_on_the_end judgement) × IsTooLong files.Certificate told r)
     ⊎ ((IsTrue (rests_on_the_end judgement) → length contents ≤ limit_of files.Certificate) × Tells accepts judgement r)
@@ -53,7 +54,8 @@ IsReplyToContents {T = T} Judges accepts told contents r =
     × IsReplyToJudgement accepts told contents judgement r
 
 -- the reply to a certificate's file
-abbrev pub IsReplyToCertificate : {T : Type 0} → (List ℕ → Result T JudgeError → Type 0) → (T → Reply) → Option (List ℕ) → Reply → Type 0
+abbrev pub IsReplyToCertificate : {T : Type 0} → (List ℕ → Result T JudgeError → Type 0) → (T → Reply) → Option (List ℕ)
+    → Reply → Type 0
 IsReplyToCertificate Judges accepts told r =
     (contents : List ℕ) × ForSome told (λ known. contents ≡ known) × IsReplyToContents Judges accepts told contents r
 

@@ -18,7 +18,8 @@ use Rattle.ot_replies.specs.declared.reply.Reply.{Reply}
 use Rattle.ot_replies.specs.declared.reply.Reply.TheVariants.{FunctionRefused, CaseRefused, Integrated, Usage}
 use Rattle.ot_replies.specs.declared.reply.Subject.{Subject}
 use Rattle.ot_replies.specs.declared.reply.Subject.TheVariants.{First, Second}
-use Rattle.ot_words.specs.Commands.{Asked, Prove, Check, Integrate, Replay, Hub, Audit, Same, Reverse, Least, Bound, Confirm, Drill}
+use Rattle.ot_words.specs.Commands.{Asked, Prove, Check, Integrate, Replay, Hub, Audit, Same, Reverse, Least, Bound}
+use Rattle.ot_words.specs.Commands.{Confirm, Drill}
 use Rattle.ot_commands.specs.Audits.{IsReplyToAudit, IsReplyToTwo}
 use Rattle.ot_commands.specs.Confirmations.{IsReplyToConfirmed}
 use Rattle.ot_commands.specs.Drills.{IsReplyToDrill}
@@ -39,17 +40,20 @@ Holds kind bytes told = (length bytes ≤ limit_of kind) × ForSome told (λ con
 
 -- the file is within its limit and is read as this function, or with this fault
 abbrev pub IsReadAs : Result Function TextFault → Option (List ℕ) → Type 0
-IsReadAs read told = ForSome told (λ contents. (length contents ≤ limit_of files.Function) × (function_in contents ≡ read))
+IsReadAs read told = ForSome told (λ contents. (length contents ≤ limit_of files.Function)
+    × (function_in contents ≡ read))
 
--- the reply to a function's file that is refused, which says which one is meant: the limit first, and then the first fault of its
--- text
+-- the reply to a function's file that is refused, which says which one is meant: the limit first, and then the first
+-- fault of its text
 abbrev pub IsFunctionRefusal : Subject → Option (List ℕ) → Reply → Type 0
 IsFunctionRefusal subject told r =
-    IsTooLong files.Function told r ⊎ ((fault : TextFault) × IsReadAs (Err fault) told × (r ≡ FunctionRefused subject fault))
+    IsTooLong files.Function told r ⊎ ((fault : TextFault) × IsReadAs (Err fault) told
+    × (r ≡ FunctionRefused subject fault))
 
 -- the reply to a function's file, and then the one that its function gets
 abbrev pub IsReplyToFunction : Subject → Option (List ℕ) → (Function → Type 0) → Reply → Type 0
-IsReplyToFunction subject told Gets r = IsFunctionRefusal subject told r ⊎ ((f : Function) × IsReadAs (Ok f) told × Gets f)
+IsReplyToFunction subject told Gets r = IsFunctionRefusal subject told r
+    ⊎ ((f : Function) × IsReadAs (Ok f) told × Gets f)
 
 -- the reply to another file, and then the one that its bytes get
 abbrev pub IsReplyToFile : FileKind → Option (List ℕ) → (List ℕ → Type 0) → Reply → Type 0
@@ -126,12 +130,14 @@ IsReply words holds r = MatchOption (asked_by words) (r ≡ Usage) (λ asked. Is
 
 -- a command goes on behind a function's file: where that is told, it is within its limit and is read as a function
 abbrev pub GoesOn : Option (List ℕ) → Type 0
-GoesOn told = ForSome told (λ contents. (length contents ≤ limit_of files.Function) × (is_ok (function_in contents) ≡ true))
+GoesOn told = ForSome told (λ contents. (length contents ≤ limit_of files.Function)
+    × (is_ok (function_in contents) ≡ true))
 
 -- the names that a command opens are on offer: its first, and each other one where it goes on to it
 abbrev pub AreOffered : (List ℕ → Option (List ℕ)) → (List ℕ → Type 0) → Asked → Type 0
 AreOffered holds Offered (Prove level budget function) = Offered function
-AreOffered holds Offered (Check function certificate) = Offered function × (GoesOn (holds function) → Offered certificate)
+AreOffered holds Offered (Check function certificate) = Offered function
+    × (GoesOn (holds function) → Offered certificate)
 AreOffered holds Offered (Integrate function case) = Offered function × (GoesOn (holds function) → Offered case)
 AreOffered holds Offered (Replay function session) = Offered function × (GoesOn (holds function) → Offered session)
 AreOffered holds Offered (Hub function hub) = Offered function × (GoesOn (holds function) → Offered hub)
@@ -139,6 +145,7 @@ AreOffered holds Offered (Audit function) = Offered function
 AreOffered holds Offered (Same function other) = Offered function × (GoesOn (holds function) → Offered other)
 AreOffered holds Offered (Reverse function other) = Offered function × (GoesOn (holds function) → Offered other)
 AreOffered holds Offered (Least cert function) = Offered function
-AreOffered holds Offered (Bound function certificate) = Offered function × (GoesOn (holds function) → Offered certificate)
+AreOffered holds Offered (Bound function certificate) = Offered function
+    × (GoesOn (holds function) → Offered certificate)
 AreOffered holds Offered (Confirm function proof) = Offered function × (GoesOn (holds function) → Offered proof)
 AreOffered holds Offered (Drill number) = Unit {0}

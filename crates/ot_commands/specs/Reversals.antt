@@ -14,16 +14,16 @@ use Rattle.ot_reverse.specs.Reversal.{AreAlike}
 use Rattle.ot_words.specs.Commands.{Reverse}
 use Rattle.ot_words.specs.Words.{asked_by, most_questions}
 
--- the reply to two functions: they are of different modes or for different kinds; or else whether the second one takes back
--- what the first one makes, with so many questions for each ordered pair of kinds
+-- the reply to two functions: they are of different modes or for different kinds; or else whether the second one takes
+-- back what the first one makes, with so many questions for each ordered pair of kinds
 abbrev pub IsReplyToReversal : Function → Function → Reply → Type 0
 IsReplyToReversal f e r =
     ((AreAlike f.head e.head → ⊥) × (r ≡ Unlike))
     ⊎ ((back : Back) × AreAlike f.head e.head × IsReversedAs f e most_questions back × (r ≡ Reversed back))
 
--- the words ask whether a second function takes back what the first one makes; where both files are told, are within their
--- limit and are texts of functions by the grammar, this was written of all documents: that mode or kinds differ, that the second
--- function reverses the first, or a document and two operations at which it does not
+-- the words ask whether a second function takes back what the first one makes; where both files are told, are within
+-- their limit and are texts of functions by the grammar, this was written of all documents: that mode or kinds differ,
+-- that the second function reverses the first, or a document and two operations at which it does not
 abbrev pub IsReversed : List (List ℕ) → (List ℕ → Option (List ℕ)) → (List ℕ → Type 0) → ℕ → Type 0
 IsReversed words holds IsWritten status =
     (name other bytes contents : List ℕ) (f e : Function)

@@ -1,5 +1,6 @@
 -- What the events of a session come to, and which reply tells it.
-use Rattle.std.specs.Prelude.{◌≡◌, ◌≢◌, ℕ, ◌+◌, ◌<◌, ◌⊎◌, List, [], ◌∷◌, length, map, reverse, Option, Some, None, Result, Ok, Err}
+use Rattle.std.specs.Prelude.{◌≡◌, ◌≢◌, ℕ, ◌+◌, ◌<◌, ◌⊎◌, List, [], ◌∷◌, length, map, reverse, Option, Some, None}
+use Rattle.std.specs.Prelude.{Result, Ok, Err}
 use Rattle.ot_model.specs.declared.op.Op.{Op}
 use Rattle.ot_model.specs.Effect.{IsEnabled}
 use Rattle.ot_model.specs.Operations.{kind_of, site_of}
@@ -85,7 +86,8 @@ TellsNotTaken i takes.NoMemory r = ⊥
 -- the event is refused, and gets this reply
 abbrev pub IsRefused : View → ℕ → Event → Reply → Type 0
 IsRefused v i (Make site op) r = (reason : NotMade) × CannotMake v site op reason × TellsNotMade i reason r
-IsRefused v i (Take site number) r = (reason : NotTaken) × (new : View) × HasTaken v new site number (Err reason) × TellsNotTaken i reason r
+IsRefused v i (Take site number) r = (reason : NotTaken) × (new : View) × HasTaken v new site number (Err reason)
+    × TellsNotTaken i reason r
 
 -- the event is done
 abbrev pub IsDone : View → Event → View → Type 0
@@ -93,8 +95,8 @@ IsDone v (Make site op) new =
     (number : ℕ) × HasMade v new site op number × MayMake v.function (data_in v) site op × (length v.made < MAX_MADE)
 IsDone v (Take site number) new = (took : Took) × HasTaken v new site number (Ok took)
 
--- the events are done one after the other, up to the first that is refused, and the session gets this reply; the first of
--- them has this number
+-- the events are done one after the other, up to the first that is refused, and the session gets this reply; the first
+-- of them has this number
 abbrev pub Runs : View → ℕ → List Event → Reply → Type 0
 Runs v i [] r = TellsSites v r
 Runs v i (event ∷ events) r = IsRefused v i event r ⊎ ((new : View) × IsDone v event new × Runs new (i + 1) events r)

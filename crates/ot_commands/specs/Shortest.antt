@@ -16,16 +16,18 @@ use Rattle.ot_replies.specs.declared.reply.Reply.TheVariants.{BoundTooLong, Cert
 use Rattle.ot_replies.specs.Limits.{limit_of}
 use Rattle.ot_words.specs.Words.{most_questions}
 
--- the reply tells of the shortest documents: the bytes of the certificate that none is shorter, where that is asked for, and
--- otherwise the counterexample of the answers that lead to the end
+-- the reply tells of the shortest documents: the bytes of the certificate that none is shorter, where that is asked
+-- for, and otherwise the counterexample of the answers that lead to the end
 abbrev pub TellsLeast : Function → Bool → ObName → List Lit → Why → ℕ → List ℕ → Reply → Type 0
 TellsLeast f true ob w why cells bytes r = r ≡ Certified bytes
-TellsLeast f false ob w why cells bytes r = (counter : Counter) × IsCounter f ob w why counter × (r ≡ Shortest counter cells)
+TellsLeast f false ob w why cells bytes r = (counter : Counter) × IsCounter f ob w why counter
+    × (r ≡ Shortest counter cells)
 
 -- the reply tells what the search comes to
 abbrev pub TellsShort : Function → Bool → Short → Reply → Type 0
 TellsShort f cert shorts.Fine r = r ≡ Unbroken
-TellsShort f cert (shorts.Least ob answers why cells bytes) r = TellsLeast f cert ob (answered_by answers.items) why cells bytes.items r
+TellsShort f cert (shorts.Least ob answers why cells bytes) r = TellsLeast f cert ob (answered_by answers.items) why
+    cells bytes.items r
 TellsShort f cert shorts.TooLong r = r ≡ BoundTooLong
 TellsShort f cert shorts.Spent r = r ≡ Spent
 

@@ -1,4 +1,5 @@
--- Which reply a function gets that is to be proved: a certificate, a counterexample, or that its questions are too many.
+-- Which reply a function gets that is to be proved: a certificate, a counterexample, or that its questions are too
+-- many.
 use Rattle.std.specs.Prelude.{◌≡◌, ℕ, ◌≤◌}
 use Rattle.fn_rules.specs.declared.function.Level.{Level}
 use Rattle.fn_rules.specs.Functions.{Function}

@@ -42,7 +42,8 @@ pub(crate) trait Finding: Copy {
         ensures judged { IsWant result ⊎ ((bytes : List ℕ) × MayGive F.left F.bound feed.old bytes
             × judges (function_of rules.now) bytes result) }
         ensures given { IsWant result ⊎ ((all : Whole) → MayHave F.left F.bound F.gave F.hand feed.new all →
-            (bytes : List ℕ) × MayGiveOf F.left F.bound F.gave feed.old all bytes × judges (function_of rules.now) bytes result) }
+            (bytes : List ℕ) × MayGiveOf F.left F.bound F.gave feed.old all bytes
+            × judges (function_of rules.now) bytes result) }
         ensures nothing_left { IfOk result (λ _. IsSpent F.left F.hand feed.new) }
         ensures truncated { IfErr result (λ e. IsTruncated e → IsSpent F.left F.hand feed.new) }
         ensures failed { IfErr result (λ e. e ≡ JudgeError.Failed → Rose (F.faults feed.old) (F.faults feed.new)) }
@@ -142,7 +143,8 @@ fn reply_to_feed<T: Finding, H: Shelf>(
     ensures unchanged { Unchanged H.holds H.offered H.faults (shelf_of feed.old) (shelf_of feed.new) }
     ensures held { held_by feed.new ≡ held_by feed.old }
     ensures given { IfOk result (λ reply.
-        IsReplyToCertificate (T.judges (function_of rules.now)) T.accepts (Some (H.reads (shelf_of feed.new)).bytes) reply) }
+        IsReplyToCertificate (T.judges (function_of rules.now)) T.accepts (Some (H.reads (shelf_of feed.new)).bytes)
+        reply) }
     ensures reading { IsSameReading (H.reads (shelf_of feed.old)) (H.reads (shelf_of feed.new)) }
 {
     let judgement = T::judge(alloc, rules, feed);

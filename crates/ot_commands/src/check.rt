@@ -24,7 +24,8 @@ pub fn check<H: Shelf>(
     requires certificate { GoesOn (H.holds shelf.old function.now) → H.offered shelf.old certificate.now }
 
     ensures ok { IfOk result (λ reply. IsReplyTo (H.holds shelf.old) (Check function.now certificate.now) reply) }
-    ensures given { IfOk result (IsReplyOfGiven (H.reads shelf.old) (H.reads shelf.new) (Check function.now certificate.now)) }
+    ensures given { IfOk result (IsReplyOfGiven (H.reads shelf.old) (H.reads shelf.new)
+        (Check function.now certificate.now)) }
     ensures shelf { IsErrOf result Stop.Shelf → Rose (H.faults shelf.old) (H.faults shelf.new) }
     ensures unchanged { Unchanged H.holds H.offered H.faults shelf.old shelf.new }
 {

@@ -5,7 +5,8 @@ ghost use Rattle.ot_outside.specs.Faults.{Rose};
 ghost use Rattle.ot_outside.specs.Reads.{after_reading};
 ghost use Rattle.ot_outside.specs.Unchanged.{Unchanged};
 ghost use Rattle.ot_words.specs.Commands.{Confirm};
-ghost use Rattle.ot_commands.specs.Confirmations.{IsReplyBy, IsReplyToConfirmed, TellsJudgement, ends_early, rests_on_more};
+ghost use Rattle.ot_commands.specs.Confirmations.{IsReplyBy, IsReplyToConfirmed, TellsJudgement, ends_early};
+ghost use Rattle.ot_commands.specs.Confirmations.{rests_on_more};
 ghost use Rattle.ot_commands.specs.Given.{IsReplyOfGiven};
 ghost use Rattle.ot_commands.specs.Replies.{GoesOn, IsReplyTo};
 
@@ -49,7 +50,8 @@ fn told(judgement: Result<Level, ConfirmError>) -> Result<Reply, Stop>
     }
 }
 
-// The reply to what was read of a proof's file, by how reading ended: a refusal that no further byte can change comes first.
+// The reply to what was read of a proof's file, by how reading ended: a refusal that no further byte can change comes
+// first.
 fn reply_by(
     read: Result<(), ReadError>,
     judgement: Result<Level, ConfirmError>,
@@ -68,8 +70,8 @@ fn reply_by(
     }
 }
 
-// The reply to a proof's file, of which no more bytes are judged than it may have. Where it is too long, or a read fails, what
-// was read of it is judged: a refusal that no further byte can change comes first.
+// The reply to a proof's file, of which no more bytes are judged than it may have. Where it is too long, or a read
+// fails, what was read of it is judged: a refusal that no further byte can change comes first.
 fn reply_to_proof<H: Shelf>(
     alloc: Global,
     shelf: &mut H,
@@ -79,7 +81,8 @@ fn reply_to_proof<H: Shelf>(
     requires { H.offered shelf.old name.now }
 
     ensures ok { IfOk result (λ reply. IsReplyToConfirmed (function_of rules.now) (H.holds shelf.old name.now) reply) }
-    ensures given { IfOk result (λ reply. IsReplyToConfirmed (function_of rules.now) (Some (H.reads shelf.new).bytes) reply) }
+    ensures given { IfOk result (λ reply. IsReplyToConfirmed (function_of rules.now) (Some (H.reads shelf.new).bytes)
+        reply) }
     ensures read { H.reads shelf.new ≡ after_reading name.now (H.reads shelf.new).bytes (H.reads shelf.old) }
     ensures shelf { IsErrOf result Stop.Shelf → Rose (H.faults shelf.old) (H.faults shelf.new) }
     ensures unchanged { Unchanged H.holds H.offered H.faults shelf.old shelf.new }
@@ -103,7 +106,8 @@ pub fn confirm<H: Shelf>(
     requires proof { GoesOn (H.holds shelf.old function.now) → H.offered shelf.old proof.now }
 
     ensures ok { IfOk result (λ reply. IsReplyTo (H.holds shelf.old) (Confirm function.now proof.now) reply) }
-    ensures given { IfOk result (IsReplyOfGiven (H.reads shelf.old) (H.reads shelf.new) (Confirm function.now proof.now)) }
+    ensures given { IfOk result (IsReplyOfGiven (H.reads shelf.old) (H.reads shelf.new)
+        (Confirm function.now proof.now)) }
     ensures shelf { IsErrOf result Stop.Shelf → Rose (H.faults shelf.old) (H.faults shelf.new) }
     ensures unchanged { Unchanged H.holds H.offered H.faults shelf.old shelf.new }
 {

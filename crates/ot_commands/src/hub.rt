@@ -1,5 +1,6 @@
 //! `hub FUNCTION HUB`: the events of a hub, and whether its clients hold the server's document.
-ghost use Rattle.std.specs.Prelude.{◌≡◌, ◌≢◌, ◌+◌, ◌≤◌, ◌↔◌, ℕ, List, length, map, Err, Some, IfOk, IsErrOf, IsTrue, OnOk, Ok, true};
+ghost use Rattle.std.specs.Prelude.{◌≡◌, ◌≢◌, ◌+◌, ◌≤◌, ◌↔◌, ℕ, List, length, map, Err, Some, IfOk, IsErrOf, IsTrue};
+ghost use Rattle.std.specs.Prelude.{OnOk, Ok, true};
 ghost use Rattle.case_json.specs.Hubs.{IsHubPlayable};
 ghost use Rattle.case_json.specs.declared.limits.TheConstants.{MAX_EVENTS, MAX_SITES};
 ghost use Rattle.case_json.specs.declared.hub.HubEvent.TheVariants as events;
@@ -57,7 +58,8 @@ fn not_moved(number: u32, why: Move) -> Halt
 fn edit(hub: &mut Hub, number: u32, client: u32, op: Op) -> Result<(), Halt>
     requires { (view_of hub.old).is_open ≡ true }
     ensures ok { OnOk result (IsDone (view_of hub.old) (events.Edit client op) (view_of hub.new)) }
-    ensures refused { (r : Reply) → result ≡ Err (halts.Refused r) → IsRefused (view_of hub.old) number (events.Edit client op) r }
+    ensures refused { (r : Reply) → result ≡ Err (halts.Refused r)
+        → IsRefused (view_of hub.old) number (events.Edit client op) r }
     ensures steady { (r : Reply) → result ≡ Err (halts.Refused r) → status_of r ≢ 1 }
 {
     match hub.edit(client, op) {
@@ -70,8 +72,10 @@ fn edit(hub: &mut Hub, number: u32, client: u32, op: Op) -> Result<(), Halt>
 fn up(hub: &mut Hub, number: u32, client: u32) -> Result<(), Halt>
     requires { (view_of hub.old).is_open ≡ true }
     ensures ok { OnOk result (IsDone (view_of hub.old) (events.Up client) (view_of hub.new)) }
-    ensures refused { (r : Reply) → result ≡ Err (halts.Refused r) → IsRefused (view_of hub.old) number (events.Up client) r }
-    ensures steady { MakesClientsAgree (view_of hub.old).function → (r : Reply) → result ≡ Err (halts.Refused r) → status_of r ≢ 1 }
+    ensures refused { (r : Reply) → result ≡ Err (halts.Refused r)
+        → IsRefused (view_of hub.old) number (events.Up client) r }
+    ensures steady { MakesClientsAgree (view_of hub.old).function → (r : Reply) → result ≡ Err (halts.Refused r)
+        → status_of r ≢ 1 }
 {
     match hub.up(client) {
         Ok(_) => Ok(()),
@@ -83,8 +87,10 @@ fn up(hub: &mut Hub, number: u32, client: u32) -> Result<(), Halt>
 fn down(hub: &mut Hub, number: u32, client: u32) -> Result<(), Halt>
     requires { (view_of hub.old).is_open ≡ true }
     ensures ok { OnOk result (IsDone (view_of hub.old) (events.Down client) (view_of hub.new)) }
-    ensures refused { (r : Reply) → result ≡ Err (halts.Refused r) → IsRefused (view_of hub.old) number (events.Down client) r }
-    ensures steady { MakesClientsAgree (view_of hub.old).function → (r : Reply) → result ≡ Err (halts.Refused r) → status_of r ≢ 1 }
+    ensures refused { (r : Reply) → result ≡ Err (halts.Refused r)
+        → IsRefused (view_of hub.old) number (events.Down client) r }
+    ensures steady { MakesClientsAgree (view_of hub.old).function → (r : Reply) → result ≡ Err (halts.Refused r)
+        → status_of r ≢ 1 }
 {
     match hub.down(client) {
         Ok(_) => Ok(()),
@@ -97,7 +103,8 @@ fn run_event(hub: &mut Hub, number: u32, event: HubEvent) -> Result<(), Halt>
     requires { (view_of hub.old).is_open ≡ true }
     ensures ok { OnOk result (IsDone (view_of hub.old) event (view_of hub.new)) }
     ensures refused { (r : Reply) → result ≡ Err (halts.Refused r) → IsRefused (view_of hub.old) number event r }
-    ensures steady { MakesClientsAgree (view_of hub.old).function → (r : Reply) → result ≡ Err (halts.Refused r) → status_of r ≢ 1 }
+    ensures steady { MakesClientsAgree (view_of hub.old).function → (r : Reply) → result ≡ Err (halts.Refused r)
+        → status_of r ≢ 1 }
 {
     match event {
         HubEvent::Edit { client, op } => edit(hub, number, client, op),
@@ -112,7 +119,8 @@ fn run_events(hub: &mut Hub, events: &[HubEvent]) -> Result<(), Halt>
     requires few { length events.now ≤ MAX_EVENTS }
     ensures ok { OnOk result ((r : Reply) → TellsHub (view_of hub.new) r → Runs (view_of hub.old) 0 events.now r) }
     ensures refused { (r : Reply) → result ≡ Err (halts.Refused r) → Runs (view_of hub.old) 0 events.now r }
-    ensures steady { MakesClientsAgree (view_of hub.old).function → (r : Reply) → result ≡ Err (halts.Refused r) → status_of r ≢ 1 }
+    ensures steady { MakesClientsAgree (view_of hub.old).function → (r : Reply) → result ≡ Err (halts.Refused r)
+        → status_of r ≢ 1 }
     ensures clients { OnOk result (length (view_of hub.new).clients ≡ length (view_of hub.old).clients) }
     ensures function { OnOk result ((view_of hub.new).function ≡ (view_of hub.old).function) }
 {
@@ -224,7 +232,8 @@ fn reply_to_hub_file<H: Shelf>(
 
     ensures ok { IfOk result (λ reply. IsReplyToHubFile (function_of rules.now) (H.holds shelf.old name.now) reply) }
     ensures steady { MakesClientsAgree (function_of rules.now) → IfOk result (λ reply. status_of reply ≢ 1) }
-    ensures given { IfOk result (λ reply. IsReplyToHubFile (function_of rules.now) (Some (H.reads shelf.new).bytes) reply) }
+    ensures given { IfOk result (λ reply. IsReplyToHubFile (function_of rules.now) (Some (H.reads shelf.new).bytes)
+        reply) }
     ensures read { H.reads shelf.new ≡ after_reading name.now (H.reads shelf.new).bytes (H.reads shelf.old) }
     ensures shelf { IsErrOf result Stop.Shelf → Rose (H.faults shelf.old) (H.faults shelf.new) }
     ensures unchanged { Unchanged H.holds H.offered H.faults shelf.old shelf.new }
@@ -241,8 +250,10 @@ pub fn hub<H: Shelf>(alloc: Global, shelf: &mut H, function: &str, hub: &str) ->
     requires hub { GoesOn (H.holds shelf.old function.now) → H.offered shelf.old hub.now }
 
     ensures ok { IfOk result (λ reply. IsReplyTo (H.holds shelf.old) (commands.Hub function.now hub.now) reply) }
-    ensures steady { IfOk result (λ reply. IsSteadyReply (H.holds shelf.old) (commands.Hub function.now hub.now) reply) }
-    ensures given { IfOk result (IsReplyOfGiven (H.reads shelf.old) (H.reads shelf.new) (commands.Hub function.now hub.now)) }
+    ensures steady { IfOk result (λ reply. IsSteadyReply (H.holds shelf.old) (commands.Hub function.now hub.now)
+        reply) }
+    ensures given { IfOk result (IsReplyOfGiven (H.reads shelf.old) (H.reads shelf.new)
+        (commands.Hub function.now hub.now)) }
     ensures shelf { IsErrOf result Stop.Shelf → Rose (H.faults shelf.old) (H.faults shelf.new) }
     ensures unchanged { Unchanged H.holds H.offered H.faults shelf.old shelf.new }
 {

@@ -10,7 +10,8 @@ ghost use Rattle.ot_outside.specs.Unchanged.{Unchanged};
 ghost use Rattle.ot_words.specs.Commands.{Integrate};
 ghost use Rattle.ot_replies.specs.Limits.{limit_of};
 ghost use Rattle.ot_commands.specs.Given.{IsReplyOfGiven};
-ghost use Rattle.ot_commands.specs.Replies.{GoesOn, HaveOneEnd, IsReplyTo, IsReplyToCase, IsReplyToCaseFile, TellsOutcomes, outcomes_of};
+ghost use Rattle.ot_commands.specs.Replies.{GoesOn, HaveOneEnd, IsReplyTo, IsReplyToCase, IsReplyToCaseFile};
+ghost use Rattle.ot_commands.specs.Replies.{TellsOutcomes, outcomes_of};
 ghost use Rattle.ot_replies.specs.declared.reply.FileKind.TheVariants as files;
 
 use crate::load::{Stop, load_function, read_file};
@@ -55,7 +56,8 @@ fn have_one_end(ends: &[End]) -> bool
 fn end_of(alloc: Global, rules: &Rules, trial: &Trial, order: &[u32]) -> Result<End, NoMemory>
     requires ready { IsReady (function_of rules.now) trial.now }
     requires places { length order.now ≤ 1000 }
-    ensures { IfOk result (λ end. outcome_of end ≡ integrated (function_of rules.now) trial.now.doc trial.now.ops order.now) }
+    ensures { IfOk result (λ end. outcome_of end ≡ integrated (function_of rules.now) trial.now.doc trial.now.ops
+        order.now) }
 {
     let end = ot_integrate::integrate(alloc, rules, &trial.doc, trial.ops.as_slice(), order)?;
     Ok(end)
@@ -106,7 +108,8 @@ fn reply_to_case_file<H: Shelf>(
     requires { H.offered shelf.old name.now }
 
     ensures ok { IfOk result (λ reply. IsReplyToCaseFile (function_of rules.now) (H.holds shelf.old name.now) reply) }
-    ensures given { IfOk result (λ reply. IsReplyToCaseFile (function_of rules.now) (Some (H.reads shelf.new).bytes) reply) }
+    ensures given { IfOk result (λ reply. IsReplyToCaseFile (function_of rules.now) (Some (H.reads shelf.new).bytes)
+        reply) }
     ensures read { H.reads shelf.new ≡ after_reading name.now (H.reads shelf.new).bytes (H.reads shelf.old) }
     ensures shelf { IsErrOf result Stop.Shelf → Rose (H.faults shelf.old) (H.faults shelf.new) }
     ensures unchanged { Unchanged H.holds H.offered H.faults shelf.old shelf.new }
@@ -128,7 +131,8 @@ pub fn integrate<H: Shelf>(
     requires case { GoesOn (H.holds shelf.old function.now) → H.offered shelf.old case.now }
 
     ensures ok { IfOk result (λ reply. IsReplyTo (H.holds shelf.old) (Integrate function.now case.now) reply) }
-    ensures given { IfOk result (IsReplyOfGiven (H.reads shelf.old) (H.reads shelf.new) (Integrate function.now case.now)) }
+    ensures given { IfOk result (IsReplyOfGiven (H.reads shelf.old) (H.reads shelf.new)
+        (Integrate function.now case.now)) }
     ensures shelf { IsErrOf result Stop.Shelf → Rose (H.faults shelf.old) (H.faults shelf.new) }
     ensures unchanged { Unchanged H.holds H.offered H.faults shelf.old shelf.new }
 {

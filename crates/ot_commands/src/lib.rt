@@ -10,13 +10,13 @@
 //! `audit FN` tells which cases of a function are ever taken, and which of its blocks are ever open.
 //! `same F G` tells whether two functions agree, or where they do not.
 //! `reverse F E` tells whether a second function takes back what the first one makes, or where it does not.
-//! `least FN` looks for the shortest document on which a function breaks a property, and certifies that none is shorter.
-//! `bound FN CERT` says whether a certificate shows that no document of fewer cells breaks a property.
-//! `confirm FN PROOF` says the same as `check` of a proof with lemmas.
-//! `drill N` generates a workload, and goes the whole way from its function to its sites.
+//! `least FN` looks for the shortest document on which a function breaks a property, and certifies that none is
+//! shorter. `bound FN CERT` says whether a certificate shows that no document of fewer cells breaks a property.
+//! `confirm FN PROOF` says the same as `check` of a proof with lemmas. `drill N` generates a workload, and goes the
+//! whole way from its function to its sites.
 //!
-//! The crate above relies on one call a command, whose clauses say which reply comes, of what the shelf tells and of what
-//! its calls gave.
+//! The crate above relies on one call a command, whose clauses say which reply comes, of what the shelf tells and of
+//! what its calls gave.
 #![tactic(auto)]
 
 pub mod audit;

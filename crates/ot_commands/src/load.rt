@@ -70,7 +70,8 @@ pub(crate) fn read_file<H: Shelf>(
 
     // Of what the calls gave, whether or not the shelf tells what the name holds.
     ensures read { H.reads shelf.new ≡ after_reading name.now (H.reads shelf.new).bytes (H.reads shelf.old) }
-    ensures given { IfOk result (λ answer. IfOk answer (λ bytes. Holds kind bytes.items (Some (H.reads shelf.new).bytes))) }
+    ensures given { IfOk result (λ answer. IfOk answer
+        (λ bytes. Holds kind bytes.items (Some (H.reads shelf.new).bytes))) }
     ensures given_replied { IfOk result (λ answer. IfErr answer (IsTooLong kind (Some (H.reads shelf.new).bytes))) }
 
     ensures shelf { IsErrOf result Stop.Shelf → Rose (H.faults shelf.old) (H.faults shelf.new) }
@@ -94,13 +95,16 @@ pub(crate) fn load_function<H: Shelf>(
 ) -> Result<Result<Rules, Reply>, Stop>
     requires { H.offered shelf.old name.now }
 
-    ensures ok { IfOk result (λ answer. IfOk answer (λ rules. IsReadAs (Ok (function_of rules)) (H.holds shelf.old name.now))) }
+    ensures ok { IfOk result (λ answer. IfOk answer (λ rules. IsReadAs (Ok (function_of rules))
+        (H.holds shelf.old name.now))) }
     ensures replied { IfOk result (λ answer. IfErr answer (IsFunctionRefusal subject (H.holds shelf.old name.now))) }
 
     // Of what the calls gave, whether or not the shelf tells what the name holds.
     ensures read { H.reads shelf.new ≡ after_reading name.now (H.reads shelf.new).bytes (H.reads shelf.old) }
-    ensures given { IfOk result (λ answer. IfOk answer (λ rules. IsReadAs (Ok (function_of rules)) (Some (H.reads shelf.new).bytes))) }
-    ensures given_replied { IfOk result (λ answer. IfErr answer (IsFunctionRefusal subject (Some (H.reads shelf.new).bytes))) }
+    ensures given { IfOk result (λ answer. IfOk answer
+        (λ rules. IsReadAs (Ok (function_of rules)) (Some (H.reads shelf.new).bytes))) }
+    ensures given_replied { IfOk result (λ answer. IfErr answer
+        (IsFunctionRefusal subject (Some (H.reads shelf.new).bytes))) }
 
     ensures shelf { IsErrOf result Stop.Shelf → Rose (H.faults shelf.old) (H.faults shelf.new) }
     ensures unchanged { Unchanged H.holds H.offered H.faults shelf.old shelf.new }

@@ -74,7 +74,8 @@ pub fn prove<H: Shelf>(
     requires { H.offered shelf.old function.now }
 
     ensures ok { IfOk result (λ reply. IsReplyTo (H.holds shelf.old) (Prove level budget function.now) reply) }
-    ensures given { IfOk result (IsReplyOfGiven (H.reads shelf.old) (H.reads shelf.new) (Prove level budget function.now)) }
+    ensures given { IfOk result (IsReplyOfGiven (H.reads shelf.old) (H.reads shelf.new)
+        (Prove level budget function.now)) }
     ensures shelf { IsErrOf result Stop.Shelf → Rose (H.faults shelf.old) (H.faults shelf.new) }
     ensures unchanged { Unchanged H.holds H.offered H.faults shelf.old shelf.new }
 {

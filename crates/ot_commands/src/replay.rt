@@ -1,5 +1,6 @@
 //! `replay FUNCTION SESSION`: the events of a session, and whether sites that have integrated the same agree.
-ghost use Rattle.std.specs.Prelude.{◌≡◌, ◌≢◌, ◌+◌, ◌-◌, ◌≤◌, ◌↔◌, ℕ, List, length, map, reverse, Err, Some, None, IfOk, IsErrOf, IsTrue, OnOk, Ok, true, false};
+ghost use Rattle.std.specs.Prelude.{◌≡◌, ◌≢◌, ◌+◌, ◌-◌, ◌≤◌, ◌↔◌, ℕ, List, length, map, reverse, Err, Some, None, IfOk};
+ghost use Rattle.std.specs.Prelude.{IsErrOf, IsTrue, OnOk, Ok, true, false};
 ghost use Rattle.std.specs.List.{list_all};
 ghost use Rattle.case_json.specs.Scripts.{IsPlayable};
 ghost use Rattle.case_json.specs.declared.limits.TheConstants.{MAX_EVENTS, MAX_SITES};
@@ -14,7 +15,8 @@ ghost use Rattle.ot_session.specs.Views.{view_of, data_in};
 ghost use Rattle.ot_words.specs.Commands.{Replay};
 ghost use Rattle.ot_commands.specs.Given.{IsReplyOfGiven};
 ghost use Rattle.ot_commands.specs.Replies.{GoesOn, IsReplyTo, IsReplyToSessionFile};
-ghost use Rattle.ot_commands.specs.Sessions.{Differ, IsDone, IsFirstOther, IsFirstPair, IsRefused, IsReplyToSession, IsReplyToScript};
+ghost use Rattle.ot_commands.specs.Sessions.{Differ, IsDone, IsFirstOther, IsFirstPair, IsRefused, IsReplyToSession};
+ghost use Rattle.ot_commands.specs.Sessions.{IsReplyToScript};
 ghost use Rattle.ot_commands.specs.Sessions.{Runs, TellsNotMade, TellsNotTaken, TellsSites, end_of};
 ghost use Rattle.ot_commands.specs.Steady.{IsSteadyReply, MakesSitesAgree};
 ghost use Rattle.ot_replies.specs.Texts.{status_of};
@@ -63,7 +65,8 @@ fn not_taken(number: u32, why: Take) -> Halt
 fn make(session: &mut Session, number: u32, site: u32, op: Op) -> Result<(), Halt>
     requires { (view_of session.old).is_open ≡ true }
     ensures ok { OnOk result (IsDone (view_of session.old) (events.Make site op) (view_of session.new)) }
-    ensures refused { (r : Reply) → result ≡ Err (halts.Refused r) → IsRefused (view_of session.old) number (events.Make site op) r }
+    ensures refused { (r : Reply) → result ≡ Err (halts.Refused r)
+        → IsRefused (view_of session.old) number (events.Make site op) r }
     ensures steady { (r : Reply) → result ≡ Err (halts.Refused r) → status_of r ≢ 1 }
 {
     match session.make(site, op) {
@@ -76,8 +79,10 @@ fn make(session: &mut Session, number: u32, site: u32, op: Op) -> Result<(), Hal
 fn take(session: &mut Session, number: u32, site: u32, taken: u32) -> Result<(), Halt>
     requires { (view_of session.old).is_open ≡ true }
     ensures ok { OnOk result (IsDone (view_of session.old) (events.Take site taken) (view_of session.new)) }
-    ensures refused { (r : Reply) → result ≡ Err (halts.Refused r) → IsRefused (view_of session.old) number (events.Take site taken) r }
-    ensures steady { MakesSitesAgree (view_of session.old).function → (r : Reply) → result ≡ Err (halts.Refused r) → status_of r ≢ 1 }
+    ensures refused { (r : Reply) → result ≡ Err (halts.Refused r)
+        → IsRefused (view_of session.old) number (events.Take site taken) r }
+    ensures steady { MakesSitesAgree (view_of session.old).function → (r : Reply) → result ≡ Err (halts.Refused r)
+        → status_of r ≢ 1 }
 {
     let Err(why) = session.take(site, taken) else {
         return Ok(());
@@ -90,7 +95,8 @@ fn run_event(session: &mut Session, number: u32, event: Event) -> Result<(), Hal
     requires { (view_of session.old).is_open ≡ true }
     ensures ok { OnOk result (IsDone (view_of session.old) event (view_of session.new)) }
     ensures refused { (r : Reply) → result ≡ Err (halts.Refused r) → IsRefused (view_of session.old) number event r }
-    ensures steady { MakesSitesAgree (view_of session.old).function → (r : Reply) → result ≡ Err (halts.Refused r) → status_of r ≢ 1 }
+    ensures steady { MakesSitesAgree (view_of session.old).function → (r : Reply) → result ≡ Err (halts.Refused r)
+        → status_of r ≢ 1 }
 {
     match event {
         Event::Make { site, op } => make(session, number, site, op),
@@ -105,9 +111,11 @@ fn run_event(session: &mut Session, number: u32, event: Event) -> Result<(), Hal
 fn run_events(session: &mut Session, events: &[Event]) -> Result<(), Halt>
     requires is_open { (view_of session.old).is_open ≡ true }
     requires few { length events.now ≤ MAX_EVENTS }
-    ensures ok { OnOk result ((r : Reply) → TellsSites (view_of session.new) r → Runs (view_of session.old) 0 events.now r) }
+    ensures ok { OnOk result ((r : Reply) → TellsSites (view_of session.new) r
+        → Runs (view_of session.old) 0 events.now r) }
     ensures refused { (r : Reply) → result ≡ Err (halts.Refused r) → Runs (view_of session.old) 0 events.now r }
-    ensures steady { MakesSitesAgree (view_of session.old).function → (r : Reply) → result ≡ Err (halts.Refused r) → status_of r ≢ 1 }
+    ensures steady { MakesSitesAgree (view_of session.old).function → (r : Reply) → result ≡ Err (halts.Refused r)
+        → status_of r ≢ 1 }
     ensures sites { OnOk result (length (view_of session.new).sites ≡ length (view_of session.old).sites) }
     ensures function { OnOk result ((view_of session.new).function ≡ (view_of session.old).function) }
 {
@@ -249,9 +257,11 @@ fn reply_to_session_file<H: Shelf>(
 ) -> Result<Reply, Stop>
     requires { H.offered shelf.old name.now }
 
-    ensures ok { IfOk result (λ reply. IsReplyToSessionFile (function_of rules.now) (H.holds shelf.old name.now) reply) }
+    ensures ok { IfOk result (λ reply. IsReplyToSessionFile (function_of rules.now) (H.holds shelf.old name.now)
+        reply) }
     ensures steady { MakesSitesAgree (function_of rules.now) → IfOk result (λ reply. status_of reply ≢ 1) }
-    ensures given { IfOk result (λ reply. IsReplyToSessionFile (function_of rules.now) (Some (H.reads shelf.new).bytes) reply) }
+    ensures given { IfOk result (λ reply. IsReplyToSessionFile (function_of rules.now) (Some (H.reads shelf.new).bytes)
+        reply) }
     ensures read { H.reads shelf.new ≡ after_reading name.now (H.reads shelf.new).bytes (H.reads shelf.old) }
     ensures shelf { IsErrOf result Stop.Shelf → Rose (H.faults shelf.old) (H.faults shelf.new) }
     ensures unchanged { Unchanged H.holds H.offered H.faults shelf.old shelf.new }
@@ -274,7 +284,8 @@ pub fn replay<H: Shelf>(
 
     ensures ok { IfOk result (λ reply. IsReplyTo (H.holds shelf.old) (Replay function.now session.now) reply) }
     ensures steady { IfOk result (λ reply. IsSteadyReply (H.holds shelf.old) (Replay function.now session.now) reply) }
-    ensures given { IfOk result (IsReplyOfGiven (H.reads shelf.old) (H.reads shelf.new) (Replay function.now session.now)) }
+    ensures given { IfOk result (IsReplyOfGiven (H.reads shelf.old) (H.reads shelf.new)
+        (Replay function.now session.now)) }
     ensures shelf { IsErrOf result Stop.Shelf → Rose (H.faults shelf.old) (H.faults shelf.new) }
     ensures unchanged { Unchanged H.holds H.offered H.faults shelf.old shelf.new }
 {

@@ -39,7 +39,8 @@ fn reply_to_reverser<H: Shelf>(
     requires { H.offered shelf.old name.now }
 
     ensures ok { IfOk result (λ reply. IsReplyToReverser (function_of rules.now) (H.holds shelf.old name.now) reply) }
-    ensures given { IfOk result (λ reply. IsReplyToReverser (function_of rules.now) (Some (H.reads shelf.new).bytes) reply) }
+    ensures given { IfOk result (λ reply. IsReplyToReverser (function_of rules.now) (Some (H.reads shelf.new).bytes)
+        reply) }
     ensures read { H.reads shelf.new ≡ after_reading name.now (H.reads shelf.new).bytes (H.reads shelf.old) }
     ensures shelf { IsErrOf result Stop.Shelf → Rose (H.faults shelf.old) (H.faults shelf.new) }
     ensures unchanged { Unchanged H.holds H.offered H.faults shelf.old shelf.new }
@@ -61,7 +62,8 @@ pub fn reverse<H: Shelf>(
     requires other { GoesOn (H.holds shelf.old function.now) → H.offered shelf.old other.now }
 
     ensures ok { IfOk result (λ reply. IsReplyTo (H.holds shelf.old) (commands.Reverse function.now other.now) reply) }
-    ensures given { IfOk result (IsReplyOfGiven (H.reads shelf.old) (H.reads shelf.new) (commands.Reverse function.now other.now)) }
+    ensures given { IfOk result (IsReplyOfGiven (H.reads shelf.old) (H.reads shelf.new)
+        (commands.Reverse function.now other.now)) }
     ensures shelf { IsErrOf result Stop.Shelf → Rose (H.faults shelf.old) (H.faults shelf.new) }
     ensures unchanged { Unchanged H.holds H.offered H.faults shelf.old shelf.new }
 {

@@ -15,8 +15,8 @@ use proof_sections::accepted_proofs_hold;
 use start_laws::starts_have_one_value;
 
 /// A function that has a proof at level tp1 has the first property on every document, for all operations of its kinds
-/// that meet what it assumes. One that has a proof at level tp2 has both, so any two orders of concurrent operations end
-/// with one document.
+/// that meet what it assumes. One that has a proof at level tp2 has both, so any two orders of concurrent operations
+/// end with one document.
 pub fn proofs_show_the_properties()
     ensures tp1 { (f : Function) (bytes : List ℕ) → judgement_of f bytes ≡ Ok Tp1 → HasTp1 f }
     ensures tp2 { (f : Function) (bytes : List ℕ) → judgement_of f bytes ≡ Ok Tp2 → HasTp1 f × HasTp2 f }

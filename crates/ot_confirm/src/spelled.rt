@@ -17,13 +17,14 @@ use proof_text::certificate_tokens_are_spelled_alike;
 /// Bytes are accepted as a proof of a function at a level exactly where they are one: the header of the level, for each
 /// obligation in order its line, the tokens of a tree that shows its plan and a newline, and the last line.
 pub fn proofs_are_made_of_trees()
-    ensures { (f : Function) (bytes : List ℕ) (level : Level) → (judgement_of f bytes ≡ Ok level ↔ IsProof bytes f level) }
+    ensures { (f : Function) (bytes : List ℕ) (level : Level)
+        → (judgement_of f bytes ≡ Ok level ↔ IsProof bytes f level) }
 {
     proofs_are_accepted_exactly::<Begun, Why>();
 }
 
-/// A certificate of a function at a level, with the first line of a proof of this level in place of its own, is accepted
-/// as a proof of the function at this level.
+/// A certificate of a function at a level, with the first line of a proof of this level in place of its own, is
+/// accepted as a proof of the function at this level.
 pub fn certificates_are_accepted_as_proofs()
     ensures { (f : Function) (bytes : List ℕ) (level : Level)
         → IsCertificate bytes f level → judgement_of f (under_proof_header level bytes) ≡ Ok level }

@@ -1,5 +1,6 @@
 -- The lines of what is found of a function, and of two.
-use Rattle.std.specs.Prelude.{ℕ, Bool, ◌+◌, ◌&&◌, if◌then◌else◌, is_none, is_some, List, [], ◌∷◌, ◌++◌, codes, Option, Some, None}
+use Rattle.std.specs.Prelude.{ℕ, Bool, ◌+◌, ◌&&◌, if◌then◌else◌, is_none, is_some, List, [], ◌∷◌, ◌++◌, codes, Option}
+use Rattle.std.specs.Prelude.{Some, None}
 use Rattle.std.specs.Fmt.{decimal}
 use Rattle.std.specs.List.{flat_map, list_all}
 use Rattle.ot_model.specs.declared.op.Kind.{Kind}
@@ -42,7 +43,8 @@ found_text word nowhere (Some found) = word ++ op_text found.0 ++ codes " agains
 -- a case of the block of two kinds, by its number
 abbrev pub case_line : Kind → Kind → ℕ → Option (Op × Op) → List ℕ
 case_line k l i found =
-    line_of (codes "case " ++ name_text (Pair k l) ++ codes " " ++ decimal i ++ codes " " ++ found_text (codes "taken ") (codes "never") found)
+    line_of (codes "case " ++ name_text (Pair k l) ++ codes " " ++ decimal i ++ codes " "
+    ++ found_text (codes "taken ") (codes "never") found)
 
 -- a line for each case, of which the first has this number
 abbrev pub case_lines : Kind → Kind → ℕ → List (Option (Op × Op)) → List ℕ
@@ -51,7 +53,8 @@ case_lines k l i (found ∷ others) = case_line k l i found ++ case_lines k l (i
 
 -- the end of the block of two kinds
 abbrev pub open_line : Kind → Kind → Option (Op × Op) → List ℕ
-open_line k l found = line_of (codes "block " ++ name_text (Pair k l) ++ codes " " ++ found_text (codes "open ") (codes "total") found)
+open_line k l found = line_of (codes "block " ++ name_text (Pair k l) ++ codes " "
+    ++ found_text (codes "open ") (codes "total") found)
 
 -- the lines of a block's cases, and of its end
 abbrev pub block_text : BlockAudit → List ℕ
@@ -65,7 +68,8 @@ audit_text audits.Spent = spent_text
 -- the block of two kinds on which two functions differ, the operations, and what each function gives
 abbrev pub difference_text : Kind → Kind → List Op → Option Op → Option Op → List ℕ
 difference_text k l ops left right =
-    line_of (codes "differ " ++ name_text (Pair k l)) ++ op_lines 1 ops ++ line_of (codes "left " ++ side_text (operation_side left))
+    line_of (codes "differ " ++ name_text (Pair k l)) ++ op_lines 1 ops
+    ++ line_of (codes "left " ++ side_text (operation_side left))
     ++ line_of (codes "right " ++ side_text (operation_side right))
 
 -- whether two functions agree, or where they do not

@@ -48,5 +48,6 @@ op_lines k (o ∷ others) = line_of (codes "op " ++ decimal k ++ codes " " ++ op
 -- the property and the cause, the document, the operations, and what each of the two ways gives
 abbrev pub counter_text : Counter → List ℕ
 counter_text c =
-    line_of (codes "no " ++ level_text c.level ++ codes " " ++ why_word c.why) ++ line_of (codes "doc " ++ document_text c.doc)
+    line_of (codes "no " ++ level_text c.level ++ codes " " ++ why_word c.why)
+    ++ line_of (codes "doc " ++ document_text c.doc)
     ++ op_lines 1 c.ops ++ line_of (codes "left " ++ side_text c.left) ++ line_of (codes "right " ++ side_text c.right)

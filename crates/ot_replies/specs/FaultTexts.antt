@@ -45,7 +45,8 @@ subject_word subjects.Second = codes "second"
 -- which function's text has a fault, the place and the cause
 abbrev pub text_fault_text : Subject → TextFault → List ℕ
 text_fault_text subject fault =
-    subject_word subject ++ codes " " ++ decimal fault.line ++ codes ":" ++ decimal fault.column ++ codes " " ++ kind_word fault.kind ++ 10 ∷ []
+    subject_word subject ++ codes " " ++ decimal fault.line ++ codes ":" ++ decimal fault.column ++ codes " "
+    ++ kind_word fault.kind ++ 10 ∷ []
 
 abbrev pub refusal_word : Refusal → List ℕ
 refusal_word why.Token = codes "token"

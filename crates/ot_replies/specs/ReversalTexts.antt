@@ -24,8 +24,10 @@ loss_word (Some there) (Some back) = codes "operations"
 -- the cause, the document, the operations, what becomes of the first one, and what comes back
 abbrev pub loss_text : List Cell → List Op → Option Op → Option Op → List ℕ
 loss_text doc ops there back =
-    line_of (codes "no reverse " ++ loss_word there back) ++ line_of (codes "doc " ++ document_text doc) ++ op_lines 1 ops
-    ++ line_of (codes "there " ++ side_text (operation_side there)) ++ line_of (codes "back " ++ side_text (operation_side back))
+    line_of (codes "no reverse " ++ loss_word there back) ++ line_of (codes "doc " ++ document_text doc)
+    ++ op_lines 1 ops
+    ++ line_of (codes "there " ++ side_text (operation_side there))
+    ++ line_of (codes "back " ++ side_text (operation_side back))
 
 -- whether all is taken back, or where it is not
 abbrev pub reversal_text : Back → List ℕ

@@ -21,7 +21,8 @@ stuck_text i = codes "stuck event " ++ decimal i ++ 10 ∷ []
 
 -- how many operations a site has integrated, and its document
 abbrev pub site_line : ℕ → SiteEnd → List ℕ
-site_line s end = codes "site " ++ decimal s ++ codes " " ++ decimal (length end.seen) ++ codes " " ++ document_text end.doc ++ 10 ∷ []
+site_line s end = codes "site " ++ decimal s ++ codes " " ++ decimal (length end.seen) ++ codes " "
+    ++ document_text end.doc ++ 10 ∷ []
 
 -- a line for each site, of which the first has this number
 abbrev pub site_lines : ℕ → List SiteEnd → List ℕ

@@ -7,8 +7,10 @@ use Rattle.ot_replies.specs.declared.reply.FileKind.{FileKind}
 use Rattle.ot_replies.specs.declared.reply.FileKind.TheVariants as files
 use Rattle.ot_replies.specs.declared.reply.Reply.{Reply}
 use Rattle.ot_replies.specs.declared.reply.Reply.TheVariants.{Proved, Broken, Spent, Accepted, Refused, FunctionRefused}
-use Rattle.ot_replies.specs.declared.reply.Reply.TheVariants.{CaseRefused, Integrated, Usage, TooLong, EventRefused, StuckAt, Replayed, Served, Audited, Compared, Drilled}
-use Rattle.ot_replies.specs.declared.reply.Reply.TheVariants.{Reversed, Unlike, Unbroken, Shortest, Certified, BoundTooLong, AtLeast, Confirmed, ProofRefused}
+use Rattle.ot_replies.specs.declared.reply.Reply.TheVariants.{CaseRefused, Integrated, Usage, TooLong, EventRefused}
+use Rattle.ot_replies.specs.declared.reply.Reply.TheVariants.{StuckAt, Replayed, Served, Audited, Compared, Drilled}
+use Rattle.ot_replies.specs.declared.reply.Reply.TheVariants.{Reversed, Unlike, Unbroken, Shortest, Certified}
+use Rattle.ot_replies.specs.declared.reply.Reply.TheVariants.{BoundTooLong, AtLeast, Confirmed, ProofRefused}
 use Rattle.ot_replies.specs.AuditTexts.{audit_status, audit_text, same_status, same_text, spent_text}
 use Rattle.ot_replies.specs.BoundTexts.{at_least_text, bound_limit_text, shortest_text, unbroken_text}
 use Rattle.ot_replies.specs.FaultTexts.{text_fault_text, case_fault_text, proof_refusal_text, refusal_text}

@@ -48,8 +48,8 @@ pub struct SiteEnd {
     pub doc: Doc,
 }
 
-/// How many entries of the log a client of a hub has received, how many of its operations are pending, and the document that it
-/// holds.
+/// How many entries of the log a client of a hub has received, how many of its operations are pending, and the document
+/// that it holds.
 #[derive(Debug, Drop)]
 pub struct ClientEnd {
     /// How many entries of the log it has received.
@@ -74,7 +74,8 @@ pub struct HubEnd {
     /// What each client holds, by their numbers.
     pub clients: List<ClientEnd>,
 
-    /// The first client that has received the whole log, has nothing pending, and holds another document than the server.
+    /// The first client that has received the whole log, has nothing pending, and holds another document than the
+    /// server.
     pub differ: Option<u32>,
 }
 

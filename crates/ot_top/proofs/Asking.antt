@@ -40,7 +40,8 @@ module _ {W : Type 0} (plan : ObName → Plan W) where
   asked_once one (ob ∷ obs) a b (q, of_q, q_behind) (r, of_r, r_behind) =
       let same : r ≡ q = one (plan ob) [] r q of_r of_q in
       joined_once ob q (AreAsked plan obs) a b q.failing (asked_once one obs) q_behind
-      (subst (λ (s : Questions W). MatchOption s.failing ((later : List (ObQuestions W)) × AreAsked plan obs later × (b ≡ record { ob = ob; questions = s } ∷ later)) (λ _. b ≡ record { ob = ob; questions = s } ∷ [])) same r_behind)
+      (subst (λ (s : Questions W). MatchOption s.failing ((later : List (ObQuestions W)) × AreAsked plan obs later
+      × (b ≡ record { ob = ob; questions = s } ∷ later)) (λ _. b ≡ record { ob = ob; questions = s } ∷ [])) same r_behind)
 
   -- the obligation that fails is one of them
   fails_behind :

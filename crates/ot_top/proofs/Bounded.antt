@@ -62,7 +62,8 @@ document_count f ob w why counter cells is (values, least, count) =
     let same : is.values ≡ values = least_once w (floors_of ob) is.values values is.least least in
     let counted : valuation_of is.values length_name ≡ pos cells = ap (λ (l : List ℤ). valuation_of l length_name) same ∙ count in
     ap (λ (d : List Cell). length d) is.read.doc
-    ∙ (cell_count (unsigned_abs (valuation_of is.values length_name)) (shown_cell (valuation_of is.values index_name) why) ∙ ap (λ (z : ℤ). unsigned_abs z) counted)
+    ∙ (cell_count (unsigned_abs (valuation_of is.values length_name)) (shown_cell (valuation_of is.values index_name) why) ∙ ap (λ (z : ℤ). unsigned_abs z)
+    counted)
 
 -- an accepted certificate is one at its level and its bound
 low_of : (f : Function) (bytes : List ℕ) (shown : Level × ℕ) → IsLowJudgement f bytes (Ok shown) → IsLow bytes f shown.0 shown.1

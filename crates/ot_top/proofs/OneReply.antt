@@ -1,5 +1,6 @@
 -- The reply to a session is told by its function and its text.
-use Rattle.std.proofs.Common.{◌≡◌, ◌≢◌, ℕ, ◌+◌, ◌<◌, List, [], ◌∷◌, length, map, Option, Some, None, Result, Ok, Err, refl, sym, ap, ◌∙◌, subst, inl, inr, arith}
+use Rattle.std.proofs.Common.{◌≡◌, ◌≢◌, ℕ, ◌+◌, ◌<◌, List, [], ◌∷◌, length, map, Option, Some, None, Result, Ok, Err, refl, sym, ap, ◌∙◌, subst, inl, inr}
+use Rattle.std.proofs.Common.{arith}
 use Rattle.ot_model.specs.declared.cell.Cell.{Cell}
 use Rattle.ot_model.specs.declared.op.Op.{Op}
 use Rattle.fn_rules.specs.Functions.{Function}
@@ -19,7 +20,8 @@ use Rattle.ot_session.specs.Views.{View, data_in, IsBegun, HasMade, HasTaken}
 use Rattle.ot_replies.specs.declared.reply.Reply.{Reply}
 use Rattle.ot_replies.specs.declared.reply.Reply.TheVariants.{Replayed}
 use Rattle.ot_replies.specs.declared.reply.SiteEnd.{SiteEnd}
-use Rattle.ot_commands.specs.Sessions.{IsFirstOther, IsFirstPair, end_of, TellsSites, CannotMake, TellsNotMade, TellsNotTaken, IsRefused, IsDone, Runs, IsReplyToScript, IsReplyToSession}
+use Rattle.ot_commands.specs.Sessions.{IsFirstOther, IsFirstPair, end_of, TellsSites, CannotMake, TellsNotMade, TellsNotTaken, IsRefused, IsDone, Runs}
+use Rattle.ot_commands.specs.Sessions.{IsReplyToScript, IsReplyToSession}
 
 -- the first that differs from one is one
 first_other_one :

@@ -1,5 +1,6 @@
 -- The status 3 is that of a function's file that is reached and is the text of no function.
-use Rattle.std.proofs.Common.{◌≡◌, ◌≢◌, ◌+◌, ℕ, true, false, Bool, List, [], ◌∷◌, take, Option, Some, None, Result, Ok, Err, refl, sym, ap, ◌∙◌, subst, inl, inr, arith}
+use Rattle.std.proofs.Common.{◌≡◌, ◌≢◌, ◌+◌, ℕ, true, false, Bool, List, [], ◌∷◌, take, Option, Some, None, Result, Ok, Err, refl, sym, ap, ◌∙◌, subst, inl}
+use Rattle.std.proofs.Common.{inr, arith}
 use Rattle.std.specs.Prelude.{if◌then◌else◌}
 use Rattle.diff_graph.specs.declared.lit.Lit.{Lit}
 use Rattle.fn_rules.specs.declared.function.ObName.{ObName}
@@ -56,7 +57,8 @@ use Rattle.ot_commands.specs.Hubs.{IsDone, IsRefused, IsReplyToHub, IsReplyToHub
 use Rattle.fn_rules.specs.declared.function.Level.{Level}
 use Rattle.ot_commands.specs.Confirmations.{IsReplyToConfirmed, TellsJudgement}
 use Rattle.ot_commands.specs.Judgements.{IsReplyToCertificate, Tells, at_least}
-use Rattle.ot_commands.specs.Replies.{IsReplyTo, IsReplyToCase, IsReplyToFile, IsReplyToFunction, IsReplyToReverser, IsReplyToSecond, IsReplyToTrial, TellsOutcomes}
+use Rattle.ot_commands.specs.Replies.{IsReplyTo, IsReplyToCase, IsReplyToFile, IsReplyToFunction, IsReplyToReverser, IsReplyToSecond, IsReplyToTrial}
+use Rattle.ot_commands.specs.Replies.{TellsOutcomes}
 use Rattle.ot_commands.specs.Reversals.{IsReplyToReversal}
 use Rattle.ot_commands.specs.Sessions.{IsReplyToScript, IsReplyToSession, Runs, TellsNotMade, TellsNotTaken, TellsSites}
 use Rattle.ot_top.specs.Shown.{IsUnread, IsUnreadFrom, function_names}

@@ -11,10 +11,11 @@ use Rattle.ot_commands.specs.Given.{IsAnswerOfGiven}
 use Rattle.ot_commands.specs.Replies.{IsReply}
 use Rattle.ot_top.specs.Shows.{IsOfReply}
 
--- what words and files are answered: each status that is none of a fault and none of want of memory is that of a reply, whose
--- text was written: the one that the files get where `holds` tells them, and whether or not it does, the one that those
--- bytes get that were given between `old` and `new`
-pub record Answers (words : List (List ℕ)) (holds : List ℕ → Option (List ℕ)) (old new : Reads) (IsWritten : List ℕ → Type 0)
+-- what words and files are answered: each status that is none of a fault and none of want of memory is that of a reply,
+-- whose text was written: the one that the files get where `holds` tells them, and whether or not it does, the one that
+-- those bytes get that were given between `old` and `new`
+pub record Answers (words : List (List ℕ)) (holds : List ℕ → Option (List ℕ)) (old new : Reads)
+    (IsWritten : List ℕ → Type 0)
     (status : ℕ) : Type 0 where
   pub replied :
       IsOfReply status
@@ -30,21 +31,24 @@ pub record Counts : Type 0 where
 abbrev pub counted : ℕ → ℕ → Counts
 counted before now = record { before = before; now = now }
 
--- what faults and want of memory tell, by the counts of faults of the shelf and of the sink, and by what the sink tells that
--- was written `before` the run and is `now`
-pub record Faults (words : List (List ℕ)) (holds : List ℕ → Option (List ℕ)) (shelf sink : Counts) (before now : Option (List ℕ))
+-- what faults and want of memory tell, by the counts of faults of the shelf and of the sink, and by what the sink tells
+-- that was written `before` the run and is `now`
+pub record Faults (words : List (List ℕ)) (holds : List ℕ → Option (List ℕ)) (shelf sink : Counts)
+    (before now : Option (List ℕ))
     (status : ℕ) : Type 0 where
   -- the shelf failed, and nothing was written
   pub shelf_fault : status ≡ SHELF_FAULT → Rose shelf.before shelf.now × (now ≡ before)
   -- the sink failed, and the front of a reply was written
   pub sink_fault :
       status ≡ SINK_FAULT
-      → Rose sink.before sink.now × ((reply : Reply) × IsReply words holds reply × AppendsFront before (text_of reply) now)
+      → Rose sink.before sink.now × ((reply : Reply) × IsReply words holds reply
+      × AppendsFront before (text_of reply) now)
   -- there was no memory, and nothing was written
   pub no_memory : status ≡ NO_MEMORY → now ≡ before
   -- where neither count rises, there was no memory and nothing was written, or the whole reply was
   pub whole :
       ¬ (Rose shelf.before shelf.now) → ¬ (Rose sink.before sink.now)
       → ((status ≡ NO_MEMORY) × (now ≡ before))
-      ⊎ ((reply : Reply) × IsReply words holds reply × (status ≡ status_of reply) × (now ≡ append_known before (text_of reply)))
+      ⊎ ((reply : Reply) × IsReply words holds reply × (status ≡ status_of reply)
+      × (now ≡ append_known before (text_of reply)))
   pub sink_faults : sink.before ≤ sink.now

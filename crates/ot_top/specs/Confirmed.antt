@@ -12,9 +12,9 @@ use Rattle.ot_top.specs.Shown.{HasLevel}
 use Rattle.ot_words.specs.Commands.{Confirm}
 use Rattle.ot_words.specs.Words.{asked_by}
 
--- the words ask to judge a proof with lemmas; where the function's file is told, it is the text of a function by the grammar,
--- there are bytes that are judged as a proof of it at a level, which are the second file where that is told, the function has
--- what the level says, and the text of the level was written
+-- the words ask to judge a proof with lemmas; where the function's file is told, it is the text of a function by the
+-- grammar, there are bytes that are judged as a proof of it at a level, which are the second file where that is told,
+-- the function has what the level says, and the text of the level was written
 abbrev pub IsConfirmed : List (List ℕ) → (List ℕ → Option (List ℕ)) → (List ℕ → Type 0) → Type 0
 IsConfirmed words holds IsWritten =
     (name proof_name bytes : List ℕ)
@@ -23,8 +23,8 @@ IsConfirmed words holds IsWritten =
     × IsTextOf bytes f × (judgement_of f proof ≡ Ok level) × ForSome (holds proof_name) (λ told. proof ≡ told)
     × HasLevel f level × IsWritten (confirmed_text level)
 
--- the words ask to judge a proof with lemmas; where both files are told and within their limits, and the first one is the text
--- of a function by the grammar, the status is that of the one judgement of the second one
+-- the words ask to judge a proof with lemmas; where both files are told and within their limits, and the first one is
+-- the text of a function by the grammar, the status is that of the one judgement of the second one
 abbrev pub IsConfirmJudgedAs : List (List ℕ) → (List ℕ → Option (List ℕ)) → ℕ → Type 0
 IsConfirmJudgedAs words holds status =
     (name proof_name bytes proof : List ℕ) (f : Function)

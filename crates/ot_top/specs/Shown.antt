@@ -1,5 +1,6 @@
 -- What the statuses show of a function whose file is told.
-use Rattle.std.specs.Prelude.{◌≡◌, ◌≢◌, ◌⊎◌, ℕ, ◌≤◌, if◌then◌else◌, nat_lt, is_some, is_ok, List, [], ◌∷◌, length, Option, Some, None, Result}
+use Rattle.std.specs.Prelude.{◌≡◌, ◌≢◌, ◌⊎◌, ℕ, ◌≤◌, if◌then◌else◌, nat_lt, is_some, is_ok, List, [], ◌∷◌, length}
+use Rattle.std.specs.Prelude.{Option, Some, None, Result}
 use Rattle.std.specs.Option.{ForSome}
 use Rattle.ot_model.specs.declared.cell.Cell.{Cell}
 use Rattle.ot_model.specs.declared.op.Op.{Op}
@@ -25,7 +26,8 @@ use Rattle.ot_replies.specs.declared.reply.FileKind.TheVariants as files
 use Rattle.ot_replies.specs.declared.reply.Reply.{Reply}
 use Rattle.ot_replies.specs.declared.reply.Drilled.{Drilled}
 use Rattle.ot_replies.specs.declared.reply.Reply.TheVariants.{Accepted, Spent}
-use Rattle.ot_words.specs.Commands.{Asked, Prove, Check, Integrate, Replay, Hub, Audit, Same, Reverse, Least, Bound, Confirm, Drill}
+use Rattle.ot_words.specs.Commands.{Asked, Prove, Check, Integrate, Replay, Hub, Audit, Same, Reverse, Least, Bound}
+use Rattle.ot_words.specs.Commands.{Confirm, Drill}
 use Rattle.ot_commands.specs.Drills.{IsDrilled}
 use Rattle.ot_replies.specs.DrillTexts.{drill_text}
 use Rattle.ot_replies.specs.CounterTexts.{counter_text}
@@ -48,7 +50,8 @@ IsShown words holds IsWritten =
     (name certificate_name bytes : List ℕ)
     → asked_by words ≡ Some (Check name certificate_name) → holds name ≡ Some bytes
     → (f : Function) × (level : Level) × (certificate : List ℕ)
-    × IsTextOf bytes f × IsCertificate certificate f level × ForSome (holds certificate_name) (λ told. certificate ≡ told)
+    × IsTextOf bytes f × IsCertificate certificate f level
+    × ForSome (holds certificate_name) (λ told. certificate ≡ told)
     × HasLevel f level × IsWritten (accepted_text level)
 
 -- `check` accepts: wherever a shelf tells these bytes of a function and of a certificate, every reply says the level
@@ -90,7 +93,8 @@ HasBefore f Tp2 = HasTp1 f
 
 -- the words ask to prove a function; where its file is told, it is the text of a function by the grammar, and a
 -- counterexample was written: the function breaks the property there, which is asked at the level, by the cause that is
--- written, and the sides that are written are what the interpreter gives; where that property is TP2, the function has TP1
+-- written, and the sides that are written are what the interpreter gives; where that property is TP2, the function has
+-- TP1
 abbrev pub IsBroken : List (List ℕ) → (List ℕ → Option (List ℕ)) → (List ℕ → Type 0) → Type 0
 IsBroken words holds IsWritten =
     (level : Level) (budget : ℕ) (name bytes : List ℕ)
@@ -114,15 +118,17 @@ IsComplete words holds status =
     → length bytes ≤ limit_of files.Function → IsTextOf bytes f
     → AreAsked (plan_of f) (obligations_of f.head level) lists → status ≡ status_by budget lists
 
--- the words ask to judge a certificate; where both files are told and within their limits, and the first one is the text of
--- a function by the grammar, the second one has a judgement, whose status it is
+-- the words ask to judge a certificate; where both files are told and within their limits, and the first one is the
+-- text of a function by the grammar, the second one has a judgement, whose status it is
 abbrev pub IsJudgedAs : List (List ℕ) → (List ℕ → Option (List ℕ)) → ℕ → Type 0
 IsJudgedAs words holds status =
     (name certificate_name bytes certificate : List ℕ) (f : Function)
-    → asked_by words ≡ Some (Check name certificate_name) → holds name ≡ Some bytes → holds certificate_name ≡ Some certificate
+    → asked_by words ≡ Some (Check name certificate_name) → holds name ≡ Some bytes
+    → holds certificate_name ≡ Some certificate
     → length bytes ≤ limit_of files.Function → IsTextOf bytes f
     → length certificate ≤ limit_of files.Certificate
-    → (judgement : Result Level JudgeError) × IsJudgement f certificate judgement × (status ≡ (if is_ok judgement then 0 else 2))
+    → (judgement : Result Level JudgeError) × IsJudgement f certificate judgement
+    × (status ≡ (if is_ok judgement then 0 else 2))
 
 -- the names of the functions' files, in the order in which they are opened
 abbrev pub function_names : Asked → List (List ℕ)
@@ -139,9 +145,9 @@ function_names (Bound name certificate_name) = name ∷ []
 function_names (Confirm name proof_name) = name ∷ []
 function_names (Drill number) = []
 
--- of the functions' files that are still to be read, where each that is reached is told and within its limit: one that is the
--- text of no function by the grammar ends the command with 3, a text of a function goes on to the next one, and behind the
--- last the status is another one
+-- of the functions' files that are still to be read, where each that is reached is told and within its limit: one that
+-- is the text of no function by the grammar ends the command with 3, a text of a function goes on to the next one, and
+-- behind the last the status is another one
 abbrev pub IsUnreadFrom : (List ℕ → Option (List ℕ)) → ℕ → List (List ℕ) → Type 0
 IsUnreadFrom holds status [] = status ≢ 3
 IsUnreadFrom holds status (name ∷ names) =
@@ -149,10 +155,11 @@ IsUnreadFrom holds status (name ∷ names) =
     → (((f : Function) → ¬ IsTextOf bytes f) → status ≡ 3)
     × ((f : Function) → IsTextOf bytes f → IsUnreadFrom holds status names)
 
--- where the functions' files that the words name are told and within their limits, the status is 3 exactly where one of them is
--- reached that is the text of no function by the grammar
+-- where the functions' files that the words name are told and within their limits, the status is 3 exactly where one of
+-- them is reached that is the text of no function by the grammar
 abbrev pub IsUnread : List (List ℕ) → (List ℕ → Option (List ℕ)) → ℕ → Type 0
-IsUnread words holds status = (asked : Asked) → asked_by words ≡ Some asked → IsUnreadFrom holds status (function_names asked)
+IsUnread words holds status = (asked : Asked) → asked_by words ≡ Some asked
+    → IsUnreadFrom holds status (function_names asked)
 
 -- the words ask for the workload of a number: its function has more questions than are allowed, or what came of it was
 -- written, and then no two sites differ

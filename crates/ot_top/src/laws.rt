@@ -2,7 +2,8 @@
 ghost use Rattle.std.specs.Prelude.{◌≡◌, ◌≢◌, ℕ, Bool, true, false, List, Option, Some};
 ghost use Rattle.fn_rules.specs.declared.function.Level.{Level};
 ghost use Rattle.fn_rules.specs.Functions.{Function};
-ghost use Rattle.ot_words.specs.Commands.{Prove, Check, Integrate, Replay, Hub, Audit, Same, Reverse, Least, Bound, Confirm, Drill};
+ghost use Rattle.ot_words.specs.Commands.{Prove, Check, Integrate, Replay, Hub, Audit, Same, Reverse, Least, Bound};
+ghost use Rattle.ot_words.specs.Commands.{Confirm, Drill};
 ghost use Rattle.ot_commands.specs.Hubs.{IsReplyToHub};
 ghost use Rattle.ot_commands.specs.Replies.{IsReplyTo};
 ghost use Rattle.ot_commands.specs.Sessions.{IsReplyToSession};
@@ -21,10 +22,11 @@ use ot_replies::Reply;
 use ot_reverse::answers_are_one;
 use ot_session::{makes_have_one_outcome, sessions_begin_as_one, takes_have_one_answer};
 
-/// The bytes of a session get one reply under a function: each event is done in one way or refused for one reason, so the
-/// status and the text of `replay` are told by its files.
+/// The bytes of a session get one reply under a function: each event is done in one way or refused for one reason, so
+/// the status and the text of `replay` are told by its files.
 pub fn sessions_have_one_reply()
-    ensures { (f : Function) (bytes : List ℕ) (one other : Reply) → IsReplyToSession f bytes one → IsReplyToSession f bytes other
+    ensures { (f : Function) (bytes : List ℕ) (one other : Reply) → IsReplyToSession f bytes one
+        → IsReplyToSession f bytes other
         → one ≡ other }
 {
     sessions_begin_as_one();
@@ -32,48 +34,61 @@ pub fn sessions_have_one_reply()
     takes_have_one_answer();
 }
 
-/// The bytes of a hub get one reply under a function: each event is done in one way or refused for one reason, so the status and
-/// the text of `hub` are told by its files.
+/// The bytes of a hub get one reply under a function: each event is done in one way or refused for one reason, so the
+/// status and the text of `hub` are told by its files.
 pub fn hubs_have_one_reply()
-    ensures { (f : Function) (bytes : List ℕ) (one other : Reply) → IsReplyToHub f bytes one → IsReplyToHub f bytes other → one ≡ other }
+    ensures { (f : Function) (bytes : List ℕ) (one other : Reply) → IsReplyToHub f bytes one
+        → IsReplyToHub f bytes other → one ≡ other }
 {}
 
-/// Where the files that a command names are told, two replies to the command are one, so they have one status and one text;
-/// but the certificates that `prove` and `least --cert` write may differ.
+/// Where the files that a command names are told, two replies to the command are one, so they have one status and one
+/// text; but the certificates that `prove` and `least --cert` write may differ.
 pub fn commands_have_one_reply()
-    ensures check { (holds : List ℕ → Option (List ℕ)) (name certificate_name bytes certificate : List ℕ) (one other : Reply)
+    ensures check { (holds : List ℕ → Option (List ℕ)) (name certificate_name bytes certificate : List ℕ)
+        (one other : Reply)
         → holds name ≡ Some bytes → holds certificate_name ≡ Some certificate
-        → IsReplyTo holds (Check name certificate_name) one → IsReplyTo holds (Check name certificate_name) other → one ≡ other }
+        → IsReplyTo holds (Check name certificate_name) one → IsReplyTo holds (Check name certificate_name) other
+        → one ≡ other }
     ensures integrate { (holds : List ℕ → Option (List ℕ)) (name case_name bytes contents : List ℕ) (one other : Reply)
         → holds name ≡ Some bytes → holds case_name ≡ Some contents
-        → IsReplyTo holds (Integrate name case_name) one → IsReplyTo holds (Integrate name case_name) other → one ≡ other }
+        → IsReplyTo holds (Integrate name case_name) one → IsReplyTo holds (Integrate name case_name) other
+        → one ≡ other }
     ensures replay { (holds : List ℕ → Option (List ℕ)) (name session_name bytes contents : List ℕ) (one other : Reply)
         → holds name ≡ Some bytes → holds session_name ≡ Some contents
-        → IsReplyTo holds (Replay name session_name) one → IsReplyTo holds (Replay name session_name) other → one ≡ other }
+        → IsReplyTo holds (Replay name session_name) one → IsReplyTo holds (Replay name session_name) other
+        → one ≡ other }
     ensures hub { (holds : List ℕ → Option (List ℕ)) (name hub_name bytes contents : List ℕ) (one other : Reply)
         → holds name ≡ Some bytes → holds hub_name ≡ Some contents
         → IsReplyTo holds (Hub name hub_name) one → IsReplyTo holds (Hub name hub_name) other → one ≡ other }
     ensures audit { (holds : List ℕ → Option (List ℕ)) (name bytes : List ℕ) (one other : Reply)
-        → holds name ≡ Some bytes → IsReplyTo holds (Audit name) one → IsReplyTo holds (Audit name) other → one ≡ other }
+        → holds name ≡ Some bytes → IsReplyTo holds (Audit name) one → IsReplyTo holds (Audit name) other
+        → one ≡ other }
     ensures same { (holds : List ℕ → Option (List ℕ)) (name other_name bytes contents : List ℕ) (one other : Reply)
         → holds name ≡ Some bytes → holds other_name ≡ Some contents
         → IsReplyTo holds (Same name other_name) one → IsReplyTo holds (Same name other_name) other → one ≡ other }
     ensures reverse { (holds : List ℕ → Option (List ℕ)) (name other_name bytes contents : List ℕ) (one other : Reply)
         → holds name ≡ Some bytes → holds other_name ≡ Some contents
-        → IsReplyTo holds (Reverse name other_name) one → IsReplyTo holds (Reverse name other_name) other → one ≡ other }
-    ensures bound { (holds : List ℕ → Option (List ℕ)) (name certificate_name bytes certificate : List ℕ) (one other : Reply)
+        → IsReplyTo holds (Reverse name other_name) one → IsReplyTo holds (Reverse name other_name) other
+        → one ≡ other }
+    ensures bound { (holds : List ℕ → Option (List ℕ)) (name certificate_name bytes certificate : List ℕ)
+        (one other : Reply)
         → holds name ≡ Some bytes → holds certificate_name ≡ Some certificate
-        → IsReplyTo holds (Bound name certificate_name) one → IsReplyTo holds (Bound name certificate_name) other → one ≡ other }
+        → IsReplyTo holds (Bound name certificate_name) one → IsReplyTo holds (Bound name certificate_name) other
+        → one ≡ other }
     ensures confirm { (holds : List ℕ → Option (List ℕ)) (name proof_name bytes proof : List ℕ) (one other : Reply)
         → holds name ≡ Some bytes → holds proof_name ≡ Some proof
-        → IsReplyTo holds (Confirm name proof_name) one → IsReplyTo holds (Confirm name proof_name) other → one ≡ other }
+        → IsReplyTo holds (Confirm name proof_name) one → IsReplyTo holds (Confirm name proof_name) other
+        → one ≡ other }
     ensures least { (holds : List ℕ → Option (List ℕ)) (name bytes : List ℕ) (one other : Reply)
-        → holds name ≡ Some bytes → IsReplyTo holds (Least false name) one → IsReplyTo holds (Least false name) other → one ≡ other }
+        → holds name ≡ Some bytes → IsReplyTo holds (Least false name) one → IsReplyTo holds (Least false name) other
+        → one ≡ other }
     ensures certified { (holds : List ℕ → Option (List ℕ)) (name bytes : List ℕ) (one other : Reply)
         → holds name ≡ Some bytes → IsReplyTo holds (Least true name) one → IsReplyTo holds (Least true name) other
         → (status_of one ≡ status_of other) × (status_of one ≢ 1 → one ≡ other) }
-    ensures prove { (holds : List ℕ → Option (List ℕ)) (level : Level) (budget : ℕ) (name bytes : List ℕ) (one other : Reply)
-        → holds name ≡ Some bytes → IsReplyTo holds (Prove level budget name) one → IsReplyTo holds (Prove level budget name) other
+    ensures prove { (holds : List ℕ → Option (List ℕ)) (level : Level) (budget : ℕ) (name bytes : List ℕ)
+        (one other : Reply)
+        → holds name ≡ Some bytes → IsReplyTo holds (Prove level budget name) one
+        → IsReplyTo holds (Prove level budget name) other
         → (status_of one ≡ status_of other) × (status_of one ≢ 0 → one ≡ other) }
     ensures drill { (holds : List ℕ → Option (List ℕ)) (number : ℕ) (one other : Reply)
         → IsReplyTo holds (Drill number) one → IsReplyTo holds (Drill number) other → one ≡ other }
@@ -92,10 +107,11 @@ pub fn commands_have_one_reply()
     functions_have_one_shortest_document();
 }
 
-/// Where the function's file is told, no reply of `least` is that the document of the first counterexample has more than 1,000
-/// cells.
+/// Where the function's file is told, no reply of `least` is that the document of the first counterexample has more
+/// than 1,000 cells.
 pub fn least_is_never_too_long()
-    ensures { (holds : List ℕ → Option (List ℕ)) (cert : Bool) (name bytes : List ℕ) (reply : Reply) → holds name ≡ Some bytes
+    ensures { (holds : List ℕ → Option (List ℕ)) (cert : Bool) (name bytes : List ℕ) (reply : Reply)
+        → holds name ≡ Some bytes
         → IsReplyTo holds (Least cert name) reply → reply ≢ BoundTooLong }
 {
     what_is_read_is_in_the_grammar();

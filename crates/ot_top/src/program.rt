@@ -47,9 +47,11 @@ fn write_answer<H: Shelf, S: Sink>(
     ensures replied { result ≢ SHELF_FAULT → result ≢ SINK_FAULT → result ≢ NO_MEMORY →
         (reply : Reply) × IsReply (map string_bytes words.now) (H.holds shelf.old) reply
         × AreSteady (map string_bytes words.now) (H.holds shelf.old) reply
-        × IsAnswerOfGiven (map string_bytes words.now) (H.reads shelf.old) (H.reads shelf.new) reply × (result ≡ status_of reply)
+        × IsAnswerOfGiven (map string_bytes words.now) (H.reads shelf.old) (H.reads shelf.new) reply
+        × (result ≡ status_of reply)
         × (S.written out.new ≡ append_known (S.written out.old) (text_of reply)) }
-    ensures shelf_fault { result ≡ SHELF_FAULT → Rose (H.faults shelf.old) (H.faults shelf.new) × (S.written out.new ≡ S.written out.old) }
+    ensures shelf_fault { result ≡ SHELF_FAULT → Rose (H.faults shelf.old) (H.faults shelf.new)
+        × (S.written out.new ≡ S.written out.old) }
     ensures sink_fault { result ≡ SINK_FAULT →
         Rose (S.faults out.old) (S.faults out.new)
         × ((reply : Reply) × IsReply (map string_bytes words.now) (H.holds shelf.old) reply
@@ -89,10 +91,12 @@ pub fn run<H: Shelf, S: Sink>(alloc: Global, words: &[String], shelf: &mut H, ou
     // What the status shows, whether the files are known as what the shelf tells or as what its calls gave.
     ensures shows { (holds : List ℕ → Option (List ℕ))
         → AreKnown (map string_bytes words.now) (H.holds shelf.old) (H.reads shelf.old) (H.reads shelf.new) holds
-        → Shows (map string_bytes words.now) holds (λ text. S.written out.new ≡ append_known (S.written out.old) text) result }
+        → Shows (map string_bytes words.now) holds (λ text. S.written out.new ≡ append_known (S.written out.old) text)
+        result }
 
     // When the statuses of faults and of want of memory come, and what was written then.
-    ensures faults { Faults (map string_bytes words.now) (H.holds shelf.old) (counted (H.faults shelf.old) (H.faults shelf.new))
+    ensures faults { Faults (map string_bytes words.now) (H.holds shelf.old)
+        (counted (H.faults shelf.old) (H.faults shelf.new))
         (counted (S.faults out.old) (S.faults out.new)) (S.written out.old) (S.written out.new) result }
 
     // What is left alone.

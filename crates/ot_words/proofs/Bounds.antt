@@ -11,7 +11,8 @@ use Rattle.fn_rules.specs.declared.function.Level.{Level}
 use Rattle.ot_words.specs.Commands.{Asked, Prove, Check, Integrate, Replay, Hub, Audit, Same, Reverse, Least, Bound, Confirm, Drill}
 use Rattle.ot_drill.specs.declared.limits.TheConstants.{MOST_ROUNDS}
 use Rattle.clap_words.specs.Found.{found_by}
-use Rattle.ot_words.specs.Words.{IsWithinBounds, asked_by, audit_in, bound_in, check_in, confirm_in, drill_app, drill_by, drill_in, hub_in, integrate_in, is_given, least_app, least_by, least_in, level_by, most_questions}
+use Rattle.ot_words.specs.Words.{IsWithinBounds, asked_by, audit_in, bound_in, check_in, confirm_in, drill_app, drill_by, drill_in, hub_in, integrate_in}
+use Rattle.ot_words.specs.Words.{is_given, least_app, least_by, least_in, level_by, most_questions}
 use Rattle.ot_words.specs.Words.{name_by, names_by, number_by, prove_app, prove_by, prove_in, replay_in, reverse_in, same_in}
 
 number_within : (most : ℕ) (text : List ℕ) (n : ℕ) → number_by most text ≡ Some n → n ≤ most

@@ -21,10 +21,11 @@ pub data Asked : Type 0 where
   Same : List ℕ → List ℕ → Asked
   -- of two functions' files: whether the second one takes back what the first one makes
   Reverse : List ℕ → List ℕ → Asked
-  -- of a function's file: the shortest document is looked for on which it breaks a property, and a certificate that none is
-  -- shorter is asked for, or not
+  -- of a function's file: the shortest document is looked for on which it breaks a property, and a certificate that
+  -- none is shorter is asked for, or not
   Least : Bool → List ℕ → Asked
-  -- of a function's file and a certificate's file: the certificate is judged, as one that no shorter document breaks a property
+  -- of a function's file and a certificate's file: the certificate is judged, as one that no shorter document breaks a
+  -- property
   Bound : List ℕ → List ℕ → Asked
   -- of a function's file and a proof's file: the proof with lemmas is judged
   Confirm : List ℕ → List ℕ → Asked

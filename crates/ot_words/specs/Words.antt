@@ -1,5 +1,6 @@
 -- Which words are those of a command, by what clap states of a simple command.
-use Rattle.std.specs.Prelude.{ℕ, ◌≤◌, List, [], ◌∷◌, Option, Some, None, codes, if◌then◌else◌, Bool, true, false, option_map, option_and_then}
+use Rattle.std.specs.Prelude.{ℕ, ◌≤◌, List, [], ◌∷◌, Option, Some, None, codes, if◌then◌else◌, Bool, true, false}
+use Rattle.std.specs.Prelude.{option_map, option_and_then}
 use Rattle.std.specs.Str.{bytes_eq}
 use Rattle.std.specs.Str.Parse.{digits_value, without_leading_plus}
 use Rattle.clap.specs.Words.{App, Row, Rule, new_app, new_rule, with_rule, first_of}
@@ -10,7 +11,8 @@ use Rattle.clap_words.specs.Found.{found_by}
 use Rattle.fn_rules.specs.declared.function.Level.{Level}
 use Rattle.fn_rules.specs.declared.function.Level.TheVariants.{Tp1, Tp2}
 use Rattle.ot_drill.specs.declared.limits.TheConstants.{MOST_ROUNDS}
-use Rattle.ot_words.specs.Commands.{Asked, Prove, Check, Integrate, Replay, Hub, Audit, Same, Reverse, Least, Bound, Confirm, Drill}
+use Rattle.ot_words.specs.Commands.{Asked, Prove, Check, Integrate, Replay, Hub, Audit, Same, Reverse, Least, Bound}
+use Rattle.ot_words.specs.Commands.{Confirm, Drill}
 
 -- the clap command of a name, with no option for help and no arguments
 abbrev pub bare_app : List ℕ → App
@@ -52,11 +54,13 @@ number_rule = record (new_rule (codes "number")) { required = true; parser = Som
 
 -- the clap command `prove`: both options, and a file name
 abbrev pub prove_app : App
-prove_app = with_rule (with_rule (with_rule (bare_app (codes "prove")) (flag_rule (codes "tp1"))) budget_rule) (required_rule (codes "function"))
+prove_app = with_rule (with_rule (with_rule (bare_app (codes "prove")) (flag_rule (codes "tp1"))) budget_rule)
+    (required_rule (codes "function"))
 
 -- the clap command `least`: an option, and a file name
 abbrev pub least_app : App
-least_app = with_rule (with_rule (bare_app (codes "least")) (flag_rule (codes "cert"))) (required_rule (codes "function"))
+least_app = with_rule (with_rule (bare_app (codes "least")) (flag_rule (codes "cert")))
+    (required_rule (codes "function"))
 
 -- the clap command `drill`: a number, which clap reads
 abbrev pub drill_app : App
@@ -64,7 +68,8 @@ drill_app = with_rule (bare_app (codes "drill")) number_rule
 
 -- the values of both arguments, if they are there
 abbrev pub values_in : List Row → Option (List ℕ × List ℕ)
-values_in rows = option_and_then (λ a. option_map (λ b. (a, b)) (first_of (codes "second") rows)) (first_of (codes "first") rows)
+values_in rows = option_and_then (λ a. option_map (λ b. (a, b)) (first_of (codes "second") rows))
+    (first_of (codes "first") rows)
 
 -- the file name in the words behind a command's name
 unfoldable pub name_by : List ℕ → List (List ℕ) → Option (List ℕ)
@@ -90,7 +95,8 @@ number_by most text = if is_unsigned_in 1 most text then Some (digits_value 10 (
 -- the level, the budget and the name that are found
 abbrev pub prove_by : List Row → Option Asked
 prove_by rows =
-    option_and_then (λ budget. option_map (Prove (level_by (first_of (codes "tp1") rows)) budget) (first_of (codes "function") rows))
+    option_and_then (λ budget. option_map (Prove (level_by (first_of (codes "tp1") rows)) budget)
+    (first_of (codes "function") rows))
     (option_and_then (number_by most_questions) (first_of (codes "budget") rows))
 
 -- the command behind each first word

@@ -4,8 +4,10 @@ ghost use Rattle.clap.specs.Words.{app_of, first_of, found_of, rows_of, rule_of}
 ghost use Rattle.ot_drill.specs.declared.limits.TheConstants.{MOST_ROUNDS};
 ghost use Rattle.ot_words.specs.Commands.{asked_of};
 ghost use Rattle.clap.specs.declared.builder.value_parser.ValueParser.TheVariants.{Unsigned};
-ghost use Rattle.ot_words.specs.Words.{asked_by, audit_in, bare_app, bound_in, budget_rule, check_in, confirm_in, drill_app, drill_by, drill_in, flag_rule, hub_in, integrate_in, is_given};
-ghost use Rattle.ot_words.specs.Words.{least_app, least_by, least_in, level_by, most_questions, name_by, names_by, number_by, number_rule, one_file, prove_app, prove_by, prove_in};
+ghost use Rattle.ot_words.specs.Words.{asked_by, audit_in, bare_app, bound_in, budget_rule, check_in, confirm_in};
+ghost use Rattle.ot_words.specs.Words.{drill_app, drill_by, drill_in, flag_rule, hub_in, integrate_in, is_given};
+ghost use Rattle.ot_words.specs.Words.{least_app, least_by, least_in, level_by, most_questions, name_by, names_by};
+ghost use Rattle.ot_words.specs.Words.{number_by, number_rule, one_file, prove_app, prove_by, prove_in};
 ghost use Rattle.ot_words.specs.Words.{replay_in, required_rule, reverse_in, same_in, two_files, values_in};
 
 use crate::command::Command;

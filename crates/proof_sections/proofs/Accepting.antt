@@ -1,5 +1,6 @@
 -- Bytes that are a proof are accepted.
-use Rattle.std.proofs.Common.{◌≡◌, ℕ, ◌<◌, List, [], ◌∷◌, ◌++◌, length, Result, Ok, Err, Option, Some, None, Bool, true, false, arith, refl, sym, ap, ◌∙◌, subst, append_assoc, length-append, nat_lt}
+use Rattle.std.proofs.Common.{◌≡◌, ℕ, ◌<◌, List, [], ◌∷◌, ◌++◌, length, Result, Ok, Err, Option, Some, None, Bool, true, false, arith, refl, sym, ap, ◌∙◌}
+use Rattle.std.proofs.Common.{subst, append_assoc, length-append, nat_lt}
 use Rattle.std.specs.Prelude.{if◌then◌else◌, slice_get}
 use Rattle.std.proofs.lemmas.List.{append-nil}
 use Rattle.diff_graph.specs.declared.lit.Lit.{Lit}
@@ -15,14 +16,16 @@ use Rattle.proof_trees.specs.Starts.{MarkedPlan, Ask, Holds, Fails, start_of, co
 use Rattle.proof_trees.specs.Proofs.{ProofTree, Question, End, Impossible, Lemma, Citation, Learned, with_lemma, Shows}
 use Rattle.proof_trees.specs.Tokens.{Wanted, Tree, Cycle, Learn, Completes, tokens_of, wanted_cycles}
 use Rattle.proof_check.specs.declared.verdict.ProofError.{ProofError}
-use Rattle.proof_check.specs.Steps.{Standing, settled, after, after_at_tree, after_at_cycle, after_citation, after_comparison, after_cycle, after_end, after_lemma, after_question, IsTaken}
+use Rattle.proof_check.specs.Steps.{Standing, settled, after, after_at_tree, after_at_cycle, after_citation, after_comparison, after_cycle, after_end}
+use Rattle.proof_check.specs.Steps.{after_lemma, after_question, IsTaken}
 use Rattle.proof_text.specs.Exact.{FindsExactly}
 use Rattle.proof_text.specs.Fronts.{Front, Found}
 use Rattle.proof_text.specs.Lines.{header_front, ob_front, line_end_front, end_front}
 use Rattle.proof_text.specs.Spelling.{IsSpellable, header_text, newline_text, token_text}
 use Rattle.proof_text.specs.Tokens.{token_front}
 use Rattle.proof_sections.specs.declared.refusal.ConfirmError.{ConfirmError}
-use Rattle.proof_sections.specs.Judgement.{after_part, and_then, end_judged, line_judged, nothing_after, opened, proof_judged, section_judged, sections_judged, tree_judged}
+use Rattle.proof_sections.specs.Judgement.{after_part, and_then, end_judged, line_judged, nothing_after, opened, proof_judged, section_judged, sections_judged}
+use Rattle.proof_sections.specs.Judgement.{tree_judged}
 use Rattle.proof_sections.specs.Spelled.{AreShown, AreSpellable, IsProof, sections_text, tokens_text}
 use Rattle.proof_sections.proofs.Holding.{AreTakenOneByOne, few_of}
 use Rattle.proof_sections.proofs.Trees.{AreFound, tree_judged-done, tree_judged-on}

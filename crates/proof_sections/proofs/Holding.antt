@@ -18,7 +18,8 @@ use Rattle.proof_text.specs.Lines.{header_front, ob_front, line_end_front}
 use Rattle.proof_text.specs.Spelling.{IsSpellable}
 use Rattle.proof_text.specs.Tokens.{token_front}
 use Rattle.proof_sections.specs.declared.refusal.ConfirmError.{ConfirmError}
-use Rattle.proof_sections.specs.Judgement.{after_part, after_token, and_then, end_judged, ended_or, line_judged, opened, proof_judged, section_judged, sections_judged, tree_by, tree_judged}
+use Rattle.proof_sections.specs.Judgement.{after_part, after_token, and_then, end_judged, ended_or, line_judged, opened, proof_judged, section_judged}
+use Rattle.proof_sections.specs.Judgement.{sections_judged, tree_by, tree_judged}
 use Rattle.proof_sections.proofs.Trees.{AreFound}
 
 -- a token with a spelling has few numbers and literals

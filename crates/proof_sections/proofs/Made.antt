@@ -17,7 +17,8 @@ use Rattle.proof_text.specs.Lines.{header_front, ob_front, line_end_front, end_f
 use Rattle.proof_text.specs.Spelling.{IsSpellable, header_text, newline_text, token_text}
 use Rattle.proof_text.specs.Tokens.{token_front}
 use Rattle.proof_sections.specs.declared.refusal.ConfirmError.{ConfirmError}
-use Rattle.proof_sections.specs.Judgement.{after_part, after_token, and_then, end_judged, ended_or, line_judged, nothing_after, opened, proof_judged, section_judged, sections_judged, tree_by, tree_judged}
+use Rattle.proof_sections.specs.Judgement.{after_part, after_token, and_then, end_judged, ended_or, line_judged, nothing_after, opened, proof_judged}
+use Rattle.proof_sections.specs.Judgement.{section_judged, sections_judged, tree_by, tree_judged}
 use Rattle.proof_sections.specs.Spelled.{AreShown, AreSpellable, IsProof, sections_text, tokens_text}
 use Rattle.proof_sections.proofs.Accepting.{LinesAreFound}
 use Rattle.proof_sections.proofs.Holding.{AreTakenOneByOne, few_of}

@@ -9,7 +9,8 @@ use Rattle.proof_text.specs.Lines.{header_front, ob_front, line_end_front, end_f
 use Rattle.proof_sections.specs.declared.refusal.ProofRefusal.TheVariants as why
 use Rattle.proof_sections.specs.declared.refusal.ConfirmError.{ConfirmError}
 use Rattle.proof_sections.specs.declared.refusal.ConfirmError.TheVariants as confirm
-use Rattle.proof_sections.specs.Judgement.{Judges, after_part, and_then, end_judged, line_judged, nothing_after, opened, proof_judged, section_judged, sections_judged, tree_judged, unread_at}
+use Rattle.proof_sections.specs.Judgement.{Judges, after_part, and_then, end_judged, line_judged, nothing_after, opened, proof_judged, section_judged}
+use Rattle.proof_sections.specs.Judgement.{sections_judged, tree_judged, unread_at}
 use Rattle.proof_sections.proofs.Trees.{judges_not, judges_then}
 
 module _ {S W : Type 0} (compare : Comparison S) (p : MarkedPlan S W) (name : ObName) (bytes : List ℕ) (at : ℕ) where

@@ -15,7 +15,8 @@ use Rattle.proof_sections.specs.declared.refusal.ProofRefusal.{ProofRefusal}
 use Rattle.proof_sections.specs.declared.refusal.ProofRefusal.TheVariants as why
 use Rattle.proof_sections.specs.declared.refusal.ConfirmError.{ConfirmError}
 use Rattle.proof_sections.specs.declared.refusal.ConfirmError.TheVariants as confirm
-use Rattle.proof_sections.specs.Judgement.{after_part, after_token, and_then, end_judged, ended_or, line_judged, nothing_after, opened, proof_judged, refused_at, section_judged, sections_judged, tree_by, tree_judged}
+use Rattle.proof_sections.specs.Judgement.{after_part, after_token, and_then, end_judged, ended_or, line_judged, nothing_after, opened, proof_judged}
+use Rattle.proof_sections.specs.Judgement.{refused_at, section_judged, sections_judged, tree_by, tree_judged}
 
 -- a refusal is the same in the other judgement, unless the bytes end too early; and what is accepted is kept so
 abbrev Stands : {A : Type 0} → (A → Result A ConfirmError → Type 0) → Result A ConfirmError → Result A ConfirmError → Type 0

@@ -52,7 +52,8 @@ and_then (Ok a) next = next a
 and_then (Err e) next = Err e
 
 -- the tree has ended where nothing is wanted any more; else it goes on
-abbrev pub ended_or : {S W : Type 0} → List (Wanted S W) → List ℕ → Result (List ℕ) ConfirmError → Result (List ℕ) ConfirmError
+abbrev pub ended_or : {S W : Type 0} → List (Wanted S W) → List ℕ → Result (List ℕ) ConfirmError
+    → Result (List ℕ) ConfirmError
 ended_or [] rest later = Ok rest
 ended_or (x ∷ wanted) rest later = later
 
@@ -71,7 +72,8 @@ tree_by zero compare total at left = Err (confirm.Refused total why.Truncated)
 tree_by (suc most) compare total at left =
     after_part total left (token_front left)
     (λ tok rest.
-    after_token (total - length left) rest (λ next. tree_by most compare total next rest) (after compare tok at.known at.wanted))
+    after_token (total - length left) rest (λ next. tree_by most compare total next rest)
+    (after compare tok at.known at.wanted))
 
 unfoldable pub tree_judged : {S W : Type 0} → Comparison S → ℕ → Standing S W → List ℕ → Result (List ℕ) ConfirmError
 tree_judged compare total at left = tree_by (length left) compare total at left
@@ -110,7 +112,8 @@ end_judged total left = and_then (line_judged total end_front left) (nothing_aft
 -- The judgement of bytes: the level of a proof, or the first refusal. The levels have these obligations, of which
 -- each one has a plan with its starts.
 unfoldable pub proof_judged :
-    {S W : Type 0} → Comparison S → (ObName → MarkedPlan S W) → (Level → List ObName) → List ℕ → Result Level ConfirmError
+    {S W : Type 0} → Comparison S → (ObName → MarkedPlan S W) → (Level → List ObName) → List ℕ
+    → Result Level ConfirmError
 proof_judged compare plan names bytes =
     after_part (length bytes) bytes (header_front bytes)
     (λ level rest.
@@ -127,4 +130,5 @@ Judges bytes judged (Err confirm.NoMemory) = Unit {0}
 abbrev pub LeadsTo : {S W : Type 0} → Comparison S → List ℕ → Progress → Standing S W → ℕ → Standing S W → ℕ → Type 0
 LeadsTo compare bytes More old at new next =
     tree_judged compare (length bytes) old (drop at bytes) ≡ tree_judged compare (length bytes) new (drop next bytes)
-LeadsTo compare bytes Done old at new next = tree_judged compare (length bytes) old (drop at bytes) ≡ Ok (drop next bytes)
+LeadsTo compare bytes Done old at new next = tree_judged compare (length bytes) old (drop at bytes)
+    ≡ Ok (drop next bytes)

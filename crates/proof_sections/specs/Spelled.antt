@@ -1,5 +1,5 @@
--- Proofs by their spelling: a header, for each obligation in order its line, a tree that shows its plan and a newline, and
--- a last line. The plans of the obligations with their starts, and how starts compare, are given.
+-- Proofs by their spelling: a header, for each obligation in order its line, a tree that shows its plan and a newline,
+-- and a last line. The plans of the obligations with their starts, and how starts compare, are given.
 use Rattle.std.specs.Prelude.{◌≡◌, ℕ, List, [], ◌∷◌, ◌++◌}
 use Rattle.std.specs.List.{AllByRecursion, flat_map}
 use Rattle.fn_rules.specs.declared.function.Level.{Level}
@@ -19,8 +19,8 @@ tokens_text tokens = flat_map token_text tokens
 abbrev pub AreSpellable : List ProofTok → Type 0
 AreSpellable tokens = AllByRecursion IsSpellable tokens
 
--- one tree for each obligation: it shows the plan of the obligation under no literals, where no lemmas are known, and it
--- can be spelled
+-- one tree for each obligation: it shows the plan of the obligation under no literals, where no lemmas are known, and
+-- it can be spelled
 abbrev pub AreShown : {S W : Type 0} → Comparison S → (ObName → MarkedPlan S W) → List ObName → List ProofTree → Type 0
 AreShown compare plan [] [] = Unit {0}
 AreShown compare plan [] (t ∷ trees) = ⊥

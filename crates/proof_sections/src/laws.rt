@@ -17,7 +17,8 @@ use proof_text::{lines_are_found_exactly, tokens_are_found_exactly};
 /// Of any lawful comparison: where bytes are a proof at a level, each valuation leads through the plan of each of its
 /// obligations to an end that holds.
 pub fn accepted_proofs_hold<S, W: Copy>()
-    ensures { (compare : Comparison S) (meaning : S → Plan W) (plan : ObName → MarkedPlan S W) (names : Level → List ObName)
+    ensures { (compare : Comparison S) (meaning : S → Plan W) (plan : ObName → MarkedPlan S W)
+        (names : Level → List ObName)
         (bytes : List ℕ) (level : Level)
         → IsLawful compare meaning → AllByRecursion (λ name. IsMarkedBy meaning (plan name)) (names level)
         → proof_judged compare plan names bytes ≡ Ok level
@@ -30,7 +31,8 @@ pub fn accepted_proofs_hold<S, W: Copy>()
 
 /// Bytes that are refused, and not because they end too early, are refused so whatever follows them.
 pub fn refusals_stand<S, W: Copy>()
-    ensures { (compare : Comparison S) (plan : ObName → MarkedPlan S W) (names : Level → List ObName) (bytes more : List ℕ)
+    ensures { (compare : Comparison S) (plan : ObName → MarkedPlan S W) (names : Level → List ObName)
+        (bytes more : List ℕ)
         (offset : ℕ) (cause : ProofRefusal)
         → proof_judged compare plan names bytes ≡ Err (confirm.Refused offset cause) → cause ≢ why.Truncated
         → proof_judged compare plan names (bytes ++ more) ≡ Err (confirm.Refused offset cause) }

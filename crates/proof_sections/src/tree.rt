@@ -67,7 +67,8 @@ fn judge_token<A: Starter>(
     ensures fresh { IfOk result (λ r. checker.new.refusal ≡ None) }
     ensures compare { (A.starts checker.new.asker).compare ≡ (A.starts checker.old.asker).compare }
     ensures refused { IfErr result (λ e. Judges bytes.now
-        (tree_judged (A.starts checker.old.asker).compare (length bytes.now) (standing_at A.starts checker.old) (drop at bytes.now)) (Err e)) }
+        (tree_judged (A.starts checker.old.asker).compare (length bytes.now) (standing_at A.starts checker.old)
+        (drop at bytes.now)) (Err e)) }
 {
     tokens_are_found_exactly();
     match read_token(alloc, bytes, at, tok) {
@@ -88,7 +89,8 @@ pub fn judge_tree<A: Starter>(
 ) -> Result<usize, ConfirmError>
     requires { start ≤ length bytes.now }
     ensures { Judges bytes.now
-        (tree_judged (A.starts asker).compare (length bytes.now) (opened (A.starts asker).root) (drop start bytes.now)) result }
+        (tree_judged (A.starts asker).compare (length bytes.now) (opened (A.starts asker).root) (drop start bytes.now))
+        result }
 {
     let mut checker = ProofChecker::new(alloc, asker)?;
     let mut tok = ProofTok::Holds;

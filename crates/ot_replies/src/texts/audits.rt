@@ -3,7 +3,8 @@ ghost use Rattle.std.specs.Prelude.{◌≡◌, ◌++◌, [], is_some, OnOk};
 ghost use Rattle.std.specs.List.{flat_map, list_all};
 ghost use Rattle.cert_text.specs.Spelling.{kind_text};
 ghost use Rattle.ot_counter.specs.Sides.{operation_side};
-ghost use Rattle.ot_replies.specs.AuditTexts.{audit_status, audit_text, block_text, case_line, case_lines, difference_text, found_text, is_total, open_line};
+ghost use Rattle.ot_replies.specs.AuditTexts.{audit_status, audit_text, block_text, case_line, case_lines};
+ghost use Rattle.ot_replies.specs.AuditTexts.{difference_text, found_text, is_total, open_line};
 ghost use Rattle.ot_replies.specs.AuditTexts.{same_status, same_text, spent_text};
 
 use super::counters::{write_op, write_ops, write_side_line};

@@ -63,7 +63,8 @@ fn write_with_char(
     out: &mut Vec<u8>,
 ) -> Result<(), NoMemory>
     ensures { OnOk result (out.new.items ≡ out.old.items
-        ++ (word.now ++ codes " " ++ signed_decimal at ++ codes " " ++ encode_utf8_all (char_text ch) ++ codes " " ++ decimal site)) }
+        ++ (word.now ++ codes " " ++ signed_decimal at ++ codes " " ++ encode_utf8_all (char_text ch) ++ codes " "
+        ++ decimal site)) }
 {
     write_word(word, out)?;
     write_position(alloc, at, out)?;
@@ -74,7 +75,8 @@ fn write_with_char(
 
 // A deletion.
 fn write_deletion(alloc: Global, at: i64, site: u32, out: &mut Vec<u8>) -> Result<(), NoMemory>
-    ensures { OnOk result (out.new.items ≡ out.old.items ++ (codes "del " ++ signed_decimal at ++ codes " " ++ decimal site)) }
+    ensures { OnOk result (out.new.items ≡ out.old.items
+        ++ (codes "del " ++ signed_decimal at ++ codes " " ++ decimal site)) }
 {
     let text = format!(in alloc; "del {at} {site}")?;
     out.extend_from_slice(text.as_bytes())?;

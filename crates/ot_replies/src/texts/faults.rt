@@ -1,7 +1,9 @@
 //! The lines of faults.
 ghost use Rattle.std.specs.Prelude.{◌≡◌, [], string_bytes, IfOk, OnOk};
 ghost use Rattle.case_json.specs.declared.fault.CaseFault.TheVariants.{Pair};
-ghost use Rattle.ot_replies.specs.FaultTexts.{case_text, case_fault_text, kind_word, name_word, proof_refusal_text, proof_refusal_word, refusal_text, refusal_word, subject_word, text_fault_text};
+ghost use Rattle.ot_replies.specs.FaultTexts.{case_text, case_fault_text, kind_word, name_word, proof_refusal_text};
+ghost use Rattle.ot_replies.specs.FaultTexts.{proof_refusal_word, refusal_text, refusal_word, subject_word};
+ghost use Rattle.ot_replies.specs.FaultTexts.{text_fault_text};
 
 use crate::reply::Subject;
 use case_json::{CaseFault, Name};

@@ -1,6 +1,7 @@
 //! The lines of sessions.
 ghost use Rattle.std.specs.Prelude.{◌≡◌, ◌++◌, [], OnOk};
-ghost use Rattle.ot_replies.specs.SessionTexts.{event_fault_text, event_fault_word, last_line, site_line, site_lines, sites_text, stuck_text};
+ghost use Rattle.ot_replies.specs.SessionTexts.{event_fault_text, event_fault_word, last_line, site_line, site_lines};
+ghost use Rattle.ot_replies.specs.SessionTexts.{sites_text, stuck_text};
 
 use super::documents::write_document;
 use crate::reply::{EventFault, SiteEnd};

@@ -11,7 +11,8 @@ pub returns-in_ok-reply_to_certificate-in-Ok-clause-ok : goal.returns-in_ok-repl
 returns-in_ok-reply_to_certificate-in-Ok-clause-ok g c =
     then_gets First (g.H.Shelf.holds c.args.shelf.now c.args.function.now) (g.H.Shelf.holds c.args.shelf.now c.args.certificate.now)
     (g.H.Shelf.holds c.load_function.new.shelf c.args.certificate.now) (function_of c.in-Ok.rules)
-    (λ told f. IsReplyToCertificate (g.T.Finding.judges f) g.T.Finding.accepts told c.in_ok-reply_to_certificate-in-Ok.field-0) c.in_ok-reply_to_certificate-in-Ok.field-0
+    (λ told f. IsReplyToCertificate (g.T.Finding.judges f) g.T.Finding.accepts told c.in_ok-reply_to_certificate-in-Ok.field-0)
+    c.in_ok-reply_to_certificate-in-Ok.field-0
     (c.load_function.ensures.unchanged.same_files c.args.certificate.now) (search rules) c.in_ok-reply_to_certificate-in-Ok.ensures.ok
 
 pub returns-in-Err-clause-given : goal.returns-in-Err-clause-given

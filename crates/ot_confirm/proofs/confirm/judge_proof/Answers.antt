@@ -30,7 +30,8 @@ returns-in-Err-judge_sections c =
     let names : c.deref.result.now ≡ obligations_of f.head level =
     c.deref.ensures.value ∙ c.in-Ok-obligations.ensures ∙ ap (λ (h : Head). obligations_of h level) c.head-head.ensures.head in
     let over =
-    λ (r : Result ℕ ConfirmError) (is : Judges c.args.bytes.now (sections_judged compare_starts (marked_plan f) c.deref.result.now (length c.args.bytes.now) (drop c.in-Ok.header.1 c.args.bytes.now)) r).
+    λ (r : Result ℕ ConfirmError) (is : Judges c.args.bytes.now (sections_judged compare_starts (marked_plan f) c.deref.result.now (length c.args.bytes.now)
+    (drop c.in-Ok.header.1 c.args.bytes.now)) r).
     subst
     (λ (n : List ObName).
     Judges c.args.bytes.now (sections_judged compare_starts (marked_plan f) n (length c.args.bytes.now) (drop c.in-Ok.header.1 c.args.bytes.now)) r)
@@ -49,7 +50,8 @@ returns c =
     let names : c.deref.result.now ≡ obligations_of f.head level =
     c.deref.ensures.value ∙ c.in-Ok-obligations.ensures ∙ ap (λ (h : Head). obligations_of h level) c.head-head.ensures.head in
     let over =
-    λ (r : Result ℕ ConfirmError) (is : Judges c.args.bytes.now (sections_judged compare_starts (marked_plan f) c.deref.result.now (length c.args.bytes.now) (drop c.in-Ok.header.1 c.args.bytes.now)) r).
+    λ (r : Result ℕ ConfirmError) (is : Judges c.args.bytes.now (sections_judged compare_starts (marked_plan f) c.deref.result.now (length c.args.bytes.now)
+    (drop c.in-Ok.header.1 c.args.bytes.now)) r).
     subst
     (λ (n : List ObName).
     Judges c.args.bytes.now (sections_judged compare_starts (marked_plan f) n (length c.args.bytes.now) (drop c.in-Ok.header.1 c.args.bytes.now)) r)
@@ -57,7 +59,8 @@ returns c =
     record {
       judged =
           proof_no_end compare_starts (marked_plan f) (obligations_of f.head) c.args.bytes.now level c.in-Ok.header.1 c.in-Ok.ensures.found
-          c.in-Ok-judge_sections.behind (over (Ok c.in-Ok-judge_sections.behind) c.in-Ok-judge_sections.ensures) c.in-Err-judge_end.end c.in-Err-judge_end.ensures;
+          c.in-Ok-judge_sections.behind (over (Ok c.in-Ok-judge_sections.behind) c.in-Ok-judge_sections.ensures) c.in-Err-judge_end.end
+          c.in-Err-judge_end.ensures;
     }
 
 pub returns-in-Ok-judge_end : goal.returns-in-Ok-judge_end
@@ -68,7 +71,8 @@ returns-in-Ok-judge_end c =
     let names : c.deref.result.now ≡ obligations_of f.head level =
     c.deref.ensures.value ∙ c.in-Ok-obligations.ensures ∙ ap (λ (h : Head). obligations_of h level) c.head-head.ensures.head in
     let over =
-    λ (r : Result ℕ ConfirmError) (is : Judges c.args.bytes.now (sections_judged compare_starts (marked_plan f) c.deref.result.now (length c.args.bytes.now) (drop c.in-Ok.header.1 c.args.bytes.now)) r).
+    λ (r : Result ℕ ConfirmError) (is : Judges c.args.bytes.now (sections_judged compare_starts (marked_plan f) c.deref.result.now (length c.args.bytes.now)
+    (drop c.in-Ok.header.1 c.args.bytes.now)) r).
     subst
     (λ (n : List ObName).
     Judges c.args.bytes.now (sections_judged compare_starts (marked_plan f) n (length c.args.bytes.now) (drop c.in-Ok.header.1 c.args.bytes.now)) r)
@@ -76,7 +80,8 @@ returns-in-Ok-judge_end c =
     record {
       judged =
           proof_whole compare_starts (marked_plan f) (obligations_of f.head) c.args.bytes.now level c.in-Ok.header.1 c.in-Ok.ensures.found
-          c.in-Ok-judge_sections.behind (over (Ok c.in-Ok-judge_sections.behind) c.in-Ok-judge_sections.ensures) c.in-Ok-judge_end.end c.in-Ok-judge_end.ensures c.if-end-bytes.true;
+          c.in-Ok-judge_sections.behind (over (Ok c.in-Ok-judge_sections.behind) c.in-Ok-judge_sections.ensures) c.in-Ok-judge_end.end c.in-Ok-judge_end.ensures
+          c.if-end-bytes.true;
     }
 
 pub returns-in-Ok-2 : goal.returns-in-Ok-2
@@ -87,7 +92,8 @@ returns-in-Ok-2 c =
     let names : c.deref.result.now ≡ obligations_of f.head level =
     c.deref.ensures.value ∙ c.in-Ok-obligations.ensures ∙ ap (λ (h : Head). obligations_of h level) c.head-head.ensures.head in
     let over =
-    λ (r : Result ℕ ConfirmError) (is : Judges c.args.bytes.now (sections_judged compare_starts (marked_plan f) c.deref.result.now (length c.args.bytes.now) (drop c.in-Ok.header.1 c.args.bytes.now)) r).
+    λ (r : Result ℕ ConfirmError) (is : Judges c.args.bytes.now (sections_judged compare_starts (marked_plan f) c.deref.result.now (length c.args.bytes.now)
+    (drop c.in-Ok.header.1 c.args.bytes.now)) r).
     subst
     (λ (n : List ObName).
     Judges c.args.bytes.now (sections_judged compare_starts (marked_plan f) n (length c.args.bytes.now) (drop c.in-Ok.header.1 c.args.bytes.now)) r)
@@ -95,5 +101,6 @@ returns-in-Ok-2 c =
     record {
       judged =
           proof_trailing compare_starts (marked_plan f) (obligations_of f.head) c.args.bytes.now level c.in-Ok.header.1 c.in-Ok.ensures.found
-          c.in-Ok-judge_sections.behind (over (Ok c.in-Ok-judge_sections.behind) c.in-Ok-judge_sections.ensures) c.in-Ok-judge_end.end c.in-Ok-judge_end.ensures c.if-end-bytes.false;
+          c.in-Ok-judge_sections.behind (over (Ok c.in-Ok-judge_sections.behind) c.in-Ok-judge_sections.ensures) c.in-Ok-judge_end.end c.in-Ok-judge_end.ensures
+          c.if-end-bytes.false;
     }
