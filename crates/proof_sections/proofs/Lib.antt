@@ -1,3 +1,4 @@
+mod Examples
 pub mod Accepting
 pub mod Made
 pub mod Trees

@@ -180,6 +180,12 @@ module _ {S W : Type 0} (exact : AreFound) (one_by_one : AreTakenOneByOne S W) (
         line_made end_front end_text left line.0 lines.ends line.1
         ∙ ap (λ (x : List ℕ). end_text ++ x) (nothing_made line.0 line.2) ∙ append-nil end_text
 
+-- the text by its three parts
+whole_text :
+    (bytes header behind sections left end : List ℕ) → bytes ≡ header ++ behind → behind ≡ sections ++ left → left ≡ end
+    → bytes ≡ header ++ (sections ++ end)
+whole_text bytes header behind sections left end first then last = cc
+
 -- bytes that are accepted are a proof
 pub accepted_made :
     {S W : Type 0} → AreFound → AreTakenOneByOne S W → LinesAreFound → (compare : Comparison S)
@@ -196,8 +202,7 @@ accepted_made exact one_by_one lines compare plan names bytes level ok =
     let is : IsProof compare plan names bytes header.0 = (
       made.0,
       made.1,
-      ((lines.headers.found header.0 bytes header.1).0 header.2).1
-          ∙ ap (λ (x : List ℕ). header_text header.0 ++ x)
-          (made.2 ∙ ap (λ (x : List ℕ). sections_text (names header.0) made.0 ++ x) last),
+      whole_text bytes (header_text header.0) header.1 (sections_text (names header.0) made.0) sections.0 end_text
+          ((lines.headers.found header.0 bytes header.1).0 header.2).1 made.2 last,
     ) in
     subst (λ (l : Level). IsProof compare plan names bytes l) same is
