@@ -1,11 +1,11 @@
 -- The places of a proof after each change of its path.
-use Rattle.std.proofs.Common.{get_or, ◌≡◌, ℕ, ◌+◌, ◌<◌, ◌≤◌, List, [], ◌∷◌, ◌++◌, length, take, drop, map, reverse, Option, Some, None, Bool, true, false}
+use Rattle.std.proofs.Common.{get_or, ◌≡◌, ℕ, ◌+◌, ◌<◌, ◌≤◌, ◌-◌, List, [], ◌∷◌, ◌++◌, length, take, drop, map, reverse, Option, Some, None, Bool, true, false}
 use Rattle.std.proofs.Common.{arith, refl, sym, ◌∙◌, ap, subst, append_assoc, zero, suc}
-use Rattle.std.specs.Prelude.{if◌then◌else◌, slice_get}
+use Rattle.std.specs.Prelude.{slice_get, MatchOption}
 use Rattle.std.proofs.lemmas.List.{reverse-append, map-append, take-take, take-append-le, take_at, drop-append-le, drop-take, length-append, length-take-le}
-use Rattle.std.proofs.lemmas.List.{drop_at}
+use Rattle.std.proofs.lemmas.List.{drop_at, length-drop, length-map, length-reverse, reverse-reverse, take-append-drop}
 use Rattle.std.proofs.Math.Seq.{take-length}
-use Rattle.std.proofs.lemmas.Option.{slice_get_read}
+use Rattle.std.proofs.lemmas.Option.{slice_get_read, slice_get_within, slice_get-get_or}
 use Rattle.diff_graph.specs.declared.lit.Lit.{Lit}
 use Rattle.diff_graph.specs.Literals.{answered_of}
 use Rattle.proof_check.specs.declared.places.At.{At}
@@ -13,9 +13,45 @@ use Rattle.proof_check.specs.declared.places.At.TheVariants as at
 use Rattle.proof_check.specs.declared.places.Known.{Known}
 use Rattle.proof_check.specs.declared.places.Waiting.{Waiting}
 use Rattle.proof_check.specs.declared.places.Waiting.TheVariants as waiting
-use Rattle.proof_check.specs.Parts.{cycle_part}
+use Rattle.proof_check.specs.Parts.{AreCycles, cycle_part, without_cycles}
 use Rattle.proof_check.specs.Places.{WantedAt, Tree, OpenProof, first_list, settled_at, closed, asked, begun, cited, cycles_at, literals_at, place_at, behind}
 use Rattle.proof_check.specs.Places.{IsNested, open_proof, IsOpenPath}
+
+-- a list, cut before its last element
+pushed_at :
+    {X : Type 0} (xs : List X) (x : X) (n : ℕ) → suc n ≡ length xs → slice_get xs n ≡ Some x → xs ≡ take n xs ++ x ∷ []
+pushed_at [] x n long found = absurd (omega (arith, long))
+pushed_at (y ∷ []) x zero long found = let same : y ≡ x = cc in ap (λ (z : _). z ∷ []) same
+pushed_at (y ∷ z ∷ xs) x zero long found = absurd (omega (arith, long))
+pushed_at (y ∷ xs) x (suc n) long found = ap (λ (u : List _). y ∷ u) (pushed_at xs x n (omega (arith, long)) found)
+
+pub last_part :
+    {X : Type 0} (xs : List X) (last : Option X) → last ≡ slice_get xs (length xs - 1)
+    → MatchOption last (xs ≡ []) (λ x. xs ≡ take (length xs - 1) xs ++ x ∷ [])
+last_part [] None none = refl
+last_part (x ∷ xs) None none =
+    let some = slice_get-get_or (x ∷ xs) (length (x ∷ xs) - 1) x (omega arith) in absurd (cc)
+last_part xs (Some x) found =
+    let within : length xs - 1 < length xs = slice_get_within xs (length xs - 1) x (sym found) in
+    pushed_at xs x (length xs - 1) (omega (arith, within)) (sym found)
+
+-- the same, of a list from which the last element was taken
+pub popped :
+    {X : Type 0} (xs rest : List X) (x : X) (n : ℕ) → n ≡ length xs → xs ≡ take (length xs - 1) xs ++ x ∷ []
+    → rest ≡ take (n - 1) xs → xs ≡ rest ++ x ∷ []
+popped xs rest x n long whole cut =
+    let front : rest ≡ take (length xs - 1) xs = subst (λ (m : ℕ). rest ≡ take (m - 1) xs) long cut in
+    whole ∙ ap (λ (u : List _). u ++ x ∷ []) (sym front)
+
+-- the last elements are the first from behind
+reverse-take : {X : Type 0} (xs : List X) (n : ℕ) → n ≤ length xs → reverse (take (length xs - n) xs) ≡ drop n (reverse xs)
+reverse-take xs n few =
+    let front : ℕ = length xs - n in
+    let whole : reverse xs ≡ reverse (drop front xs) ++ reverse (take front xs) =
+    ap (λ (u : List _). reverse u) (sym (take-append-drop front xs)) ∙ reverse-append (take front xs) (drop front xs) in
+    let long : length (reverse (drop front xs)) ≡ n =
+    length-reverse (drop front xs) ∙ length-drop front xs ∙ omega (arith, few) in
+    sym (ap (λ (u : List _). drop n u) whole ∙ drop_at (reverse (drop front xs)) (reverse (take front xs)) n long)
 
 -- a last element is the first from behind
 reverse-push : {X : Type 0} (xs : List X) (x : X) → reverse (xs ++ x ∷ []) ≡ x ∷ reverse xs
@@ -77,12 +113,6 @@ module _ {N : Type 0} where
         within = omega (arith, more, path.within);
         nested = IsNested-more base (length list) (length u) (reverse parts) (omega (arith, more)) path.nested;
       }
-
-  pub longer_path_if :
-      (b : Bool) (base : ℕ) (list u : List Lit) (l : Lit) (parts : List (Waiting N)) → IsOpenPath base list parts
-      → u ≡ (if b then list ++ l ∷ [] else list) → IsOpenPath base u parts
-  longer_path_if true base list u l parts path same = longer_path base list u l parts path same
-  longer_path_if false base list u l parts path same = subst (λ (x : List Lit). IsOpenPath base x parts) (sym same) path
 
   -- the innermost part that waits is taken out
   pub shorter_path :
@@ -246,6 +276,90 @@ module _ {N : Type 0} where
       → reverse later ≡ map (cycle_part depth) (ls ++ es) ++ reverse parts
   cycles_joined depth ls es parts between later second first =
       rw (second, first, map-append, append_assoc) refl
+
+  -- how many parts wait then, and what waited before
+  pub cycles_more :
+      (depth : ℕ) (ls : List Lit) (parts later : List (Waiting N))
+      → reverse later ≡ map (cycle_part depth) ls ++ reverse parts → length later ≡ length ls + length parts
+  cycles_more depth ls parts later same =
+      sym (length-reverse later) ∙ ap (λ (x : List (Waiting N)). length x) same
+      ∙ rw (length-append, length-map, length-reverse) refl
+
+  pub cycles_cut :
+      (depth : ℕ) (ls : List Lit) (parts later : List (Waiting N))
+      → reverse later ≡ map (cycle_part depth) ls ++ reverse parts → take (length parts) later ≡ parts
+  cycles_cut depth ls parts later same =
+      let whole : later ≡ parts ++ reverse (map (cycle_part depth) ls) =
+      sym (reverse-reverse later) ∙ ap (λ (x : List (Waiting N)). reverse x) same
+      ∙ reverse-append (map (cycle_part depth) ls) (reverse parts)
+      ∙ ap (λ (x : List (Waiting N)). x ++ reverse (map (cycle_part depth) ls)) (reverse-reverse parts) in
+      ap (λ (x : List (Waiting N)). take (length parts) x) whole
+      ∙ take_at parts (reverse (map (cycle_part depth) ls)) (length parts) refl
+
+  -- wanted cycles, and what is wanted behind them
+  cycles_at_cut :
+      (w ls : List Lit) (wanted : List (WantedAt N))
+      → AreCycles (length ls) (cycles_at w ls ++ wanted) × (drop (length ls) (cycles_at w ls ++ wanted) ≡ wanted)
+  cycles_at_cut w [] wanted = (tt, refl)
+  cycles_at_cut w (l ∷ ls) wanted = cycles_at_cut w ls wanted
+
+  pub cycles_waiting :
+      (known : List (Known N)) (current : Option (At N)) (base : ℕ) (list ls : List Lit) (parts later : List (Waiting N))
+      (p : OpenProof N)
+      → open_proof known current base list parts ≡ p → 0 < length p.wanted
+      → reverse later ≡ map (cycle_part (length list)) ls ++ reverse parts
+      → AreCycles (length ls) (drop 1 (open_proof known current base list later).wanted)
+      × (without_cycles (length ls) (open_proof known current base list later) ≡ p)
+  cycles_waiting known None base list ls parts later p shown opened same =
+      absurd (omega (arith, opened, ap (λ (x : OpenProof N). length x.wanted) shown))
+  cycles_waiting known (Some place) base list ls parts later p shown opened same =
+      let waits : behind base list (reverse later) ≡ cycles_at (drop base list) ls ++ behind base list (reverse parts) =
+      ap (λ (x : List (Waiting N)). behind base list x) same ∙ cycle_parts_behind base list ls (reverse parts) in
+      let cut = cycles_at_cut (drop base list) ls (behind base list (reverse parts)) in
+      (rw waits cut.0, rw (waits, cut.1, ← shown) refl)
+
+  -- parts that wait for cycles are forgotten
+  cycles_dropped :
+      (base limit count : ℕ) (list : List Lit) (parts : List (Waiting N)) → AreCycles count (behind base list parts)
+      → IsNested base limit parts
+      → (count ≤ length parts) × (behind base list (drop count parts) ≡ drop count (behind base list parts))
+      × IsNested base limit (drop count parts)
+  cycles_dropped base limit zero list parts cycles nested = (omega arith, refl, nested)
+  cycles_dropped base limit (suc count) list [] cycles nested = absurd cycles
+  cycles_dropped base limit (suc count) list (waiting.Place (at.Tree n) depth answer ∷ parts) cycles nested = absurd cycles
+  cycles_dropped base limit (suc count) list (waiting.Place at.Cycle depth answer ∷ parts) cycles nested =
+      let later = cycles_dropped base limit count list parts cycles (IsNested-more base depth limit parts nested.1 nested.2) in
+      (omega (arith, later.0), later.1, later.2)
+  cycles_dropped base limit (suc count) list (waiting.Lemma n below size ∷ parts) cycles nested = absurd cycles
+
+  pub forgotten_places :
+      (known : List (Known N)) (current : Option (At N)) (base : ℕ) (list : List Lit) (parts : List (Waiting N)) (count : ℕ)
+      (p : OpenProof N)
+      → open_proof known current base list parts ≡ p → AreCycles count (drop 1 p.wanted) → IsOpenPath base list parts
+      → (count ≤ length parts)
+      × (open_proof known current base list (take (length parts - count) parts) ≡ without_cycles count p)
+      × IsOpenPath base list (take (length parts - count) parts)
+  forgotten_places known current base list parts count p shown cycles path =
+      let first = subst (λ (x : OpenProof N). AreCycles count (drop 1 x.wanted)) (sym shown) cycles in
+      let all = by_place current count first in
+      (all.0, all.1 ∙ ap (λ (x : OpenProof N). without_cycles count x) shown, all.2)
+    where
+      by_place :
+          (place : Option (At N)) (n : ℕ) → AreCycles n (drop 1 (open_proof known place base list parts).wanted)
+          → (n ≤ length parts)
+          × (open_proof known place base list (take (length parts - n) parts)
+          ≡ without_cycles n (open_proof known place base list parts))
+          × IsOpenPath base list (take (length parts - n) parts)
+      by_place None zero none =
+          let all : take (length parts - 0) parts ≡ parts =
+          ap (λ (n : ℕ). take n parts) (omega arith) ∙ take-length parts in
+          (omega arith, refl, subst (λ (x : List (Waiting N)). IsOpenPath base list x) (sym all) path)
+      by_place None (suc n) none = absurd none
+      by_place (Some place) n first =
+          let cut = cycles_dropped base (length list) n list (reverse parts) first path.nested in
+          let few : n ≤ length parts = omega (arith, cut.0, length-reverse parts) in
+          let back : reverse (take (length parts - n) parts) ≡ drop n (reverse parts) = reverse-take parts n few in
+          (few, rw (back, cut.1) refl, record { within = path.within; nested = rw back cut.2 })
 
   -- the literals of a lemma that is known
   known_places :

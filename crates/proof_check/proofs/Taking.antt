@@ -182,11 +182,10 @@ step_more compare tok old new few taken tokens = Completes-step compare tok toke
 
 -- a refusal that leaves the places leaves their standing
 pub refusal_stands :
-    {N S W : Type 0} (e : ProofError) (old new : Starts N S W) (p q : OpenProof N) → IsWant e ⊎ (q ≡ p)
-    → standing_over new p ≡ standing_over old p → IsWant e ⊎ (standing_over new q ≡ standing_over old p)
-refusal_stands e old new p q (inl want) same = inl want
-refusal_stands e old new p q (inr kept) same =
-    inr (subst (λ (x : OpenProof _). standing_over new x ≡ standing_over old p) (sym kept) same)
+    {N S W : Type 0} (old new : Starts N S W) (p q : OpenProof N) → q ≡ p → standing_over new p ≡ standing_over old p
+    → standing_over new q ≡ standing_over old p
+refusal_stands old new p q kept same =
+    subst (λ (x : OpenProof _). standing_over new x ≡ standing_over old p) (sym kept) same
 
 -- a cycle that is none, at a place that takes a token
 pub cycle_refused :

@@ -1,10 +1,24 @@
 -- Parts that wait for a cycle.
-use Rattle.std.specs.Prelude.{ℕ}
+use Rattle.std.specs.Prelude.{ℕ, ⊤, List, [], ◌∷◌, ◌++◌, zero, suc, take, drop}
 use Rattle.diff_graph.specs.declared.lit.Lit.{Lit}
 use Rattle.diff_graph.specs.Literals.{negated}
 use Rattle.proof_check.specs.declared.places.At.TheVariants as at
 use Rattle.proof_check.specs.declared.places.Waiting.{Waiting}
 use Rattle.proof_check.specs.declared.places.Waiting.TheVariants as waiting
+use Rattle.proof_check.specs.Places.{WantedAt, Tree, Cycle, Learn, OpenProof}
 
 abbrev pub cycle_part : {N : Type 0} → ℕ → Lit → Waiting N
 cycle_part depth l = waiting.Place at.Cycle depth (negated l)
+
+-- so many places are wanted first, and each is that of a cycle
+abbrev pub AreCycles : {N : Type 0} → ℕ → List (WantedAt N) → Type 0
+AreCycles zero wanted = ⊤
+AreCycles (suc count) [] = ⊥
+AreCycles (suc count) (Tree n w ∷ wanted) = ⊥
+AreCycles (suc count) (Cycle w ∷ wanted) = AreCycles count wanted
+AreCycles (suc count) (Learn n ls ∷ wanted) = ⊥
+
+-- so many places behind the first one are not wanted any more
+abbrev pub without_cycles : {N : Type 0} → ℕ → OpenProof N → OpenProof N
+without_cycles count p =
+    record { known = p.known; wanted = take 1 p.wanted ++ drop count (drop 1 p.wanted) }

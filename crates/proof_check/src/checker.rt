@@ -1,5 +1,5 @@
 //! The judge of proofs over any asker with starts.
-ghost use Rattle.std.specs.Prelude.{◌≡◌, ◌⊎◌, ℕ, ℤ, ◌<◌, true, [], ◌∷◌, length, Some, None, Ok, IfOk, IfErr};
+ghost use Rattle.std.specs.Prelude.{◌≡◌, ℕ, ℤ, ◌<◌, true, [], ◌∷◌, length, Some, None, Ok, IfOk, IfErr, OnErr};
 ghost use Rattle.ask_core.specs.Plans.{value};
 ghost use Rattle.cert_check.specs.declared.verdict.Progress.TheVariants as progress;
 ghost use Rattle.proof_trees.specs.Tokens.{Tree};
@@ -59,7 +59,7 @@ impl<A: Starter> ProofChecker<A> {
     }
 
     /// Takes the next token of the tree, at the first open place. A refused token leaves the places as they were,
-    /// unless memory was wanting, and every later one is answered by the same refusal.
+    /// also where memory was wanting, and every later one is answered by the same refusal.
     pub fn judge(&mut self, tok: &ProofTok) -> Result<Progress, ProofError>
         requires { 0 < length self.old.places.wanted }
 
@@ -80,9 +80,8 @@ impl<A: Starter> ProofChecker<A> {
             → BeginsNothing (A.starts self.old.asker).compare tok.now (standing_at A.starts self.old)) }
         ensures stays { IfErr result (λ e. self.new.refusal ≡ Some e) }
         ensures again { (e : ProofError) → self.old.refusal ≡ Some e → result ≡ Err e }
-        ensures err { IfErr result (λ e. IsWant e ⊎ (self.new.places ≡ self.old.places)) }
-        ensures err_open { IfErr result (λ e. IsWant e
-            ⊎ (standing_at A.starts self.new ≡ standing_at A.starts self.old)) }
+        ensures err { OnErr result (self.new.places ≡ self.old.places) }
+        ensures err_open { OnErr result (standing_at A.starts self.new ≡ standing_at A.starts self.old) }
 
         // What the tree is for, and how starts compare, is never changed.
         ensures root { A.root self.new.asker ≡ A.root self.old.asker }

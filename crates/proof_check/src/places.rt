@@ -1,12 +1,12 @@
 //! The open places of a proof.
-ghost use Rattle.std.specs.Prelude.{◌≡◌, ◌↔◌, IsTrue, ◌<◌, ◌≤◌, List, [], ◌∷◌, ◌++◌, Some, length, slice_get, reverse};
-ghost use Rattle.std.specs.Prelude.{map, OnOk, OnErr};
+ghost use Rattle.std.specs.Prelude.{◌≡◌, ◌↔◌, IsTrue, ◌-◌, ◌<◌, ◌≤◌, [], ◌∷◌, ◌++◌, Some, length, slice_get, reverse};
+ghost use Rattle.std.specs.Prelude.{drop, map, take, OnOk, OnErr, MatchOption};
 ghost use Rattle.diff_graph.specs.declared.lit.Lit.{Lit};
 ghost use Rattle.std.specs.Option.{option_map};
 ghost use Rattle.proof_trees.specs.declared.limits.TheConstants.{MAX_LITERALS};
 ghost use Rattle.proof_check.specs.Places.{OpenProof, Tree, IsSettled, first_list, first_node, closed, asked, begun};
 ghost use Rattle.proof_check.specs.Places.{cited, literals_at};
-ghost use Rattle.proof_check.specs.Parts.{cycle_part};
+ghost use Rattle.proof_check.specs.Parts.{AreCycles, cycle_part, without_cycles};
 
 use ask_core::NoMemory;
 use diff_graph::{Lit, answered, negate};
@@ -111,64 +111,76 @@ impl<N: Copy> Places<N> {
         &self.list[self.base..]
     }
 
-    /// Closes the first place: the innermost part that waits is next. A lemma whose tree ends is known then.
+    /// Closes the first place: the innermost part that waits is next. A lemma whose tree ends is known then. Places
+    /// that were refused memory are as they were.
     pub fn close(&mut self) -> Result<(), NoMemory>
         requires { 0 < length self.old.wanted }
-        ensures { OnOk result (self.new ≡ closed self.old) }
+        ensures ok { OnOk result (self.new ≡ closed self.old) }
+        ensures err { OnErr result (self.new ≡ self.old) }
     {
-        match self.waiting.pop() {
+        match innermost(&self.waiting) {
             None => self.current = None,
             Some(Waiting::Place { at, depth, answer }) => {
+                self.list.reserve(1)?;
                 self.list.truncate(depth);
-                self.list.push(answer)?;
+                self.list.push_reserved(answer);
+                self.waiting.pop();
                 self.current = Some(at);
             }
             Some(Waiting::Lemma { node, base, count }) => {
                 let literals = Vec::from_slice(
                     self.alloc,
                     &self.list[self.base..self.base + count],
-                );
-                self.list.truncate(self.base);
-                self.base = base;
-                self.current = Some(At::Tree(node));
+                )?;
                 self.known.push(Known {
                     node,
-                    literals: List::from_vec(literals?),
+                    literals: List::from_vec(literals),
                 })?;
+                self.list.truncate(self.base);
+                self.waiting.pop();
+                self.base = base;
+                self.current = Some(At::Tree(node));
             }
         }
         Ok(())
     }
 
-    /// Asks the literal at the first place: the part for yes is next, and the part for no waits.
+    /// Asks the literal at the first place: the part for yes is next, and the part for no waits. Places that were
+    /// refused memory are as they were.
     pub fn ask(&mut self, lit: Lit, yes: N, no: N) -> Result<(), NoMemory>
         requires { 0 < length self.old.wanted }
-        ensures { OnOk result (self.new ≡ asked lit yes no self.old) }
+        ensures ok { OnOk result (self.new ≡ asked lit yes no self.old) }
+        ensures err { OnErr result (self.new ≡ self.old) }
     {
         let depth = self.list.len();
+        self.waiting.reserve(1)?;
         self.list.push(answered(lit, true))?;
-        self.waiting.push(Waiting::Place {
+        self.waiting.push_reserved(Waiting::Place {
             at: At::Tree(no),
             depth,
             answer: answered(lit, false),
-        })?;
+        });
         self.current = Some(At::Tree(yes));
         Ok(())
     }
 
-    /// Begins a lemma at the first place: its tree is next, under the literals alone, and the place waits.
+    /// Begins a lemma at the first place: its tree is next, under the literals alone, and the place waits. Places that
+    /// were refused memory are as they were.
     pub fn begin(&mut self, node: N, literals: &Literals) -> Result<(), NoMemory>
         requires { 0 < length self.old.wanted }
         ensures ok { OnOk result (self.new ≡ begun node literals.now self.old) }
+        ensures err { OnErr result (self.new ≡ self.old) }
         ensures few { length literals.now ≤ MAX_LITERALS }
     {
+        let shown = literals.as_slice();
         let depth = self.list.len();
-        append(&mut self.list, literals.as_slice())?;
-        self.waiting.push(Waiting::Lemma {
+        self.waiting.reserve(1)?;
+        append(&mut self.list, shown)?;
+        self.waiting.push_reserved(Waiting::Lemma {
             node,
             base: self.base,
-            count: literals.as_slice().len(),
-        })?;
+            count: shown.len(),
+        });
         self.base = depth;
         self.current = Some(At::Tree(node));
         Ok(())
@@ -188,21 +200,47 @@ impl<N: Copy> Places<N> {
         self.known.len()
     }
 
-    /// Cites a lemma at the first place: a cycle is wanted for each of its literals and for each condition.
+    /// Cites a lemma at the first place: a cycle is wanted for each of its literals and for each condition. Places that
+    /// were refused memory are as they were.
     pub fn cite(&mut self, number: u32, conditions: &List<Lit>) -> Result<(), NoMemory>
         requires opened { 0 < length self.old.wanted }
         requires known { number < length self.old.known }
-        ensures { OnOk result (self.new ≡ cited (literals_at self.old.known number ++ conditions.now) self.old) }
+        ensures ok { OnOk result (self.new ≡ cited (literals_at self.old.known number ++ conditions.now) self.old) }
+        ensures err { OnErr result (self.new ≡ self.old) }
     {
         let depth = self.list.len();
-        wait_for_cycles(&mut self.waiting, depth, conditions.as_slice())?;
-        wait_for_cycles(
+        let before = self.waiting.len();
+        wait_for_all(
             &mut self.waiting,
             depth,
             self.known[number as usize].literals.as_slice(),
+            conditions.as_slice(),
         )?;
-        self.close()
+        let cycles = self.waiting.len() - before;
+        match self.close() {
+            Ok(()) => Ok(()),
+            Err(want) => {
+                self.forget(cycles);
+                Err(want)
+            }
+        }
     }
+
+    // Forgets the innermost parts that wait, so many, each of them for a cycle.
+    fn forget(&mut self, cycles: usize)
+        requires { AreCycles cycles (drop 1 self.old.wanted) }
+        ensures { self.new ≡ without_cycles cycles self.old }
+    {
+        self.waiting.truncate(self.waiting.len() - cycles);
+    }
+}
+
+// The innermost part that waits, if one does.
+fn innermost<N: Copy>(waiting: &[Waiting<N>]) -> Option<Waiting<N>>
+    ensures { MatchOption result (waiting.now ≡ [])
+        (λ part. waiting.now ≡ take (length waiting.now - 1) waiting.now ++ part ∷ []) }
+{
+    waiting.last().copied()
 }
 
 // Puts literals at the end. A list that was refused memory is as it was.
@@ -213,7 +251,7 @@ fn append(list: &mut Vec<Lit>, literals: &[Lit]) -> Result<(), NoMemory>
     list.extend_from_slice(literals)
 }
 
-// Lets a cycle wait for each literal, the first one innermost. Where memory is wanting the last ones may wait.
+// Lets a cycle wait for each literal, the first one innermost. What was refused memory is as it was.
 fn wait_for_cycles<N: Copy>(
     waiting: &mut Vec<Waiting<N>>,
     depth: usize,
@@ -221,17 +259,37 @@ fn wait_for_cycles<N: Copy>(
 ) -> Result<(), NoMemory>
     ensures ok { OnOk result (reverse waiting.new.items ≡ map (cycle_part depth) literals.now
         ++ reverse waiting.old.items) }
-    ensures some { (ls : List Lit) × (reverse waiting.new.items ≡ map (cycle_part depth) ls
-        ++ reverse waiting.old.items) }
+    ensures err { OnErr result (waiting.new.items ≡ waiting.old.items) }
 {
+    waiting.reserve(literals.len())?;
     let mut left = literals.len();
     while left > 0 {
-        waiting.push(Waiting::Place {
+        waiting.push_reserved(Waiting::Place {
             at: At::Cycle,
             depth,
             answer: negate(literals[left - 1]),
-        })?;
+        });
         left -= 1;
+    }
+    Ok(())
+}
+
+// Lets a cycle wait for each literal of a lemma and then for each condition. What was refused memory is as it was.
+fn wait_for_all<N: Copy>(
+    waiting: &mut Vec<Waiting<N>>,
+    depth: usize,
+    literals: &[Lit],
+    conditions: &[Lit],
+) -> Result<(), NoMemory>
+    ensures ok { OnOk result (reverse waiting.new.items ≡ map (cycle_part depth) (literals.now ++ conditions.now)
+        ++ reverse waiting.old.items) }
+    ensures err { OnErr result (waiting.new.items ≡ waiting.old.items) }
+{
+    let before = waiting.len();
+    wait_for_cycles(waiting, depth, conditions)?;
+    if let Err(want) = wait_for_cycles(waiting, depth, literals) {
+        waiting.truncate(before);
+        return Err(want);
     }
     Ok(())
 }

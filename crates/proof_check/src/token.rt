@@ -27,7 +27,7 @@ fn take_cycle<N: Copy>(places: &mut Places<N>, picks: &Picks) -> Result<(), Proo
     ensures settled { IsSettled places.old.wanted }
     ensures closed { OnOk result (places.new ≡ closed places.old) }
     ensures ok { OnOk result (pick_verdict (first_list places.old.wanted) picks.now ≡ Ok tt) }
-    ensures kept { IfErr result (λ e. IsWant e ⊎ (places.new ≡ places.old)) }
+    ensures kept { OnErr result (places.new ≡ places.old) }
     ensures why { IfErr result (λ e. IsWant e
         ⊎ ((p : PickError) × (pick_verdict (first_list places.old.wanted) picks.now ≡ Err p)
         × (e ≡ error.Tree (end_of_cycle p)))) }
@@ -46,7 +46,7 @@ fn take_end<A: Starter>(asker: &mut A, places: &mut Places<A::Node>) -> Result<(
     ensures own { OnOk result (AreOwnPlaces (A.is_own asker.new) places.new) }
     ensures why { IfErr result (λ e. IsCauseOf (A.starts asker.old).compare e token.Holds
         (standing_over (A.starts asker.old) places.old)) }
-    ensures kept { IfErr result (λ e. IsWant e ⊎ (places.new ≡ places.old)) }
+    ensures kept { OnErr result (places.new ≡ places.old) }
     ensures same { KeepsStarts (A.is_own asker.old) (A.is_own asker.new) (A.starts asker.old) (A.starts asker.new) }
 {
     let Some(node) = places.node() else {
@@ -71,7 +71,7 @@ fn take_question<A: Starter>(asker: &mut A, places: &mut Places<A::Node>) -> Res
     ensures own { OnOk result (AreOwnPlaces (A.is_own asker.new) places.new) }
     ensures why { IfErr result (λ e. IsCauseOf (A.starts asker.old).compare e token.Ask
         (standing_over (A.starts asker.old) places.old)) }
-    ensures kept { IfErr result (λ e. IsWant e ⊎ (places.new ≡ places.old)) }
+    ensures kept { OnErr result (places.new ≡ places.old) }
     ensures same { KeepsStarts (A.is_own asker.old) (A.is_own asker.new) (A.starts asker.old) (A.starts asker.new) }
 {
     let Some(node) = places.node() else {
@@ -101,7 +101,7 @@ fn take_lemma<A: Starter>(
     ensures own { OnOk result (AreOwnPlaces (A.is_own asker.now) places.new) }
     ensures why { IfErr result (λ e. IsCauseOf (A.starts asker.now).compare e (token.Lemma literals.now)
         (standing_over (A.starts asker.now) places.old)) }
-    ensures kept { IfErr result (λ e. IsWant e ⊎ (places.new ≡ places.old)) }
+    ensures kept { OnErr result (places.new ≡ places.old) }
 {
     let Some(node) = places.node() else {
         return Err(ProofError::NoStart);
@@ -130,7 +130,7 @@ fn take_citation<A: Starter>(
     ensures own { OnOk result (AreOwnPlaces (A.is_own asker.new) places.new) }
     ensures why { IfErr result (λ e. IsCauseOf (A.starts asker.old).compare e (token.Cite number)
         (standing_over (A.starts asker.old) places.old)) }
-    ensures kept { IfErr result (λ e. IsWant e ⊎ (places.new ≡ places.old)) }
+    ensures kept { OnErr result (places.new ≡ places.old) }
     ensures same { KeepsStarts (A.is_own asker.old) (A.is_own asker.new) (A.starts asker.old) (A.starts asker.new) }
 {
     let Some(here) = places.node() else {
@@ -164,7 +164,7 @@ pub(crate) fn take_token<A: Starter>(
     ensures own { OnOk result (AreOwnPlaces (A.is_own asker.new) places.new) }
     ensures why { IfErr result (λ e. IsCauseOf (A.starts asker.old).compare e tok.now
         (standing_over (A.starts asker.old) places.old)) }
-    ensures kept { IfErr result (λ e. IsWant e ⊎ (places.new ≡ places.old)) }
+    ensures kept { OnErr result (places.new ≡ places.old) }
     ensures same { KeepsStarts (A.is_own asker.old) (A.is_own asker.new) (A.starts asker.old) (A.starts asker.new) }
     ensures standing { standing_over (A.starts asker.new) places.old ≡ standing_over (A.starts asker.old) places.old }
     ensures root { A.root asker.new ≡ A.root asker.old }

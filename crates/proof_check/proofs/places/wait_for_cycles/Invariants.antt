@@ -1,10 +1,11 @@
-use Rattle.std.proofs.Common.{◌≡◌, ◌≤◌, length, map, reverse, drop, ◌++◌}
+use Rattle.std.specs.Prelude.{◌≡◌, ◌+◌, ◌≤◌, length, map, reverse, drop, ◌++◌, vec_len, vec_capacity}
 use Rattle.proof_check.specs.Parts.{cycle_part}
 use Rattle.proof_check.proofs.places.wait_for_cycles.Given as goal
 
 abbrev pub invariant-loop-left : goal.invariant-loop-left
 invariant-loop-left g l =
     (l.left ≤ length l.literals)
+    × (vec_len l.waiting + l.left ≤ vec_capacity l.waiting)
     × (reverse l.waiting.items ≡ map (cycle_part l.depth) (drop l.left l.literals) ++ reverse l.initial.waiting.items)
 
 abbrev pub decreases-loop-left : goal.decreases-loop-left

@@ -60,7 +60,7 @@ returns-in-Err-clause-refused g c none other tokens =
 pub returns-in-Err-clause-err_open : goal.returns-in-Err-clause-err_open
 returns-in-Err-clause-err_open g c =
     rw (← c.self.view_is)
-    (refusal_stands c.in-Err.refusal (g.A.Starter.starts c.self.inside.asker) (g.A.Starter.starts c.take_token.new.asker)
+    (refusal_stands (g.A.Starter.starts c.self.inside.asker) (g.A.Starter.starts c.take_token.new.asker)
     c.self.inside.places c.take_token.new.places c.in-Err.ensures.kept c.take_token.ensures.standing)
 
 pub returns-in-Err-clause-why : goal.returns-in-Err-clause-why

@@ -1,51 +1,71 @@
-use Rattle.std.proofs.Common.{◌≡◌, length, ◌∙◌, ◌++◌}
+use Rattle.std.proofs.Common.{◌≡◌, ◌+◌, ◌-◌, length, ◌∙◌, ◌++◌, arith}
+use Rattle.proof_check.specs.Parts.{without_cycles}
 use Rattle.proof_check.specs.Places.{literals_at}
-use Rattle.proof_check.proofs.PlaceLemmas.{cycles_path, cycles_wait, cycles_joined, literals_known}
+use Rattle.proof_check.proofs.PlaceLemmas.{cycles_more, cycles_path, cycles_wait, cycles_waiting, literals_known}
 use Rattle.proof_check.proofs.places.Places.cite.Goals as goal
-
-pub invariant_of-self : goal.invariant_of-self
-invariant_of-self g c =
-    let long : c.len-depth.result ≡ length c.self.inside.list.items = c.len-depth.ensures ∙ c.self.inside.list.ok.0 in
-    let waits = c.wait_for_cycles.ensures.some in
-    cycles_path c.self.inside.base c.self.inside.list.items waits.0 c.self.inside.waiting.items
-    c.wait_for_cycles.new.waiting.items c.self.invariant (rw long at waits.1)
-
-pub invariant_of-self-in_err-wait_for_cycles-2 : goal.invariant_of-self-in_err-wait_for_cycles-2
-invariant_of-self-in_err-wait_for_cycles-2 g c =
-    let long : c.len-depth.result ≡ length c.self.inside.list.items = c.len-depth.ensures ∙ c.self.inside.list.ok.0 in
-    let first = c.wait_for_cycles.ensures.some in
-    let second = c.wait_for_cycles-2.ensures.some in
-    cycles_path c.self.inside.base c.self.inside.list.items second.0 c.wait_for_cycles.new.waiting.items
-    c.wait_for_cycles-2.new.waiting.items
-    (cycles_path c.self.inside.base c.self.inside.list.items first.0 c.self.inside.waiting.items
-    c.wait_for_cycles.new.waiting.items c.self.invariant (rw long at first.1))
-    (rw long at second.1)
 
 pub invariant_of-self-2 : goal.invariant_of-self-2
 invariant_of-self-2 g c =
-    let long : c.len-depth.result ≡ length c.self.inside.list.items = c.len-depth.ensures ∙ c.self.inside.list.ok.0 in
-    let first = c.wait_for_cycles.ensures.some in
-    let second = c.wait_for_cycles-2.ensures.some in
-    cycles_path c.self.inside.base c.self.inside.list.items second.0 c.wait_for_cycles.new.waiting.items
-    c.wait_for_cycles-2.new.waiting.items
-    (cycles_path c.self.inside.base c.self.inside.list.items first.0 c.self.inside.waiting.items
-    c.wait_for_cycles.new.waiting.items c.self.invariant (rw long at first.1))
-    (rw long at second.1)
+    let depth : c.len-depth.result ≡ length c.self.inside.list.items = c.len-depth.ensures ∙ c.self.inside.list.ok.0 in
+    let ls = c.as_slice.result.now ++ c.as_slice-2.result.now in
+    let waits = rw depth at c.in_ok-wait_for_all.ensures.ok in
+    cycles_path c.self.inside.base c.self.inside.list.items ls c.self.inside.waiting.items
+    c.wait_for_all.new.waiting.items c.self.invariant waits
 
-pub returns : goal.returns
-returns g c =
-    let long : c.len-depth.result ≡ length c.self.inside.list.items = c.len-depth.ensures ∙ c.self.inside.list.ok.0 in
-    let joined =
-    cycles_joined c.len-depth.result c.as_slice-2.result.now c.as_slice.result.now c.self.inside.waiting.items
-    c.wait_for_cycles.new.waiting.items c.wait_for_cycles-2.new.waiting.items c.in_ok-wait_for_cycles-2.ensures.ok
-    c.in_ok-wait_for_cycles.ensures.ok in
+pub overflow_sub-cycles : goal.overflow_sub-cycles
+overflow_sub-cycles g c =
+    let depth : c.len-depth.result ≡ length c.self.inside.list.items = c.len-depth.ensures ∙ c.self.inside.list.ok.0 in
+    let ls = c.as_slice.result.now ++ c.as_slice-2.result.now in
+    let waits = rw depth at c.in_ok-wait_for_all.ensures.ok in
+    let before : c.len-before.result ≡ length c.self.inside.waiting.items = c.len-before.ensures ∙ c.self.inside.waiting.ok.0 in
+    let now : c.len.result ≡ length c.wait_for_all.new.waiting.items = c.len.ensures ∙ c.wait_for_all.new.waiting.ok.0 in
+    let more : length c.wait_for_all.new.waiting.items ≡ length ls + length c.self.inside.waiting.items =
+    cycles_more (length c.self.inside.list.items) ls c.self.inside.waiting.items c.wait_for_all.new.waiting.items waits in
+    omega (arith, before, now, more)
+
+pub forget-requires : goal.forget-requires
+forget-requires g c =
+    let depth : c.len-depth.result ≡ length c.self.inside.list.items = c.len-depth.ensures ∙ c.self.inside.list.ok.0 in
+    let ls = c.as_slice.result.now ++ c.as_slice-2.result.now in
+    let waits = rw depth at c.in_ok-wait_for_all.ensures.ok in
+    let before : c.len-before.result ≡ length c.self.inside.waiting.items = c.len-before.ensures ∙ c.self.inside.waiting.ok.0 in
+    let now : c.len.result ≡ length c.wait_for_all.new.waiting.items = c.len.ensures ∙ c.wait_for_all.new.waiting.ok.0 in
+    let more : length c.wait_for_all.new.waiting.items ≡ length ls + length c.self.inside.waiting.items =
+    cycles_more (length c.self.inside.list.items) ls c.self.inside.waiting.items c.wait_for_all.new.waiting.items waits in
+    let cycles : c.len.result - c.len-before.result ≡ length ls = omega (arith, before, now, more) in
+    let waiting =
+    cycles_waiting c.self.inside.known.items c.self.inside.current c.self.inside.base c.self.inside.list.items ls
+    c.self.inside.waiting.items c.wait_for_all.new.waiting.items c.args.self.now c.self.view_is c.requires.opened waits in
+    rw (c.in-Err.ensures.err, cycles) waiting.0
+
+pub returns-in-Err-clause-err : goal.returns-in-Err-clause-err
+returns-in-Err-clause-err g c =
+    let depth : c.len-depth.result ≡ length c.self.inside.list.items = c.len-depth.ensures ∙ c.self.inside.list.ok.0 in
+    let ls = c.as_slice.result.now ++ c.as_slice-2.result.now in
+    let waits = rw depth at c.in_ok-wait_for_all.ensures.ok in
+    let before : c.len-before.result ≡ length c.self.inside.waiting.items = c.len-before.ensures ∙ c.self.inside.waiting.ok.0 in
+    let now : c.len.result ≡ length c.wait_for_all.new.waiting.items = c.len.ensures ∙ c.wait_for_all.new.waiting.ok.0 in
+    let more : length c.wait_for_all.new.waiting.items ≡ length ls + length c.self.inside.waiting.items =
+    cycles_more (length c.self.inside.list.items) ls c.self.inside.waiting.items c.wait_for_all.new.waiting.items waits in
+    let cycles : c.len.result - c.len-before.result ≡ length ls = omega (arith, before, now, more) in
+    let waiting =
+    cycles_waiting c.self.inside.known.items c.self.inside.current c.self.inside.base c.self.inside.list.items ls
+    c.self.inside.waiting.items c.wait_for_all.new.waiting.items c.args.self.now c.self.view_is c.requires.opened waits in
+    let forgotten : without_cycles (c.len.result - c.len-before.result) c.close.new.self ≡ c.args.self.now =
+    rw (c.in-Err.ensures.err, cycles) waiting.1 in
+    c.forget.ensures ∙ forgotten
+
+pub returns-in-Ok-clause-ok : goal.returns-in-Ok-clause-ok
+returns-in-Ok-clause-ok g c =
+    let depth : c.len-depth.result ≡ length c.self.inside.list.items = c.len-depth.ensures ∙ c.self.inside.list.ok.0 in
+    let ls = c.as_slice.result.now ++ c.as_slice-2.result.now in
+    let waits = rw depth at c.in_ok-wait_for_all.ensures.ok in
     let known = c.self.inside.known.items in
-    let literals : c.as_slice-2.result.now ≡ literals_at c.args.self.now.known c.args.number =
-    c.as_slice-2.ensures
+    let literals : c.as_slice.result.now ≡ literals_at c.args.self.now.known c.args.number =
+    c.as_slice.ensures
     ∙ literals_known known c.self.inside.current c.self.inside.base c.self.inside.list.items c.self.inside.waiting.items
     c.args.self.now c.args.number c.index.result.now c.self.view_is c.requires.known c.index.ensures in
-    let waits =
-    cycles_wait known c.self.inside.current c.self.inside.base c.self.inside.list.items
-    (c.as_slice-2.result.now ++ c.as_slice.result.now) c.self.inside.waiting.items c.wait_for_cycles-2.new.waiting.items
-    c.args.self.now c.self.view_is c.requires.opened (rw long at joined) in
-    rw (← literals, ← c.as_slice.ensures, ← waits.1) c.close.ensures
+    let waiting =
+    cycles_wait known c.self.inside.current c.self.inside.base c.self.inside.list.items ls c.self.inside.waiting.items
+    c.wait_for_all.new.waiting.items c.args.self.now c.self.view_is c.requires.opened waits in
+    rw (← literals, ← c.as_slice-2.ensures, ← waiting.1) c.in-Ok.ensures.ok
