@@ -14,6 +14,8 @@ mod functions;
 #[cfg(test)]
 mod outside;
 #[cfg(test)]
+mod proofs_with_lemmas;
+#[cfg(test)]
 mod searches;
 #[cfg(test)]
 mod sessions;
