@@ -1,6 +1,6 @@
 -- What a token does at the first place, by the plan there. The branches before are those of the plans before the
 -- turn, which are the same.
-use Rattle.std.proofs.Common.{◌≡◌, ℕ, ◌<◌, List, [], ◌∷◌, length, drop, Ok, Err, arith, refl}
+use Rattle.std.proofs.Common.{◌≡◌, ℕ, ◌<◌, List, [], ◌∷◌, ◌++◌, length, drop, Ok, Err, arith, refl}
 use Rattle.diff_graph.specs.declared.lit.Lit.{Lit}
 use Rattle.diff_graph.specs.Cycles.{pick_verdict}
 use Rattle.ask_core.specs.declared.tree.Tok.TheVariants as token
@@ -54,3 +54,25 @@ pub own_behind :
 own_behind is_own [] next is own = rw is tt
 own_behind is_own (p ∷ places) next is own =
     let same : next ≡ places = is in rw same own.1
+
+-- `?` opens the two parts of a question
+pub question_taken :
+    {N W : Type 0} (plan : N → Plan W) (places next : List (OpenPlace N)) (l : Lit) (on_yes on_no : N) → 0 < length places
+    → first_plan plan places ≡ Ask l (plan on_yes) (plan on_no) → next ≡ after_question l on_yes on_no places
+    → after token.Ask (branches_at plan places) ≡ Ok (branches_at plan next)
+question_taken plan [] next l on_yes on_no some asks is = absurd (omega arith)
+question_taken plan (p ∷ places) next l on_yes on_no some asks is = rw (is, asks) refl
+
+pub own_after :
+    {N : Type 0} (is_own : N → Type 0) (places next : List (OpenPlace N)) (l : Lit) (on_yes on_no : N)
+    → next ≡ after_question l on_yes on_no places → is_own on_yes → is_own on_no → AreOwn is_own places → AreOwn is_own next
+own_after is_own [] next l on_yes on_no is own_yes own_no own = rw is tt
+own_after is_own (p ∷ places) next l on_yes on_no is own_yes own_no own = rw is (own_yes, (own_no, own.1))
+
+-- and the literal is the last answer at the first one
+pub answers_after :
+    {N : Type 0} (places : List (OpenPlace N)) (l : Lit) (on_yes on_no : N) → 0 < length places
+    → (first_answers (after_question l on_yes on_no places) ≡ first_answers places ++ l ∷ [])
+    × (0 < length (after_question l on_yes on_no places))
+answers_after [] l on_yes on_no some = absurd (omega arith)
+answers_after (p ∷ places) l on_yes on_no some = (refl, omega arith)

@@ -1,6 +1,6 @@
 //! The checker of trees over any asker.
-ghost use Rattle.std.specs.Prelude.{◌≡◌, ◌≢◌, ◌↔◌, ℕ, ℤ, ◌<◌, ◌≤◌, true, false, List, [], ◌∷◌, length, Some, None, Ok};
-ghost use Rattle.std.specs.Prelude.{Err, OnErr, IfOk, IfErr, IsTrue};
+ghost use Rattle.std.specs.Prelude.{◌≡◌, ◌≢◌, ◌↔◌, ℕ, ℤ, ◌<◌, ◌≤◌, true, false, List, [], ◌∷◌, ◌++◌, length, Some, None};
+ghost use Rattle.std.specs.Prelude.{Ok, Err, OnErr, IfOk, IfErr, IfSome, IsTrue};
 ghost use Rattle.diff_graph.specs.Cycles.{pick_verdict};
 ghost use Rattle.ask_core.specs.declared.picks.TheConstants.{MAX_PICKS};
 ghost use Rattle.ask_core.specs.declared.tree.Tok.TheVariants as token;
@@ -10,10 +10,14 @@ ghost use Rattle.cert_check.specs.declared.verdict.CheckError.TheVariants as end
 ghost use Rattle.cert_check.specs.declared.verdict.Progress.TheVariants as progress;
 ghost use Rattle.cert_check.specs.Steps.{after};
 ghost use Rattle.cert_check.specs.Judging.{open_branches, IsStep, BeginsNothing, IsCauseOf};
+ghost use Rattle.cert_check.specs.Questions.{IsAskedFirst, SkipsTo};
 
+use crate::question::Question;
 use crate::token::take_token;
 use crate::verdict::{CheckError, Progress};
-use ask_core::{Asker, NoMemory, Path, Tok, fitting_trees_hold, trees_are_judged_token_by_token};
+use ask_core::{
+    Asker, NoMemory, Path, Tok, Turn, fitting_trees_hold, trees_are_judged_token_by_token, turn_at,
+};
 use diff_graph::Lit;
 use std::alloc::Global;
 use std::marker::Model;
@@ -158,6 +162,62 @@ impl<A: Asker> Checker<A> {
     {
         trees_are_judged_token_by_token::<A::Why>();
         match take_token(&mut self.asker, &mut self.path, tok) {
+            Ok(()) => true,
+            Err(_) => false,
+        }
+    }
+
+    /// The question at the first open place, where one stands there and there is memory. It is for a checker that has
+    /// not refused.
+    #[inline(always)]
+    pub fn question(&mut self) -> Option<Question<A::Node>>
+        requires { 0 < length self.old.places }
+        ensures asked { IfSome result (λ q. IsAskedFirst (A.is_own self.new.asker) (A.plan self.new.asker) q
+            self.new.places) }
+        ensures places { self.new.places ≡ self.old.places }
+        ensures same { open_branches A.plan self.new ≡ open_branches A.plan self.old }
+        ensures refusal { self.new.refusal ≡ self.old.refusal }
+        ensures root { A.root self.new.asker ≡ A.root self.old.asker }
+    {
+        match turn_at(&mut self.asker, &self.path) {
+            Ok(Turn::Ask { lit, yes, no }) => Some(Question { lit, yes, no }),
+            _ => None,
+        }
+    }
+
+    /// Takes `?` at the question where there is memory: whether it did. Otherwise all is as it was.
+    #[inline(always)]
+    pub fn ask(&mut self, question: Question<A::Node>) -> bool
+        requires { IsAskedFirst (A.is_own self.old.asker) (A.plan self.old.asker) question self.old.places }
+        ensures taken { IsTrue result → after token.Ask (open_branches A.plan self.old)
+            ≡ Ok (open_branches A.plan self.new) }
+        ensures same { result ≡ false → open_branches A.plan self.new ≡ open_branches A.plan self.old }
+        ensures refusal { self.new.refusal ≡ self.old.refusal }
+        ensures root { A.root self.new.asker ≡ A.root self.old.asker }
+    {
+        trees_are_judged_token_by_token::<A::Why>();
+        match self.path.ask(question.lit, question.yes, question.no) {
+            Ok(()) => true,
+            Err(_) => false,
+        }
+    }
+
+    /// Takes `?` at the question, and then a cycle that some picks are known to name among the answers and the literal
+    /// that is asked, where there is memory: whether it did. Otherwise all is as it was.
+    #[inline(always)]
+    pub fn skip(&mut self, question: Question<A::Node>) -> bool
+        requires asked { IsAskedFirst (A.is_own self.old.asker) (A.plan self.old.asker) question self.old.places }
+        requires cycle { (picks : List ℕ) × (length picks ≤ MAX_PICKS)
+            × (pick_verdict (first_answers self.old.places ++ question.lit ∷ []) picks ≡ Ok tt) }
+        ensures taken { IsTrue result → (picks : List ℕ)
+            → pick_verdict (first_answers self.old.places ++ question.lit ∷ []) picks ≡ Ok tt
+            → SkipsTo picks (open_branches A.plan self.old) (open_branches A.plan self.new) }
+        ensures same { result ≡ false → open_branches A.plan self.new ≡ open_branches A.plan self.old }
+        ensures refusal { self.new.refusal ≡ self.old.refusal }
+        ensures root { A.root self.new.asker ≡ A.root self.old.asker }
+    {
+        trees_are_judged_token_by_token::<A::Why>();
+        match self.path.ask_no(question.lit, question.no) {
             Ok(()) => true,
             Err(_) => false,
         }

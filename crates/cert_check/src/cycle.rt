@@ -1,5 +1,5 @@
 //! Cycles in one pass.
-ghost use Rattle.std.specs.Prelude.{◌≡◌, ◌≤◌, ℕ, true, List, [], ◌∷◌, ◌++◌, length, Ok, IfSome};
+ghost use Rattle.std.specs.Prelude.{◌≡◌, ◌≤◌, ℕ, true, List, [], ◌∷◌, ◌++◌, length, slice_get, Some, Ok, IfSome};
 ghost use Rattle.diff_graph.specs.declared.lit.Lit.{Lit};
 ghost use Rattle.ask_core.specs.declared.picks.TheConstants.{MAX_PICKS};
 ghost use Rattle.diff_graph.specs.Cycles.{pick_verdict};
@@ -45,29 +45,27 @@ pub struct Walk {
 }
 
 impl Walk {
-    /// The walk along the literal that a pick names, if it names one.
+    /// The walk along a literal that a pick names.
     #[inline(always)]
-    pub fn along(lits: &[Lit], pick: u32) -> Option<Walk>
-        ensures { IfSome result (IsWalkOf lits.now (pick ∷ [])) }
+    pub fn along(lit: Lit) -> Walk
+        ensures { (lits : List Lit) (pick : ℕ) → slice_get lits pick ≡ Some lit → IsWalkOf lits (pick ∷ []) result }
     {
-        let lit = lits.get(pick as usize)?;
         let Lit {
             x: start,
             y: name,
             k,
-        } = *lit;
+        } = lit;
         let sum = i64::from(k);
-        Some(Walk { start, name, sum })
+        Walk { start, name, sum }
     }
 
-    /// The walk with one more literal, if the pick names one that begins where the walk ends.
+    /// The walk with one more literal, if that begins where the walk ends.
     #[inline(always)]
-    pub fn further(self, lits: &[Lit], pick: u32) -> Option<Walk>
-        ensures { (picks : List ℕ) → IsWalkOf lits.now picks self
-            → IfSome result (IsWalkOf lits.now (picks ++ pick ∷ [])) }
+    pub fn further(self, lit: Lit) -> Option<Walk>
+        ensures { (lits : List Lit) (picks : List ℕ) (pick : ℕ) → IsWalkOf lits picks self
+            → slice_get lits pick ≡ Some lit → IfSome result (IsWalkOf lits (picks ++ pick ∷ [])) }
     {
-        let lit = lits.get(pick as usize)?;
-        let Lit { x, y: name, k } = *lit;
+        let Lit { x, y: name, k } = lit;
         if x != self.name {
             return None;
         }

@@ -13,10 +13,12 @@
 mod checker;
 mod cycle;
 mod laws;
+mod question;
 mod token;
 mod verdict;
 
 pub use checker::{Checker, MAX_NAMES};
 pub use cycle::Walk;
 pub use laws::tokens_are_taken_one_by_one;
+pub use question::Question;
 pub use verdict::{CheckError, Progress};

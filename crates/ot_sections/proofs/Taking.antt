@@ -1,10 +1,11 @@
 -- Tokens that are taken where they are read.
-use Rattle.std.proofs.Common.{◌≡◌, ℕ, ◌+◌, ◌-◌, ◌≤◌, ◌<◌, List, [], ◌∷◌, ◌++◌, length, get_or, take, drop, take-add, add-one, add-zero, Result, Ok, refl, sym}
+use Rattle.std.proofs.Common.{◌≡◌, ℕ, suc, ◌+◌, ◌-◌, ◌≤◌, ◌<◌, List, [], ◌∷◌, ◌++◌, length, get_or, take, drop, take-add, add-one, add-zero, Result, Ok, refl, sym}
 use Rattle.std.proofs.Common.{ap, subst, ◌∙◌, arith, append_assoc, length-append, length-drop}
 use Rattle.std.specs.Fmt.{decimal}
 use Rattle.std.proofs.lemmas.List.{append-nil, take_more}
 use Rattle.std.proofs.Math.Seq.{take-length}
 use Rattle.fn_rules.specs.declared.function.ObName.{ObName}
+use Rattle.diff_graph.specs.declared.lit.Lit.{Lit}
 use Rattle.ask_core.specs.declared.tree.Tok.{Tok}
 use Rattle.ask_core.specs.declared.tree.Tok.TheVariants as token
 use Rattle.ask_core.specs.Plans.{Plan}
@@ -21,7 +22,8 @@ use Rattle.ot_sections.specs.declared.refusal.JudgeError.{JudgeError}
 use Rattle.ot_sections.specs.Feeding.{Fed, fed}
 use Rattle.ot_sections.specs.Parts.{IsJudged, Point}
 use Rattle.ot_sections.specs.Stands.{IsBetween, IsTreeOf, LeadsAnyway, offset_of, place_of, point_of, stand, tree_with}
-use Rattle.ot_sections.specs.Taking.{AreTaken, IsTakenFront, LeaveOpen}
+use Rattle.cert_check.specs.Questions.{SkipsTo}
+use Rattle.ot_sections.specs.Taking.{AreTaken, AreTakenFront, IsCycleFront, LeaveOpen}
 use Rattle.ot_sections.proofs.Coming.{Consumes, IsAsked, Took, given_of, took_of}
 use Rattle.ot_sections.proofs.Fitting.{judged_behind}
 use Rattle.ot_sections.proofs.Leaving.{GoesOn, KeepsFeed}
@@ -65,55 +67,84 @@ next_number bytes text digits at len within comma text_is digits_is =
 pub bytes_from : (bytes : List ℕ) (at : ℕ) → take (length bytes - at) (drop at bytes) ≡ drop at bytes
 bytes_from bytes at = rw (← length-drop at bytes) (take-length (drop at bytes))
 
--- a token opens one branch at most
-open_after_few : (n : ℕ) (t : Tok) → open_after n t ≤ n + 1
-open_after_few n token.Ask = omega arith
-open_after_few n token.Holds = omega arith
-open_after_few n (token.Cycle picks) = omega arith
+-- some tokens and further ones
+tokens_text-append : (tokens more : List Tok) → tokens_text (tokens ++ more) ≡ tokens_text tokens ++ tokens_text more
+tokens_text-append [] more = refl
+tokens_text-append (t ∷ tokens) more =
+    ap (λ (l : List ℕ). token_text t ++ l) (tokens_text-append tokens more)
+    ∙ sym (append_assoc (token_text t) (tokens_text tokens) (tokens_text more))
 
--- one more token
-tokens_text-push : (tokens : List Tok) (t : Tok) → tokens_text (tokens ++ t ∷ []) ≡ tokens_text tokens ++ token_text t
-tokens_text-push [] t = append-nil (token_text t)
-tokens_text-push (s ∷ tokens) t =
-    ap (λ (l : List ℕ). token_text s ++ l) (tokens_text-push tokens t)
-    ∙ sym (append_assoc (token_text s) (tokens_text tokens) (token_text t))
+AreSpellable-append : (tokens more : List Tok) → AreSpellable tokens → AreSpellable more → AreSpellable (tokens ++ more)
+AreSpellable-append [] more all rest = rest
+AreSpellable-append (t ∷ tokens) more all rest = (all.0, AreSpellable-append tokens more all.1 rest)
 
-AreSpellable-push : (tokens : List Tok) (t : Tok) → AreSpellable tokens → IsSpellable t → AreSpellable (tokens ++ t ∷ [])
-AreSpellable-push [] t all last = (last, tt)
-AreSpellable-push (s ∷ tokens) t all last = (all.0, AreSpellable-push tokens t all.1 last)
+-- the first of some bytes and those behind it
+take_behind : (b : ℕ) (bytes : List ℕ) (len : ℕ) → take (len + 1) (b ∷ bytes) ≡ b ∷ take len bytes
+take_behind b bytes len = let e : len + 1 ≡ suc len = omega arith in rw e refl
+
+take_behind_two : (b c : ℕ) (bytes : List ℕ) (len : ℕ) → take (len + 2) (b ∷ c ∷ bytes) ≡ b ∷ take (len + 1) (c ∷ bytes)
+take_behind_two b c bytes len = let e : len + 2 ≡ suc (len + 1) = omega arith in rw e refl
 
 module _ {W : Type 0} where
-  LeaveOpen-push :
-      (tokens : List Tok) (t : Tok) (old between new : List (Branch W)) → LeaveOpen tokens old between → after t between ≡ Ok new
-      → LeaveOpen (tokens ++ t ∷ []) old new
-  LeaveOpen-push [] t old between new leave taken =
-      (new, subst (λ (b : List (Branch W)). after t b ≡ Ok new) leave taken, refl)
-  LeaveOpen-push (s ∷ tokens) t old between new leave taken =
-      (leave.0, leave.1, LeaveOpen-push tokens t leave.0 between new leave.2 taken)
+  LeaveOpen-append :
+      (tokens more : List Tok) (old between new : List (Branch W)) → LeaveOpen tokens old between → LeaveOpen more between new
+      → LeaveOpen (tokens ++ more) old new
+  LeaveOpen-append [] more old between new leave rest = subst (λ (b : List (Branch W)). LeaveOpen more b new) leave rest
+  LeaveOpen-append (t ∷ tokens) more old between new leave rest =
+      (leave.0, leave.1, LeaveOpen-append tokens more leave.0 between new leave.2 rest)
 
   -- none is taken yet
   pub none_taken : (bytes : List ℕ) (old new : List (Branch W)) → bytes ≡ [] → new ≡ old → AreTaken bytes old new
   none_taken bytes old new none same = ([], tt, sym none, same)
 
-  -- one more is
-  pub one_more_taken :
+  -- some more are
+  pub more_taken :
       (front more bytes : List ℕ) (len : ℕ) (old between new : List (Branch W)) → AreTaken front old between
-      → IsTakenFront between new more len → bytes ≡ front ++ take len more → AreTaken bytes old new
-  one_more_taken front more bytes len old between new (tokens, spellable, text, leave) (within, (t, fine, t_text, taken)) is = (
-    tokens ++ t ∷ [],
-    AreSpellable-push tokens t spellable fine,
-    tokens_text-push tokens t ∙ ap (λ (l : List ℕ). l ++ token_text t) text ∙ ap (λ (l : List ℕ). front ++ l) t_text ∙ sym is,
-    LeaveOpen-push tokens t old between new leave taken,
+      → AreTakenFront between new more len → bytes ≡ front ++ take len more → AreTaken bytes old new
+  more_taken front more bytes len old between new (tokens, spellable, text, leave) (within, (others, fine, others_text, rest)) is = (
+    tokens ++ others,
+    AreSpellable-append tokens others spellable fine,
+    tokens_text-append tokens others ∙ ap (λ (l : List ℕ). l ++ tokens_text others) text
+        ∙ ap (λ (l : List ℕ). front ++ l) others_text ∙ sym is,
+    LeaveOpen-append tokens others old between new leave rest,
+  )
+
+  -- one token at the front
+  pub one_taken :
+      (bytes : List ℕ) (len : ℕ) (t : Tok) (old new : List (Branch W)) → len ≤ length bytes → IsSpellable t
+      → token_text t ≡ take len bytes → after t old ≡ Ok new → AreTakenFront old new bytes len
+  one_taken bytes len t old new within fine text taken =
+      (within, (t ∷ [], (fine, tt), append-nil (token_text t) ∙ text, (new, taken, refl)))
+
+  -- one that is a byte
+  pub byte_taken :
+      (b : ℕ) (bytes : List ℕ) (t : Tok) (old new : List (Branch W)) → IsSpellable t → token_text t ≡ b ∷ [] → after t old ≡ Ok new
+      → AreTakenFront old new (b ∷ bytes) 1
+  byte_taken b bytes t old new fine text taken = one_taken (b ∷ bytes) 1 t old new (omega arith) fine text taken
+
+  -- a cycle behind its `x`, and with a question before it
+  pub cycle_taken :
+      (lits : List Lit) (bytes : List ℕ) (len : ℕ) (old new : List (Branch W)) (front : IsCycleFront lits bytes len)
+      → after (token.Cycle front.1.0) old ≡ Ok new → AreTakenFront old new (120 ∷ bytes) (len + 1)
+  cycle_taken lits bytes len old new (within, (picks, fine, text, cycle)) taken =
+      one_taken (120 ∷ bytes) (len + 1) (token.Cycle picks) old new (omega (arith, within)) fine
+      (text ∙ sym (take_behind 120 bytes len)) taken
+
+  pub skip_taken :
+      (lits : List Lit) (bytes : List ℕ) (len : ℕ) (old new : List (Branch W)) (front : IsCycleFront lits bytes len)
+      → SkipsTo front.1.0 old new → AreTakenFront old new (63 ∷ 120 ∷ bytes) (len + 2)
+  skip_taken lits bytes len old new (within, (picks, fine, text, cycle)) (next, asked, closed) = (
+    omega (arith, within),
+    more_taken (63 ∷ []) (120 ∷ bytes) (take (len + 2) (63 ∷ 120 ∷ bytes)) (len + 1) old next new
+        (byte_taken 63 bytes token.Ask old next tt refl asked).1
+        (cycle_taken lits bytes len next new (within, (picks, fine, text, cycle)) closed)
+        (take_behind_two 63 120 bytes len),
   )
 
   -- a token is taken only where a branch is open
   some_open : (t : Tok) (branches next : List (Branch W)) → after t branches ≡ Ok next → 0 < length branches
   some_open t [] next taken = absurd (cc)
   some_open t (b ∷ branches) next taken = omega arith
-
-  -- so does one that is taken
-  pub one_more_open : (t : Tok) (old new : List (Branch W)) → after t old ≡ Ok new → length new ≤ length old + 1
-  one_more_open t old new taken = omega (arith, open_as_counted t old new taken, open_after_few (length old) t)
 
   -- tokens that are taken may stand there
   pub taken_are_open :

@@ -16,12 +16,6 @@ IsCycleFront lits bytes len =
     × ((picks : List ℕ) × IsSpellableCycle picks × (token_text (token.Cycle picks) ≡ 120 ∷ take len bytes)
     × (pick_verdict lits picks ≡ Ok tt))
 
--- so many bytes are a token that is taken at the open branches, and leaves these ones
-abbrev pub IsTakenFront : {W : Type 0} → List (Branch W) → List (Branch W) → List ℕ → ℕ → Type 0
-IsTakenFront old new bytes len =
-    (len ≤ length bytes)
-    × ((t : Tok) × IsSpellable t × (token_text t ≡ take len bytes) × (after t old ≡ Ok new))
-
 -- tokens are taken one after another at the open branches, and leave these ones
 abbrev pub LeaveOpen : {W : Type 0} → List Tok → List (Branch W) → List (Branch W) → Type 0
 LeaveOpen [] old new = new ≡ old
@@ -31,3 +25,7 @@ LeaveOpen {W} (t ∷ tokens) old new = (next : List (Branch W)) × (after t old 
 abbrev pub AreTaken : {W : Type 0} → List ℕ → List (Branch W) → List (Branch W) → Type 0
 AreTaken bytes old new =
     (tokens : List Tok) × AreSpellable tokens × (tokens_text tokens ≡ bytes) × LeaveOpen tokens old new
+
+-- so many bytes at the front are such tokens
+abbrev pub AreTakenFront : {W : Type 0} → List (Branch W) → List (Branch W) → List ℕ → ℕ → Type 0
+AreTakenFront old new bytes len = (len ≤ length bytes) × AreTaken (take len bytes) old new

@@ -1,6 +1,6 @@
 //! The tree of an obligation, judged token by token.
-ghost use Rattle.std.specs.Prelude.{◌≡◌, ℕ, ◌+◌, ◌^◌, ◌<◌, ◌≤◌, [], Ok, length, take, IfErr, IfNone, IfOk, IfSome};
-ghost use Rattle.std.specs.Prelude.{OnOk, IsTrue};
+ghost use Rattle.std.specs.Prelude.{◌≡◌, ℕ, ◌+◌, ◌^◌, ◌<◌, ◌≤◌, [], ◌∷◌, Ok, length, take, IfErr, IfNone, IfOk};
+ghost use Rattle.std.specs.Prelude.{IfSome, OnOk, IsTrue};
 ghost use Rattle.ask_core.specs.Askers.{has_fine_literals, is_fine_literal, longest_path};
 ghost use Rattle.ask_core.specs.Plans.{premised};
 ghost use Rattle.cert_check.specs.Judging.{open_branches};
@@ -9,7 +9,7 @@ ghost use Rattle.ot_sections.specs.Parts.{end_of_token};
 ghost use Rattle.ot_sections.specs.Feeding.{Leaves, fed};
 ghost use Rattle.ot_sections.specs.Stands.{Came, IsBetween, IsMisspeltBehind, IsRefusedAnyway, IsTreeOf, LeadsAnyway};
 ghost use Rattle.ot_sections.specs.Stands.{opened, place_of, stand, tree_with};
-ghost use Rattle.ot_sections.specs.Taking.{AreTaken, IsTakenFront};
+ghost use Rattle.ot_sections.specs.Taking.{AreTaken, AreTakenFront};
 
 use crate::cycle::cycle_front;
 use crate::part::expect_part;
@@ -79,8 +79,65 @@ fn next_token<F: Feed>(reader: &mut Reader, feed: &mut F, tok: &mut Tok) -> Resu
     Ok(offset)
 }
 
-// Takes the token at the front of some bytes where it stands there whole and may be taken: how many bytes it has, and
-// how many branches are open behind it.
+// Takes the `?` before some bytes, and with it a cycle behind it that closes the part for yes at once: how many bytes
+// these have, and how many branches are open behind them.
+#[inline(always)]
+fn take_question<A: Asker>(
+    checker: &mut Checker<A>,
+    branches: u64,
+    rest: &[u8],
+) -> Option<(usize, u64)>
+    requires some { 0 < length checker.old.places }
+    requires count { branches ≡ length (open_branches A.plan checker.old) }
+    requires few { branches < 2 ^ 63 }
+    ensures taken { IfSome result (λ x. AreTakenFront (open_branches A.plan checker.old)
+        (open_branches A.plan checker.new) (63 ∷ rest.now) x.0) }
+    ensures more { IfSome result (λ x. 0 < x.0) }
+    ensures count { IfSome result (λ x. x.1 ≡ length (open_branches A.plan checker.new)) }
+    ensures few { IfSome result (λ x. x.1 ≤ branches + x.0) }
+    ensures none { IfNone result (open_branches A.plan checker.new ≡ open_branches A.plan checker.old) }
+    ensures refusal { checker.new.refusal ≡ checker.old.refusal }
+{
+    let question = checker.question()?;
+    if let Some((b'x', behind)) = rest.split_first() {
+        if let Some(len) = cycle_front(checker.answers(), question.lit, behind) {
+            return match checker.skip(question) {
+                true => Some((len + 2, branches)),
+                false => None,
+            };
+        }
+    }
+    match checker.ask(question) {
+        true => Some((1, branches + 1)),
+        false => None,
+    }
+}
+
+// Takes the `x` before some bytes and its cycle: how many bytes that is, and how many branches are open behind it.
+#[inline(always)]
+fn take_cycle<A: Asker>(
+    checker: &mut Checker<A>,
+    branches: u64,
+    rest: &[u8],
+) -> Option<(usize, u64)>
+    requires some { 0 < length checker.old.places }
+    requires count { branches ≡ length (open_branches A.plan checker.old) }
+    ensures taken { IfSome result (λ x. AreTakenFront (open_branches A.plan checker.old)
+        (open_branches A.plan checker.new) (120 ∷ rest.now) x.0) }
+    ensures more { IfSome result (λ x. 0 < x.0) }
+    ensures count { IfSome result (λ x. x.1 ≡ length (open_branches A.plan checker.new)) }
+    ensures few { IfSome result (λ x. x.1 ≤ branches + x.0) }
+    ensures none { IfNone result (open_branches A.plan checker.new ≡ open_branches A.plan checker.old) }
+    ensures refusal { checker.new.refusal ≡ checker.old.refusal }
+{
+    let (last, lits) = checker.answers().split_last()?;
+    let len = cycle_front(lits, *last, rest)?;
+    checker.close();
+    Some((len + 1, branches - 1))
+}
+
+// Takes the token at the front of some bytes where it stands there whole and may be taken, and may be a second one with
+// it: how many bytes they have, and how many branches are open behind them.
 #[inline(always)]
 fn take_front<A: Asker>(
     checker: &mut Checker<A>,
@@ -90,22 +147,19 @@ fn take_front<A: Asker>(
     requires some { 0 < length checker.old.places }
     requires count { branches ≡ length (open_branches A.plan checker.old) }
     requires few { branches < 2 ^ 63 }
-    ensures taken { IfSome result (λ x. IsTakenFront (open_branches A.plan checker.old)
+    ensures taken { IfSome result (λ x. AreTakenFront (open_branches A.plan checker.old)
         (open_branches A.plan checker.new) bytes.now x.0) }
     ensures more { IfSome result (λ x. 0 < x.0) }
     ensures count { IfSome result (λ x. x.1 ≡ length (open_branches A.plan checker.new)) }
+    ensures few { IfSome result (λ x. x.1 ≤ branches + x.0) }
     ensures none { IfNone result (open_branches A.plan checker.new ≡ open_branches A.plan checker.old) }
     ensures refusal { checker.new.refusal ≡ checker.old.refusal }
 {
     let (first, rest) = bytes.split_first()?;
     match *first {
-        b'?' if checker.takes(&Tok::Ask) => Some((1, branches + 1)),
+        b'?' => take_question(checker, branches, rest),
+        b'x' => take_cycle(checker, branches, rest),
         b'.' if checker.takes(&Tok::Holds) => Some((1, branches - 1)),
-        b'x' => {
-            let len = cycle_front(checker.answers(), rest)?;
-            checker.close();
-            Some((len + 1, branches - 1))
-        }
         _ => None,
     }
 }

@@ -12,7 +12,7 @@ loop-count-init c =
       (number.0, tt),
       append-nil (decimal c.in_ok-pick.pick) ∙ number.2,
       number.1,
-      c.in_ok-walk.ensures,
+      c.along-walk.ensures (c.args.lits.now ++ c.args.last ∷ []) c.in_ok-pick.pick c.in_ok-lit.ensures,
     )
 
 pub loop-count-preserved : goal.loop-count-preserved
@@ -27,5 +27,5 @@ loop-count-preserved c =
           ∙ next_number c.args.bytes.now _ (decimal pick) c.loop-count.at c.in_ok-pick-in-44.len came.4 (cc) came.3
           (rw (bytes_from c.args.bytes.now (c.loop-count.at + 1)) at number.2),
       omega (arith, rw (bytes_from c.args.bytes.now (c.loop-count.at + 1)) at number.1, length-drop (c.loop-count.at + 1) c.args.bytes.now, came.4),
-      c.in_ok-walk-in-44.ensures came.0 came.5,
+      c.in_ok-walk-in-44.ensures (c.args.lits.now ++ c.args.last ∷ []) came.0 pick came.5 c.in_ok-lit-in-44.ensures,
     )

@@ -1,4 +1,4 @@
-use Rattle.std.proofs.Common.{◌≡◌, ℕ, ◌<◌, List, length, take}
+use Rattle.std.proofs.Common.{◌≡◌, ℕ, ◌<◌, List, [], ◌∷◌, ◌++◌, length, take}
 use Rattle.cert_text.specs.Numbers.{AreShort, numbers_text}
 use Rattle.cert_check.specs.Walks.{IsWalkOf}
 use Rattle.ot_sections.proofs.cycle.cycle_front.Given as goal
@@ -7,4 +7,4 @@ use Rattle.ot_sections.proofs.cycle.cycle_front.Given as goal
 abbrev pub invariant-loop-count : goal.invariant-loop-count
 invariant-loop-count l =
     (picks : List ℕ) × (length picks ≡ l.count) × AreShort picks × (numbers_text picks ≡ take l.at l.bytes)
-    × (l.at < length l.bytes) × IsWalkOf l.lits picks l.walk
+    × (l.at < length l.bytes) × IsWalkOf (l.lits ++ l.last ∷ []) picks l.walk

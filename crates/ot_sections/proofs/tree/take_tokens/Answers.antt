@@ -1,6 +1,6 @@
 use Rattle.std.proofs.Common.{◌+◌, take, drop, take-add, length-drop, arith, ◌∙◌}
 use Rattle.cert_check.specs.Judging.{open_branches}
-use Rattle.ot_sections.proofs.Taking.{bytes_from, one_more_open, one_more_taken}
+use Rattle.ot_sections.proofs.Taking.{bytes_from, more_taken}
 use Rattle.ot_sections.proofs.tree.take_tokens.Goals as goal
 
 pub tokens-preserved : goal.tokens-preserved
@@ -13,17 +13,9 @@ tokens-preserved g c =
     record {
       within = omega (arith, front.0, length-drop at bytes, c.tokens.invariant.within);
       taken =
-          one_more_taken (take at bytes) (drop at bytes) (take (at + c.in-Some.len) bytes) c.in-Some.len
+          more_taken (take at bytes) (drop at bytes) (take (at + c.in-Some.len) bytes) c.in-Some.len
           (open_branches g.A.Asker.plan c.args.checker.now) was now c.tokens.invariant.taken front (take-add at c.in-Some.len bytes);
       count = c.in-Some.ensures.count;
-      few =
-          omega (
-            arith,
-            c.in-Some.ensures.count,
-            c.in-Some.ensures.more,
-            c.tokens.invariant.count,
-            c.tokens.invariant.few,
-            one_more_open front.1.0 was now front.1.3,
-          );
+      few = omega (arith, c.in-Some.ensures.few, c.tokens.invariant.few);
       refusal = c.take_front.ensures.refusal ∙ c.tokens.invariant.refusal;
     }
