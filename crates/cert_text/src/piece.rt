@@ -81,10 +81,29 @@ pub(crate) fn branches_behind(branches: u64, tok: &Tok) -> u64
     }
 }
 
-/// The number of a cycle at the front of the bytes, and how many digits it has. Where the digits of no such number
-/// stand there, or the bytes end with them, there is none.
+// The number of exactly two digits at the front of the bytes, where one stands there and the bytes do not end with it.
 #[inline(always)]
-pub fn number_front(bytes: &[u8]) -> Option<(u32, usize)>
+fn two_digits(bytes: &[u8]) -> Option<u32>
+    ensures { IfSome result (λ n. (n < PICK_LIMIT) × (2 < length bytes.now) × (decimal n ≡ take 2 bytes.now)) }
+{
+    if bytes.len() < 3 {
+        return None;
+    }
+    let (first, second, third) = (bytes[0], bytes[1], bytes[2]);
+    if first < b'0' || b'9' < first || second < b'0' || b'9' < second {
+        return None;
+    }
+    if b'0' <= third && third <= b'9' {
+        return None;
+    }
+    let number = number_with_digit(None, first)?;
+    let number = number_with_digit(Some(number), second)?;
+    Some(number)
+}
+
+// The same as `number_front`, of a number of any digits.
+#[inline(never)]
+fn some_digits(bytes: &[u8]) -> Option<(u32, usize)>
     ensures { IfSome result (λ x. (x.0 < PICK_LIMIT) × (x.1 < length bytes.now) × (decimal x.0 ≡ take x.1 bytes.now)) }
 {
     if bytes.is_empty() {
@@ -103,4 +122,16 @@ pub fn number_front(bytes: &[u8]) -> Option<(u32, usize)>
         number = number_with_digit(Some(number), byte)?;
     }
     None
+}
+
+/// The number of a cycle at the front of the bytes, and how many digits it has. Where the digits of no such number
+/// stand there, or the bytes end with them, there is none.
+#[inline(always)]
+pub fn number_front(bytes: &[u8]) -> Option<(u32, usize)>
+    ensures { IfSome result (λ x. (x.0 < PICK_LIMIT) × (x.1 < length bytes.now) × (decimal x.0 ≡ take x.1 bytes.now)) }
+{
+    match two_digits(bytes) {
+        Some(number) => Some((number, 2)),
+        None => some_digits(bytes),
+    }
 }

@@ -1,0 +1,11 @@
+use Rattle.std.proofs.Common.{[], arith, refl}
+use Rattle.cert_text.proofs.PieceLemmas.{digits_grow}
+use Rattle.cert_text.proofs.piece.two_digits.Goals as goal
+
+pub returns : goal.returns
+returns c =
+    let one = c.in_ok-number.ensures.grown in
+    let two = c.in_ok-number-2.ensures.grown in
+    let bytes = c.args.bytes.now in
+    let first = digits_grow bytes 0 _ [] _ (omega arith) refl refl (one.1 []) in
+    (two.0, omega arith, digits_grow bytes 1 _ _ _ (omega arith) refl first (two.1 []))
