@@ -1,5 +1,5 @@
 -- What is read from a table that stands for a list.
-use Rattle.std.proofs.Common.{◌≡◌, ℕ, ◌<◌, ◌≤◌, ℤ, true, List, length, Option, Some, None, option_map, arith}
+use Rattle.std.proofs.Common.{◌≡◌, ℕ, ◌<◌, ◌≤◌, ℤ, true, List, [], ◌∷◌, ◌++◌, length, Option, Some, None, option_map, refl, ap, arith}
 use Rattle.std.proofs.lemmas.Int.{ints}
 use Rattle.diff_graph.specs.declared.lit.Lit.{Lit}
 use Rattle.diff_graph.specs.declared.hop.Hop.{Hop}
@@ -36,3 +36,8 @@ IsTightest-kept n t ps stands x y xn yn (Some h) is_kept = (
   (stands.tight x y xn yn h.k).0 (rw is_kept (omega (arith, ints))),
   λ j follows. rw is_kept at (stands.tight x y xn yn j).1 follows,
 )
+
+-- numbers put behind a list, the first one alone
+pub append_on : (xs : List ℕ) (x : ℕ) (ys : List ℕ) → (xs ++ x ∷ []) ++ ys ≡ xs ++ x ∷ ys
+append_on [] x ys = refl
+append_on (y ∷ xs) x ys = ap (λ (zs : List ℕ). y ∷ zs) (append_on xs x ys)

@@ -1,11 +1,14 @@
--- Ways through a literal: where that of its first name goes on no lower than what is kept, none does.
-use Rattle.std.proofs.Common.{◌≡◌, ℕ, ◌<◌, ℤ, pos, ◌+ℤ◌, ◌≤ℤ◌, List, [], length, get_or, Option, Some, None, arith, refl, sym, ap, ◌∙◌, subst}
+-- Ways through a literal: where that of its first name goes on no lower than what is kept, none does. One that is no
+-- lower than what the row of its end keeps goes on no lower.
+use Rattle.std.proofs.Common.{◌≡◌, ℕ, ◌<◌, ℤ, pos, ◌+ℤ◌, ◌≤ℤ◌, ◌⊎◌, inl, inr, int_lt, List, [], length, get_or, Option, Some, None, arith, refl, sym, ap, ◌∙◌, subst}
+use Rattle.std.proofs.lemmas.Bool.{cases_Bool}
 use Rattle.std.proofs.lemmas.Int.{ints}
 use Rattle.diff_graph.specs.declared.lit.Lit.{Lit}
 use Rattle.diff_graph.specs.declared.hop.Hop.{Hop}
 use Rattle.diff_graph.specs.Tables.{Numbered, literals_of, kept_of, StandsFor, IsAtMost, IsNamed, Follows}
-use Rattle.diff_graph.specs.Steps.{way_of, joined, lower_of, IsLowered, IsSquare}
-use Rattle.diff_bounds.specs.Kept.{IsLed, IsNoLower}
+use Rattle.diff_graph.specs.Steps.{way_of, joined, lower_of, IsLowered, IsModest, IsSquare}
+use Rattle.diff_graph.proofs.Walks.{int_lt-none}
+use Rattle.diff_bounds.specs.Kept.{IsLed, IsNoLower, lower_way}
 
 -- what is kept stays where the way goes on no lower
 lower_of-no_lower : (way rest kept : Option Hop) → IsNoLower way rest kept → kept ≡ lower_of kept (joined way rest)
@@ -67,3 +70,106 @@ IsLed-through rows ways number l ps stands square named are y yn high x below =
     (no_lower_between n (kept_of rows) ps stands l number x y named xn yn (kept_of rows x l.x) (kept_of rows l.y y)
     (kept_of rows l.x y) (kept_of rows x y) refl refl refl refl own.0 own.2
     (subst (λ (way : Option Hop). IsNoLower way (kept_of rows l.y y) (kept_of rows l.x y)) first high))
+
+-- the way is no lower than what is kept
+abbrev IsNoHigher : Option Hop → Option Hop → Type 0
+IsNoHigher None way = ⊥
+IsNoHigher (Some kept) None = ⊥
+IsNoHigher (Some kept) (Some way) = kept.k ≤ℤ way.k
+
+-- a way is left, or was dropped
+left_or_dropped :
+    (kept way : Option Hop) → (lower_way kept way ≡ way) ⊎ ((lower_way kept way ≡ None) × IsNoHigher kept way)
+left_or_dropped kept None = inl refl
+left_or_dropped None (Some way) = inl refl
+left_or_dropped (Some kept) (Some way) =
+    elim (cases_Bool (int_lt way.k kept.k)) [
+      | inl less ↦ rw less (inl refl)
+      | inr not ↦ (let high : kept.k ≤ℤ way.k = int_lt-none way.k kept.k not in rw not (inr (refl, high)))
+    ]
+
+-- what is left of modest ways is modest
+pub IsModest-lower_way : (size : ℕ) (kept way : Option Hop) → IsModest size way → IsModest size (lower_way kept way)
+IsModest-lower_way size kept None modest = tt
+IsModest-lower_way size None (Some way) modest = modest
+IsModest-lower_way size (Some kept) (Some way) modest =
+    elim (cases_Bool (int_lt way.k kept.k)) [
+      | inl less ↦ rw less modest
+      | inr not ↦ rw not tt
+    ]
+
+module _ (n : ℕ) (t : ℕ → ℕ → Option Hop) (ps : List Numbered) (stands : StandsFor n t ps) where
+  -- a way that was dropped goes on no lower than what is kept
+  dropped_is_no_lower :
+      (x y from : ℕ) → x < n → y < n → from < n → (there rest kept way : Option Hop)
+      → t x from ≡ there → t from y ≡ rest → t x y ≡ kept → IsNoHigher there way → IsNoLower way rest kept
+  dropped_is_no_lower x y from xn yn fn there rest kept None is_there is_rest is_kept high = tt
+  dropped_is_no_lower x y from xn yn fn there None kept (Some way) is_there is_rest is_kept high = tt
+  dropped_is_no_lower x y from xn yn fn None (Some rest) kept (Some way) is_there is_rest is_kept high = absurd high
+  dropped_is_no_lower x y from xn yn fn (Some there) (Some rest) None (Some way) is_there is_rest is_kept high =
+      let most : IsAtMost None (there.k +ℤ rest.k) =
+      rw is_kept at (at_most_both n t ps stands x from y xn fn yn there rest is_there is_rest) in
+      absurd most
+  dropped_is_no_lower x y from xn yn fn (Some there) (Some rest) (Some kept) (Some way) is_there is_rest is_kept high =
+      let most : kept.k ≤ℤ (there.k +ℤ rest.k) =
+      rw is_kept at (at_most_both n t ps stands x from y xn fn yn there rest is_there is_rest) in
+      omega (arith, ints, most, high)
+
+-- ---- the ways that lead lower than what the row of their end keeps
+module _ (rows : List (List (Option Hop))) (ways left : List (Option Hop)) (from : ℕ) (ps : List Numbered)
+    (stands : StandsFor (length rows) (kept_of rows) ps) (square : IsSquare rows) (from_below : from < length rows)
+    (lower : (x : ℕ) → x < length rows → get_or left x None ≡ lower_way (kept_of rows x from) (get_or ways x None)) where
+  -- where a way is not left, it goes on no lower
+  left_or_high :
+      (x y : ℕ) → x < length rows → y < length rows
+      → (get_or left x None ≡ get_or ways x None)
+      ⊎ ((get_or left x None ≡ None) × IsNoLower (get_or ways x None) (kept_of rows from y) (kept_of rows x y))
+  left_or_high x y xn yn =
+      elim (left_or_dropped (kept_of rows x from) (get_or ways x None)) [
+        | inl same ↦ inl (lower x xn ∙ same)
+        | inr dropped ↦
+            inr (
+              lower x xn ∙ dropped.0,
+              dropped_is_no_lower (length rows) (kept_of rows) ps stands x y from xn yn from_below (kept_of rows x from)
+                  (kept_of rows from y) (kept_of rows x y) (get_or ways x None) refl refl refl dropped.1,
+            )
+      ]
+
+  -- they are led by the first one as all ways are
+  pub IsLed-left :
+      (first y : ℕ) → first < length rows → y < length rows → IsLed ways first from (get_or rows y [])
+      → IsLed left first from (get_or rows y [])
+  IsLed-left first y first_below yn led high x below =
+      let long : length (get_or rows y []) ≡ length rows = square y yn in
+      let xn : x < length rows = omega (arith, long, below) in
+      let first_high : IsNoLower (get_or ways first None) (kept_of rows from y) (kept_of rows first y) =
+      elim (left_or_high first y first_below yn) [
+        | inl same ↦ subst (λ (way : Option Hop). IsNoLower way (kept_of rows from y) (kept_of rows first y)) same high
+        | inr dropped ↦ dropped.1
+      ] in
+      elim (left_or_high x y xn yn) [
+        | inl same ↦
+            subst (λ (way : Option Hop). IsNoLower way (kept_of rows from y) (kept_of rows x y)) (sym same)
+            (led first_high x below)
+        | inr dropped ↦
+            subst (λ (way : Option Hop). IsNoLower way (kept_of rows from y) (kept_of rows x y)) (sym dropped.0) tt
+      ]
+
+  -- and a row that is lowered by them is lowered by all
+  pub IsLowered-left :
+      (y : ℕ) (new : List (Option Hop)) → y < length rows → IsLowered left from (get_or rows y []) new
+      → IsLowered ways from (get_or rows y []) new
+  IsLowered-left y new yn lowered = record {
+    len = lowered.len;
+    at = λ x below.
+        (let long : length (get_or rows y []) ≡ length rows = square y yn in
+        let xn : x < length rows = omega (arith, long, below) in
+        let by = λ (way : Option Hop). lower_of (kept_of rows x y) (joined way (kept_of rows from y)) in
+        lowered.at x below
+        ∙ elim (left_or_high x y xn yn) [
+          | inl same ↦ ap by same
+          | inr dropped ↦
+              ap by dropped.0
+              ∙ lower_of-no_lower (get_or ways x None) (kept_of rows from y) (kept_of rows x y) dropped.1
+        ]);
+  }

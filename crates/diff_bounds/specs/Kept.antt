@@ -1,5 +1,6 @@
 -- What a table of distances in arrays keeps, and what is read from it.
 use Rattle.std.specs.Prelude.{◌≡◌, ℕ, ◌<◌, ◌≤◌, ℤ, ◌+ℤ◌, ◌≤ℤ◌, Bool, List, length, slice_index_or, Option, Some, None}
+use Rattle.std.specs.Prelude.{int_lt, if◌then◌else◌}
 use Rattle.diff_graph.specs.declared.lit.Lit.{Lit}
 use Rattle.diff_graph.specs.declared.hop.Hop.{Hop}
 use Rattle.diff_graph.specs.Tables.{Numbered, literals_of, kept_of, StandsFor, AreSmall, Follows}
@@ -31,6 +32,12 @@ IsLed ways first from row =
     IsNoLower (slice_index_or ways first None) (slice_index_or row from None) (slice_index_or row first None)
     → (x : ℕ) → x < length row → IsNoLower (slice_index_or ways x None) (slice_index_or row from None)
     (slice_index_or row x None)
+
+-- the way, where it is lower than what is kept
+abbrev pub lower_way : Option Hop → Option Hop → Option Hop
+lower_way kept None = None
+lower_way None (Some way) = Some way
+lower_way (Some kept) (Some way) = if int_lt way.k kept.k then Some way else None
 
 -- the least offset for which `x <= y + k` follows from the list, or none where none follows
 abbrev pub IsTightest : List Lit → ℕ → ℕ → Option ℤ → Type 0

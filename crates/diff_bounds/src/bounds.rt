@@ -1,12 +1,12 @@
 //! The table of distances.
 ghost use Rattle.std.specs.Prelude.{◌≡◌, ◌↔◌, ℕ, ◌<◌, ◌≤◌, IsTrue, true, false, List, [], ◌∷◌, ◌++◌, Option, IfOk};
-ghost use Rattle.std.specs.Prelude.{OnOk};
+ghost use Rattle.std.specs.Prelude.{OnErr, OnOk};
 ghost use Rattle.diff_graph.specs.declared.hop.Hop.{Hop};
 ghost use Rattle.diff_graph.specs.Tables.{IsNamed, IsSmall, Numbered, literals_of, kept_of, StandsFor, Follows};
 ghost use Rattle.diff_graph.specs.Tables.{IsPossibleWith, IsCycleOf};
 ghost use Rattle.diff_bounds.specs.Kept.{AreBounds, has_room, IsTightest};
 
-use crate::rows::{allows, begin_rows, insert, kept, write_cycle};
+use crate::rows::{allows, append_cycle, begin_rows, insert, kept};
 use diff_graph::{Hop, Lit, NoMemory, new_rows_stand_for_nothing, tables_tell_what_is_possible};
 use std::alloc::Global;
 use std::marker::Model;
@@ -103,8 +103,29 @@ impl<const N: usize> Bounds<N> {
         ensures { (ps : List Numbered) → StandsFor N (kept_of self.now) ps
             → OnOk result (IsCycleOf N (ps ++ record { number = number; lit = lit } ∷ []) picks.new.items) }
     {
+        picks.clear();
+        self.append_why_not(picks, lit, number)?;
+        Ok(())
+    }
+
+    /// The same, put behind what `picks` holds. Where memory is wanting, `picks` is as it was.
+    #[inline(always)]
+    pub fn append_why_not(
+        &self,
+        picks: &mut Vec<u32>,
+        lit: Lit,
+        number: u32,
+    ) -> Result<(), NoMemory>
+        requires named { IsNamed N lit }
+        requires small { IsSmall lit }
+        requires not_allowed { has_room (kept_of self.now) lit ≡ false }
+        ensures ok { OnOk result ((numbers : List ℕ) × (picks.new.items ≡ picks.old.items ++ numbers)
+            × ((ps : List Numbered) → StandsFor N (kept_of self.now) ps
+            → IsCycleOf N (ps ++ record { number = number; lit = lit } ∷ []) numbers)) }
+        ensures err { OnErr result (picks.new.items ≡ picks.old.items) }
+    {
         tables_tell_what_is_possible();
-        write_cycle(picks, &self.rows, lit, number)?;
+        append_cycle(picks, &self.rows, lit, number)?;
         Ok(())
     }
 }

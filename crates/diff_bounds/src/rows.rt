@@ -1,13 +1,14 @@
 //! The rows of a table in arrays. The row of a name keeps what is known from each name to it.
 ghost use Rattle.std.specs.Prelude.{◌≡◌, ℕ, ◌<◌, ◌≤◌, true, false, List, [], ◌∷◌, ◌++◌, length, slice_index_or, Option};
-ghost use Rattle.std.specs.Prelude.{Some, None, OnOk};
+ghost use Rattle.std.specs.Prelude.{Some, None, OnErr, OnOk};
 ghost use Rattle.diff_graph.specs.Tables.{IsNamed, IsSmall, Numbered, kept_of, StandsFor, IsAtMost};
 ghost use Rattle.diff_graph.specs.Steps.{added, keeps, numbers_along, IsModest, IsNewRow, AreNewRows, IsSquare};
 ghost use Rattle.diff_graph.specs.Steps.{AreModest, IsLowered};
-ghost use Rattle.diff_bounds.specs.Kept.{has_room, IsLed, IsNoLower};
+ghost use Rattle.diff_bounds.specs.Kept.{has_room, lower_way, IsLed, IsNoLower};
 
 use diff_graph::table::{begin_ways, keeps, leaves_room, lower_row, push_chain};
 use diff_graph::{Hop, Lit, NoMemory, lowered_rows_keep_the_step, tables_stand_for_what_is_added};
+use std::alloc::AllocError;
 
 /// Keeps each name at 0 to itself, in rows that keep nothing.
 // Out of line: where the compiler sees through it, a new table is spelled out cell by cell.
@@ -104,8 +105,36 @@ fn add<const N: usize>(rows: &mut [[Option<Hop>; N]], lit: Lit, number: u32)
 {
     let mut ways = rows[lit.x as usize];
     begin_ways(&mut ways, lit, number);
+    let there = rows[lit.y as usize];
+    drop_ways(&mut ways, &there);
     lower_rows(rows, &ways, lit.x, lit.y);
     lowered_rows_keep_the_step();
+}
+
+/// Drops the ways that are no lower than what the row of their end keeps: gone on, they are no lower either.
+fn drop_ways(ways: &mut [Option<Hop>], row: &[Option<Hop>])
+    requires same_length { length row.now ≡ length ways.old }
+    ensures len { length ways.new ≡ length ways.old }
+    ensures lower { (x : ℕ) → x < length ways.old → slice_index_or ways.new x None
+        ≡ lower_way (slice_index_or row.now x None) (slice_index_or ways.old x None) }
+{
+    for x in 0..ways.len() {
+        ways[x] = lower_way(row[x], ways[x]);
+    }
+}
+
+/// The way, where it is lower than what is kept.
+#[inline(always)]
+fn lower_way(kept: Option<Hop>, way: Option<Hop>) -> Option<Hop>
+    ensures { result ≡ lower_way kept way }
+{
+    let Some(new) = way else {
+        return None;
+    };
+    match kept {
+        None => Some(new),
+        Some(kept) => { if new.k < kept.k { Some(new) } else { None } }
+    }
 }
 
 /// Lowers each row by the ways to `from`, each gone on by what the row keeps from there. Where the way of `first` goes
@@ -170,10 +199,10 @@ fn goes_lower(way: Option<Hop>, rest: Option<Hop>, kept: Option<Hop>) -> bool
     }
 }
 
-/// Writes the numbers of the negative cycle that a literal closes which is not allowed, in place of what
-/// was held.
+/// Puts at the end of `picks` the numbers of the negative cycle that a literal closes which is not allowed.
+/// Where memory is wanting, `picks` is as it was.
 #[inline(always)]
-pub fn write_cycle<const N: usize>(
+pub fn append_cycle<const N: usize>(
     picks: &mut Vec<u32>,
     rows: &[[Option<Hop>; N]],
     lit: Lit,
@@ -181,11 +210,17 @@ pub fn write_cycle<const N: usize>(
 ) -> Result<(), NoMemory>
     requires square { IsSquare rows.now }
     requires named { IsNamed (length rows.now) lit }
-    ensures { OnOk result (picks.new.items
-        ≡ number ∷ numbers_along (λ x. kept_of rows.now x lit.x) (length rows.now) lit.y lit.x) }
+    ensures ok { OnOk result (picks.new.items ≡ picks.old.items
+        ++ number ∷ numbers_along (λ x. kept_of rows.now x lit.x) (length rows.now) lit.y lit.x) }
+    ensures err { OnErr result (picks.new.items ≡ picks.old.items) }
 {
-    picks.clear();
+    let before = picks.len();
     picks.push(number)?;
-    push_chain(picks, &rows[lit.x as usize][..], lit.y, lit.x)?;
-    Ok(())
+    match push_chain(picks, &rows[lit.x as usize][..], lit.y, lit.x) {
+        Ok(()) => Ok(()),
+        Err(_) => {
+            picks.truncate(before);
+            Err(AllocError)
+        }
+    }
 }
