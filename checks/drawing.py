@@ -1,4 +1,4 @@
-"""Draws functions, and changes a case of one."""
+"""Draws functions, and reads and changes their cases."""
 from certificate import KINDS
 
 
@@ -42,8 +42,38 @@ def text_of(function):
     return "\n".join([*head, *lines, "end", ""])
 
 
+def parts_of(text):
+    """The head and the blocks of a function's text."""
+    head, blocks, cases = [], {}, None
+    for line in (line.split("#")[0].strip() for line in text.splitlines()):
+        if line.startswith("block"):
+            cases = blocks.setdefault(tuple(line.split()[1:]), [])
+        elif line and line != "end":
+            (head if cases is None else cases).append(line)
+    return head, blocks
+
+
 def changed(draw, function, change):
     """The function with one block's cases changed."""
     head, blocks = function
     kinds = draw.choice(list(blocks))
     return head, {**blocks, kinds: change(kinds, list(blocks[kinds]))}
+
+
+def with_another_case(draw, text):
+    """The function with a case planted, one put in front, or a sign or the result exchanged in one."""
+    def change(kinds, cases):
+        place = draw.randrange(len(cases))
+        signs = [("<=", "<"), (" < ", " <= "), (" = ", " <= "), ("- 1", "+ 1"), (" and ", " or ")]
+        signs += [(f": {kinds[0]} p1", f": {kinds[0]} p2"), (f": {kinds[0]} p1", ": nop # ")]
+        here = [(old, new) for old, new in signs if old in cases[place]]
+        way = draw.random()
+        if way < 0.4 or not here:
+            cases.insert(place, drawn_case(draw, *kinds))
+        elif way < 0.6:
+            cases.insert(0, cases.pop(place))
+        else:
+            cases[place] = cases[place].replace(*draw.choice(here), 1)
+        return cases
+
+    return text_of(changed(draw, parts_of(text), change))

@@ -1,0 +1,139 @@
+#!/usr/bin/env python3
+"""Measures `otp settle` and then `otp confirm` of what it wrote, beside `otp prove`, z3 and cvc5.
+
+usage: settle.py [NAME..]   (after `otp`; NAME: families of bench/families.py, or shipped; all of them where none is given;
+                            OTP=PROGRAM in the environment names another program to measure)
+
+The functions are those of bench/families.py with 8, 16, 32 and 63 cases a block, and those of examples/functions, at
+level tp2. Shown are the seconds of whole processes and the peak memory; of a proof its size and how many questions it
+asks, which are fewer than those of the search; and of `prove` nothing where its budget is spent. The solvers are given
+the obligations in their own words (bench/smt.py), and LIMIT seconds for a function. Where one answers otherwise than
+`settle`, the script ends. Behind all functions it is said what is wanted, and of which functions it does not hold.
+"""
+import glob
+import os
+import subprocess
+import sys
+import tempfile
+from collections import namedtuple
+
+from families import FAMILIES, SIZES, function_of
+from measure import TOP, measure
+from prove import PROGRAM, SHIPPED, SOLVERS, installed, least
+
+from certificate import read_function
+from smt import script
+
+# Seconds for a solver: more than three times what `settle` may take.
+LIMIT = 20
+# Of so many runs the least is shown, where the first one takes less than a second.
+RUNS = 3
+GREAT = 16
+MOST_SECONDS, MOST_BYTES, MOST_PROOF, MOST_RULES, TIMES_SOLVER, TIMES_CONFIRM = 5, 1e9, 20e6, 100e3, 3, 4
+
+Run = namedtuple("Run", "text status seconds peak")
+# The seconds of a solver are None where it was cut off.
+Row = namedtuple("Row", "name cases settled size confirmed proved solved")
+
+
+def run(*words):
+    """The run that took the least time."""
+    first = Run(*measure([PROGRAM, *words]))
+    return first if first.seconds >= 1 else min(first, Run(*least(RUNS - 1, [PROGRAM, *words])), key=lambda it: it.seconds)
+
+
+def solve(folder, solver, text):
+    """What a solver answers of each obligation, and its seconds; or None and None where it takes too long."""
+    path = os.path.join(folder, "obligations.smt2")
+    with open(path, "w") as file:
+        file.write(script(read_function(text), True))
+    ran = Run(*measure(["timeout", str(LIMIT), *SOLVERS[solver], path]))
+    return (None, None) if ran.status == 124 else (set(ran.text.split()), ran.seconds)
+
+
+def solved(folder, solvers, name, text, status):
+    times = {}
+    for solver in solvers:
+        answers, times[solver] = solve(folder, solver, text)
+        if answers and status in (0, 1) and (answers - {"sat", "unsat"} or (status == 0) != (answers == {"unsat"})):
+            sys.exit(f"{name}: otp ends with {status}, and {solver} answers {answers}")
+    return times
+
+
+def report(folder, solvers, name, cases, text):
+    """Measures one function, and shows it."""
+    function, proof = os.path.join(folder, "function.ot"), os.path.join(folder, "proof")
+    with open(function, "w") as file:
+        file.write(text)
+    settled, proved = run("settle", function), run("prove", function)
+    size, confirmed = 0, None
+    if settled.status == 0:
+        with open(proof, "w") as file:
+            file.write(settled.text + "\n")
+        size, confirmed = os.path.getsize(proof), run("confirm", function, proof)
+        if confirmed.text != "confirmed tp2":
+            sys.exit(f"{name}: confirm answers {confirmed.text}")
+    row = Row(name, cases, settled, size, confirmed, proved, solved(folder, solvers, name, text, settled.status))
+    show(row)
+    return row._replace(settled=settled._replace(text=""), proved=proved._replace(text=""))
+
+
+def show(row):
+    settled, proved = row.settled, row.proved
+    beside = [f"prove {proved.seconds:.3f} s" if proved.status in (0, 1) else f"prove: status {proved.status}"]
+    beside += [f"{solver} {f'above {LIMIT}' if taken is None else f'{taken:.3f}'} s" for solver, taken in row.solved.items()]
+    print(f"{row.name}: status {settled.status} in {settled.seconds:.3f} s, {settled.peak} KiB at the peak; {', '.join(beside)}")
+    if row.confirmed:
+        told = f"{row.size} bytes, {settled.text.count('?')} questions"
+        print(f"    proof of {told}; confirm {row.confirmed.seconds:.3f} s, {row.confirmed.peak} KiB at the peak")
+
+
+def beats_solvers(row):
+    """A solver that was cut off took at least the limit."""
+    return TIMES_SOLVER * row.settled.seconds <= min(LIMIT if taken is None else taken for taken in row.solved.values())
+
+
+def wanted(rows, solvers):
+    """What is wanted, of which functions, and the test of it."""
+    made = [row for row in rows if row.cases]
+    proofs = [row for row in made if row.confirmed]
+    yield f"decided within {MOST_SECONDS} s and {MOST_BYTES / 1e9:.0f} GB", rows, lambda row: (
+        row.settled.status in (0, 1) and row.settled.seconds <= MOST_SECONDS and 1024 * row.settled.peak <= MOST_BYTES)
+    if solvers:
+        great = [row for row in made if row.cases >= GREAT]
+        yield f"from {GREAT} cases on at least {TIMES_SOLVER} times as fast as the faster solver", great, beats_solvers
+    rules = [row for row in proofs if row.name == f"rules {GREAT}"]
+    yield f"a proof of rules {GREAT} of less than {MOST_RULES / 1e3:.0f} kB", rules, lambda row: row.size < MOST_RULES
+    yield f"proofs of less than {MOST_PROOF / 1e6:.0f} MB", proofs, lambda row: row.size < MOST_PROOF
+    yield f"confirm within 1/{TIMES_CONFIRM} of the time of settle", proofs, lambda row: (
+        TIMES_CONFIRM * row.confirmed.seconds <= row.settled.seconds)
+
+
+def functions(names):
+    """The name of each function, its cases a block where it is made, and its text."""
+    for family in [*FAMILIES, "rules"]:
+        if not names or family in names:
+            for cases in SIZES:
+                yield f"{family} {cases}", cases, function_of(family, cases)
+    if not names or "shipped" in names:
+        for path in sorted(glob.glob(os.path.join(SHIPPED, "*.ot"))):
+            with open(path) as file:
+                yield os.path.basename(path), 0, file.read()
+
+
+def main():
+    # Builds the program where that is needed, so that it is not measured.
+    if "OTP" not in os.environ:
+        subprocess.run([os.path.join(TOP, "otp")], stdout=subprocess.DEVNULL, check=False)
+    empty, idle = least(RUNS, ["/bin/true"]), least(RUNS, [PROGRAM])
+    print(f"an empty process: {1e3 * empty[2]:.1f} ms; otp with no words: {1e3 * idle[2]:.1f} ms, {idle[3]} KiB at the peak")
+    solvers = installed()
+    with tempfile.TemporaryDirectory() as folder:
+        rows = [report(folder, solvers, *function) for function in functions(sys.argv[1:])]
+    for what, of, holds in wanted(rows, solvers):
+        missed = ", ".join(row.name for row in of if not holds(row))
+        print(f"wanted: {what}: {f'not so of {missed}' if missed else f'so of all {len(of)}'}")
+
+
+if __name__ == "__main__":
+    main()
