@@ -1,0 +1,17 @@
+use Rattle.std.proofs.Common.{inl, inr, refl}
+use Rattle.proof_search.proofs.open.Search.ask.Goals as goal
+
+pub returns : goal.returns
+returns g c = record {
+  at = inl refl;
+  waiting =
+      inr
+      (record {
+        item = record { node = c.args.no; answers = c.len.result; answer = c.negate.result };
+        at_node = refl;
+        items = c.in_ok-push.ensures.items;
+      });
+  levels = refl;
+  lemmas = refl;
+  asked = refl;
+}

@@ -1,0 +1,18 @@
+use Rattle.std.proofs.Common.{inr, refl}
+use Rattle.proof_search.proofs.open.Search.begin_level.Goals as goal
+
+pub returns : goal.returns
+returns g c = record {
+  levels =
+      inr
+      (record {
+        item =
+            record { node = c.args.node; literals = c.new.result; waiting = c.len.result; answers = c.len-2.result };
+        at_node = refl;
+        items = c.in_ok-push.ensures.items;
+      });
+  waiting = refl;
+  at = refl;
+  lemmas = refl;
+  asked = refl;
+}

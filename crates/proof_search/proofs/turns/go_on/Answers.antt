@@ -1,0 +1,35 @@
+use Rattle.std.proofs.Common.{inl, inr, refl, sym, ap, ◌∙◌, [], ◌∷◌, ◌++◌}
+use Rattle.proof_search.specs.declared.open.Search.{Search}
+use Rattle.proof_search.proofs.turns.go_on.Goals as goal
+
+pub returns-then-branch : goal.returns-then-branch
+returns-then-branch g c =
+    let kept = c.answer.ensures in
+    record {
+      taken =
+          inr
+          (record {
+            part = c.in-Some.part;
+            parts = c.in-Some.ensures.items ∙ ap (λ (s : Search g.row.N.Denot). s.waiting.items ++ c.in-Some.part ∷ []) (sym kept);
+            at = inl refl;
+          });
+      levels = ap (λ (s : Search g.row.N.Denot). s.levels.items) kept;
+      lemmas = ap (λ (s : Search g.row.N.Denot). s.lemmas) kept;
+      asked = ap (λ (s : Search g.row.N.Denot). s.asked) kept;
+    }
+
+pub returns : goal.returns
+returns g c =
+    let kept = c.answer.ensures in
+    record {
+      taken =
+          inr
+          (record {
+            part = c.in-Some.part;
+            parts = c.in-Some.ensures.items ∙ ap (λ (s : Search g.row.N.Denot). s.waiting.items ++ c.in-Some.part ∷ []) (sym kept);
+            at = inr (ap (λ (s : Search g.row.N.Denot). s.at) kept);
+          });
+      levels = ap (λ (s : Search g.row.N.Denot). s.levels.items) kept;
+      lemmas = ap (λ (s : Search g.row.N.Denot). s.lemmas) kept;
+      asked = ap (λ (s : Search g.row.N.Denot). s.asked) kept;
+    }

@@ -1,0 +1,23 @@
+-- What becomes of facts to which a literal is added.
+use Rattle.std.specs.Prelude.{◌≡◌, ℕ, List, [], ◌∷◌, ◌++◌, Option}
+use Rattle.diff_graph.specs.declared.lit.Lit.{Lit}
+use Rattle.diff_graph.specs.declared.hop.Hop.{Hop}
+use Rattle.diff_graph.specs.Tables.{Numbered, StandsFor, IsPossibleWith, IsNamed, IsSmall, kept_of, literals_of}
+use Rattle.proof_search.specs.declared.facts.TheConstants.{MAX_NAMES}
+use Rattle.proof_search.specs.declared.facts.Added.{Added}
+use Rattle.proof_search.specs.declared.facts.Added.TheVariants.{Yes, Excluded, OutOfRange}
+
+-- what a table keeps, the row of each name
+abbrev pub Rows : Type 0
+Rows = List (List (Option Hop))
+
+-- the literal stands at the end of each list that the facts stand for; or they are as they were, since no integers
+-- meet it with them, or since it is out of range
+abbrev pub HasAdded : Lit → ℕ → Added → Rows → Rows → Type 0
+HasAdded l number Yes old new =
+    (ps : List Numbered) → StandsFor MAX_NAMES (kept_of old) ps
+    → StandsFor MAX_NAMES (kept_of new) (ps ++ record { number = number; lit = l } ∷ [])
+HasAdded l number Excluded old new =
+    (new ≡ old)
+    × ((ps : List Numbered) → StandsFor MAX_NAMES (kept_of old) ps → ¬ IsPossibleWith (literals_of ps) l)
+HasAdded l number OutOfRange old new = (new ≡ old) × ¬ (IsNamed MAX_NAMES l × IsSmall l)

@@ -1,0 +1,34 @@
+//! Askers that number their starts.
+ghost use Rattle.proof_trees.specs.Starters.{KeepsStarts};
+
+use crate::facts::Facts;
+use ask_core::{Asker, NoMemory};
+use proof_trees::{Starter, Startless};
+
+/// An asker that numbers its starts, so that what was shown at one of them is found again. Nothing is promised of the
+/// numbers: with bad ones a search finds too little, and spends more.
+pub trait Finder: Starter {
+    /// The number of the start at a node. Starts that are equal in all that is still read have one number, and the
+    /// numbers count up from 0.
+    fn number(&mut self, node: Self::Node) -> Result<usize, NoMemory>
+        requires { Self.is_own self.old node }
+        ensures { KeepsStarts (Self.is_own self.old) (Self.is_own self.new) (Self.starts self.old)
+            (Self.starts self.new) };
+
+    /// The number of the start alike: of the one at the node, with each result that is read told by its own operation's
+    /// position where the facts have the two equal up to a constant.
+    fn number_alike(&mut self, node: Self::Node, facts: &Facts) -> Result<usize, NoMemory>
+        requires { Self.is_own self.old node }
+        ensures { KeepsStarts (Self.is_own self.old) (Self.is_own self.new) (Self.starts self.old)
+            (Self.starts self.new) };
+}
+
+impl<A: Asker> Finder for Startless<A> {
+    fn number(&mut self, _node: A::Node) -> Result<usize, NoMemory> {
+        Ok(0)
+    }
+
+    fn number_alike(&mut self, _node: A::Node, _facts: &Facts) -> Result<usize, NoMemory> {
+        Ok(0)
+    }
+}

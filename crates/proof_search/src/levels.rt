@@ -1,0 +1,83 @@
+//! The lemmas that are being shown, one within another.
+ghost use Rattle.std.specs.Prelude.{◌≡◌, ◌<◌, ◌≤◌, length, OnOk};
+ghost use Rattle.proof_search.specs.Owning.{KeepsNodes};
+
+use crate::NoMemory;
+use diff_graph::Lit;
+
+/// A lemma that is being shown: its start's node, what it assumes so far, and how many parts waited and how many
+/// answers were given when it was begun.
+#[derive(Drop)]
+pub(crate) struct Level<N: Copy> {
+    pub node: N,
+    pub literals: Vec<Lit>,
+    pub waiting: usize,
+    pub answers: usize,
+}
+
+/// Makes a literal on the same names as strong as the given one, if there is one.
+fn strengthen(literals: &mut [Lit], lit: Lit) -> bool {
+    for held in literals.iter_mut() {
+        if held.x == lit.x && held.y == lit.y {
+            held.k = held.k.min(lit.k);
+            return true;
+        }
+    }
+    false
+}
+
+/// Assumes one more literal. Of two on the same names the stronger one stays.
+fn assume(literals: &mut Vec<Lit>, lit: Lit) -> Result<(), NoMemory> {
+    if strengthen(literals, lit) {
+        return Ok(());
+    }
+    literals.push(lit)?;
+    Ok(())
+}
+
+/// Assumes the literals at a level.
+pub(crate) fn assume_all<N: Copy>(
+    levels: &mut [Level<N>],
+    number: usize,
+    literals: &[Lit],
+) -> Result<(), NoMemory>
+    requires { number < length levels.old }
+    ensures { KeepsNodes (λ l. l.node) levels.old levels.new }
+{
+    for lit in literals {
+        assume(&mut levels[number].literals, *lit)?;
+    }
+    Ok(())
+}
+
+/// What the innermost level assumes. Outside of all levels it is nothing.
+pub(crate) fn assumed<N: Copy>(levels: &[Level<N>]) -> &[Lit] {
+    match levels.last() {
+        None => &[],
+        Some(level) => level.literals.as_slice(),
+    }
+}
+
+/// How many answers were given when the innermost level was begun.
+pub(crate) fn answers_before<N: Copy>(levels: &[Level<N>]) -> usize {
+    match levels.last() {
+        None => 0,
+        Some(level) => level.answers,
+    }
+}
+
+/// How many parts waited when the innermost level was begun.
+pub(crate) fn waiting_before<N: Copy>(levels: &[Level<N>]) -> usize {
+    match levels.last() {
+        None => 0,
+        Some(level) => level.waiting,
+    }
+}
+
+/// The answers from one place to another, or none where these are not among them.
+pub(crate) fn part(answers: &[Lit], from: usize, to: usize) -> &[Lit] {
+    match answers.get(from..to) {
+        None => &[],
+        Some(answers) => answers,
+    }
+}

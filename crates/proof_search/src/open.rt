@@ -1,0 +1,118 @@
+//! A search under way.
+ghost use Rattle.std.specs.Prelude.{◌≡◌, ◌+◌, ◌<◌, ◌^◌, [], Some, OnOk};
+ghost use Rattle.proof_search.specs.Owning.{BeginsLevel, HasAsked};
+
+use crate::NoMemory;
+use crate::excuse::Excuse;
+use crate::facts::Facts;
+use crate::lemmas::Lemmas;
+use crate::levels::{Level, answers_before, assumed, part};
+use diff_graph::{Lit, negate};
+use std::alloc::Global;
+
+/// A part for no that waits: its node, how many answers it shares with the open place, and its own answer after these.
+#[derive(Clone, Copy)]
+pub(crate) struct Waiting<N> {
+    pub node: N,
+    pub answers: usize,
+    pub answer: Lit,
+}
+
+/// A search under way: the node of the open place, or none where that was closed; the lemmas that are being shown, the
+/// innermost one last; the parts that wait; the answers to the questions that were open both ways; what follows from
+/// what the innermost level assumes and from the answers since it was begun; the lemmas that were shown, and how many
+/// questions were asked.
+#[derive(Drop)]
+pub(crate) struct Search<N: Copy> {
+    pub at: Option<N>,
+    pub levels: Vec<Level<N>>,
+    pub waiting: Vec<Waiting<N>>,
+    pub answers: Vec<Lit>,
+    pub facts: Facts,
+    pub lemmas: Lemmas<N>,
+    pub asked: u64,
+    pub excuse: Excuse,
+}
+
+impl<N: Copy> Search<N> {
+    /// A search that begins at a node: no lemma is being shown there, and none was.
+    pub fn begin(alloc: Global, first: N) -> Search<N>
+        ensures open { result.at ≡ Some first }
+        ensures levels { result.levels.items ≡ [] }
+        ensures waiting { result.waiting.items ≡ [] }
+        ensures answers { result.answers.items ≡ [] }
+        ensures lemmas { result.lemmas ≡ [] }
+        ensures asked { result.asked ≡ 0 }
+    {
+        Search {
+            at: Some(first),
+            levels: Vec::new(alloc),
+            waiting: Vec::new(alloc),
+            answers: Vec::new(alloc),
+            facts: Facts::new(),
+            lemmas: Lemmas::new(alloc),
+            asked: 0,
+            excuse: Excuse::new(alloc),
+        }
+    }
+
+    /// Begins to show a lemma of the start at a node, if one begins there. It assumes nothing yet.
+    pub fn begin_level(&mut self, alloc: Global, node: N, begins: bool) -> Result<(), NoMemory>
+        ensures { OnOk result (BeginsLevel node self.old self.new) }
+    {
+        if !begins {
+            return Ok(());
+        }
+        self.levels.push(Level {
+            node,
+            literals: Vec::new(alloc),
+            waiting: self.waiting.len(),
+            answers: self.answers.len(),
+        })?;
+        self.facts = Facts::new();
+        Ok(())
+    }
+
+    /// Asks a literal at the open place. A part that the facts exclude is left out.
+    #[inline(always)]
+    pub fn ask(&mut self, lit: Lit, yes: N, no: N) -> Result<(), NoMemory>
+        requires { self.old.asked + 1 < 2 ^ 64 }
+        ensures { OnOk result (HasAsked yes no self.old self.new) }
+    {
+        self.asked += 1;
+        if self.facts.implies(lit) {
+            self.at = Some(yes);
+            return Ok(());
+        }
+        if self.facts.excludes(lit) {
+            self.at = Some(no);
+            return Ok(());
+        }
+        self.waiting.push(Waiting {
+            node: no,
+            answers: self.answers.len(),
+            answer: negate(lit),
+        })?;
+        self.answers.push(lit)?;
+        self.facts.try_add(lit, 0);
+        self.at = Some(yes);
+        Ok(())
+    }
+
+    /// Answers with one literal more after the first answers, which a part that waited shares. False where no integers
+    /// meet these and what the innermost level assumes.
+    pub fn answer(&mut self, shared: usize, lit: Lit) -> Result<bool, NoMemory>
+        ensures { self.new ≡ record self.old { answers = self.new.answers; facts = self.new.facts } }
+    {
+        self.answers.truncate(shared);
+        self.answers.push(lit)?;
+        self.facts = Facts::new();
+        let since = answers_before(&self.levels);
+        Ok(
+            self.facts.try_add_all(assumed(&self.levels), 0)
+                && self
+                    .facts
+                    .try_add_all(part(&self.answers, since, self.answers.len()), 0),
+        )
+    }
+}

@@ -1,0 +1,95 @@
+//! The call that searches a plan.
+ghost use Rattle.std.specs.Prelude.{◌≡◌, ◌≤◌, IfOk};
+ghost use Rattle.proof_trees.specs.Starters.{KeepsStarts};
+ghost use Rattle.proof_search.specs.Owning.{AreOwn};
+
+use crate::NoMemory;
+use crate::finder::Finder;
+use crate::lemmas::Lemmas;
+use crate::open::Search;
+use crate::turns::{Ending, step};
+use diff_graph::Lit;
+use std::alloc::Global;
+
+/// What a search came to.
+#[derive(Drop)]
+pub enum Seeking {
+    /// Each end of the plan that some integers lead to holds.
+    Shown,
+
+    /// An end fails to which these answers lead, and some integers meet them. Answers that followed from others are
+    /// left out.
+    Failing(Vec<Lit>),
+
+    /// The budget is spent, or a lemma could not be mended.
+    Spent,
+}
+
+/// What a search came to, the lemmas that it showed, and how many questions it asked.
+#[derive(Drop)]
+pub struct Sought<N: Copy> {
+    pub outcome: Seeking,
+    pub lemmas: Lemmas<N>,
+    pub asked: u64,
+}
+
+/// What a search that has ended came to, with these answers.
+fn outcome_of(ending: Ending, answers: Vec<Lit>) -> Seeking {
+    match ending {
+        Ending::Shown => Seeking::Shown,
+        Ending::Failing => Seeking::Failing(answers),
+        Ending::Spent => Seeking::Spent,
+    }
+}
+
+/// What is left of a search that has ended.
+fn ended<N: Copy>(search: Search<N>, ending: Ending) -> Sought<N>
+    ensures lemmas { result.lemmas ≡ search.lemmas }
+    ensures asked { result.asked ≡ search.asked }
+{
+    let asked = search.asked;
+    let answers = search.answers;
+    let lemmas = search.lemmas;
+    Sought {
+        outcome: outcome_of(ending, answers),
+        lemmas,
+        asked,
+    }
+}
+
+/// Takes turns until the search ends.
+#[tactic(auto, using(crate::proofs::Owning::keeping))]
+fn seek<A: Finder>(alloc: Global, asker: &mut A, budget: u64) -> Result<Sought<A::Node>, NoMemory>
+    ensures within { IfOk result (λ s. s.asked ≤ budget) }
+    ensures own { IfOk result (λ s. AreOwn (A.is_own asker.new) s.lemmas) }
+    ensures same { KeepsStarts (A.is_own asker.old) (A.is_own asker.new) (A.starts asker.old) (A.starts asker.new) }
+{
+    let first = asker.first()?;
+    let mut search = Search::begin(alloc, first);
+    // A turn asks, or closes a place or a level, or goes on to a part that waits; each question opens two places, of
+    // which one may wait, and a level.
+    let turns = budget.saturating_mul(4).saturating_add(4);
+    'turns: for _turn in 0..turns {
+        if let Some(ending) = step(alloc, asker, &mut search, budget)? {
+            return Ok(ended(search, ending));
+        }
+    }
+    Ok(ended(search, Ending::Spent))
+}
+
+/// Searches an asker's own plan for an end that fails, by at most `budget` questions, and keeps as lemmas what it
+/// showed on the way. Nothing is promised of what it finds, which is to be judged. The error is want of memory.
+pub fn search<A: Finder>(
+    alloc: Global,
+    asker: &mut A,
+    budget: u64,
+) -> Result<Sought<A::Node>, NoMemory>
+    ensures within { IfOk result (λ s. s.asked ≤ budget) }
+    ensures own { IfOk result (λ s. AreOwn (A.is_own asker.new) s.lemmas) }
+
+    // The asker is as it was.
+    ensures same { KeepsStarts (A.is_own asker.old) (A.is_own asker.new) (A.starts asker.old) (A.starts asker.new) }
+    ensures root { A.root asker.new ≡ A.root asker.old }
+{
+    seek(alloc, asker, budget)
+}

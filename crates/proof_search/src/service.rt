@@ -1,0 +1,134 @@
+//! Which lemmas serve at a start.
+ghost use Rattle.std.specs.Prelude.{◌≡◌, Some, IfOk, IfSome, MatchOption};
+ghost use Rattle.proof_trees.specs.Starts.{start_of, conditions_between};
+ghost use Rattle.proof_trees.specs.Starters.{KeepsStarts};
+ghost use Rattle.proof_search.specs.Owning.{AreOwn, Serves};
+
+use crate::NoMemory;
+use crate::facts::Facts;
+use crate::finder::Finder;
+use crate::lemmas::Lemmas;
+use diff_graph::Lit;
+use plain_list::List;
+use proof_trees::MAX_LITERALS;
+use std::alloc::Global;
+
+/// A choice among the lemmas that serve.
+pub trait Choice {
+    /// Whether the lemma at a place of the list of lemmas is one that is wanted.
+    fn takes(&self, place: usize) -> bool;
+}
+
+/// Every lemma is wanted.
+#[derive(Clone, Copy)]
+pub struct Any;
+
+impl Choice for Any {
+    fn takes(&self, _place: usize) -> bool {
+        true
+    }
+}
+
+/// A lemma that serves at a start: its place in the list of lemmas, and the conditions under which the starts compare.
+#[derive(Drop)]
+pub struct ServingLemma {
+    pub place: usize,
+    pub conditions: List<Lit>,
+}
+
+/// Whether all literals follow.
+fn are_implied(facts: &Facts, literals: &[Lit]) -> bool {
+    for lit in literals {
+        if !facts.implies(*lit) {
+            return false;
+        }
+    }
+    true
+}
+
+/// The lemma at a place, if it is wanted and serves at a node. Its literals are tested first, since to compare takes
+/// memory.
+fn serving_at<A: Finder, C: Choice>(
+    alloc: Global,
+    asker: &mut A,
+    lemmas: &Lemmas<A::Node>,
+    here: A::Node,
+    facts: &Facts,
+    choice: &C,
+    place: usize,
+) -> Result<Option<ServingLemma>, NoMemory>
+    requires lemmas { AreOwn (A.is_own asker.old) lemmas.now }
+    requires here { A.is_own asker.old here }
+    ensures serves { IfOk result (λ found. IfSome found (λ s. Serves (A.starts asker.new) lemmas.now here s)) }
+    ensures same { KeepsStarts (A.is_own asker.old) (A.is_own asker.new) (A.starts asker.old) (A.starts asker.new) }
+{
+    if !choice.takes(place) {
+        return Ok(None);
+    }
+    let Some(lemma) = lemmas.get(place) else {
+        return Ok(None);
+    };
+    if lemma.literals.len() > MAX_LITERALS || !are_implied(facts, lemma.literals.as_slice()) {
+        return Ok(None);
+    }
+    let Some(conditions) = asker.compare(alloc, lemma.node, here)? else {
+        return Ok(None);
+    };
+    if !are_implied(facts, conditions.as_slice()) {
+        return Ok(None);
+    }
+    Ok(Some(ServingLemma { place, conditions }))
+}
+
+/// The newest lemma of the start with this number that is wanted and serves at a node, given what is known there.
+/// With the number of the start itself, the conditions are none.
+#[tactic(auto, using(crate::proofs::Owning::keeping))]
+pub fn serving_of<A: Finder, C: Choice>(
+    alloc: Global,
+    asker: &mut A,
+    lemmas: &Lemmas<A::Node>,
+    number: usize,
+    here: A::Node,
+    facts: &Facts,
+    choice: &C,
+) -> Result<Option<ServingLemma>, NoMemory>
+    requires lemmas { AreOwn (A.is_own asker.old) lemmas.now }
+    requires here { A.is_own asker.old here }
+    ensures serves { IfOk result (λ found. IfSome found (λ s. Serves (A.starts asker.new) lemmas.now here s)) }
+    ensures same { KeepsStarts (A.is_own asker.old) (A.is_own asker.new) (A.starts asker.old) (A.starts asker.new) }
+{
+    let places = lemmas.newest(number);
+    'places: for passed in 0..places.len() {
+        let place = places[places.len() - 1 - passed];
+        if let Some(found) = serving_at(alloc, asker, lemmas, here, facts, choice, place)? {
+            return Ok(Some(found));
+        }
+    }
+    Ok(None)
+}
+
+/// The newest lemma of the start at a node that is wanted and serves there, or else the newest one of the start alike.
+#[tactic(auto, using(crate::proofs::Owning::keeping))]
+pub fn serving<A: Finder, C: Choice>(
+    alloc: Global,
+    asker: &mut A,
+    lemmas: &Lemmas<A::Node>,
+    here: A::Node,
+    facts: &Facts,
+    choice: &C,
+) -> Result<Option<ServingLemma>, NoMemory>
+    requires lemmas { AreOwn (A.is_own asker.old) lemmas.now }
+    requires here { A.is_own asker.old here }
+    ensures serves { IfOk result (λ found. IfSome found (λ s. Serves (A.starts asker.new) lemmas.now here s)) }
+    ensures same { KeepsStarts (A.is_own asker.old) (A.is_own asker.new) (A.starts asker.old) (A.starts asker.new) }
+{
+    let number = asker.number(here)?;
+    if let Some(found) = serving_of(alloc, asker, lemmas, number, here, facts, choice)? {
+        return Ok(Some(found));
+    }
+    let alike = asker.number_alike(here, facts)?;
+    if alike == number {
+        return Ok(None);
+    }
+    Ok(serving_of(alloc, asker, lemmas, alike, here, facts, choice)?)
+}

@@ -1,0 +1,160 @@
+//! The turns of a search: each goes on at the open place, or to the next one where that was closed.
+ghost use Rattle.std.specs.Prelude.{◌≡◌, ◌≤◌, OnOk};
+ghost use Rattle.proof_trees.specs.Starters.{KeepsStarts};
+ghost use Rattle.proof_search.specs.Owning.{AreOwn, IsOwnSearch, KeepsPlaces, OpensPart, closed};
+
+use crate::NoMemory;
+use crate::blame::Blamed;
+use crate::finder::Finder;
+use crate::lemmas::Lemma;
+use crate::levels::waiting_before;
+use crate::open::Search;
+use crate::service::{Any, serving};
+use ask_core::Turn;
+use plain_list::List;
+use std::alloc::Global;
+
+/// How a search ended.
+#[derive(Clone, Copy)]
+pub(crate) enum Ending {
+    /// No place is left.
+    Shown,
+
+    /// The answers lead to an end that fails.
+    Failing,
+
+    /// The budget is spent.
+    Spent,
+}
+
+/// Whether a lemma serves at a node, if a start is there.
+#[tactic(auto, using(crate::proofs::Owning::keeping))]
+fn is_shown<A: Finder>(
+    alloc: Global,
+    asker: &mut A,
+    search: &Search<A::Node>,
+    node: A::Node,
+    begins: bool,
+) -> Result<bool, NoMemory>
+    requires lemmas { AreOwn (A.is_own asker.old) search.now.lemmas }
+    requires node { A.is_own asker.old node }
+    ensures { KeepsStarts (A.is_own asker.old) (A.is_own asker.new) (A.starts asker.old) (A.starts asker.new) }
+{
+    if !begins {
+        return Ok(false);
+    }
+    Ok(serving(alloc, asker, &search.lemmas, node, &search.facts, &Any)?.is_some())
+}
+
+/// Closes the open place, whose end fails, where a level shuts it out.
+fn fail<N: Copy>(search: &mut Search<N>) -> Result<Option<Ending>, NoMemory>
+    ensures { OnOk result (KeepsPlaces (closed search.old) search.new) }
+{
+    search.at = None;
+    match search.blame()? {
+        Blamed::ShutOut => Ok(None),
+        Blamed::Real => Ok(Some(Ending::Failing)),
+        Blamed::Unexplained => Ok(Some(Ending::Spent)),
+    }
+}
+
+/// Goes on at the node of the open place. A level is begun only where a question is asked.
+#[tactic(auto, using(crate::proofs::Owning::keeping))]
+fn arrive<A: Finder>(
+    alloc: Global,
+    asker: &mut A,
+    search: &mut Search<A::Node>,
+    node: A::Node,
+    budget: u64,
+) -> Result<Option<Ending>, NoMemory>
+    requires within { search.old.asked ≤ budget }
+    requires own { IsOwnSearch (A.is_own asker.old) search.old }
+    requires node { A.is_own asker.old node }
+    ensures within { OnOk result (search.new.asked ≤ budget) }
+    ensures own { OnOk result (IsOwnSearch (A.is_own asker.new) search.new) }
+    ensures same { KeepsStarts (A.is_own asker.old) (A.is_own asker.new) (A.starts asker.old) (A.starts asker.new) }
+{
+    let begins = asker.begins(node);
+    if is_shown(alloc, asker, search, node, begins)? {
+        search.at = None;
+        return Ok(None);
+    }
+    match asker.follow(node)? {
+        Turn::Ask { lit, yes, no } => {
+            if search.asked == budget {
+                return Ok(Some(Ending::Spent));
+            }
+            search.begin_level(alloc, node, begins)?;
+            search.ask(lit, yes, no)?;
+            Ok(None)
+        }
+        Turn::Holds => {
+            search.at = None;
+            Ok(None)
+        }
+        Turn::Fails(_) => Ok(fail(search)?),
+    }
+}
+
+/// Opens the innermost part that waits, if some integers lead there.
+fn go_on<N: Copy>(search: &mut Search<N>) -> Result<(), NoMemory>
+    ensures { OnOk result (OpensPart search.old search.new) }
+{
+    let Some(part) = search.waiting.pop() else {
+        return Ok(());
+    };
+    if search.answer(part.answers, part.answer)? {
+        search.at = Some(part.node);
+        return Ok(());
+    }
+    Ok(())
+}
+
+/// Goes on where the open place was closed: to the next part that waits within the innermost level, if some integers
+/// lead there. A level in which none waits has shown its lemma.
+#[tactic(auto, using(crate::proofs::Owning::keeping))]
+fn close<A: Finder>(asker: &mut A, search: &mut Search<A::Node>) -> Result<Option<Ending>, NoMemory>
+    requires { IsOwnSearch (A.is_own asker.old) search.old }
+    ensures asked { OnOk result (search.new.asked ≡ search.old.asked) }
+    ensures own { OnOk result (IsOwnSearch (A.is_own asker.new) search.new) }
+    ensures same { KeepsStarts (A.is_own asker.old) (A.is_own asker.new) (A.starts asker.old) (A.starts asker.new) }
+{
+    if search.waiting.len() > waiting_before(&search.levels) {
+        go_on(search)?;
+        return Ok(None);
+    }
+    match search.levels.pop() {
+        None => Ok(Some(Ending::Shown)),
+        Some(level) => {
+            let number = asker.number(level.node)?;
+            search.answers.truncate(level.answers);
+            let lemma = Lemma {
+                node: level.node,
+                literals: List::from_vec(level.literals),
+            };
+            search.lemmas.add(number, lemma)?;
+            Ok(None)
+        }
+    }
+}
+
+/// Takes a turn.
+#[tactic(auto, using(crate::proofs::Owning::keeping))]
+#[inline(always)]
+pub(crate) fn step<A: Finder>(
+    alloc: Global,
+    asker: &mut A,
+    search: &mut Search<A::Node>,
+    budget: u64,
+) -> Result<Option<Ending>, NoMemory>
+    requires within { search.old.asked ≤ budget }
+    requires own { IsOwnSearch (A.is_own asker.old) search.old }
+    ensures within { OnOk result (search.new.asked ≤ budget) }
+    ensures own { OnOk result (IsOwnSearch (A.is_own asker.new) search.new) }
+    ensures same { KeepsStarts (A.is_own asker.old) (A.is_own asker.new) (A.starts asker.old) (A.starts asker.new) }
+{
+    match search.at {
+        Some(node) => Ok(arrive(alloc, asker, search, node, budget)?),
+        None => Ok(close(asker, search)?),
+    }
+}
