@@ -1,0 +1,18 @@
+use Rattle.std.proofs.Common.{◌∙◌}
+use Rattle.proof_writer.proofs.Walking.{others_closed, others_kept}
+use Rattle.proof_writer.proofs.walk.Walk.cite.Goals as goal
+
+pub returns-then-not-branch-clause-nodes : goal.returns-then-not-branch-clause-nodes
+returns-then-not-branch-clause-nodes g c =
+    others_kept c.args.self.now c.put_cycles.new.self c.in_ok-put_cycles.ensures.present c.in_ok-put_cycles.ensures.waiting
+
+pub returns-then-not-branch-2-clause-nodes : goal.returns-then-not-branch-2-clause-nodes
+returns-then-not-branch-2-clause-nodes g c =
+    others_kept c.args.self.now c.put_cycles-2.new.self
+    (c.in_ok-put_cycles-2.ensures.present ∙ c.in_ok-put_cycles.ensures.present)
+    (c.in_ok-put_cycles-2.ensures.waiting ∙ c.in_ok-put_cycles.ensures.waiting)
+
+pub returns-clause-nodes : goal.returns-clause-nodes
+returns-clause-nodes g c =
+    others_closed c.args.self.now c.put_cycles-2.new.self.waiting.items
+    (c.in_ok-put_cycles-2.ensures.waiting ∙ c.in_ok-put_cycles.ensures.waiting)

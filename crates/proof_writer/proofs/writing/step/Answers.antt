@@ -1,0 +1,26 @@
+use Rattle.proof_search.proofs.Keeping.{KeepsStarts-trans}
+use Rattle.proof_writer.proofs.Extending.{Extends-trans}
+use Rattle.proof_writer.proofs.Walking.{own_others, present_own}
+use Rattle.proof_writer.proofs.writing.step.Goals as goal
+
+pub use_lemma-requires-clause-here : goal.use_lemma-requires-clause-here
+use_lemma-requires-clause-here g c =
+    present_own (g.A.Asker.is_own c.args.asker.now) c.args.walk.now c.in-Some.place c.in-Some.is c.requires.nodes
+
+pub follow-requires-clause-here : goal.follow-requires-clause-here
+follow-requires-clause-here g c =
+    (c.use_lemma.ensures.same.own c.in-Some.place.node).0
+    (present_own (g.A.Asker.is_own c.args.asker.now) c.args.walk.now c.in-Some.place c.in-Some.is c.requires.nodes)
+
+pub returns-in_default-clause-nodes : goal.returns-in_default-clause-nodes
+returns-in_default-clause-nodes g c =
+    own_others c.args.walk.now c.next.new.self (g.A.Asker.is_own c.args.asker.now) c.requires.nodes
+    c.in_ok-next.ensures.nodes
+
+pub returns-clause-front : goal.returns-clause-front
+returns-clause-front g c =
+    Extends-trans c.args.out.now.items c.use_lemma.new.out.items c.follow.new.out.items c.use_lemma.ensures.front
+    c.follow.ensures.front
+
+pub returns-clause-same : goal.returns-clause-same
+returns-clause-same g c = KeepsStarts-trans c.use_lemma.ensures.same c.follow.ensures.same

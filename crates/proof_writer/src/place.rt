@@ -1,0 +1,37 @@
+//! The places of a tree that is being written.
+use ask_core::Picks;
+
+/// A place of a plan at which a tree is to be written: its node, how many literals its list has, and whether a lemma
+/// was just begun here.
+#[derive(Clone, Copy)]
+pub struct Place<N> {
+    pub node: N,
+    pub length: u32,
+    pub begun: bool,
+}
+
+/// What waits behind the present place.
+#[derive(Drop)]
+pub enum Waiting<N: Copy> {
+    /// A place. Its facts stand with those of the other places that wait.
+    Part(Place<N>),
+
+    /// The cycle of a part that no integers lead to.
+    Cycle(Picks),
+
+    /// No token: the tree of the lemma at this place of the list has ended.
+    Learn(usize),
+}
+
+/// What a step of the writer came to.
+#[derive(Clone, Copy, Debug, PartialEq, Eq)]
+pub enum Step {
+    /// More is to be written.
+    More,
+
+    /// The tree came to its end.
+    Done,
+
+    /// An end that fails, too many questions, or a literal that does not follow.
+    Stuck,
+}

@@ -1,0 +1,257 @@
+//! The walk of a writer: the places that are still to be written, and which lemmas are.
+ghost use Rattle.std.specs.Prelude.{◌≡◌, ◌≤◌, OnOk, IfOk, length};
+ghost use Rattle.proof_trees.specs.declared.limits.TheConstants.{MAX_LITERALS};
+ghost use Rattle.proof_writer.specs.Nodes.{HasNode, HasNoOthers, HasOneMore, HasParts};
+ghost use Rattle.proof_writer.specs.Texts.{Extends};
+
+use crate::place::{Place, Step, Waiting};
+use crate::token::{cycle_of, literals_of, put};
+use crate::written::{Numbers, Unbegun};
+use ask_core::NoMemory;
+use diff_graph::{Lit, negate};
+use proof_search::{Facts, Lemmas, ServingLemma};
+use proof_trees::{Literals, ProofTok};
+use std::alloc::Global;
+
+/// A walk under way. The literals at the present place give `facts`, each under its place in the list there; those of
+/// the places that wait give `behind`, the next one's last. `cycle` is where the numbers of a cycle are put.
+#[derive(Drop)]
+pub struct Walk<N: Copy> {
+    pub present: Option<Place<N>>,
+    pub waiting: Vec<Waiting<N>>,
+    pub facts: Facts,
+    pub behind: Vec<Facts>,
+    pub numbers: Numbers,
+    pub unbegun: Unbegun,
+    pub left: u64,
+    pub cycle: Vec<u32>,
+}
+
+impl<N: Copy> Walk<N> {
+    /// A walk of at most so many questions from a node, with so many lemmas.
+    pub fn begin(
+        alloc: Global,
+        first: N,
+        lemmas: usize,
+        questions: u64,
+    ) -> Result<Walk<N>, NoMemory>
+        ensures { IfOk result (λ w. (n : N) → HasNode n w → first ≡ n) }
+    {
+        Ok(Walk {
+            present: Some(Place {
+                node: first,
+                length: 0,
+                begun: false,
+            }),
+            waiting: Vec::new(alloc),
+            facts: Facts::new(),
+            behind: Vec::new(alloc),
+            numbers: Numbers::new(alloc, lemmas)?,
+            unbegun: Unbegun::new(alloc, lemmas)?,
+            left: questions,
+            cycle: Vec::new(alloc),
+        })
+    }
+
+    /// Goes on with what waits, where no place is present.
+    pub fn next(&mut self, out: &mut Vec<u8>) -> Result<Step, NoMemory>
+        ensures front { Extends out.old.items out.new.items }
+        ensures nodes { OnOk result (HasNoOthers self.old self.new) }
+    {
+        match self.waiting.pop() {
+            None => Ok(Step::Done),
+            Some(Waiting::Cycle(picks)) => {
+                put(&ProofTok::Cycle(picks), out)?;
+                Ok(Step::More)
+            }
+            Some(Waiting::Learn(place)) => {
+                self.numbers.end(place);
+                Ok(Step::More)
+            }
+            Some(Waiting::Part(place)) => {
+                let Some(facts) = self.behind.pop() else {
+                    return Ok(Step::Stuck);
+                };
+                self.facts = facts;
+                self.present = Some(place);
+                Ok(Step::More)
+            }
+        }
+    }
+
+    /// Writes that the plan holds at the present place.
+    pub fn hold(&mut self, out: &mut Vec<u8>) -> Result<Step, NoMemory>
+        ensures front { Extends out.old.items out.new.items }
+        ensures nodes { OnOk result (HasNoOthers self.old self.new) }
+    {
+        put(&ProofTok::Holds, out)?;
+        self.present = None;
+        Ok(Step::More)
+    }
+
+    /// Writes a question at the present place, whose list has so many literals.
+    pub fn ask(
+        &mut self,
+        alloc: Global,
+        number: u32,
+        lit: Lit,
+        yes: N,
+        no: N,
+        out: &mut Vec<u8>,
+    ) -> Result<Step, NoMemory>
+        ensures front { Extends out.old.items out.new.items }
+        ensures nodes { OnOk result (HasParts yes no self.old self.new) }
+    {
+        if self.left == 0 {
+            return Ok(Step::Stuck);
+        }
+        self.left -= 1;
+        put(&ProofTok::Ask, out)?;
+        let on_yes = part(yes, number);
+        let on_no = part(no, number);
+        let negation = negate(lit);
+
+        // Where one answer is excluded, the other one follows and adds nothing to the facts.
+        if self.facts.write_why_excluded(&mut self.cycle, lit, number)? {
+            put(&ProofTok::Cycle(cycle_of(alloc, &self.cycle)), out)?;
+            self.present = Some(on_no);
+            return Ok(Step::More);
+        }
+        if self
+            .facts
+            .write_why_excluded(&mut self.cycle, negation, number)?
+        {
+            self.waiting
+                .push(Waiting::Cycle(cycle_of(alloc, &self.cycle)))?;
+            self.present = Some(on_yes);
+            return Ok(Step::More);
+        }
+        self.split(lit, number)?;
+        self.waiting.push(Waiting::Part(on_no))?;
+        self.present = Some(on_yes);
+        Ok(Step::More)
+    }
+
+    // The facts of both answers: those of yes are next, and those of no wait.
+    fn split(&mut self, lit: Lit, number: u32) -> Result<(), NoMemory>
+        ensures present { OnOk result (self.new.present ≡ self.old.present) }
+        ensures waiting { OnOk result (self.new.waiting.items ≡ self.old.waiting.items) }
+    {
+        let mut of_no = self.facts;
+        of_no.try_add(negate(lit), number);
+        self.facts.try_add(lit, number);
+        self.behind.push(of_no)?;
+        Ok(())
+    }
+
+    /// Begins the lemma at a place of the list, at the present place: its tree is next, and the place waits.
+    pub fn learn(
+        &mut self,
+        lemmas: &Lemmas<N>,
+        lemma: usize,
+        at: Place<N>,
+        out: &mut Vec<u8>,
+    ) -> Result<Step, NoMemory>
+        ensures front { Extends out.old.items out.new.items }
+        ensures nodes { OnOk result (HasOneMore at.node self.old self.new) }
+    {
+        let Some(literals) = literals_at(lemmas, lemma) else {
+            return Ok(Step::Stuck);
+        };
+        let facts = facts_of(literals.as_slice());
+        let length = literals.as_slice().len() as u32;
+        put(&ProofTok::Lemma(literals), out)?;
+        self.unbegun.begin(lemma);
+        self.behind.push(self.facts)?;
+        self.waiting.push(Waiting::Part(at))?;
+        self.waiting.push(Waiting::Learn(lemma))?;
+        self.facts = facts;
+        self.present = Some(Place {
+            node: at.node,
+            length,
+            begun: true,
+        });
+        Ok(Step::More)
+    }
+
+    /// Cites a lemma that is written and serves at the present place, whose list has so many literals: a cycle for
+    /// each literal of the lemma and for each condition.
+    pub fn cite(
+        &mut self,
+        alloc: Global,
+        lemmas: &Lemmas<N>,
+        found: &ServingLemma,
+        length: u32,
+        out: &mut Vec<u8>,
+    ) -> Result<Step, NoMemory>
+        ensures front { Extends out.old.items out.new.items }
+        ensures nodes { OnOk result (HasNoOthers self.old self.new) }
+    {
+        let Some(number) = self.numbers.number(found.place) else {
+            return Ok(Step::Stuck);
+        };
+        let Some(lemma) = lemmas.get(found.place) else {
+            return Ok(Step::Stuck);
+        };
+        put(&ProofTok::Cite(number), out)?;
+        if !self.put_cycles(alloc, lemma.literals.as_slice(), length, out)? {
+            return Ok(Step::Stuck);
+        }
+        if !self.put_cycles(alloc, found.conditions.as_slice(), length, out)? {
+            return Ok(Step::Stuck);
+        }
+        self.present = None;
+        Ok(Step::More)
+    }
+
+    // Writes for each literal the cycle that shows that it follows, where it does.
+    fn put_cycles(
+        &mut self,
+        alloc: Global,
+        literals: &[Lit],
+        number: u32,
+        out: &mut Vec<u8>,
+    ) -> Result<bool, NoMemory>
+        ensures front { Extends out.old.items out.new.items }
+        ensures present { OnOk result (self.new.present ≡ self.old.present) }
+        ensures waiting { OnOk result (self.new.waiting.items ≡ self.old.waiting.items) }
+    {
+        'literals: for literal in literals {
+            if !self
+                .facts
+                .write_why_excluded(&mut self.cycle, negate(*literal), number)?
+            {
+                return Ok(false);
+            }
+            put(&ProofTok::Cycle(cycle_of(alloc, &self.cycle)), out)?;
+        }
+        Ok(true)
+    }
+}
+
+// The literals of the lemma at a place of the list, if it has few enough.
+fn literals_at<N: Copy>(lemmas: &Lemmas<N>, place: usize) -> Option<Literals> {
+    literals_of(lemmas.get(place)?.literals.as_slice())
+}
+
+// A part of a question, at a place whose list has so many literals.
+fn part<N: Copy>(node: N, number: u32) -> Place<N>
+    ensures { result.node ≡ node }
+{
+    Place {
+        node,
+        length: number.saturating_add(1),
+        begun: false,
+    }
+}
+
+// What the literals of a lemma give, each under its place.
+fn facts_of(literals: &[Lit]) -> Facts
+    requires { length literals.now ≤ MAX_LITERALS }
+{
+    let mut facts = Facts::new();
+    for place in 0..literals.len() {
+        facts.try_add(literals[place], place as u32);
+    }
+    facts
+}
