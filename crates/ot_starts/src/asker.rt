@@ -1,20 +1,21 @@
 //! The asker of one obligation, with its starts.
-ghost use Rattle.std.specs.Prelude.{◌≡◌, IsTrue, IfOk};
+ghost use Rattle.std.specs.Prelude.{◌≡◌, IsTrue, IfOk, IfSome, option_map};
 ghost use Rattle.fn_rules.specs.Obligations.{is_obligation};
 ghost use Rattle.fn_rules.specs.Rules.{function_of};
 ghost use Rattle.ask_core.specs.Askers.{Begins};
-ghost use Rattle.proof_trees.specs.Starts.{IsLawful};
+ghost use Rattle.proof_trees.specs.Starts.{IsLawful, start_of};
 ghost use Rattle.proof_trees.specs.Starters.{BeginsAt};
 ghost use Rattle.ot_questions.specs.Names as names;
 ghost use Rattle.ot_questions.specs.Obligation.{plan_of};
 ghost use Rattle.ot_terms.specs.Goals.{goal_tree};
 ghost use Rattle.ot_terms.specs.Standing.{ask_goal};
+ghost use Rattle.start_laws.specs.Begun.{IsBegun, start_after};
 ghost use Rattle.start_laws.specs.Starts.{compare_starts, meaning};
 ghost use Rattle.marked_goals.specs.Marking.{marked_goal};
 ghost use Rattle.ot_starts.specs.Nodes.{IsStop, starts_of};
 
 use crate::begun::Begun;
-use crate::fronts::{compared, is_begun};
+use crate::fronts::{compared, is_begun, start_at};
 use crate::laid::Laid;
 use ask_core::{Asker, NoMemory, Turn};
 use bumpalo::Bump;
@@ -24,7 +25,7 @@ use marked_goals::{marked_plans_are_plans, rules_keep_starts};
 use ot_terms::{Goal, Why};
 use plain_list::List;
 use proof_trees::Starter;
-use start_laws::starts_have_one_value;
+use start_laws::{StartAt, starts_have_one_value};
 use std::alloc::Global;
 
 /// What an obligation of a function asks, with a start wherever a transformation begins. Its nodes are goals in an
@@ -50,6 +51,17 @@ impl<'a> StartAsker<'a> {
             laid: Laid::new(bump, rules),
             ob,
         }
+    }
+
+    /// The start at a node, if a transformation begins there.
+    pub fn start_at(&self, node: &'a Goal<'a>) -> Option<StartAt<'a>>
+        requires { ⟦<StartAsker<'a> as Asker>⟧.is_own self.now node }
+        ensures start { option_map (λ s. start_after s.plan.now s.last) result
+            ≡ start_of ((⟦<StartAsker<'a> as Starter>⟧.starts self.now).marked node) }
+        ensures begun { IfSome result (λ s. IsBegun s.plan.now s.last) }
+    {
+        rules_keep_starts();
+        start_at(node)
     }
 
     // How the plan of a node begins, with its starts and without them.

@@ -62,7 +62,8 @@ fn are_same_ops(left: &[SymOp], right: &[SymOp]) -> bool
     }
 }
 
-fn still_read(ob: ObName, got: &[SymOp]) -> &[SymOp]
+/// The results of an obligation that are read from here on.
+pub fn still_read(ob: ObName, got: &[SymOp]) -> &[SymOp]
     ensures { result.now ≡ starts.still_read ob got.now }
 {
     match ob {

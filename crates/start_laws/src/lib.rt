@@ -13,6 +13,6 @@ mod comparing;
 mod laws;
 mod start;
 
-pub use comparing::compare;
+pub use comparing::{compare, still_read};
 pub use laws::{results_stay_near, starts_have_one_value};
-pub use start::StartAt;
+pub use start::{Results, StartAt};

@@ -1,8 +1,9 @@
 //! A start in memory.
-ghost use Rattle.std.specs.Prelude.{◌≡◌, ◌≤◌, take};
+ghost use Rattle.std.specs.Prelude.{◌≡◌};
 ghost use Rattle.start_laws.specs.Begun.{IsBegun, start_after};
 
 use ot_terms::{Progress, SymOp};
+use std::marker::Model;
 
 /// A start: how far the transformations of an obligation have come, and the result that was delivered after that, if
 /// one was.
@@ -14,18 +15,29 @@ pub struct StartAt<'a> {
     pub last: Option<SymOp>,
 }
 
-// The results before a start.
+/// The results before a start. They stand in place, so that no call takes memory.
 #[derive(Drop)]
-pub(crate) struct Results {
+pub struct Results {
     got: [SymOp; 6],
     count: usize,
-    ghost few: { count ≤ 6 },
+}
+
+impl Model for Results {
+    ghost use Rattle.std.specs.Prelude.{◌≤◌, List, take};
+    ghost use Rattle.ot_questions.specs.declared.place.SymOp.{SymOp};
+
+    ghost Value = { List SymOp };
+
+    ghost view = { λ r. take r.count r.got };
+
+    ghost invariant = { λ r. r.count ≤ 6 };
 }
 
 impl StartAt<'_> {
-    pub(crate) fn results(&self) -> Results
+    /// The results before the start, with the one that was delivered.
+    pub fn results(&self) -> Results
         requires { IsBegun self.now.plan.now self.now.last }
-        ensures { take result.count result.got ≡ (start_after self.now.plan.now self.now.last).got }
+        ensures { result ≡ (start_after self.now.plan.now self.now.last).got }
     {
         let mut got = self.plan.got;
         let count = self.plan.count as usize;
@@ -41,8 +53,9 @@ impl StartAt<'_> {
 }
 
 impl Results {
-    pub(crate) fn as_slice(&self) -> &[SymOp]
-        ensures { result.now ≡ take self.now.count self.now.got }
+    /// The results, in their order.
+    pub fn as_slice(&self) -> &[SymOp]
+        ensures { result.now ≡ self.now }
     {
         &self.got[..self.count]
     }
