@@ -1,0 +1,10 @@
+-- What it is to lead to an end of a plan that fails.
+use Rattle.std.specs.Prelude.{List}
+use Rattle.diff_graph.specs.Literals.{IsPossible}
+use Rattle.ask_core.specs.Plans.{Plan, Fails}
+use Rattle.ot_prove.specs.declared.outcome.Answer.{Answer}
+use Rattle.ot_prove.specs.Outcomes.{answered_by, AreAnswersTo}
+
+-- the answers lead through the plan to an end that fails with the cause, and some integers meet them
+abbrev pub LeadTo : {W : Type 0} → Plan W → List Answer → W → Type 0
+LeadTo p answers why = AreAnswersTo p answers (Fails why) × IsPossible (answered_by answers)

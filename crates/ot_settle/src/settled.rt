@@ -1,0 +1,29 @@
+//! What a search for a proof with lemmas comes to.
+use fn_rules::ObName;
+use ot_prove::Answer;
+use ot_questions::Why;
+
+/// The most bytes of the text of a proof.
+pub const MAX_BYTES: usize = 83_886_080;
+
+/// What the obligations of a function at a level come to.
+#[derive(Debug, Drop)]
+pub enum Settled {
+    /// All hold: the bytes of a proof, which was judged.
+    Yes(Vec<u8>),
+
+    /// One of them fails, after answers that some integers meet. Where it is a triple, the pairs hold.
+    No {
+        /// The obligation that fails.
+        ob: ObName,
+
+        /// The answers that lead to a failing end of it.
+        answers: Vec<Answer>,
+
+        /// How it fails there.
+        why: Why,
+    },
+
+    /// Nothing is said: the budget was spent, or the text of the proof had no room.
+    Spent,
+}
