@@ -55,9 +55,9 @@ impl<'a> StartAsker<'a> {
 
     /// The start at a node, if a transformation begins there.
     pub fn start_at(&self, node: &'a Goal<'a>) -> Option<StartAt<'a>>
-        requires { ⟦<StartAsker<'a> as Asker>⟧.is_own self.now node }
+        requires { IsStop (function_of self.now.laid) self.now.ob (goal_tree node.now) }
         ensures start { option_map (λ s. start_after s.plan.now s.last) result
-            ≡ start_of ((⟦<StartAsker<'a> as Starter>⟧.starts self.now).marked node) }
+            ≡ start_of (marked_goal (function_of self.now.laid) (goal_tree node.now)) }
         ensures begun { IfSome result (λ s. IsBegun s.plan.now s.last) }
     {
         rules_keep_starts();
