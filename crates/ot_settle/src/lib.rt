@@ -5,8 +5,16 @@
 //! failing end are walked once more, by integers that meet them.
 #![tactic(auto)]
 
+mod ended;
+mod ending;
+mod finding;
+mod judging;
+mod numbers;
+mod planning;
+mod searching;
 mod settled;
 mod settling;
+mod text;
 
 pub use ask_core::NoMemory;
 pub use settled::{MAX_BYTES, Settled};

@@ -1,0 +1,2 @@
+mod FirstFailing
+mod Walks

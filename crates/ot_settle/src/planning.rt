@@ -1,0 +1,58 @@
+//! The search of one plan, by any asker that numbers its starts.
+ghost use Rattle.std.specs.Prelude.{◌≤◌, IfOk};
+ghost use Rattle.proof_search.specs.Owning.{AreOwn};
+ghost use Rattle.ot_settle.specs.Searching.{EndsBy, IsFailingEnd};
+
+use crate::ended::{Ended, Searched};
+use crate::ending::{FailingEnd, failing_end};
+use crate::settled::MAX_BYTES;
+use ask_core::NoMemory;
+use proof_search::{Finder, Lemmas, Seeking, Sought, search};
+use proof_writer::write_tree;
+use std::alloc::Global;
+
+// What the outcome of the search of an asker's plan comes to, once its tree is written or its answers are walked.
+fn end_of<A: Finder>(
+    alloc: Global,
+    asker: &mut A,
+    outcome: Seeking,
+    lemmas: &Lemmas<A::Node>,
+    questions: u64,
+    bytes: &mut Vec<u8>,
+) -> Result<Ended<FailingEnd<A::Why>>, NoMemory>
+    requires own { AreOwn (A.is_own asker.old) lemmas.now }
+    ensures { IfOk result (EndsBy (IsFailingEnd (A.root asker.old))) }
+{
+    match outcome {
+        Seeking::Shown => {
+            if write_tree(alloc, asker, lemmas, questions, MAX_BYTES, bytes)? {
+                return Ok(Ended::Shown);
+            }
+            Ok(Ended::Spent)
+        }
+        Seeking::Failing(answers) => match failing_end(alloc, asker, &answers)? {
+            Some(end) => Ok(Ended::Fails(end)),
+            None => Ok(Ended::Spent),
+        },
+        Seeking::Spent => Ok(Ended::Spent),
+    }
+}
+
+/// Searches an asker's plan by at most `budget` questions, and appends a tree that shows it.
+pub(crate) fn search_plan<A: Finder>(
+    alloc: Global,
+    asker: &mut A,
+    budget: u64,
+    bytes: &mut Vec<u8>,
+) -> Result<Searched<FailingEnd<A::Why>>, NoMemory>
+    ensures ended { IfOk result (λ r. EndsBy (IsFailingEnd (A.root asker.old)) r.ended) }
+    ensures within { IfOk result (λ r. r.asked ≤ budget) }
+{
+    let Sought {
+        outcome,
+        lemmas,
+        asked,
+    } = search(alloc, asker, budget)?;
+    let ended = end_of(alloc, asker, outcome, &lemmas, budget, bytes)?;
+    Ok(Searched { ended, asked })
+}
