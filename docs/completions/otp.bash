@@ -1,6 +1,6 @@
 # Completions of otp for bash: source this file.
 _otp() {
-    local commands="prove check least bound confirm audit same reverse integrate replay hub drill"
+    local commands="prove settle check least bound confirm audit same reverse integrate replay hub drill"
     local word=${COMP_WORDS[COMP_CWORD]} command=${COMP_WORDS[1]} ending=
     COMPREPLY=()
     if [ "$COMP_CWORD" -eq 1 ]; then
@@ -8,7 +8,7 @@ _otp() {
         return
     fi
     case $command:$word in
-        prove:-*) COMPREPLY=($(compgen -W "--tp1 --budget" -- "$word")); return ;;
+        prove:-*|settle:-*) COMPREPLY=($(compgen -W "--tp1 --budget" -- "$word")); return ;;
         least:-*) COMPREPLY=($(compgen -W "--cert" -- "$word")); return ;;
         drill:*) COMPREPLY=($(compgen -W "$(seq 16)" -- "$word")); return ;;
     esac

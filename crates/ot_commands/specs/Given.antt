@@ -5,8 +5,8 @@ use Rattle.ot_outside.specs.Reads.{Reads, after_reading}
 use Rattle.fn_rules.specs.Functions.{Function}
 use Rattle.ot_replies.specs.declared.reply.Reply.{Reply}
 use Rattle.ot_replies.specs.declared.reply.Subject.TheVariants.{First}
-use Rattle.ot_words.specs.Commands.{Asked, Prove, Check, Integrate, Replay, Hub, Audit, Same, Reverse, Least, Bound}
-use Rattle.ot_words.specs.Commands.{Confirm, Drill}
+use Rattle.ot_words.specs.Commands.{Asked, Prove, Settle, Check, Integrate, Replay, Hub, Audit, Same, Reverse, Least}
+use Rattle.ot_words.specs.Commands.{Bound, Confirm, Drill}
 use Rattle.ot_words.specs.Words.{asked_by}
 use Rattle.ot_commands.specs.Replies.{IsReply, IsReplyTo, IsReplyToFunction}
 use Rattle.ot_commands.specs.Steady.{AreSteady, IsSteadyReply}
@@ -35,6 +35,7 @@ HaveRead old new first second =
 -- a command has opened its files in their order, each once, the second one only behind the function's
 abbrev pub HasRead : Reads → Reads → Asked → Type 0
 HasRead old new (Prove level budget function) = new ≡ after_reading function new.bytes old
+HasRead old new (Settle level budget function) = new ≡ after_reading function new.bytes old
 HasRead old new (Check function certificate) = HaveRead old new function certificate
 HasRead old new (Integrate function case) = HaveRead old new function case
 HasRead old new (Replay function session) = HaveRead old new function session
@@ -64,6 +65,7 @@ IsReplyOfBoth old new first second Gets r =
 -- of the files of a command `holds` tells nothing but the bytes that were given
 abbrev pub TellsGiven : Reads → Reads → (List ℕ → Option (List ℕ)) → Asked → Type 0
 TellsGiven old new holds (Prove level budget function) = ForSome (holds function) (IsReadFirst old new function)
+TellsGiven old new holds (Settle level budget function) = ForSome (holds function) (IsReadFirst old new function)
 TellsGiven old new holds (Check function certificate) = TellBoth old new holds function certificate
 TellsGiven old new holds (Integrate function case) = TellBoth old new holds function case
 TellsGiven old new holds (Replay function session) = TellBoth old new holds function session

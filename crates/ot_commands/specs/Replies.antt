@@ -18,8 +18,8 @@ use Rattle.ot_replies.specs.declared.reply.Reply.{Reply}
 use Rattle.ot_replies.specs.declared.reply.Reply.TheVariants.{FunctionRefused, CaseRefused, Integrated, Usage}
 use Rattle.ot_replies.specs.declared.reply.Subject.{Subject}
 use Rattle.ot_replies.specs.declared.reply.Subject.TheVariants.{First, Second}
-use Rattle.ot_words.specs.Commands.{Asked, Prove, Check, Integrate, Replay, Hub, Audit, Same, Reverse, Least, Bound}
-use Rattle.ot_words.specs.Commands.{Confirm, Drill}
+use Rattle.ot_words.specs.Commands.{Asked, Prove, Settle, Check, Integrate, Replay, Hub, Audit, Same, Reverse, Least}
+use Rattle.ot_words.specs.Commands.{Bound, Confirm, Drill}
 use Rattle.ot_commands.specs.Audits.{IsReplyToAudit, IsReplyToTwo}
 use Rattle.ot_commands.specs.Confirmations.{IsReplyToConfirmed}
 use Rattle.ot_commands.specs.Drills.{IsReplyToDrill}
@@ -29,7 +29,7 @@ use Rattle.ot_replies.specs.Limits.{limit_of, IsTooLong}
 use Rattle.ot_commands.specs.Reversals.{IsReplyToReversal}
 use Rattle.ot_commands.specs.Sessions.{IsReplyToSession}
 use Rattle.ot_commands.specs.Shortest.{IsReplyToLeast}
-use Rattle.ot_commands.specs.Verdicts.{IsReplyToProof}
+use Rattle.ot_commands.specs.Verdicts.{IsReplyToProof, IsReplyToSettle}
 use Rattle.ot_words.specs.Words.{asked_by}
 
 -- In what follows `told` is what a file holds, where the shelf tells it.
@@ -102,6 +102,8 @@ IsReplyToReverser f told r = IsReplyToFunction Second told (λ e. IsReplyToRever
 abbrev pub IsReplyTo : (List ℕ → Option (List ℕ)) → Asked → Reply → Type 0
 IsReplyTo holds (Prove level budget function) r =
     IsReplyToFunction First (holds function) (λ f. IsReplyToProof f level budget r) r
+IsReplyTo holds (Settle level budget function) r =
+    IsReplyToFunction First (holds function) (λ f. IsReplyToSettle f level r) r
 IsReplyTo holds (Check function certificate) r =
     IsReplyToFunction First (holds function) (λ f. IsReplyToChecked f (holds certificate) r) r
 IsReplyTo holds (Integrate function case) r =
@@ -136,6 +138,7 @@ GoesOn told = ForSome told (λ contents. (length contents ≤ limit_of files.Fun
 -- the names that a command opens are on offer: its first, and each other one where it goes on to it
 abbrev pub AreOffered : (List ℕ → Option (List ℕ)) → (List ℕ → Type 0) → Asked → Type 0
 AreOffered holds Offered (Prove level budget function) = Offered function
+AreOffered holds Offered (Settle level budget function) = Offered function
 AreOffered holds Offered (Check function certificate) = Offered function
     × (GoesOn (holds function) → Offered certificate)
 AreOffered holds Offered (Integrate function case) = Offered function × (GoesOn (holds function) → Offered case)

@@ -1,12 +1,18 @@
 -- Which reply a function gets that is to be proved: a certificate, a counterexample, or that its questions are too
--- many.
-use Rattle.std.specs.Prelude.{◌≡◌, ℕ, ◌≤◌}
+-- many; and which one that is to be settled: a proof with lemmas, a counterexample, or that nothing is said.
+use Rattle.std.specs.Prelude.{◌≡◌, ℕ, ◌≤◌, List}
 use Rattle.fn_rules.specs.declared.function.Level.{Level}
+use Rattle.fn_rules.specs.declared.function.ObName.{ObName}
 use Rattle.fn_rules.specs.Functions.{Function}
+use Rattle.ot_prove.specs.declared.outcome.Answer.{Answer}
 use Rattle.ot_prove.specs.Outcomes.{answered_by}
+use Rattle.ot_questions.specs.declared.why.Why.{Why}
 use Rattle.ot_decide.specs.declared.verdict.Verdict.{Verdict}
 use Rattle.ot_decide.specs.declared.verdict.Verdict.TheVariants as verdicts
 use Rattle.ot_decide.specs.Verdicts.{IsDecidedAs, IsWithin}
+use Rattle.ot_settle.specs.declared.settled.Settled.{Settled}
+use Rattle.ot_settle.specs.declared.settled.Settled.TheVariants as outcomes
+use Rattle.ot_settle.specs.Outcomes.{IsSettled}
 use Rattle.ot_counter.specs.declared.counter.Counter.{Counter}
 use Rattle.ot_counter.specs.Counters.{IsCounter}
 use Rattle.ot_replies.specs.declared.reply.FileKind.TheVariants as files
@@ -15,12 +21,15 @@ use Rattle.ot_replies.specs.declared.reply.Reply.TheVariants.{Proved, Broken, Sp
 use Rattle.ot_replies.specs.Limits.{limit_of}
 use Rattle.ot_words.specs.Words.{most_questions}
 
--- the reply tells the verdict: the bytes of the certificate, or the counterexample of the answers that lead to the
--- first failing end
+-- the reply tells the counterexample of the answers that lead to a failing end
+abbrev pub TellsCounter : Function → ObName → List Answer → Why → Reply → Type 0
+TellsCounter f ob answers why r =
+    (counter : Counter) × IsCounter f ob (answered_by answers) why counter × (r ≡ Broken counter)
+
+-- the reply tells the verdict: the bytes of the certificate, or the counterexample of the first failing end
 abbrev pub TellsVerdict : Function → Verdict → Reply → Type 0
 TellsVerdict f (verdicts.Yes bytes) r = r ≡ Proved bytes.items
-TellsVerdict f (verdicts.No ob answers why) r =
-    (counter : Counter) × IsCounter f ob (answered_by answers.items) why counter × (r ≡ Broken counter)
+TellsVerdict f (verdicts.No ob answers why) r = TellsCounter f ob answers.items why r
 TellsVerdict f verdicts.Spent r = r ≡ Spent
 
 -- the reply to a function at a level, by so many questions at the most; where no more than those of the command are
@@ -31,3 +40,13 @@ IsReplyToProof f level budget r =
     × IsDecidedAs f level budget verdict
     × (budget ≤ most_questions → IsWithin (limit_of files.Certificate) verdict)
     × TellsVerdict f verdict r
+
+-- the reply tells what settling came to: the bytes of the proof, or the counterexample of a failing end
+abbrev pub TellsSettled : Function → Settled → Reply → Type 0
+TellsSettled f (outcomes.Yes bytes) r = r ≡ Proved bytes.items
+TellsSettled f (outcomes.No ob answers why) r = TellsCounter f ob answers.items why r
+TellsSettled f outcomes.Spent r = r ≡ Spent
+
+-- the reply to a function at a level that is to be settled; how many questions are allowed says nothing of it
+abbrev pub IsReplyToSettle : Function → Level → Reply → Type 0
+IsReplyToSettle f level r = (settled : Settled) × IsSettled f level settled × TellsSettled f settled r

@@ -1,6 +1,7 @@
 //! The commands: each loads its files from a shelf, judges them in their order, and gives a reply.
 //!
 //! `prove FN` writes a certificate of the function, or a counterexample, or says that the questions are too many.
+//! `settle FN` writes a proof with lemmas of the function, or a counterexample, or says that it found neither.
 //! `check FN CERT` says whether the certificate shows that the transformation function has TP1, or TP1 and
 //! TP2, and otherwise at which byte and why it is refused.
 //! `integrate FN CASE` integrates the operations of a case in each of its orders and compares the
@@ -34,3 +35,4 @@ pub mod prove;
 pub mod replay;
 pub mod reverse;
 pub mod same;
+pub mod settle;

@@ -123,13 +123,14 @@ pub struct Drilled {
 /// The reply to a command.
 #[derive(Debug, Drop)]
 pub enum Reply {
-    /// The function has the properties of the level: the bytes of a certificate.
+    /// The function has the properties of the level: the bytes of a certificate, or of a proof with lemmas.
     Proved(List<u8>),
 
     /// The function breaks one of them: where, and how.
     Broken(Counter),
 
-    /// There are more questions than the budget allows, or more forms than a session may count.
+    /// There are more questions than the budget allows, or more forms than a session may count, or a search that
+    /// settles a function found neither a proof within its budget and the limit of its file nor a counterexample.
     Spent,
 
     /// The file is a certificate of the function at this level.

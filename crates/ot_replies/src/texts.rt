@@ -175,7 +175,7 @@ fn written(alloc: Global, reply: &Reply) -> Result<Vec<u8>, NoMemory>
     Ok(text)
 }
 
-/// The text of a reply. A certificate is not copied.
+/// The text of a reply. A certificate and a proof are not copied.
 pub fn text(alloc: Global, reply: Reply) -> Result<Vec<u8>, NoMemory>
     ensures { IfOk result (λ text. text.items ≡ text_of reply) }
 {

@@ -1,7 +1,8 @@
 -- The questions of a function: there is one list of them, and it fails at one of the obligations.
 use Rattle.std.proofs.Common.{◌≡◌, List, [], ◌∷◌, ◌++◌, map, Option, Some, None, refl, sym, ap, ◌∙◌, subst}
 use Rattle.std.specs.Prelude.{MatchOption}
-use Rattle.std.specs.List.{AllByRecursion}
+use Rattle.std.specs.List.{AllByRecursion, Contains}
+use Rattle.std.proofs.lemmas.List.Elements.{All-contains, All-from_recursion}
 use Rattle.diff_graph.specs.declared.lit.Lit.{Lit}
 use Rattle.ot_model.specs.declared.op.Kind.{Kind}
 use Rattle.fn_rules.specs.declared.function.Head.{Head}
@@ -15,6 +16,29 @@ use Rattle.ask_core.specs.Questions.{FailingEnd, Questions, QuestionList}
 use Rattle.ot_decide.specs.Verdicts.{ObQuestions, FailingOb, AreAsked, failing_in}
 use Rattle.ot_counter.specs.Counters.{level_of}
 use Rattle.ot_top.specs.Shown.{IsAskedAt}
+
+-- each property is asked at level tp2, and of the obligations of level tp1 none asks TP2
+at_tp2 : (level : Level) → IsAskedAt level Tp2
+at_tp2 Tp1 = tt
+at_tp2 Tp2 = tt
+
+behind_pairs :
+    (k : Kind) (kinds : List Kind) (others : List ObName) → AllByRecursion (λ ob. IsAskedAt (level_of ob) Tp1) others
+    → AllByRecursion (λ ob. IsAskedAt (level_of ob) Tp1) (map (Pair k) kinds ++ others)
+behind_pairs k [] others h = h
+behind_pairs k (l ∷ kinds) others h = (tt, behind_pairs k kinds others h)
+
+pairs_at_tp1 : (kinds : List Kind) → AllByRecursion (λ ob. IsAskedAt (level_of ob) Tp1) (pairs_of kinds)
+pairs_at_tp1 [] = tt
+pairs_at_tp1 (k ∷ others) = behind_pairs k (k ∷ others) (pairs_of others) (pairs_at_tp1 others)
+
+-- an obligation of the level asks a property that is asked at the level
+pub listed_at : (head : Head) (level : Level) (ob : ObName) → Contains (obligations_of head level) ob → IsAskedAt (level_of ob) level
+listed_at head Tp1 ob listed =
+    let Asked : ObName → Type 0 = λ o. IsAskedAt (level_of o) Tp1 in
+    All-contains Asked (obligations_of head Tp1) ob
+    (All-from_recursion Asked (obligations_of head Tp1) (pairs_at_tp1 (declared_kinds head))) listed
+listed_at head Tp2 ob listed = at_tp2 (level_of ob)
 
 module _ {W : Type 0} (plan : ObName → Plan W) where
   -- what an obligation with these questions adds to what the others give, up to the first that fails
@@ -72,18 +96,4 @@ module _ {W : Type 0} (plan : ObName → Plan W) where
       → failing_in lists ≡ Some x → IsAskedAt (level_of x.ob) level
   asked_at head Tp1 lists x asked fails =
       failing_one (λ ob. IsAskedAt (level_of ob) Tp1) (obligations_of head Tp1) lists x (pairs_at_tp1 (declared_kinds head)) asked fails
-    where
-      behind_pairs :
-          (k : Kind) (kinds : List Kind) (others : List ObName) → AllByRecursion (λ ob. IsAskedAt (level_of ob) Tp1) others
-          → AllByRecursion (λ ob. IsAskedAt (level_of ob) Tp1) (map (Pair k) kinds ++ others)
-      behind_pairs k [] others h = h
-      behind_pairs k (l ∷ kinds) others h = (tt, behind_pairs k kinds others h)
-
-      pairs_at_tp1 : (kinds : List Kind) → AllByRecursion (λ ob. IsAskedAt (level_of ob) Tp1) (pairs_of kinds)
-      pairs_at_tp1 [] = tt
-      pairs_at_tp1 (k ∷ others) = behind_pairs k (k ∷ others) (pairs_of others) (pairs_at_tp1 others)
   asked_at head Tp2 lists x asked fails = at_tp2 (level_of x.ob)
-    where
-      at_tp2 : (level : Level) → IsAskedAt level Tp2
-      at_tp2 Tp1 = tt
-      at_tp2 Tp2 = tt

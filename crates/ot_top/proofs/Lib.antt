@@ -5,6 +5,7 @@ mod Breaking
 mod Confirmed
 mod NeverLong
 mod OneAudit
+mod OneDecision
 mod OneDrill
 mod OneFile
 mod OneHub

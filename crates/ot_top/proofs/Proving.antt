@@ -1,4 +1,4 @@
--- What the statuses of `prove` show, from its reply.
+-- What the statuses of `prove` and of `settle` show, from their replies.
 use Rattle.std.proofs.Common.{◌≡◌, ◌≢◌, ℕ, ◌<◌, ◌≤◌, true, false, List, length, Option, Some, None, Result, Ok, Err, IsTrue, refl, ap, ◌∙◌, subst, take, inl}
 use Rattle.std.proofs.Common.{inr, arith}
 use Rattle.std.specs.Prelude.{MatchOption, ℤ, nat_lt}
@@ -37,16 +37,23 @@ use Rattle.ot_replies.specs.declared.reply.FileKind.TheVariants as files
 use Rattle.ot_replies.specs.declared.reply.Reply.{Reply}
 use Rattle.ot_replies.specs.declared.reply.Subject.{Subject}
 use Rattle.ot_replies.specs.declared.reply.Subject.TheVariants.{First}
-use Rattle.ot_replies.specs.declared.reply.Reply.TheVariants.{Proved, Broken, Accepted, Usage}
-use Rattle.ot_words.specs.Commands.{Asked, Prove}
+use Rattle.ot_replies.specs.declared.reply.Reply.TheVariants.{Proved, Broken, Accepted, Confirmed, Usage}
+use Rattle.ot_words.specs.Commands.{Asked, Prove, Settle}
+use Rattle.proof_sections.specs.declared.refusal.ConfirmError.{ConfirmError}
+use Rattle.ot_confirm.specs.Judgement.{judgement_of}
+use Rattle.ot_settle.specs.declared.settled.Settled.{Settled}
+use Rattle.ot_settle.specs.declared.settled.Settled.TheVariants as outcomes
+use Rattle.ot_settle.specs.Outcomes.{HoldsBefore, IsSettled}
+use Rattle.ot_commands.specs.Confirmations.{IsReplyToConfirmed, IsReplyToJudged}
 use Rattle.ot_commands.specs.Judgements.{IsReplyToCertificate, IsReplyToChecked, IsReplyToJudgement}
 use Rattle.ot_replies.specs.Limits.{limit_of}
 use Rattle.ot_commands.specs.Replies.{IsReadAs, IsReply, IsReplyTo, IsReplyToFunction}
-use Rattle.ot_top.specs.Shown.{HasBefore, HasLevel, IsAcceptedAt, IsAskedAt, IsBroken, IsComplete, IsProved, status_by}
+use Rattle.ot_top.specs.Evidence.{Evidence, Certificate, Proof, IsAcceptedAt, IsEvidence, asks_for, file_of}
+use Rattle.ot_top.specs.Shown.{HasBefore, HasLevel, IsAskedAt, IsBroken, IsComplete, IsProved, status_by}
 use Rattle.ot_replies.specs.Texts.{status_of, text_of}
-use Rattle.ot_commands.specs.Verdicts.{IsReplyToProof, TellsVerdict}
-use Rattle.ot_words.specs.Words.{asked_by, most_questions}
-use Rattle.ot_top.proofs.Asking.{asked_at, asked_once}
+use Rattle.ot_commands.specs.Verdicts.{IsReplyToProof, IsReplyToSettle, TellsSettled, TellsVerdict}
+use Rattle.ot_words.specs.Words.{IsWithinBounds, asked_by, most_questions}
+use Rattle.ot_top.proofs.Asking.{asked_at, asked_once, listed_at}
 use Rattle.ot_top.proofs.Breaking.{IsBrokenBy, counter_breaks}
 use Rattle.ot_words.proofs.Bounds.{within_bounds}
 use Rattle.ot_prove.proofs.Leads.{literals_lead}
@@ -106,52 +113,129 @@ accepted_at :
     → IsJudgement f bytes other → one ≡ other)
     → (f : Function) → IsTrue (is_valid f) → (certificate : List ℕ) (level : Level) → IsCertificate certificate f level
     → length certificate ≤ limit_of files.Certificate → (bytes : List ℕ) → length bytes ≤ limit_of files.Function
-    → function_in bytes ≡ Ok f → IsAcceptedAt bytes certificate level
+    → function_in bytes ≡ Ok f → IsAcceptedAt Certificate bytes certificate level
 accepted_at one_judgement f valid certificate level is_one within bytes small read holds name certificate_name r told certificate_told
     reply =
     accepted_file (IsJudgement f) Accepted (λ b one other first second. one_judgement f b one other valid first second) certificate level is_one
     within (holds certificate_name) r certificate_told
     (gets (holds name) bytes f told small read First (λ g. IsReplyToChecked g (holds certificate_name) r) r reply)
 
+-- `confirm` accepts bytes that are judged to be a proof
+module _ (f : Function) (proof : List ℕ) (level : Level) (judged : judgement_of f proof ≡ Ok level)
+    (within : length proof ≤ limit_of files.Proof) where
+  confirmed_behind :
+      (told : Option (List ℕ)) (contents : List ℕ) (r : Reply) → told ≡ Some proof
+      → IsReplyToJudged told contents (Ok level) r → r ≡ Confirmed level
+  confirmed_behind told contents r is (inl h) = absurd (let longer = h.1.0 proof is in omega (arith, longer, within))
+  confirmed_behind told contents r is (inr h) = h.1
+
+  confirmed_file : (told : Option (List ℕ)) (r : Reply) → told ≡ Some proof → IsReplyToConfirmed f told r → r ≡ Confirmed level
+  confirmed_file told r is (contents, known, reply) =
+      let front : take (limit_of files.Proof) contents ≡ proof =
+      ap (λ (l : List ℕ). take (limit_of files.Proof) l) (known proof is) ∙ take_all (limit_of files.Proof) proof within in
+      let same : judgement_of f (take (limit_of files.Proof) contents) ≡ Ok level = ap (judgement_of f) front ∙ judged in
+      confirmed_behind told contents r is
+      (subst (λ (j : Result Level ConfirmError). IsReplyToJudged told contents j r) same reply)
+
+  confirmed_at : (bytes : List ℕ) → length bytes ≤ limit_of files.Function → function_in bytes ≡ Ok f → IsAcceptedAt Proof bytes proof level
+  confirmed_at bytes small read holds name proof_name r told proof_told reply =
+      confirmed_file (holds proof_name) r proof_told
+      (gets (holds name) bytes f told small read First (λ g. IsReplyToConfirmed g (holds proof_name) r) r reply)
+
 -- status 0: the verdict is yes
 proved_verdict :
-    (f : Function) (level : Level) (budget : ℕ) (r : Reply) (verdict : Verdict) → 0 ≡ status_of r → budget ≤ most_questions
+    (f : Function) (level : Level) (budget : ℕ) (r : Reply) (verdict : Verdict) → 0 ≡ status_of r
     → IsDecidedAs f level budget verdict → (budget ≤ most_questions → IsWithin (limit_of files.Certificate) verdict)
     → TellsVerdict f verdict r
-    → (certificate : List ℕ) × IsCertificate certificate f level × (length certificate ≤ limit_of files.Certificate) × (r ≡ Proved certificate)
-proved_verdict f level budget r (verdicts.Yes bytes) is few decided within tells =
+    → (certificate : List ℕ) × IsCertificate certificate f level
+    × (budget ≤ most_questions → length certificate ≤ limit_of files.Certificate) × (r ≡ Proved certificate)
+proved_verdict f level budget r (verdicts.Yes bytes) is decided within tells =
     let proof = decided.2.2 in
-    (bytes.items, (proof.trees, proof.fit, proof.text), within few, tells)
-proved_verdict f level budget r (verdicts.No ob answers why) is few decided within tells =
+    (bytes.items, (proof.trees, proof.fit, proof.text), within, tells)
+proved_verdict f level budget r (verdicts.No ob answers why) is decided within tells =
     absurd (let one : 0 ≡ 1 = is ∙ ap (λ x. status_of x) tells.2 in omega (arith, one))
-proved_verdict f level budget r verdicts.Spent is few decided within tells =
+proved_verdict f level budget r verdicts.Spent is decided within tells =
     absurd (let eight : 0 ≡ 8 = is ∙ ap (λ x. status_of x) tells in omega (arith, eight))
+
+-- status 0: a proof was found
+proved_settled :
+    (f : Function) (level : Level) (r : Reply) (settled : Settled) → 0 ≡ status_of r → IsSettled f level settled → TellsSettled f settled r
+    → (proof : List ℕ) × (judgement_of f proof ≡ Ok level) × (length proof ≤ limit_of files.Proof) × (r ≡ Proved proof)
+proved_settled f level r (outcomes.Yes bytes) is shown tells = (bytes.items, shown.judged, shown.short, tells)
+proved_settled f level r (outcomes.No ob answers why) is refuted tells =
+    absurd (let one : 0 ≡ 1 = is ∙ ap (λ x. status_of x) tells.2 in omega (arith, one))
+proved_settled f level r outcomes.Spent is said tells =
+    absurd (let eight : 0 ≡ 8 = is ∙ ap (λ x. status_of x) tells in omega (arith, eight))
+
+-- the reply that a function gets of which evidence is asked for
+abbrev pub Gets : Evidence → Function → Level → ℕ → Reply → Type 0
+Gets Certificate f level budget r = IsReplyToProof f level budget r
+Gets Proof f level budget r = IsReplyToSettle f level r
+
+pub evidence_replied :
+    (e : Evidence) (holds : List ℕ → Option (List ℕ)) (r : Reply) (level : Level) (budget : ℕ) (name : List ℕ)
+    → IsReplyTo holds (asks_for e level budget name) r → IsReplyToFunction First (holds name) (λ f. Gets e f level budget r) r
+evidence_replied Certificate holds r level budget name is = is
+evidence_replied Proof holds r level budget name is = is
+
+-- status 0: the evidence was found, and is written; it keeps the limit of its file where the budget is within its bounds
+pub found :
+    (e : Evidence) (f : Function) (level : Level) (budget : ℕ) (r : Reply) → 0 ≡ status_of r → Gets e f level budget r
+    → (evidence : List ℕ) × IsEvidence e evidence f level
+    × ((name : List ℕ) → IsWithinBounds (asks_for e level budget name) → length evidence ≤ limit_of (file_of e)) × (r ≡ Proved evidence)
+found Certificate f level budget r is got =
+    let held = proved_verdict f level budget r got.0 is got.1 got.2 got.3 in
+    (held.0, held.1, λ name few. held.2 few, held.3)
+found Proof f level budget r is got =
+    let held = proved_settled f level r got.0 is got.1 got.2 in
+    (held.0, held.1, λ name few. held.2, held.3)
+
+-- what a certificate shows and what a proof shows of a function
+pub evidence_level :
+    ((bytes : List ℕ) (f : Function) (level : Level) → IsCertificate bytes f level → HasLevel f level)
+    → ((f : Function) (bytes : List ℕ) (level : Level) → judgement_of f bytes ≡ Ok level → HasLevel f level)
+    → (e : Evidence) (bytes : List ℕ) (f : Function) (level : Level) → IsEvidence e bytes f level → HasLevel f level
+evidence_level certified confirmed Certificate bytes f level is = certified bytes f level is
+evidence_level certified confirmed Proof bytes f level is = confirmed f bytes level is
+
+-- the command that judges it accepts it
+evidence_accepted :
+    ((f : Function) (bytes : List ℕ) (one other : Result Level JudgeError) → IsTrue (is_valid f) → IsJudgement f bytes one
+    → IsJudgement f bytes other → one ≡ other)
+    → (e : Evidence) (f : Function) → IsTrue (is_valid f) → (evidence : List ℕ) (level : Level) → IsEvidence e evidence f level
+    → length evidence ≤ limit_of (file_of e) → (bytes : List ℕ) → length bytes ≤ limit_of files.Function
+    → function_in bytes ≡ Ok f → IsAcceptedAt e bytes evidence level
+evidence_accepted one_judgement Certificate f valid evidence level is within bytes small read =
+    accepted_at one_judgement f valid evidence level is within bytes small read
+evidence_accepted one_judgement Proof f valid evidence level is within bytes small read =
+    confirmed_at f evidence level is within bytes small read
 
 module _ (is_text : (bytes : List ℕ) (f : Function) → function_in bytes ≡ Ok f → IsTextOf bytes f)
     (is_within_limits : (bytes : List ℕ) (f : Function) → IsTextOf bytes f → IsTrue (is_valid f)) where
   pub proved :
-      ((bytes : List ℕ) (f : Function) (level : Level) → IsCertificate bytes f level → HasLevel f level)
+      ((e : Evidence) (bytes : List ℕ) (f : Function) (level : Level) → IsEvidence e bytes f level → HasLevel f level)
       → ((f : Function) (bytes : List ℕ) (one other : Result Level JudgeError) → IsTrue (is_valid f) → IsJudgement f bytes one
       → IsJudgement f bytes other → one ≡ other)
-      → (words : List (List ℕ)) (holds : List ℕ → Option (List ℕ)) (r : Reply) (IsWritten : List ℕ → Type 0) → 0 ≡ status_of r
-      → IsReply words holds r → IsWritten (text_of r) → IsProved words holds IsWritten
-  proved has_level one_judgement words holds r IsWritten is_zero is_reply written level budget name bytes named told =
-      let reply : IsReplyTo holds (Prove level budget name) r = reply_to_asked words holds r (Prove level budget name) named is_reply in
+      → (e : Evidence) (words : List (List ℕ)) (holds : List ℕ → Option (List ℕ)) (r : Reply) (IsWritten : List ℕ → Type 0)
+      → 0 ≡ status_of r → IsReply words holds r → IsWritten (text_of r) → IsProved e words holds IsWritten
+  proved has_level one_judgement e words holds r IsWritten is_zero is_reply written level budget name bytes named told =
+      let asked = asks_for e level budget name in
       let got = read_behind r 0 is_zero (λ e. omega (arith, e)) (λ e. omega (arith, e)) First (holds name)
-      (λ f. IsReplyToProof f level budget r) reply in
+      (λ f. Gets e f level budget r)
+      (evidence_replied e holds r level budget name (reply_to_asked words holds r asked named is_reply)) in
       let f : Function = got.0 in
       let file = got.1 bytes told in
       let text = is_text bytes f file.1 in
       let valid = is_within_limits bytes f text in
-      let few = within_bounds words (Prove level budget name) named in
-      let held = proved_verdict f level budget r got.2.0 is_zero few got.2.1 got.2.2 got.2.3 in (
+      let held = found e f level budget r is_zero got.2 in
+      let within = held.2 name (within_bounds words asked named) in (
         f,
         held.0,
         text,
         held.1,
-        held.2,
-        has_level held.0 f level held.1,
-        accepted_at one_judgement f valid held.0 level held.1 held.2 bytes file.0 file.1,
+        within,
+        has_level e held.0 f level held.1,
+        evidence_accepted one_judgement e f valid held.0 level held.1 within bytes file.0 file.1,
         subst IsWritten (ap (λ x. text_of x) held.3) written,
       )
 
@@ -195,25 +279,53 @@ module _ (is_text : (bytes : List ℕ) (f : Function) → function_in bytes ≡ 
     broken_verdict f level budget r verdicts.Spent is valid decided tells =
         absurd (let eight : 1 ≡ 8 = is ∙ ap (λ x. status_of x) tells in omega (arith, eight))
 
+    -- status 1: an obligation was refuted
+    before_settled : (f : Function) (ob : ObName) → HoldsBefore f ob → HasBefore f (level_of ob)
+    before_settled f (Pair k l) before = tt
+    before_settled f (Triple k l m) before = before
+
+    broken_settled :
+        (f : Function) (level : Level) (r : Reply) (settled : Settled) → 1 ≡ status_of r → IsTrue (is_valid f)
+        → IsSettled f level settled → TellsSettled f settled r
+        → (counter : Counter) × IsBrokenBy f level counter × (r ≡ Broken counter)
+    broken_settled f level r (outcomes.Yes bytes) is valid shown tells =
+        absurd (let zero : 1 ≡ 0 = is ∙ ap (λ x. status_of x) tells in omega (arith, zero))
+    broken_settled f level r (outcomes.No ob answers why) is valid refuted tells = (
+      tells.0,
+      counter_breaks broken_there by_the_cause f level ob (answered_by answers.items) why tells.0 valid refuted.0.listed
+          (literals_lead why (plan_of f ob) answers.items refuted.0.leads.0) (listed_at f.head level ob refuted.0.asked)
+          (before_settled f ob refuted.1) tells.1,
+      tells.2,
+    )
+    broken_settled f level r outcomes.Spent is valid said tells =
+        absurd (let eight : 1 ≡ 8 = is ∙ ap (λ x. status_of x) tells in omega (arith, eight))
+
+    pub counter_found :
+        (e : Evidence) (f : Function) (level : Level) (budget : ℕ) (r : Reply) → 1 ≡ status_of r → IsTrue (is_valid f)
+        → Gets e f level budget r → (counter : Counter) × IsBrokenBy f level counter × (r ≡ Broken counter)
+    counter_found Certificate f level budget r is valid got = broken_verdict f level budget r got.0 is valid got.1 got.3
+    counter_found Proof f level budget r is valid got = broken_settled f level r got.0 is valid got.1 got.2
+
     pub broken :
-        (words : List (List ℕ)) (holds : List ℕ → Option (List ℕ)) (r : Reply) (IsWritten : List ℕ → Type 0) → 1 ≡ status_of r
-        → IsReply words holds r → IsWritten (text_of r) → IsBroken words holds IsWritten
-    broken words holds r IsWritten is_one is_reply written level budget name bytes named told =
-        let reply : IsReplyTo holds (Prove level budget name) r = reply_to_asked words holds r (Prove level budget name) named is_reply in
+        (e : Evidence) (words : List (List ℕ)) (holds : List ℕ → Option (List ℕ)) (r : Reply) (IsWritten : List ℕ → Type 0)
+        → 1 ≡ status_of r → IsReply words holds r → IsWritten (text_of r) → IsBroken e words holds IsWritten
+    broken e words holds r IsWritten is_one is_reply written level budget name bytes named told =
         let got = read_behind r 1 is_one (λ e. omega (arith, e)) (λ e. omega (arith, e)) First (holds name)
-        (λ f. IsReplyToProof f level budget r) reply in
+        (λ f. Gets e f level budget r)
+        (evidence_replied e holds r level budget name
+        (reply_to_asked words holds r (asks_for e level budget name) named is_reply)) in
         let f : Function = got.0 in
         let text = is_text bytes f (got.1 bytes told).1 in
-        let found = broken_verdict f level budget r got.2.0 is_one (is_within_limits bytes f text) got.2.1 got.2.3 in (
+        let counter = counter_found e f level budget r is_one (is_within_limits bytes f text) got.2 in (
           f,
-          found.0,
+          counter.0,
           text,
-          found.1.0,
-          found.1.1,
-          found.1.2,
-          found.1.3,
-          found.1.4,
-          subst IsWritten (ap (λ x. text_of x) found.2) written,
+          counter.1.0,
+          counter.1.1,
+          counter.1.2,
+          counter.1.3,
+          counter.1.4,
+          subst IsWritten (ap (λ x. text_of x) counter.2) written,
         )
 
 -- the status of a verdict is that of the questions

@@ -17,6 +17,7 @@ use Rattle.ot_outside.specs.Reads.{Reads}
 use Rattle.ot_replies.specs.declared.reply.Reply.{Reply}
 use Rattle.ot_commands.specs.Given.{IsAnswerOfGiven}
 use Rattle.ot_top.specs.Bounded.{IsBounded, IsSought}
+use Rattle.ot_top.specs.Evidence.{Evidence}
 use Rattle.ot_commands.specs.Replies.{IsReply}
 use Rattle.ot_top.specs.Shown.{HasLevel, IsBroken, IsComplete}
 use Rattle.ot_top.specs.Shows.{AreKnown, IsOfReply, Shows}
@@ -25,7 +26,7 @@ use Rattle.ot_replies.specs.Texts.{status_of, text_of}
 use Rattle.ot_top.proofs.Audited.{audited, compared}
 use Rattle.ot_top.proofs.Bounded.{bound_judged}
 use Rattle.ot_top.proofs.Confirmed.{confirm_judged, confirmed}
-use Rattle.ot_top.proofs.Proving.{complete, proved}
+use Rattle.ot_top.proofs.Proving.{complete, evidence_level, proved}
 use Rattle.ot_top.proofs.Reversed.{reversed}
 use Rattle.ot_top.proofs.Showing.{shown}
 use Rattle.ot_commands.proofs.Steady.{served, steady}
@@ -59,7 +60,8 @@ module _ (words : List (List ℕ)) (holds : List ℕ → Option (List ℕ)) (IsW
     (f : Function) (bytes : List ℕ) (one other : Result Level JudgeError) → IsTrue (is_valid f) → IsJudgement f bytes one
     → IsJudgement f bytes other → one ≡ other)
     (one_list : (p : Plan Why) (w : List Lit) (q r : Questions Why) → QuestionList p w q → QuestionList p w r → q ≡ r)
-    (is_broken : (r : Reply) → 1 ≡ status_of r → IsReply words holds r → IsWritten (text_of r) → IsBroken words holds IsWritten)
+    (is_broken :
+    (e : Evidence) (r : Reply) → 1 ≡ status_of r → IsReply words holds r → IsWritten (text_of r) → IsBroken e words holds IsWritten)
     (is_bounded : (r : Reply) → 0 ≡ status_of r → IsReply words holds r → IsWritten (text_of r) → IsBounded words holds IsWritten)
     (is_sought : (r : Reply) → IsReply words holds r → IsWritten (text_of r) → IsSought words holds IsWritten (status_of r)) where
   pub shows : Shows words holds IsWritten status
@@ -70,13 +72,14 @@ module _ (words : List (List ℕ)) (holds : List ℕ → Option (List ℕ)) (IsW
             let told = answered (of_reply status 0 zero (λ e. omega (arith, e)) (λ e. omega (arith, e)) (λ e. omega (arith, e))) in
             shown has_level is_text words holds told.0 IsWritten (sym zero ∙ told.3) told.1 told.4;
         proved =
-            λ zero.
+            λ e zero.
             let told = answered (of_reply status 0 zero (λ e. omega (arith, e)) (λ e. omega (arith, e)) (λ e. omega (arith, e))) in
-            proved is_text is_within_limits has_level one_judgement words holds told.0 IsWritten (sym zero ∙ told.3) told.1 told.4;
+            proved is_text is_within_limits (evidence_level has_level confirm_level) one_judgement e words holds told.0 IsWritten
+            (sym zero ∙ told.3) told.1 told.4;
         broken =
-            λ one.
+            λ e one.
             let told = answered (of_reply status 1 one (λ e. omega (arith, e)) (λ e. omega (arith, e)) (λ e. omega (arith, e))) in
-            is_broken told.0 (sym one ∙ told.3) told.1 told.4;
+            is_broken e told.0 (sym one ∙ told.3) told.1 told.4;
         complete =
             λ of_a_reply.
             let told = answered of_a_reply in

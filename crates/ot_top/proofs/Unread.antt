@@ -28,6 +28,8 @@ use Rattle.ot_confirm.specs.Judgement.{judgement_of}
 use Rattle.ot_least.specs.declared.short.Short.{Short}
 use Rattle.ot_least.specs.declared.short.Short.TheVariants as shorts
 use Rattle.ot_least.specs.Judgements.{IsLowJudgement}
+use Rattle.ot_settle.specs.declared.settled.Settled.{Settled}
+use Rattle.ot_settle.specs.declared.settled.Settled.TheVariants as outcomes
 use Rattle.ot_decide.specs.declared.verdict.Verdict.{Verdict}
 use Rattle.ot_decide.specs.declared.verdict.Verdict.TheVariants as verdicts
 use Rattle.ot_session.specs.declared.answer.Make.{Make as NotMade}
@@ -40,7 +42,8 @@ use Rattle.ot_replies.specs.declared.reply.Reply.{Reply}
 use Rattle.ot_replies.specs.declared.reply.Reply.TheVariants as replies
 use Rattle.ot_replies.specs.declared.reply.Subject.{Subject}
 use Rattle.ot_replies.specs.declared.reply.Subject.TheVariants.{First, Second}
-use Rattle.ot_words.specs.Commands.{Asked, Prove, Check, Integrate, Replay, Hub, Audit, Same, Reverse, Least, Bound, Confirm, Drill}
+use Rattle.ot_words.specs.Commands.{Asked, Prove, Settle, Check, Integrate, Replay, Hub, Audit, Same, Reverse, Least, Bound, Confirm}
+use Rattle.ot_words.specs.Commands.{Drill}
 use Rattle.ot_questions.specs.declared.why.Why.{Why}
 use Rattle.ot_decide.specs.Verdicts.{ObQuestions}
 use Rattle.std.specs.List.{list_all}
@@ -65,7 +68,7 @@ use Rattle.ot_top.specs.Shown.{IsUnread, IsUnreadFrom, function_names}
 use Rattle.ot_replies.specs.Limits.{limit_of}
 use Rattle.ot_replies.specs.Texts.{differ_status, status_of}
 use Rattle.ot_commands.specs.Shortest.{TellsLeast, TellsShort}
-use Rattle.ot_commands.specs.Verdicts.{TellsVerdict}
+use Rattle.ot_commands.specs.Verdicts.{TellsSettled, TellsVerdict}
 use Rattle.ot_commands.proofs.HubStatus.{refused_other}
 use Rattle.ot_top.proofs.Proving.{reply_to_asked}
 use Rattle.ot_commands.proofs.RunsBy.{runs_other}
@@ -92,6 +95,11 @@ verdict_other : (f : Function) (verdict : Verdict) (r : Reply) → TellsVerdict 
 verdict_other f (verdicts.Yes bytes) r tells = named_so r (replies.Proved bytes.items) 0 tells refl (λ e. omega (arith, e))
 verdict_other f (verdicts.No ob answers why) r tells = named_so r (replies.Broken tells.0) 1 tells.2 refl (λ e. omega (arith, e))
 verdict_other f verdicts.Spent r tells = named_so r replies.Spent 8 tells refl (λ e. omega (arith, e))
+
+settled_other : (f : Function) (settled : Settled) (r : Reply) → TellsSettled f settled r → status_of r ≢ 3
+settled_other f (outcomes.Yes bytes) r tells = named_so r (replies.Proved bytes.items) 0 tells refl (λ e. omega (arith, e))
+settled_other f (outcomes.No ob answers why) r tells = named_so r (replies.Broken tells.0) 1 tells.2 refl (λ e. omega (arith, e))
+settled_other f outcomes.Spent r tells = named_so r replies.Spent 8 tells refl (λ e. omega (arith, e))
 
 judgement_other :
     {T : Type 0} (accepts : T → Reply) (judgement : Result T JudgeError) (r : Reply) → ((shown : T) → status_of (accepts shown) ≡ 0)
@@ -247,6 +255,8 @@ module _ (texts_are_read : (bytes : List ℕ) (f : Function) → IsTextOf bytes 
   unread_reply : (asked : Asked) → IsReplyTo holds asked r → IsUnreadFrom holds (status_of r) (function_names asked)
   unread_reply (Prove level budget name) reply =
       read_or_not First name [] _ (λ f gets. verdict_other f gets.0 r gets.3) reply
+  unread_reply (Settle level budget name) reply =
+      read_or_not First name [] _ (λ f gets. settled_other f gets.0 r gets.2) reply
   unread_reply (Check name certificate) reply =
       read_or_not First name [] _ (λ f gets. certificate_other (IsJudgement f) replies.Accepted (holds certificate) r (λ level. refl) gets) reply
   unread_reply (Integrate name case) reply =

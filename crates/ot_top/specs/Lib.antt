@@ -1,4 +1,5 @@
 pub mod Audited
+pub mod Evidence
 pub mod Shown
 pub mod Bounded
 pub mod Confirmed

@@ -23,19 +23,18 @@ use Rattle.ot_counter.specs.declared.counter.Side.{Side}
 use Rattle.ot_counter.specs.Counters.{Breaks, BreaksBy}
 use Rattle.ot_counter.specs.Sides.{document_way, operation_side}
 use Rattle.ot_replies.specs.declared.reply.FileKind.TheVariants as files
-use Rattle.ot_replies.specs.declared.reply.Reply.{Reply}
 use Rattle.ot_replies.specs.declared.reply.Drilled.{Drilled}
-use Rattle.ot_replies.specs.declared.reply.Reply.TheVariants.{Accepted, Spent}
-use Rattle.ot_words.specs.Commands.{Asked, Prove, Check, Integrate, Replay, Hub, Audit, Same, Reverse, Least, Bound}
-use Rattle.ot_words.specs.Commands.{Confirm, Drill}
+use Rattle.ot_replies.specs.declared.reply.Reply.TheVariants.{Spent}
+use Rattle.ot_words.specs.Commands.{Asked, Prove, Settle, Check, Integrate, Replay, Hub, Audit, Same, Reverse, Least}
+use Rattle.ot_words.specs.Commands.{Bound, Confirm, Drill}
 use Rattle.ot_commands.specs.Drills.{IsDrilled}
 use Rattle.ot_replies.specs.DrillTexts.{drill_text}
 use Rattle.ot_replies.specs.CounterTexts.{counter_text}
 use Rattle.ot_replies.specs.Limits.{limit_of}
-use Rattle.ot_commands.specs.Replies.{IsReplyTo}
 use Rattle.ot_replies.specs.LevelTexts.{accepted_text}
 use Rattle.ot_replies.specs.Texts.{text_of}
 use Rattle.ot_words.specs.Words.{asked_by}
+use Rattle.ot_top.specs.Evidence.{Evidence, IsAcceptedAt, IsEvidence, asks_for, file_of}
 
 -- what a certificate at a level shows of its function
 abbrev pub HasLevel : Function → Level → Type 0
@@ -54,23 +53,16 @@ IsShown words holds IsWritten =
     × ForSome (holds certificate_name) (λ told. certificate ≡ told)
     × HasLevel f level × IsWritten (accepted_text level)
 
--- `check` accepts: wherever a shelf tells these bytes of a function and of a certificate, every reply says the level
-abbrev pub IsAcceptedAt : List ℕ → List ℕ → Level → Type 0
-IsAcceptedAt bytes certificate level =
-    (holds : List ℕ → Option (List ℕ)) (name certificate_name : List ℕ) (r : Reply)
-    → holds name ≡ Some bytes → holds certificate_name ≡ Some certificate
-    → IsReplyTo holds (Check name certificate_name) r → r ≡ Accepted level
-
--- the words ask to prove a function; where its file is told, it is the text of a function by the grammar, what was
--- written is a certificate of it at the level that keeps the limit of its file, the function has what the level says,
--- and `check` accepts the certificate
-abbrev pub IsProved : List (List ℕ) → (List ℕ → Option (List ℕ)) → (List ℕ → Type 0) → Type 0
-IsProved words holds IsWritten =
+-- the words ask for evidence of a function; where its file is told, it is the text of a function by the grammar, what
+-- was written is such evidence of it at the level that keeps the limit of its file, the function has what the level
+-- says, and the command that judges such evidence accepts it
+abbrev pub IsProved : Evidence → List (List ℕ) → (List ℕ → Option (List ℕ)) → (List ℕ → Type 0) → Type 0
+IsProved e words holds IsWritten =
     (level : Level) (budget : ℕ) (name bytes : List ℕ)
-    → asked_by words ≡ Some (Prove level budget name) → holds name ≡ Some bytes
-    → (f : Function) × (certificate : List ℕ)
-    × IsTextOf bytes f × IsCertificate certificate f level × (length certificate ≤ limit_of files.Certificate)
-    × HasLevel f level × IsAcceptedAt bytes certificate level × IsWritten certificate
+    → asked_by words ≡ Some (asks_for e level budget name) → holds name ≡ Some bytes
+    → (f : Function) × (evidence : List ℕ)
+    × IsTextOf bytes f × IsEvidence e evidence f level × (length evidence ≤ limit_of (file_of e))
+    × HasLevel f level × IsAcceptedAt e bytes evidence level × IsWritten evidence
 
 -- the property is asked at the level: TP1 at both, TP2 at level tp2 alone
 abbrev pub IsAskedAt : Level → Level → Type 0
@@ -91,14 +83,14 @@ abbrev pub HasBefore : Function → Level → Type 0
 HasBefore f Tp1 = Unit {0}
 HasBefore f Tp2 = HasTp1 f
 
--- the words ask to prove a function; where its file is told, it is the text of a function by the grammar, and a
+-- the words ask for evidence of a function; where its file is told, it is the text of a function by the grammar, and a
 -- counterexample was written: the function breaks the property there, which is asked at the level, by the cause that is
 -- written, and the sides that are written are what the interpreter gives; where that property is TP2, the function has
 -- TP1
-abbrev pub IsBroken : List (List ℕ) → (List ℕ → Option (List ℕ)) → (List ℕ → Type 0) → Type 0
-IsBroken words holds IsWritten =
+abbrev pub IsBroken : Evidence → List (List ℕ) → (List ℕ → Option (List ℕ)) → (List ℕ → Type 0) → Type 0
+IsBroken e words holds IsWritten =
     (level : Level) (budget : ℕ) (name bytes : List ℕ)
-    → asked_by words ≡ Some (Prove level budget name) → holds name ≡ Some bytes
+    → asked_by words ≡ Some (asks_for e level budget name) → holds name ≡ Some bytes
     → (f : Function) × (counter : Counter)
     × IsTextOf bytes f × IsAskedAt counter.level level × HasBefore f counter.level
     × Breaks f counter.level counter.doc counter.ops × BreaksBy f counter.level counter.doc counter.ops counter.why
@@ -133,6 +125,7 @@ IsJudgedAs words holds status =
 -- the names of the functions' files, in the order in which they are opened
 abbrev pub function_names : Asked → List (List ℕ)
 function_names (Prove level budget name) = name ∷ []
+function_names (Settle level budget name) = name ∷ []
 function_names (Check name certificate_name) = name ∷ []
 function_names (Integrate name case) = name ∷ []
 function_names (Replay name session) = name ∷ []

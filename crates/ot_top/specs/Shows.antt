@@ -5,6 +5,7 @@ use Rattle.ot_top.specs.declared.program.TheConstants.{SHELF_FAULT, SINK_FAULT, 
 use Rattle.ot_top.specs.Audited.{IsAudited, IsCompared}
 use Rattle.ot_top.specs.Bounded.{IsBoundJudgedAs, IsBounded, IsSought}
 use Rattle.ot_top.specs.Confirmed.{IsConfirmJudgedAs, IsConfirmed}
+use Rattle.ot_top.specs.Evidence.{Evidence}
 use Rattle.ot_commands.specs.Given.{TellsGivenOf}
 use Rattle.ot_commands.specs.Reversals.{IsReversed}
 use Rattle.ot_top.specs.Shown.{IsBroken, IsComplete, IsGoneThrough, IsJudgedAs, IsProved, IsShown, IsUnread}
@@ -14,17 +15,18 @@ use Rattle.ot_commands.specs.Steady.{IsServed, IsSteady}
 abbrev pub IsOfReply : ℕ → Type 0
 IsOfReply status = (status ≢ SHELF_FAULT) × (status ≢ SINK_FAULT) × (status ≢ NO_MEMORY)
 
--- what holds of the words where `holds` tells their files: what is accepted, confirmed or proved has the properties
--- that were written or asked, what is broken fails at the instance that was written, the statuses of `prove`, `check`
--- and `confirm` are those that the questions and the judgement give, 3 comes where a function's file is reached that is
--- the text of none, where a function makes sites agree they are not found apart, nor clients and their server, `audit`,
--- `same` and `reverse` write what is so of all operations, no document is shorter than `least` and `bound` say, and no
--- event of a workload is refused, no site of it is stuck, and no two sites of it differ
+-- what holds of the words where `holds` tells their files: what is accepted or confirmed, and what `prove` or `settle`
+-- write evidence of, has the properties that were written or asked, what is broken fails at the instance that was
+-- written, the statuses of `prove`, `check` and `confirm` are those that the questions and the judgement give, 3 comes
+-- where a function's file is reached that is the text of none, where a function makes sites agree they are not found
+-- apart, nor clients and their server, `audit`, `same` and `reverse` write what is so of all operations, no document is
+-- shorter than `least` and `bound` say, and no event of a workload is refused, no site of it is stuck, and no two sites
+-- of it differ
 pub record Shows (words : List (List ℕ)) (holds : List ℕ → Option (List ℕ)) (IsWritten : List ℕ → Type 0) (status : ℕ) :
     Type 0 where
   pub sound : status ≡ 0 → IsShown words holds IsWritten
-  pub proved : status ≡ 0 → IsProved words holds IsWritten
-  pub broken : status ≡ 1 → IsBroken words holds IsWritten
+  pub proved : (e : Evidence) → status ≡ 0 → IsProved e words holds IsWritten
+  pub broken : (e : Evidence) → status ≡ 1 → IsBroken e words holds IsWritten
   pub complete : IsOfReply status → IsComplete words holds status
   pub judged : IsOfReply status → IsJudgedAs words holds status
   pub unread : IsOfReply status → IsUnread words holds status

@@ -21,6 +21,7 @@ use ot_commands::prove::prove;
 use ot_commands::replay::replay;
 use ot_commands::reverse::reverse;
 use ot_commands::same::same;
+use ot_commands::settle::settle;
 use ot_outside::Shelf;
 use ot_replies::Reply;
 use ot_words::{Command, read_words};
@@ -43,6 +44,11 @@ fn reply_to<H: Shelf>(alloc: Global, shelf: &mut H, command: &Command<'_>) -> Re
             budget,
             function,
         } => prove(alloc, shelf, level, budget, function),
+        Command::Settle {
+            level,
+            budget,
+            function,
+        } => settle(alloc, shelf, level, budget, function),
         Command::Check {
             function,
             certificate,

@@ -9,11 +9,14 @@ ghost use Rattle.ot_commands.specs.Replies.{IsReplyTo};
 ghost use Rattle.ot_commands.specs.Sessions.{IsReplyToSession};
 ghost use Rattle.ot_replies.specs.declared.reply.Reply.TheVariants.{BoundTooLong};
 ghost use Rattle.ot_replies.specs.Texts.{status_of};
+ghost use Rattle.ot_top.specs.Evidence.{Evidence, asks_for};
 
 use fn_text::what_is_read_is_in_the_grammar;
 use ot_audit::findings_are_one;
-use ot_decide::obligations_have_one_question_list;
-use ot_judge::bytes_have_one_judgement;
+use ot_confirm::proofs_show_the_properties;
+use ot_counter::failing_ends_have_counterexamples;
+use ot_decide::{failing_triples_show_tp1, obligations_have_one_question_list};
+use ot_judge::{bytes_have_one_judgement, certificates_show_the_properties};
 use ot_least::{
     bytes_have_one_low_judgement, first_documents_are_never_too_long,
     functions_have_one_shortest_document,
@@ -105,6 +108,21 @@ pub fn commands_have_one_reply()
     answers_are_one();
     bytes_have_one_low_judgement();
     functions_have_one_shortest_document();
+}
+
+/// Where the function's file is told, `prove` and `settle` do not contradict each other, nor themselves: with whatever
+/// budgets, where a reply to one of them at a level has status 0, none to either of them at this level has status 1.
+pub fn decisions_are_never_both()
+    ensures { (holds : List ℕ → Option (List ℕ)) (holding failing : Evidence) (level : Level) (budget allowed : ℕ)
+        (name bytes : List ℕ) (one other : Reply)
+        → holds name ≡ Some bytes → IsReplyTo holds (asks_for holding level budget name) one
+        → IsReplyTo holds (asks_for failing level allowed name) other → status_of one ≡ 0 → status_of other ≢ 1 }
+{
+    what_is_read_is_in_the_grammar();
+    certificates_show_the_properties();
+    proofs_show_the_properties();
+    failing_ends_have_counterexamples();
+    failing_triples_show_tp1();
 }
 
 /// Where the function's file is told, no reply of `least` is that the document of the first counterexample has more

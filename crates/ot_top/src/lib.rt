@@ -10,7 +10,8 @@ mod laws;
 mod program;
 
 pub use laws::{
-    commands_have_one_reply, hubs_have_one_reply, least_is_never_too_long, sessions_have_one_reply,
+    commands_have_one_reply, decisions_are_never_both, hubs_have_one_reply,
+    least_is_never_too_long, sessions_have_one_reply,
 };
 pub use ot_replies::{ClientEnd, Drilled, EventFault, FileKind, HubEnd, Reply, SiteEnd, Subject};
 pub use program::{NO_MEMORY, SHELF_FAULT, SINK_FAULT, run};

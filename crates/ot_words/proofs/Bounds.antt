@@ -8,12 +8,13 @@ use Rattle.clap.specs.ValueTests.{is_unsigned_in}
 use Rattle.clap.specs.Words.{Row, first_of}
 use Rattle.clap.specs.declared.builder.value_parser.ValueParser.TheVariants.{Unsigned}
 use Rattle.fn_rules.specs.declared.function.Level.{Level}
-use Rattle.ot_words.specs.Commands.{Asked, Prove, Check, Integrate, Replay, Hub, Audit, Same, Reverse, Least, Bound, Confirm, Drill}
+use Rattle.ot_words.specs.Commands.{Asked, Prove, Settle, Check, Integrate, Replay, Hub, Audit, Same, Reverse, Least, Bound, Confirm}
+use Rattle.ot_words.specs.Commands.{Drill}
 use Rattle.ot_drill.specs.declared.limits.TheConstants.{MOST_ROUNDS}
 use Rattle.clap_words.specs.Found.{found_by}
-use Rattle.ot_words.specs.Words.{IsWithinBounds, asked_by, audit_in, bound_in, check_in, confirm_in, drill_app, drill_by, drill_in, hub_in, integrate_in}
-use Rattle.ot_words.specs.Words.{is_given, least_app, least_by, least_in, level_by, most_questions}
-use Rattle.ot_words.specs.Words.{name_by, names_by, number_by, prove_app, prove_by, prove_in, replay_in, reverse_in, same_in}
+use Rattle.ot_words.specs.Words.{IsWithinBounds, asked_by, audit_in, bound_in, check_in, confirm_in, deciding_app, decision_by, decision_in, drill_app}
+use Rattle.ot_words.specs.Words.{drill_by, drill_in, hub_in, integrate_in, is_given, least_app, least_by, least_in, level_by, most_questions}
+use Rattle.ot_words.specs.Words.{most_settling_questions, name_by, names_by, number_by, prove_in, replay_in, reverse_in, same_in, settle_in}
 
 number_within : (most : ℕ) (text : List ℕ) (n : ℕ) → number_by most text ≡ Some n → n ≤ most
 number_within most text n is = go (is_unsigned_in 1 most text) refl is
@@ -76,24 +77,31 @@ names_are_within command free None asked is = absurd (cc)
 names_are_within command free (Some n) asked is =
     let same : command n ≡ asked = cc in subst (λ (a : Asked). IsWithinBounds a) same (free n)
 
-proof_is_within :
-    (level : Level) (budget : Option ℕ) (file : Option (List ℕ)) → ((b : ℕ) → budget ≡ Some b → b ≤ most_questions)
-    → IsWithin (option_and_then (λ b. option_map (Prove level b) file) budget)
-proof_is_within level None file few asked is = absurd (cc)
-proof_is_within level (Some b) None few asked is = absurd (cc)
-proof_is_within level (Some b) (Some name) few asked is =
-    let same : Prove level b name ≡ asked = cc in subst (λ (a : Asked). IsWithinBounds a) same (few b refl)
+-- a command that decides a function is within its bounds where the budget that is found is
+module _ (most : ℕ) (Asks : Level → ℕ → List ℕ → Asked)
+    (within : (level : Level) (b : ℕ) (name : List ℕ) → b ≤ most → IsWithinBounds (Asks level b name)) where
+  asked_is_within :
+      (level : Level) (budget : Option ℕ) (file : Option (List ℕ)) → ((b : ℕ) → budget ≡ Some b → b ≤ most)
+      → IsWithin (option_map (λ (found : Level × ℕ × List ℕ). Asks found.0 found.1 found.2)
+      (option_and_then (λ b. option_map (λ name. (level, b, name)) file) budget))
+  asked_is_within level None file few asked is = absurd (cc)
+  asked_is_within level (Some b) None few asked is = absurd (cc)
+  asked_is_within level (Some b) (Some name) few asked is =
+      let same : Asks level b name ≡ asked = cc in
+      subst (λ (a : Asked). IsWithinBounds a) same (within level b name (few b refl))
 
-proofs_are_within : (words : List (List ℕ)) → IsWithin (prove_in words)
-unfolding prove_in
-proofs_are_within words = go (found_by prove_app words)
-  where
-    go : (found : Option (List Row)) → IsWithin (option_and_then prove_by found)
-    go None = none_is_within
-    go (Some rows) =
-        proof_is_within (level_by (first_of (codes "tp1") rows))
-        (option_and_then (number_by most_questions) (first_of (codes "budget") rows)) (first_of (codes "function") rows)
-        (found_within most_questions (first_of (codes "budget") rows))
+  decisions_are_within :
+      (name otherwise : List ℕ) (words : List (List ℕ))
+      → IsWithin (option_map (λ (found : Level × ℕ × List ℕ). Asks found.0 found.1 found.2) (decision_by name most otherwise words))
+  unfolding decision_by
+  decisions_are_within name otherwise words = go (found_by (deciding_app name most otherwise) words)
+    where
+      go : (found : Option (List Row))
+          → IsWithin (option_map (λ (d : Level × ℕ × List ℕ). Asks d.0 d.1 d.2) (option_and_then (decision_in most) found))
+      go None = none_is_within
+      go (Some rows) =
+          asked_is_within (level_by (first_of (codes "tp1") rows)) (option_and_then (number_by most) (first_of (codes "budget") rows))
+          (first_of (codes "function") rows) (found_within most (first_of (codes "budget") rows))
 
 leasts_are_within : (words : List (List ℕ)) → IsWithin (least_in words)
 unfolding least_in
@@ -122,7 +130,10 @@ drills_are_within words = go (found_by drill_app words)
 pub within_bounds : (words : List (List ℕ)) (asked : Asked) → asked_by words ≡ Some asked → IsWithinBounds asked
 within_bounds [] = none_is_within
 within_bounds (word ∷ words) =
-    one_of (bytes_eq word (codes "prove")) (prove_in words) _ (proofs_are_within words)
+    one_of (bytes_eq word (codes "prove")) (prove_in words) _
+    (decisions_are_within most_questions Prove (λ level b name few. few) (codes "prove") (codes "1000000") words)
+    (one_of (bytes_eq word (codes "settle")) (settle_in words) _
+    (decisions_are_within most_settling_questions Settle (λ level b name few. few) (codes "settle") (codes "30000000") words)
     (one_of (bytes_eq word (codes "check")) (check_in words) _
     (names_are_within (λ n. Check n.0 n.1) (λ n. tt) (names_by (codes "check") words))
     (one_of (bytes_eq word (codes "integrate")) (integrate_in words) _
@@ -141,4 +152,4 @@ within_bounds (word ∷ words) =
     (names_are_within (λ n. Bound n.0 n.1) (λ n. tt) (names_by (codes "bound") words))
     (one_of (bytes_eq word (codes "confirm")) (confirm_in words) _
     (names_are_within (λ n. Confirm n.0 n.1) (λ n. tt) (names_by (codes "confirm") words))
-    (one_of (bytes_eq word (codes "drill")) (drill_in words) None (drills_are_within words) none_is_within)))))))))))
+    (one_of (bytes_eq word (codes "drill")) (drill_in words) None (drills_are_within words) none_is_within))))))))))))

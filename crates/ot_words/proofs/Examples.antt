@@ -3,8 +3,8 @@ use Rattle.std.proofs.Common.{◌≡◌, [], ◌∷◌, Some, None, true, false,
 use Rattle.clap.proofs.OnLiterals.{clap_on_literals}
 use Rattle.fn_rules.specs.declared.function.Level.TheVariants.{Tp1, Tp2}
 use Rattle.clap_words.specs.Found.{found_by}
-use Rattle.ot_words.specs.Commands.{Prove, Check, Integrate, Audit, Same, Least}
-use Rattle.ot_words.specs.Words.{asked_by, least_in, name_by, names_by, prove_in}
+use Rattle.ot_words.specs.Commands.{Prove, Settle, Check, Integrate, Audit, Same, Least}
+use Rattle.ot_words.specs.Words.{asked_by, decision_by, least_in, name_by, names_by}
 
 -- two file names, of which the empty word and `-` are such
 two_names : asked_by (codes "check" ∷ codes "a" ∷ codes "b" ∷ []) ≡ Some (Check (codes "a") (codes "b"))
@@ -70,36 +70,49 @@ no_command = refl
 
 -- the options of `prove` stand before the name or behind it
 no_options : asked_by (codes "prove" ∷ codes "a" ∷ []) ≡ Some (Prove Tp2 1000000 (codes "a"))
-unfolding clap_on_literals prove_in found_by
+unfolding clap_on_literals decision_by found_by
 no_options = refl
 
 options_before : asked_by (codes "prove" ∷ codes "--budget" ∷ codes "+07" ∷ codes "--tp1" ∷ codes "a" ∷ []) ≡ Some (Prove Tp1 7 (codes "a"))
-unfolding clap_on_literals prove_in found_by
+unfolding clap_on_literals decision_by found_by
 options_before = refl
 
 option_behind : asked_by (codes "prove" ∷ codes "a" ∷ codes "--budget=1000000" ∷ []) ≡ Some (Prove Tp2 1000000 (codes "a"))
-unfolding clap_on_literals prove_in found_by
+unfolding clap_on_literals decision_by found_by
 option_behind = refl
 
 option_as_name : asked_by (codes "prove" ∷ codes "--" ∷ codes "--tp1" ∷ []) ≡ Some (Prove Tp2 1000000 (codes "--tp1"))
-unfolding clap_on_literals prove_in found_by
+unfolding clap_on_literals decision_by found_by
 option_as_name = refl
 
 no_question : asked_by (codes "prove" ∷ codes "--budget" ∷ codes "0" ∷ codes "a" ∷ []) ≡ None
-unfolding clap_on_literals prove_in found_by
+unfolding clap_on_literals decision_by found_by
 no_question = refl
 
 too_many_questions : asked_by (codes "prove" ∷ codes "--budget=1000001" ∷ codes "a" ∷ []) ≡ None
-unfolding clap_on_literals prove_in found_by
+unfolding clap_on_literals decision_by found_by
 too_many_questions = refl
 
 flag_twice : asked_by (codes "prove" ∷ codes "--tp1" ∷ codes "--tp1" ∷ codes "a" ∷ []) ≡ None
-unfolding clap_on_literals prove_in found_by
+unfolding clap_on_literals decision_by found_by
 flag_twice = refl
 
 no_such_flag : asked_by (codes "prove" ∷ codes "--tp" ∷ codes "a" ∷ []) ≡ None
-unfolding clap_on_literals prove_in found_by
+unfolding clap_on_literals decision_by found_by
 no_such_flag = refl
+
+-- those of `settle` are the same, and its budget is another
+settled_at_its_budget : asked_by (codes "settle" ∷ codes "a" ∷ []) ≡ Some (Settle Tp2 30000000 (codes "a"))
+unfolding clap_on_literals decision_by found_by
+settled_at_its_budget = refl
+
+settled_with_the_most : asked_by (codes "settle" ∷ codes "--tp1" ∷ codes "--budget=100000000" ∷ codes "a" ∷ []) ≡ Some (Settle Tp1 100000000 (codes "a"))
+unfolding clap_on_literals decision_by found_by
+settled_with_the_most = refl
+
+settled_with_too_many : asked_by (codes "settle" ∷ codes "a" ∷ codes "--budget=100000001" ∷ []) ≡ None
+unfolding clap_on_literals decision_by found_by
+settled_with_too_many = refl
 
 -- so does the option of `least`, which has no budget
 no_certificate : asked_by (codes "least" ∷ codes "a" ∷ []) ≡ Some (Least false (codes "a"))

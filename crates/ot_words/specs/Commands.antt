@@ -7,6 +7,8 @@ use Rattle.ot_words.specs.declared.command.Command.TheVariants as rust
 pub data Asked : Type 0 where
   -- at a level, by so many questions at the most, of a function's file: the function is proved, or refuted
   Prove : Level → ℕ → List ℕ → Asked
+  -- the same, by a proof with lemmas
+  Settle : Level → ℕ → List ℕ → Asked
   -- of a function's file and a certificate's file: the certificate is judged
   Check : List ℕ → List ℕ → Asked
   -- of a function's file and a case's file: the operations are integrated
@@ -34,6 +36,7 @@ pub data Asked : Type 0 where
 
 abbrev pub asked_of : Command → Asked
 asked_of (rust.Prove level budget function) = Prove level budget function.now
+asked_of (rust.Settle level budget function) = Settle level budget function.now
 asked_of (rust.Check function certificate) = Check function.now certificate.now
 asked_of (rust.Integrate function case) = Integrate function.now case.now
 asked_of (rust.Replay function session) = Replay function.now session.now

@@ -11,8 +11,8 @@ use Rattle.clap_words.specs.Found.{found_by}
 use Rattle.fn_rules.specs.declared.function.Level.{Level}
 use Rattle.fn_rules.specs.declared.function.Level.TheVariants.{Tp1, Tp2}
 use Rattle.ot_drill.specs.declared.limits.TheConstants.{MOST_ROUNDS}
-use Rattle.ot_words.specs.Commands.{Asked, Prove, Check, Integrate, Replay, Hub, Audit, Same, Reverse, Least, Bound}
-use Rattle.ot_words.specs.Commands.{Confirm, Drill}
+use Rattle.ot_words.specs.Commands.{Asked, Prove, Settle, Check, Integrate, Replay, Hub, Audit, Same, Reverse, Least}
+use Rattle.ot_words.specs.Commands.{Bound, Confirm, Drill}
 
 -- the clap command of a name, with no option for help and no arguments
 abbrev pub bare_app : List ℕ → App
@@ -35,26 +35,32 @@ two_files name = with_rule (with_rule (bare_app name) (required_rule (codes "fir
 abbrev pub most_questions : ℕ
 most_questions = 1000000
 
+-- the most questions that `settle` may be allowed; where the words do not say, it is allowed 30,000,000
+abbrev pub most_settling_questions : ℕ
+most_settling_questions = 100000000
+
 -- an option of a name that is given or not
 abbrev pub flag_rule : List ℕ → Rule
 flag_rule name = record (new_rule name) { long = Some name; action = Some SetTrue }
 
--- the option `--budget N`, whose number clap reads
-abbrev pub budget_rule : Rule
-budget_rule =
+-- the option `--budget N`, whose number clap reads: at most so many, and this text where the words do not say
+abbrev pub budget_rule : ℕ → List ℕ → Rule
+budget_rule most otherwise =
     record (new_rule (codes "budget")) {
       long = Some (codes "budget");
-      parser = Some (Unsigned 1 most_questions);
-      defaults = codes "1000000" ∷ [];
+      parser = Some (Unsigned 1 most);
+      defaults = otherwise ∷ [];
     }
 
 -- the number of `drill`
 abbrev pub number_rule : Rule
 number_rule = record (new_rule (codes "number")) { required = true; parser = Some (Unsigned 1 MOST_ROUNDS) }
 
--- the clap command `prove`: both options, and a file name
-abbrev pub prove_app : App
-prove_app = with_rule (with_rule (with_rule (bare_app (codes "prove")) (flag_rule (codes "tp1"))) budget_rule)
+-- the clap command of a name that decides a function, with at most so many questions, and with so many where the words
+-- do not say: both options, and a file name
+abbrev pub deciding_app : List ℕ → ℕ → List ℕ → App
+deciding_app name most otherwise =
+    with_rule (with_rule (with_rule (bare_app name) (flag_rule (codes "tp1"))) (budget_rule most otherwise))
     (required_rule (codes "function"))
 
 -- the clap command `least`: an option, and a file name
@@ -93,15 +99,27 @@ abbrev pub number_by : ℕ → List ℕ → Option ℕ
 number_by most text = if is_unsigned_in 1 most text then Some (digits_value 10 (without_leading_plus text)) else None
 
 -- the level, the budget and the name that are found
-abbrev pub prove_by : List Row → Option Asked
-prove_by rows =
-    option_and_then (λ budget. option_map (Prove (level_by (first_of (codes "tp1") rows)) budget)
+abbrev pub decision_in : ℕ → List Row → Option (Level × ℕ × List ℕ)
+decision_in most rows =
+    option_and_then (λ budget. option_map (λ name. (level_by (first_of (codes "tp1") rows), budget, name))
     (first_of (codes "function") rows))
-    (option_and_then (number_by most_questions) (first_of (codes "budget") rows))
+    (option_and_then (number_by most) (first_of (codes "budget") rows))
+
+-- the same in the words behind a command's name
+unfoldable pub decision_by : List ℕ → ℕ → List ℕ → List (List ℕ) → Option (Level × ℕ × List ℕ)
+decision_by name most otherwise words =
+    option_and_then (decision_in most) (found_by (deciding_app name most otherwise) words)
 
 -- the command behind each first word
-unfoldable pub prove_in : List (List ℕ) → Option Asked
-prove_in words = option_and_then prove_by (found_by prove_app words)
+abbrev pub prove_in : List (List ℕ) → Option Asked
+prove_in words =
+    option_map (λ found. Prove found.0 found.1 found.2)
+    (decision_by (codes "prove") most_questions (codes "1000000") words)
+
+abbrev pub settle_in : List (List ℕ) → Option Asked
+settle_in words =
+    option_map (λ found. Settle found.0 found.1 found.2)
+    (decision_by (codes "settle") most_settling_questions (codes "30000000") words)
 
 -- the option and the name that are found
 abbrev pub least_by : List Row → Option Asked
@@ -149,6 +167,7 @@ abbrev pub asked_by : List (List ℕ) → Option Asked
 asked_by [] = None
 asked_by (word ∷ words) =
     if bytes_eq word (codes "prove") then prove_in words
+    else (if bytes_eq word (codes "settle") then settle_in words
     else (if bytes_eq word (codes "check") then check_in words
     else (if bytes_eq word (codes "integrate") then integrate_in words
     else (if bytes_eq word (codes "replay") then replay_in words
@@ -160,10 +179,11 @@ asked_by (word ∷ words) =
     else (if bytes_eq word (codes "bound") then bound_in words
     else (if bytes_eq word (codes "confirm") then confirm_in words
     else (if bytes_eq word (codes "drill") then drill_in words
-    else None)))))))))))
+    else None))))))))))))
 
 -- the number that is asked for is within its bounds
 abbrev pub IsWithinBounds : Asked → Type 0
 IsWithinBounds (Prove level budget function) = budget ≤ most_questions
+IsWithinBounds (Settle level budget function) = budget ≤ most_settling_questions
 IsWithinBounds (Drill number) = number ≤ MOST_ROUNDS
 IsWithinBounds asked = Unit {0}

@@ -16,6 +16,18 @@ pub enum Command<'a> {
         function: &'a str,
     },
 
+    /// A function is proved by a proof with lemmas, or refuted.
+    Settle {
+        /// The level.
+        level: Level,
+
+        /// How many questions may be asked.
+        budget: u64,
+
+        /// The name of the function's file.
+        function: &'a str,
+    },
+
     /// A certificate is judged.
     Check {
         /// The name of the function's file.

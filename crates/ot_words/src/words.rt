@@ -3,12 +3,12 @@ ghost use Rattle.std.specs.Prelude.{◌≡◌, ◌≤◌, codes, map, false, tru
 ghost use Rattle.clap.specs.Words.{app_of, first_of, found_of, rows_of, rule_of};
 ghost use Rattle.ot_drill.specs.declared.limits.TheConstants.{MOST_ROUNDS};
 ghost use Rattle.ot_words.specs.Commands.{asked_of};
-ghost use Rattle.clap.specs.declared.builder.value_parser.ValueParser.TheVariants.{Unsigned};
 ghost use Rattle.ot_words.specs.Words.{asked_by, audit_in, bare_app, bound_in, budget_rule, check_in, confirm_in};
-ghost use Rattle.ot_words.specs.Words.{drill_app, drill_by, drill_in, flag_rule, hub_in, integrate_in, is_given};
-ghost use Rattle.ot_words.specs.Words.{least_app, least_by, least_in, level_by, most_questions, name_by, names_by};
-ghost use Rattle.ot_words.specs.Words.{number_by, number_rule, one_file, prove_app, prove_by, prove_in};
-ghost use Rattle.ot_words.specs.Words.{replay_in, required_rule, reverse_in, same_in, two_files, values_in};
+ghost use Rattle.ot_words.specs.Words.{deciding_app, decision_by, decision_in, drill_app, drill_by, drill_in};
+ghost use Rattle.ot_words.specs.Words.{flag_rule, hub_in, integrate_in, is_given, least_app, least_by, least_in};
+ghost use Rattle.ot_words.specs.Words.{level_by, name_by, names_by, number_by, number_rule, one_file, prove_in};
+ghost use Rattle.ot_words.specs.Words.{replay_in, required_rule, reverse_in, same_in, settle_in, two_files};
+ghost use Rattle.ot_words.specs.Words.{values_in};
 
 use crate::command::Command;
 use clap::builder::ValueParser;
@@ -22,12 +22,8 @@ use std::alloc::Global;
 /// The most questions that `prove` may be allowed, and that a workload's function may have.
 pub const MOST_QUESTIONS: u64 = 1_000_000;
 
-// What the budget may be.
-fn budget_parser<'a>() -> ValueParser<'a>
-    ensures { result ≡ Unsigned 1 most_questions }
-{
-    clap::value_parser!(u64).range(1..=1_000_000)
-}
+// The most questions that `settle` may be allowed.
+const MOST_SETTLING_QUESTIONS: u64 = 100_000_000;
 
 // An option that is given or not.
 fn flag_option(alloc: Global, name: &str) -> Arg<'_>
@@ -37,15 +33,15 @@ fn flag_option(alloc: Global, name: &str) -> Arg<'_>
     Arg::new(alloc, name).long(name).action(ArgAction::SetTrue)
 }
 
-// The option `--budget N`.
-fn budget_option<'a>(alloc: Global) -> Arg<'a>
-    ensures rule { rule_of result ≡ budget_rule }
+// The option `--budget N` of at most so many questions, and what it says where it is not given.
+fn budget_option<'a>(alloc: Global, most: u64, otherwise: &'a str) -> Arg<'a>
+    ensures rule { rule_of result ≡ budget_rule most otherwise.entry.now }
     ensures local { result.global ≡ false }
 {
     Arg::new(alloc, "budget")
         .long("budget")
-        .value_parser(budget_parser())
-        .default_value("1000000")
+        .value_parser(ValueParser::unsigned(1, most))
+        .default_value(otherwise)
 }
 
 // The name of the function's file.
@@ -65,12 +61,17 @@ fn bare_app(alloc: Global, name: &str) -> clap::Command<'_>
         .disable_help_flag(true)
 }
 
-// The clap command `prove`: its two options, and a file name.
-fn prove_app<'a>(alloc: Global) -> Result<clap::Command<'a>, NoMemory>
-    ensures { IfOk result (λ c. app_of c ≡ prove_app) }
+// The clap command of a name that decides a function: its two options, and a file name.
+fn deciding_app<'a>(
+    alloc: Global,
+    name: &'a str,
+    most: u64,
+    otherwise: &'a str,
+) -> Result<clap::Command<'a>, NoMemory>
+    ensures { IfOk result (λ c. app_of c ≡ deciding_app name.entry.now most otherwise.entry.now) }
 {
-    let with_level = bare_app(alloc, "prove").arg(flag_option(alloc, "tp1"))?;
-    let with_options = with_level.arg(budget_option(alloc))?;
+    let with_level = bare_app(alloc, name).arg(flag_option(alloc, "tp1"))?;
+    let with_options = with_level.arg(budget_option(alloc, most, otherwise))?;
     let whole = with_options.arg(function_argument(alloc))?;
     Ok(whole)
 }
@@ -204,26 +205,57 @@ fn number_by(most: u64, text: &str) -> Option<u64>
 }
 
 // The level, the budget and the name that clap finds.
-fn prove_by<'a>(matches: &ArgMatches<'a>) -> Option<Command<'a>>
-    ensures { option_map asked_of result ≡ prove_by (rows_of (found_of matches.now)) }
+fn decision_in<'a>(most: u64, matches: &ArgMatches<'a>) -> Option<(Level, u64, &'a str)>
+    ensures { option_map (λ v. (v.0, v.1, v.2.now)) result ≡ decision_in most (rows_of (found_of matches.now)) }
 {
     let level = level_by(value_of(matches, "tp1"));
-    let budget = number_by(MOST_QUESTIONS, value_of(matches, "budget")?)?;
+    let budget = number_by(most, value_of(matches, "budget")?)?;
     let function = value_of(matches, "function")?;
-    Some(Command::Prove {
-        level,
-        budget,
-        function,
-    })
+    Some((level, budget, function))
+}
+
+// The same in the words behind a command's name.
+#[tactic(auto, unfolding(crate::specs::Words::decision_by))]
+fn decision_by<'a>(
+    alloc: Global,
+    name: &'a str,
+    most: u64,
+    otherwise: &'a str,
+    words: &'a [String],
+) -> Result<Option<(Level, u64, &'a str)>, NoMemory>
+    ensures { IfOk result (λ found. option_map (λ v. (v.0, v.1, v.2.now)) found
+        ≡ decision_by name.entry.now most otherwise.entry.now (map string_bytes words.entry.now)) }
+{
+    match matches_in(deciding_app(alloc, name, most, otherwise)?, words)? {
+        Some(matches) => Ok(decision_in(most, &matches)),
+        None => Ok(None),
+    }
 }
 
 // `prove [--tp1] [--budget N] FUNCTION`
-#[tactic(auto, unfolding(crate::specs::Words::prove_in))]
 fn prove_in<'a>(alloc: Global, words: &'a [String]) -> Result<Option<Command<'a>>, NoMemory>
     ensures { IfOk result (λ command. option_map asked_of command ≡ prove_in (map string_bytes words.entry.now)) }
 {
-    match matches_in(prove_app(alloc)?, words)? {
-        Some(matches) => Ok(prove_by(&matches)),
+    match decision_by(alloc, "prove", MOST_QUESTIONS, "1000000", words)? {
+        Some((level, budget, function)) => Ok(Some(Command::Prove {
+            level,
+            budget,
+            function,
+        })),
+        None => Ok(None),
+    }
+}
+
+// `settle [--tp1] [--budget N] FUNCTION`
+fn settle_in<'a>(alloc: Global, words: &'a [String]) -> Result<Option<Command<'a>>, NoMemory>
+    ensures { IfOk result (λ command. option_map asked_of command ≡ settle_in (map string_bytes words.entry.now)) }
+{
+    match decision_by(alloc, "settle", MOST_SETTLING_QUESTIONS, "30000000", words)? {
+        Some((level, budget, function)) => Ok(Some(Command::Settle {
+            level,
+            budget,
+            function,
+        })),
         None => Ok(None),
     }
 }
@@ -374,6 +406,7 @@ pub fn read_words<'a>(alloc: Global, words: &'a [String]) -> Result<Option<Comma
     };
     match name.as_str() {
         "prove" => prove_in(alloc, arguments),
+        "settle" => settle_in(alloc, arguments),
         "check" => check_in(alloc, arguments),
         "integrate" => integrate_in(alloc, arguments),
         "replay" => replay_in(alloc, arguments),

@@ -27,7 +27,7 @@ returns-clause-shows g c =
     (confirmed_level confirms.tp1 confirms.tp2 confirms.one_outcome) grammar.text grammar.valid
     c.texts_of_functions_are_read.ensures.read c.bytes_have_one_judgement.ensures
     c.plans_have_one_question_list.ensures.one
-    (λ r. broken grammar.text grammar.valid counters.broken counters.by_the_cause c.failing_triples_show_tp1.ensures words holds r
+    (λ e r. broken grammar.text grammar.valid counters.broken counters.by_the_cause c.failing_triples_show_tp1.ensures e words holds r
     (λ text. g.S.Sink.written c.write_answer.new.out ≡ append_known (g.S.Sink.written c.args.out.now) text))
     (λ r. bounded grammar.text grammar.valid c.texts_of_functions_are_read.ensures.read c.low_certificates_show_shorter_documents.ensures
     c.bytes_have_one_low_judgement.ensures words holds r

@@ -3,17 +3,18 @@ use Rattle.std.proofs.Common.{codes}
 use Rattle.clap.specs.Words.{with_rule}
 use Rattle.ot_words.specs.Words.{bare_app, budget_rule, flag_rule, required_rule}
 use Rattle.ot_words.proofs.Apps.{with_argument}
-use Rattle.ot_words.proofs.words.prove_app.Goals as goal
+use Rattle.ot_words.proofs.words.deciding_app.Goals as goal
 
 pub returns : goal.returns
 returns c =
-    let bare = bare_app (codes "prove") in
+    let bare = bare_app c.args.name.now in
     let flag = flag_rule (codes "tp1") in
+    let budget = budget_rule c.args.most c.args.otherwise.now in
     let level =
     with_argument _ _ _ bare flag c.in_ok-with_level.ensures c.flag_option.ensures.local c.bare_app.ensures
     c.flag_option.ensures.rule in
     let options =
-    with_argument _ _ _ (with_rule bare flag) budget_rule c.in_ok-with_options.ensures c.budget_option.ensures.local level
+    with_argument _ _ _ (with_rule bare flag) budget c.in_ok-with_options.ensures c.budget_option.ensures.local level
     c.budget_option.ensures.rule in
-    with_argument _ _ _ (with_rule (with_rule bare flag) budget_rule) (required_rule (codes "function")) c.in_ok-whole.ensures
+    with_argument _ _ _ (with_rule (with_rule bare flag) budget) (required_rule (codes "function")) c.in_ok-whole.ensures
     c.function_argument.ensures.local options c.function_argument.ensures.rule
