@@ -14,7 +14,7 @@ use Rattle.fn_moves.specs.declared.language.Language.{Language}
 use Rattle.fn_moves.specs.declared.language.Language.TheVariants.{One, Two}
 use Rattle.fn_moves.specs.Kinds.{with_kind}
 use Rattle.fn_moves.specs.Languages.{language_numbered, number_of, has_word, has_words, language_for}
-use Rattle.fn_text.proofs.KindLists.{list_all_from, each_kind_true, same_kind}
+use Rattle.fn_grammar.proofs.KindLists.{list_all_from, each_kind_true, same_kind}
 
 pub numbered : (language : Language) → language_numbered (number_of language) ≡ Some language
 numbered One = refl
@@ -80,19 +80,3 @@ word_of_declared language head k speaks declared =
     told : (declared word : Bool) → declared ≡ true → (not declared || word) ≡ true → word ≡ true
     told true word h e = e
     told false word h e = absurd (cc)
-
--- the second language has all words
-has_words-two : (head : Head) → has_words Two head ≡ true
-has_words-two head = list_all_from (λ k. not (is_declared head k) || has_word Two k) KINDS (λ k. all (not (is_declared head k)))
-  where
-    all : (b : Bool) → (b || true) ≡ true
-    all true = refl
-    all false = refl
-
--- the language of a canonical text has words for the kinds of its function
-pub has_words-language_for : (head : Head) → has_words (language_for head) head ≡ true
-has_words-language_for head =
-    elim (cases_Bool (has_words One head)) [
-      | inl one ↦ rw one one
-      | inr other ↦ rw other (has_words-two head)
-    ]

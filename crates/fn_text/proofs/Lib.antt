@@ -1,7 +1,6 @@
-pub mod KindLists
+pub mod SeenPairs
 pub mod Languages
 pub mod WrittenIsRead
 pub mod ReadIsWritten
-pub mod Printing
 pub mod Causes
 pub mod Refusals

@@ -6,6 +6,5 @@ pub mod Guards
 pub mod Heads
 pub mod Blocks
 pub mod Images
-pub mod Limits
 pub mod Files
 pub mod Functions

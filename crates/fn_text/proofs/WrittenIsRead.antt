@@ -5,4 +5,3 @@ pub mod Blocks
 pub mod BlockLists
 pub mod Heads
 pub mod Files
-pub mod Examples

@@ -21,9 +21,9 @@ use Rattle.fn_moves.specs.Kinds.{declares_some}
 use Rattle.fn_moves.specs.Controls.{lacks_with, lacks_block}
 use Rattle.fn_text.specs.Reader.{State, first_state}
 use Rattle.fn_text.specs.Theorems.{state_behind}
-use Rattle.fn_text.specs.Grammar.{WrittenCase, WrittenBlock, atoms_in, nesting_in, is_allowed, is_allowed_result}
-use Rattle.fn_text.specs.Grammar.{file_written_as}
-use Rattle.fn_text.specs.Grammar.{block_made}
+use Rattle.fn_grammar.specs.Grammar.{WrittenCase, WrittenBlock, atoms_in, nesting_in, is_allowed, is_allowed_result}
+use Rattle.fn_grammar.specs.Grammar.{file_written_as}
+use Rattle.fn_grammar.specs.Grammar.{block_made}
 
 -- the limits of the grammar, with so many atoms in a case
 abbrev pub is_allowed_case_with : ℕ → Bool → WrittenCase → Bool

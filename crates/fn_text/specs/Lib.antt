@@ -1,4 +1,3 @@
-pub mod Grammar
 pub mod Reading
 pub mod Theorems
 pub mod Counting
@@ -6,8 +5,6 @@ pub mod Causes
 pub mod Continuing
 pub mod GoingOn
 pub mod Refusals
-pub mod Print
-pub mod Offsets
 pub mod Reader
 pub mod Made
 pub use Rattle.fn_rules.specs.Formulas

@@ -6,7 +6,7 @@ use Rattle.fn_tokens.specs.Tokens.{bare, tokens_in}
 use Rattle.fn_moves.specs.declared.fault.TextFault.{TextFault}
 use Rattle.fn_text.specs.declared.stop.TextError.{TextError}
 use Rattle.fn_text.specs.declared.stop.TextError.TheVariants as errors
-use Rattle.fn_text.specs.Grammar.{IsTextOf}
+use Rattle.fn_grammar.specs.Grammar.{IsTextOf}
 use Rattle.fn_text.specs.Reading.{function_in}
 use Rattle.fn_text.specs.Causes.{fault_behind}
 use Rattle.fn_text.specs.GoingOn.{GoesOn}

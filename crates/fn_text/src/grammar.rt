@@ -4,7 +4,7 @@ ghost use Rattle.std.specs.Prelude.{◌≡◌, ℕ, List, Ok, IsTrue};
 ghost use Rattle.fn_rules.specs.Functions.{Function};
 ghost use Rattle.fn_rules.specs.Validity.{is_valid};
 ghost use Rattle.fn_text.specs.Reading.{function_in};
-ghost use Rattle.fn_text.specs.Grammar.{IsTextOf};
+ghost use Rattle.fn_grammar.specs.Grammar.{IsTextOf};
 ghost use Rattle.fn_text.specs.Continuing.{TakenTokensGoOn, ExceptionsAreDeadEnds};
 
 /// What is read is in the grammar, and is the function that its phrases mean, which is within the limits.

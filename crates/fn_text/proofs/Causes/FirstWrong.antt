@@ -27,7 +27,7 @@ use Rattle.fn_text.specs.Continuing.{wants_atom_more, repeats_block}
 use Rattle.fn_text.specs.Counting.{first_of_block, lacks_pair_with, lacks_some_pair, this_block, atoms_before}
 use Rattle.fn_text.specs.Causes.{block_place, placed_cause, fault_behind}
 use Rattle.fn_text.specs.GoingOn.{is_before_atom_more, has_each_block, repeats_some_block}
-use Rattle.fn_text.proofs.KindLists.{has_seen-none}
+use Rattle.fn_text.proofs.SeenPairs.{has_seen-none}
 use Rattle.fn_text.proofs.Refusals.NoneBegins.{going_on}
 use Rattle.fn_text.proofs.Causes.States.{atoms_for, wants_operand, wants_block_first, first_for, Stands}
 use Rattle.fn_text.proofs.Causes.Steps.{token_keeps}

@@ -41,7 +41,7 @@ use Rattle.fn_text.specs.Counting.{first_of_block, is_behind_pair, blocks_before
 use Rattle.fn_text.specs.Counting.{has_block, this_block, cases_before, atoms_before, thing_compared, is_behind_operand, without_nots}
 use Rattle.fn_text.specs.Counting.{opened_before}
 use Rattle.fn_text.specs.Causes.{place_behind}
-use Rattle.fn_text.proofs.KindLists.{has_seen-with_pair}
+use Rattle.fn_text.proofs.SeenPairs.{has_seen-with_pair}
 use Rattle.fn_text.proofs.Languages.{declared_more}
 use Rattle.fn_text.proofs.Causes.States.{first_for, wants_version, Stands, nots_upon, opened_by, AreAround}
 use Rattle.fn_text.proofs.ReadIsWritten.Moves.{by_otfn, by_version, by_text, by_mode, by_kinds, by_line_end, by_line, by_assumed}

@@ -32,7 +32,7 @@ use Rattle.fn_text.specs.Counting.{has_block, lacks_pair, lacks_pair_with, lacks
 use Rattle.fn_text.specs.Counting.{cases_before, atoms_before, is_behind_operand, without_nots, opened_before}
 use Rattle.fn_text.specs.Counting.{nesting_before, is_behind_result}
 use Rattle.fn_text.specs.Causes.{cause_of, is_second_block, is_other_kind}
-use Rattle.fn_text.proofs.KindLists.{no_kind_from}
+use Rattle.fn_grammar.proofs.KindLists.{no_kind_from}
 use Rattle.fn_text.proofs.Causes.Steps.{closed_nots}
 use Rattle.fn_text.proofs.Causes.States.{wants_line, wants_number, wants_in_guard}
 use Rattle.fn_text.proofs.Causes.States.{wants_in_result, wants_behind_operand, wants_behind_result}

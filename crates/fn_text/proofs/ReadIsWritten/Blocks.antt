@@ -37,11 +37,12 @@ use Rattle.fn_moves.specs.Controls.{has_chars, lacks, lacks_with, lacks_block}
 use Rattle.fn_moves.specs.FixedMoves.{at_fixed}
 use Rattle.fn_moves.specs.LineMoves.{at_line, at_block_first, at_block_second}
 use Rattle.fn_moves.specs.GuardMoves.{at_result}
-use Rattle.fn_text.specs.Print.{head_tokens}
+use Rattle.fn_grammar.specs.Print.{head_tokens}
 use Rattle.fn_text.specs.Reader.{Level, blocks_of}
-use Rattle.fn_text.specs.Grammar.{written_as, WrittenCase, WrittenBlock, result_written_as, case_written_as, block_written_as}
-use Rattle.fn_text.specs.Grammar.{block_made, is_allowed_result, is_allowed_case, is_allowed_block}
-use Rattle.fn_text.proofs.KindLists.{each_pair_from, kind_fails, same_pair, has_seen-with_pair}
+use Rattle.fn_grammar.specs.Grammar.{written_as, WrittenCase, WrittenBlock, result_written_as, case_written_as, block_written_as}
+use Rattle.fn_grammar.specs.Grammar.{block_made, is_allowed_result, is_allowed_case, is_allowed_block}
+use Rattle.fn_grammar.proofs.KindLists.{each_pair_from, kind_fails, same_pair}
+use Rattle.fn_text.proofs.SeenPairs.{has_seen-with_pair}
 use Rattle.fn_text.proofs.ReadIsWritten.Moves.{by_line, by_block_first, by_block_second, by_block_end, by_result, by_result_position}
 use Rattle.fn_text.proofs.ReadIsWritten.Moves.{by_result_offset, by_result_number, by_result_end}
 use Rattle.fn_text.proofs.ReadIsWritten.States.{to_phrases, Phrases, front_of, atoms_part, nots_front, level_front, levels_front}

@@ -9,10 +9,10 @@ use Rattle.fn_moves.specs.declared.control.Move.{Move}
 use Rattle.fn_moves.specs.declared.language.Language.{Language}
 use Rattle.fn_moves.specs.Moves.{move_for}
 use Rattle.fn_text.specs.Reader.{moved, after_move, ended, read_from, first_state}
-use Rattle.fn_text.specs.Grammar.{WrittenBlock, file_written_as, is_allowed_file}
+use Rattle.fn_grammar.specs.Grammar.{WrittenBlock, file_written_as, is_allowed_file}
 use Rattle.fn_tokens.specs.Tokens.{bare}
 use Rattle.fn_text.proofs.WrittenIsRead.Guards.{going}
-use Rattle.fn_text.proofs.KindLists.{has_seen-none}
+use Rattle.fn_text.proofs.SeenPairs.{has_seen-none}
 use Rattle.fn_text.proofs.ReadIsWritten.States.{to_phrases, Phrases, Reached}
 use Rattle.fn_text.proofs.ReadIsWritten.Guards.{Steps, operand_steps, comparison_steps, right_steps, operator_steps, offset_steps}
 use Rattle.fn_text.proofs.ReadIsWritten.Guards.{number_steps}

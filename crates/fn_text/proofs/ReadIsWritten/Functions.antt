@@ -1,10 +1,8 @@
 -- What is read is in the grammar, and means what its phrases mean.
-use Rattle.std.proofs.lemmas.Bool.{and_parts}
 use Rattle.std.proofs.Common.{◌≡◌, ℕ, IsTrue, List, [], map, Result, Ok, Err, IfOk, refl, sym, ap, ◌∙◌, subst}
 use Rattle.fn_rules.specs.declared.function.Head.{Head}
 use Rattle.fn_rules.specs.Functions.{Function}
 use Rattle.fn_rules.specs.Building.{PairCases, function_from, is_buildable}
-use Rattle.fn_rules.specs.Validity.{is_valid}
 use Rattle.fn_moves.specs.declared.fault.TextFault.{TextFault}
 use Rattle.fn_text.specs.declared.stop.TextError.{TextError}
 use Rattle.fn_tokens.specs.Tokens.{tokens_in}
@@ -12,10 +10,10 @@ use Rattle.fn_moves.specs.Meaning.{to_formulas}
 use Rattle.fn_text.specs.Made.{Gives}
 use Rattle.fn_text.specs.Reader.{read_from, first_state}
 use Rattle.fn_text.specs.Reading.{built_from, function_in}
-use Rattle.fn_text.specs.Grammar.{WrittenBlock, block_made, IsTextOf}
+use Rattle.fn_grammar.specs.Grammar.{WrittenBlock, block_made, IsTextOf}
 use Rattle.fn_text.proofs.ReadIsWritten.States.{to_phrases}
 use Rattle.fn_text.proofs.ReadIsWritten.Images.{parts_made, read_made}
-use Rattle.fn_text.proofs.ReadIsWritten.Limits.{allowed_file_is_buildable}
+use Rattle.fn_grammar.proofs.Limits.{allowed_file_is_buildable}
 use Rattle.fn_text.proofs.ReadIsWritten.Files.{read_is_file, first_reached}
 
 built_is : (head : Head) (blocks : List PairCases) (f : Function) → built_from (Ok (head, blocks)) ≡ Ok f → f ≡ function_from head blocks
@@ -65,9 +63,3 @@ pub answer_is_buildable : {X : Type 0} (view : X → Head × List PairCases) (by
     IfOk answer (λ x. IsTrue (is_buildable (view x).0 (view x).1))
 answer_is_buildable view bytes (Ok x) gives = read_is_buildable bytes (view x) gives
 answer_is_buildable view bytes (Err e) gives = tt
-
--- a text is of a function within the limits
-pub text_is_valid : (bytes : List ℕ) (f : Function) → IsTextOf bytes f → IsTrue (is_valid f)
-text_is_valid bytes f text =
-    subst (λ g. IsTrue (is_valid g)) (sym text.means)
-    (and_parts _ _ (allowed_file_is_buildable text.language text.head text.blocks text.allowed)).1

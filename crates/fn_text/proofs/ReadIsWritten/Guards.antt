@@ -21,7 +21,7 @@ use Rattle.fn_moves.specs.Controls.{has_chars}
 use Rattle.fn_moves.specs.FixedMoves.{at_fixed}
 use Rattle.fn_moves.specs.GuardMoves.{at_operand, at_operator, at_offset}
 use Rattle.fn_text.specs.Reader.{Level, negate, join, choose, disjunction, closed, moved}
-use Rattle.fn_text.specs.Grammar.{Phrase, Compare, Shifted, written_as, atoms_in, nesting_in, is_allowed}
+use Rattle.fn_grammar.specs.Grammar.{Phrase, Compare, Shifted, written_as, atoms_in, nesting_in, is_allowed}
 use Rattle.fn_text.proofs.ReadIsWritten.Moves.{by_operand, by_comparison, by_right, by_operator, by_offset, by_number}
 use Rattle.fn_text.proofs.ReadIsWritten.States.{to_phrases, Phrases, front_of, allowed_part, atoms_part, nesting_part, nots_front}
 use Rattle.fn_text.proofs.ReadIsWritten.States.{level_front, levels_front, atoms_of_level, atoms_of_levels, here, guard_front, IsLevel}

@@ -25,14 +25,14 @@ use Rattle.fn_moves.specs.Languages.{number_of, has_word, has_words}
 use Rattle.fn_moves.specs.Meaning.{to_formulas}
 use Rattle.fn_moves.specs.FixedMoves.{at_fixed}
 use Rattle.fn_moves.specs.LineMoves.{at_next_kind, at_assumed}
-use Rattle.fn_text.specs.Print.{kind_tokens, assumption_tokens, head_tokens, first_lines}
+use Rattle.fn_grammar.specs.Print.{kind_tokens, assumption_tokens, head_tokens, first_lines}
 use Rattle.fn_text.specs.Reader.{blocks_of}
-use Rattle.fn_text.specs.Grammar.{WrittenBlock, block_written_as, block_made, is_allowed_block}
+use Rattle.fn_grammar.specs.Grammar.{WrittenBlock, block_written_as, block_made, is_allowed_block}
 use Rattle.fn_text.proofs.ReadIsWritten.Moves.{by_otfn, by_version, by_text, by_mode, by_kinds, by_next_kind, by_line_end, by_assumed}
 use Rattle.fn_text.proofs.ReadIsWritten.Moves.{by_differ, by_file_end}
 use Rattle.fn_text.proofs.ReadIsWritten.States.{to_phrases, Phrases, AreBlocks, NoBlocks, head_for, no_assumptions, Reached}
 use Rattle.fn_text.proofs.Languages.{has_words-more}
-use Rattle.fn_text.proofs.WrittenIsRead.Heads.{head_of}
+use Rattle.fn_grammar.proofs.OwnBlocks.{head_of}
 use Rattle.fn_text.proofs.ReadIsWritten.Guards.{Steps}
 
 pub otfn_steps : (s : Phrases) (ts : List Token) (t : Token) (move : Move) → Reached s wants.Otfn ts →

@@ -16,7 +16,7 @@ use Rattle.fn_moves.specs.Moves.{move_for}
 use Rattle.fn_moves.specs.Meaning.{Maker}
 use Rattle.fn_text.specs.Reader.{Level, State, negate, join, choose, conjunction, disjunction, blocks_of, closed, moved, after_move}
 use Rattle.fn_text.specs.Reader.{ended, read_from}
-use Rattle.fn_text.specs.Grammar.{Phrase, made, WrittenBlock, case_made, block_made}
+use Rattle.fn_grammar.specs.Grammar.{Phrase, made, WrittenBlock, case_made, block_made}
 use Rattle.fn_text.proofs.WrittenIsRead.Guards.{going}
 use Rattle.fn_text.proofs.ReadIsWritten.States.{to_phrases, Phrases}
 

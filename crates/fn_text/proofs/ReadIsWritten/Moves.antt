@@ -36,7 +36,7 @@ use Rattle.fn_moves.specs.LineMoves.{at_next_kind, at_line, at_assumed, at_block
 use Rattle.fn_moves.specs.LineMoves.{at_block_second}
 use Rattle.fn_moves.specs.GuardMoves.{at_operand, at_operator, at_offset}
 use Rattle.fn_moves.specs.GuardMoves.{at_result}
-use Rattle.fn_text.proofs.KindLists.{same_kind}
+use Rattle.fn_grammar.proofs.KindLists.{same_kind}
 use Rattle.fn_text.proofs.Languages.{numbered_is}
 
 -- the move that was told

@@ -27,11 +27,11 @@ use Rattle.fn_moves.specs.Kinds.{has_seen, declares_some}
 use Rattle.fn_moves.specs.Languages.{number_of, has_words}
 use Rattle.fn_moves.specs.Meaning.{Maker, may_compare, to_formulas}
 use Rattle.fn_moves.specs.Controls.{has_chars}
-use Rattle.fn_text.specs.Print.{kind_tokens, head_tokens, first_lines}
+use Rattle.fn_grammar.specs.Print.{kind_tokens, head_tokens, first_lines}
 use Rattle.fn_text.specs.Reader.{Level, State, blocks_of}
-use Rattle.fn_text.specs.Grammar.{Phrase, Always, Compare, Shifted, Negated, Round, One, Both, Single, Either, written_as, atoms_in}
-use Rattle.fn_text.specs.Grammar.{nesting_in, is_allowed, WrittenCase, WrittenBlock, result_written_as, block_written_as}
-use Rattle.fn_text.specs.Grammar.{file_written_as, block_made, is_allowed_result, is_allowed_block, is_allowed_file}
+use Rattle.fn_grammar.specs.Grammar.{Phrase, Always, Compare, Shifted, Negated, Round, One, Both, Single, Either, written_as, atoms_in}
+use Rattle.fn_grammar.specs.Grammar.{nesting_in, is_allowed, WrittenCase, WrittenBlock, result_written_as, block_written_as}
+use Rattle.fn_grammar.specs.Grammar.{file_written_as, block_made, is_allowed_result, is_allowed_block, is_allowed_file}
 
 -- phrases are kept as they are
 abbrev pub to_phrases : Maker Phrase WrittenCase WrittenBlock

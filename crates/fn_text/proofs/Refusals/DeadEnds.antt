@@ -19,7 +19,7 @@ use Rattle.fn_moves.specs.Moves.{move_for}
 use Rattle.fn_moves.specs.GuardMoves.{at_operand}
 use Rattle.fn_moves.specs.LineMoves.{at_block_first, at_block_second}
 use Rattle.fn_text.specs.Reader.{State, moved, after_move, ended, read_from, first_state}
-use Rattle.fn_text.specs.Grammar.{WrittenBlock, file_written_as}
+use Rattle.fn_grammar.specs.Grammar.{WrittenBlock, file_written_as}
 use Rattle.fn_text.specs.Theorems.{state_behind}
 use Rattle.fn_text.specs.Continuing.{Begins, wants_atom_more, repeats_block, ExceptionsAreDeadEnds}
 use Rattle.fn_tokens.specs.Tokens.{bare}
@@ -29,7 +29,7 @@ use Rattle.fn_text.proofs.Refusals.NoneBegins.{reads_behind, placed, bare-placed
 use Rattle.fn_text.proofs.ReadIsWritten.Moves.{by_operand, by_block_first, by_block_second}
 use Rattle.fn_text.proofs.ReadIsWritten.States.{to_phrases, Phrases, Reached}
 use Rattle.std.proofs.lemmas.Bool.{not-true, and_from, ltb-true}
-use Rattle.fn_text.proofs.KindLists.{kind_fails}
+use Rattle.fn_grammar.proofs.KindLists.{kind_fails}
 use Rattle.fn_text.proofs.ReadIsWritten.Images.{state_made}
 use Rattle.fn_text.proofs.ReadIsWritten.Files.{first_reached}
 use Rattle.fn_text.proofs.Refusals.GoesOn.{answer_made, behind_made, reached_behind}

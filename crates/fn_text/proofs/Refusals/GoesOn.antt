@@ -39,13 +39,14 @@ use Rattle.fn_moves.specs.declared.language.Language.TheVariants as languages
 use Rattle.fn_moves.specs.Meaning.{Formulas, Maker, to_formulas}
 use Rattle.fn_moves.specs.Controls.{lacks, lacks_with, lacks_block}
 use Rattle.fn_moves.specs.Moves.{move_for}
-use Rattle.fn_text.specs.Print.{head_tokens, first_lines}
+use Rattle.fn_grammar.specs.Print.{head_tokens, first_lines}
 use Rattle.fn_text.specs.Reader.{State, blocks_of, moved, after_move, first_control, first_state}
-use Rattle.fn_text.specs.Grammar.{Always, Compare, Shifted, written_as, atoms_in, is_allowed_result, result_written_as, block_made}
+use Rattle.fn_grammar.specs.Grammar.{Always, Compare, Shifted, written_as, atoms_in, is_allowed_result, result_written_as, block_made}
 use Rattle.fn_text.specs.Theorems.{state_behind}
 use Rattle.fn_text.specs.Continuing.{Begins, wants_atom_more, repeats_block, TakenTokensGoOn}
 use Rattle.fn_tokens.specs.Tokens.{bare}
-use Rattle.fn_text.proofs.KindLists.{has_seen-none, list_any_by, comes_next-first}
+use Rattle.fn_grammar.proofs.KindLists.{list_any_by}
+use Rattle.fn_text.proofs.SeenPairs.{has_seen-none, comes_next-first}
 use Rattle.fn_text.proofs.Languages.{has_word-ins, has_words-more}
 use Rattle.fn_text.proofs.ReadIsWritten.States.{to_phrases, Phrases, guard_front, HasBlocks, lines_of, head_for, BehindColon, Ended}
 use Rattle.fn_text.proofs.ReadIsWritten.States.{result_front, Reached}

@@ -24,7 +24,7 @@ use Rattle.fn_moves.specs.Meaning.{Formulas, to_formulas}
 use Rattle.fn_moves.specs.Controls.{depth_of, lacks_block, allowed}
 use Rattle.fn_moves.specs.Moves.{move_for}
 use Rattle.fn_text.specs.Reader.{State, Level, moved, closed, after_move, turn, read_from, first_state}
-use Rattle.fn_text.specs.Grammar.{file_written_as}
+use Rattle.fn_grammar.specs.Grammar.{file_written_as}
 use Rattle.fn_text.specs.Theorems.{state_behind}
 use Rattle.fn_text.specs.Counting.{declares, is_behind_block, first_of_block, atoms_before, is_before_operand, nesting_before}
 use Rattle.fn_text.specs.Causes.{block_place}

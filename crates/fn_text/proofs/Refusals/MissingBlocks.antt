@@ -23,10 +23,11 @@ use Rattle.fn_tokens.specs.declared.token.Word.TheVariants as words
 use Rattle.fn_moves.specs.declared.control.Pairs.{Pairs}
 use Rattle.fn_moves.specs.Kinds.{has_seen, with_pair}
 use Rattle.fn_moves.specs.Meaning.{to_formulas}
-use Rattle.fn_text.specs.Print.{head_tokens}
-use Rattle.fn_text.specs.Grammar.{WrittenCase, WrittenBlock, block_written_as, block_made, atoms_in}
+use Rattle.fn_grammar.specs.Print.{head_tokens}
+use Rattle.fn_grammar.specs.Grammar.{WrittenCase, WrittenBlock, block_written_as, block_made, atoms_in}
 use Rattle.fn_text.specs.Continuing.{cases_above, is_allowed_case_with, is_allowed_block_with, is_allowed_file_with, Begins}
-use Rattle.fn_text.proofs.KindLists.{each_pair_from, listed_pair_true, has_seen-with_pair_itself, has_seen-still}
+use Rattle.fn_grammar.proofs.KindLists.{each_pair_from, listed_pair_true}
+use Rattle.fn_text.proofs.SeenPairs.{has_seen-with_pair_itself, has_seen-still}
 use Rattle.fn_text.proofs.ReadIsWritten.States.{AreBlocks}
 use Rattle.fn_text.proofs.ReadIsWritten.Blocks.{own_block, counted_more, pairs_more, seen_more, all_more, all_front, all_back}
 use Rattle.fn_text.proofs.ReadIsWritten.Blocks.{with_cases, all_blocks}

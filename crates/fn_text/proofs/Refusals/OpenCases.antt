@@ -9,9 +9,9 @@ use Rattle.fn_tokens.specs.declared.token.Token.TheVariants.{Known, Open, Close,
 use Rattle.fn_tokens.specs.declared.token.Word.TheVariants as words
 use Rattle.fn_moves.specs.declared.control.Written.TheVariants as written
 use Rattle.fn_moves.specs.Controls.{has_chars}
-use Rattle.fn_text.specs.Print.{head_tokens}
+use Rattle.fn_grammar.specs.Print.{head_tokens}
 use Rattle.fn_text.specs.Reader.{Level, blocks_of}
-use Rattle.fn_text.specs.Grammar.{Phrase, Round, written_as, atoms_in, nesting_in, WrittenCase}
+use Rattle.fn_grammar.specs.Grammar.{Phrase, Round, written_as, atoms_in, nesting_in, WrittenCase}
 use Rattle.fn_text.specs.Continuing.{is_allowed_case_with, Begins}
 use Rattle.fn_text.proofs.ReadIsWritten.States.{to_phrases, Phrases, level_front, levels_front, atoms_of_level, atoms_of_levels, here}
 use Rattle.fn_text.proofs.ReadIsWritten.States.{guard_front, atoms_before, AreLevels, HasGuard, IsOperand, HasBlocks, lines_of, InCase}

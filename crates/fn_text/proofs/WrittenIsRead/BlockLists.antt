@@ -1,61 +1,29 @@
 -- What is written by the grammar is read: the blocks of a file, one for each pair that is declared.
-use Rattle.std.proofs.lemmas.Bool.{and_parts, eqb-true}
+use Rattle.std.proofs.lemmas.Bool.{and_parts}
 use Rattle.std.proofs.Common.{◌≡◌, ℕ, ◌+◌, Bool, true, false, not, ◌&&◌, ◌||◌, List, [], ◌∷◌, ◌++◌, map, refl, sym, ap, ◌∙◌, cond}
 use Rattle.std.proofs.Common.{append_assoc, append-nil, arith}
-use Rattle.std.specs.Prelude.{count_by}
 use Rattle.std.specs.List.{flat_map, list_all}
-use Rattle.std.proofs.lemmas.List.Recursion.{is_count_by}
 use Rattle.ot_model.specs.declared.op.Kind.{Kind}
 use Rattle.fn_rules.specs.declared.guard.Tightness.{Tightness}
 use Rattle.fn_rules.specs.declared.function.Head.{Head}
 use Rattle.fn_rules.specs.Functions.{is_declared}
 use Rattle.fn_rules.specs.Functions.{is_declared_pair}
-use Rattle.ot_model.specs.Kinds.{is_same_kind}
-use Rattle.fn_rules.specs.Building.{PairCases, is_for, has_own_block, has_own_blocks}
 use Rattle.fn_tokens.specs.declared.token.Token.{Token}
 use Rattle.fn_tokens.specs.declared.token.Placed.{Placed}
 use Rattle.fn_moves.specs.declared.control.Pairs.{Pairs}
 use Rattle.fn_moves.specs.declared.control.Control.{Control}
 use Rattle.fn_moves.specs.Kinds.{has_seen, with_pair}
-use Rattle.fn_moves.specs.Meaning.{Maker, to_formulas}
+use Rattle.fn_moves.specs.Meaning.{Maker}
 use Rattle.fn_moves.specs.Controls.{lacks, lacks_with, lacks_block}
 use Rattle.fn_text.specs.Reader.{State, blocks_of}
-use Rattle.fn_text.specs.Grammar.{WrittenBlock, block_written_as, block_made, is_allowed_block}
+use Rattle.fn_grammar.specs.Grammar.{WrittenBlock, block_written_as, block_made, is_allowed_block}
 use Rattle.fn_tokens.specs.Tokens.{bare}
-use Rattle.fn_rules.proofs.LimitsKept.{each_pair_true}
-use Rattle.fn_text.proofs.KindLists.{no_kind_from, is_own_pair, has_seen-with_pair}
+use Rattle.fn_grammar.proofs.KindLists.{no_kind_from, is_own_pair}
+use Rattle.fn_grammar.proofs.OwnBlocks.{is_written_for, written_for}
+use Rattle.fn_text.proofs.SeenPairs.{has_seen-with_pair}
 use Rattle.fn_text.proofs.WrittenIsRead.Guards.{Leads}
 use Rattle.fn_text.proofs.WrittenIsRead.Cases.{AtLine}
 use Rattle.fn_text.proofs.WrittenIsRead.Blocks.{leads_block}
-
--- a block is for the pair
-abbrev pub is_written_for : Kind → Kind → WrittenBlock → Bool
-is_written_for k l block = is_same_kind block.first k && is_same_kind block.second l
-
--- the blocks that are for a pair
-abbrev pub written_for : Kind → Kind → List WrittenBlock → ℕ
-written_for k l [] = 0
-written_for k l (block ∷ others) = cond (is_written_for k l block) 1 0 + written_for k l others
-
--- the same of what blocks are made into
-abbrev pairs_for : Kind → Kind → List PairCases → ℕ
-pairs_for k l [] = 0
-pairs_for k l (block ∷ others) = cond (is_for k l block) (1 + pairs_for k l others) (pairs_for k l others)
-
-one_more : (here : Bool) (n : ℕ) → cond here (1 + n) n ≡ cond here 1 0 + n
-one_more true n = refl
-one_more false n = omega arith
-
-pairs_for-made : (k l : Kind) (blocks : List WrittenBlock) → pairs_for k l (map (block_made to_formulas) blocks) ≡ written_for k l blocks
-pairs_for-made k l [] = refl
-pairs_for-made k l (block ∷ others) =
-    one_more (is_written_for k l block) (pairs_for k l (map (block_made to_formulas) others))
-    ∙ ap (λ n. cond (is_written_for k l block) 1 0 + n) (pairs_for-made k l others)
-
-pub count_by-made : (k l : Kind) (blocks : List WrittenBlock) →
-    count_by (is_for k l) (map (block_made to_formulas) blocks) ≡ written_for k l blocks
-count_by-made k l blocks =
-    sym (is_count_by (pairs_for k l) (is_for k l) refl (λ x xs. refl) (map (block_made to_formulas) blocks)) ∙ pairs_for-made k l blocks
 
 -- of each pair that is declared one block was read or is to come, and of no other
 pub record Balanced (head : Head) (seen : Pairs) (blocks : List WrittenBlock) : Type 0 where
@@ -107,16 +75,6 @@ pub no_block_lacks : (c : Control) → Balanced c.head c.seen [] → lacks_block
 no_block_lacks c b =
     no_kind_from (lacks_with c)
     (λ k. no_kind_from (lacks c k) (λ l. settled (has_seen c.seen k l) (is_declared_pair c.head k l) (b.at k l)))
-
-own_block : (head : Head) (blocks : List WrittenBlock) (k l : Kind) →
-    has_own_block head (map (block_made to_formulas) blocks) k l ≡ true → written_for k l blocks ≡ cond (is_declared_pair head k l) 1 0
-own_block head blocks k l h = sym (count_by-made k l blocks) ∙ eqb-true _ _ h
-
--- a pair has its own block
-pub own_block_of : (head : Head) (blocks : List WrittenBlock) (k l : Kind) →
-    has_own_blocks head (map (block_made to_formulas) blocks) ≡ true → written_for k l blocks ≡ cond (is_declared_pair head k l) 1 0
-own_block_of head blocks k l h =
-    own_block head blocks k l (each_pair_true (has_own_block head (map (block_made to_formulas) blocks)) k l h)
 
 module _ {V : Tightness → Type 0} {K B : Type 0} (m : Maker V K B) where
   -- the lines of all blocks are read

@@ -16,8 +16,8 @@ use Rattle.fn_moves.specs.Meaning.{Maker}
 use Rattle.fn_moves.specs.Controls.{has_chars}
 use Rattle.fn_moves.specs.Moves.{move_for}
 use Rattle.fn_text.specs.Reader.{State, moved, blocks_of, after_move}
-use Rattle.fn_text.specs.Grammar.{WrittenCase, WrittenBlock, case_written_as, block_written_as, case_made, block_made, is_allowed_case}
-use Rattle.fn_text.specs.Grammar.{is_allowed_block}
+use Rattle.fn_grammar.specs.Grammar.{WrittenCase, WrittenBlock, case_written_as, block_written_as, case_made, block_made, is_allowed_case}
+use Rattle.fn_grammar.specs.Grammar.{is_allowed_block}
 use Rattle.fn_tokens.specs.Tokens.{bare}
 use Rattle.fn_text.proofs.WrittenIsRead.Guards.{Leads, leads_by, leads_on, behind_keeps, allowed_true, going, forget}
 use Rattle.fn_text.proofs.WrittenIsRead.Cases.{AtLine, behind_case, leads_case, case_is_made, case_is_at_line}

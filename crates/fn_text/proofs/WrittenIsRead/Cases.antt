@@ -17,10 +17,10 @@ use Rattle.fn_moves.specs.declared.control.Move.TheVariants as moves
 use Rattle.fn_moves.specs.Meaning.{Maker}
 use Rattle.fn_moves.specs.Controls.{has_chars}
 use Rattle.fn_text.specs.Reader.{State, disjunction, moved}
-use Rattle.fn_text.specs.Grammar.{written_as, made, atoms_in, nesting_in, is_allowed, WrittenCase, result_written_as, case_written_as}
-use Rattle.fn_text.specs.Grammar.{case_made, is_allowed_result, is_allowed_case}
+use Rattle.fn_grammar.specs.Grammar.{written_as, made, atoms_in, nesting_in, is_allowed, WrittenCase, result_written_as, case_written_as}
+use Rattle.fn_grammar.specs.Grammar.{case_made, is_allowed_result, is_allowed_case}
 use Rattle.fn_tokens.specs.Tokens.{bare}
-use Rattle.fn_text.proofs.KindLists.{is_same_kind-itself}
+use Rattle.fn_grammar.proofs.KindLists.{is_same_kind-itself}
 use Rattle.fn_text.proofs.WrittenIsRead.Guards.{Leads, leads_by, leads_on, behind, behind_keeps, want_is_behind, same_outside, leads}
 use Rattle.fn_text.proofs.WrittenIsRead.Guards.{says, at_wanted, allowed_true, operator_goes}
 

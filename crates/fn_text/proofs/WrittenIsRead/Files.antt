@@ -17,16 +17,17 @@ use Rattle.fn_moves.specs.declared.fault.TextFault.{TextFault}
 use Rattle.fn_moves.specs.declared.language.Language.{Language}
 use Rattle.fn_moves.specs.Kinds.{declares_some}
 use Rattle.fn_moves.specs.Meaning.{Maker, to_formulas}
-use Rattle.fn_text.specs.Print.{head_tokens}
+use Rattle.fn_grammar.specs.Print.{head_tokens}
 use Rattle.fn_tokens.specs.Tokens.{tokens_in}
 use Rattle.fn_text.specs.Reader.{State, moved, blocks_of, read_from, first_state, no_pairs}
 use Rattle.fn_text.specs.Reading.{built_from, function_in}
-use Rattle.fn_text.specs.Grammar.{WrittenBlock, block_written_as, block_made, file_written_as, is_allowed_file, IsTextOf}
+use Rattle.fn_grammar.specs.Grammar.{WrittenBlock, block_written_as, block_made, file_written_as, is_allowed_file, IsTextOf}
 use Rattle.fn_tokens.specs.Tokens.{bare}
-use Rattle.fn_text.proofs.KindLists.{has_seen-none}
+use Rattle.fn_text.proofs.SeenPairs.{has_seen-none}
 use Rattle.fn_text.proofs.WrittenIsRead.Guards.{leads_by, leads_on, at_wanted, allowed_true}
 use Rattle.fn_text.proofs.WrittenIsRead.Cases.{AtLine}
-use Rattle.fn_text.proofs.WrittenIsRead.BlockLists.{Balanced, own_block_of, no_block_lacks, written_for, leads_blocks}
+use Rattle.fn_grammar.proofs.OwnBlocks.{own_block_of, written_for}
+use Rattle.fn_text.proofs.WrittenIsRead.BlockLists.{Balanced, no_block_lacks, leads_blocks}
 use Rattle.fn_text.proofs.WrittenIsRead.Heads.{before_blocks, leads_head}
 
 none_yet : (n : ℕ) (seen : Bool) (all : ℕ) → seen ≡ false → n ≡ all → n + cond seen 1 0 ≡ all

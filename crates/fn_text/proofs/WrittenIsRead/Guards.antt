@@ -30,8 +30,8 @@ use Rattle.fn_moves.specs.FixedMoves.{at_fixed}
 use Rattle.fn_moves.specs.GuardMoves.{at_operator, at_offset}
 use Rattle.fn_text.specs.Reader.{Level, State, negate, join, choose, conjunction, disjunction, moved, closed, read_from, after_move}
 use Rattle.fn_text.specs.Reader.{want_behind}
-use Rattle.fn_text.specs.Grammar.{Phrase, Always, Compare, Shifted, Negated, Round, One, Both, Single, Either, written_as, made}
-use Rattle.fn_text.specs.Grammar.{atoms_in, nesting_in, is_allowed}
+use Rattle.fn_grammar.specs.Grammar.{Phrase, Always, Compare, Shifted, Negated, Round, One, Both, Single, Either, written_as, made}
+use Rattle.fn_grammar.specs.Grammar.{atoms_in, nesting_in, is_allowed}
 
 -- the same in other parentheses
 abbrev pub around : {V : Tightness → Type 0} {K B : Type 0} → State V K B → ℕ → List (Level V) → State V K B

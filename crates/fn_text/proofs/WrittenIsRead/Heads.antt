@@ -22,17 +22,13 @@ use Rattle.fn_moves.specs.declared.language.Language.{Language}
 use Rattle.fn_moves.specs.declared.language.Language.TheVariants as languages
 use Rattle.fn_moves.specs.Kinds.{with_kind, declares_some, comes_next}
 use Rattle.fn_moves.specs.Languages.{number_of, has_word, has_words}
-use Rattle.fn_text.specs.Print.{present, kind_tokens, assumption_tokens, first_lines, head_tokens}
+use Rattle.fn_grammar.specs.Print.{present, kind_tokens, assumption_tokens, first_lines, head_tokens}
 use Rattle.fn_moves.specs.Meaning.{Maker}
 use Rattle.fn_text.specs.Reader.{State, first_state, first_control}
 use Rattle.fn_tokens.specs.Tokens.{bare}
+use Rattle.fn_grammar.proofs.OwnBlocks.{head_of}
 use Rattle.fn_text.proofs.Languages.{numbered, word_of_declared}
 use Rattle.fn_text.proofs.WrittenIsRead.Guards.{Leads, leads_by, leads_on, allowed_true}
-
--- a head by its parts
-abbrev pub head_of : Mode → Bool → Bool → Bool → Bool → Bool → Head
-head_of mode ins del upd sites chars =
-    record { mode = mode; ins = ins; del = del; upd = upd; sites_differ = sites; chars_differ = chars }
 
 regroup : (first kinds sites chars more : List Token) →
     first ++ Known words.Kinds ∷ kinds ++ LineEnd ∷ [] ++ sites ++ chars ++ more
