@@ -163,14 +163,6 @@ no_block (block ∷ blocks) k l e =
     passed_over (is_for k l block) (count_by (is_for k l) blocks) block.cases (cases_in blocks k l)
     (sym (sum_by-cons (λ x. cond (is_for k l x) 1 0) block blocks) ∙ e) (no_block blocks k l)
 
-or_left : (p q : Bool) → p ≡ true → (p || q) ≡ true
-or_left true q h = refl
-or_left false q h = absurd (cc)
-
-or_right : (p q : Bool) → q ≡ true → (p || q) ≡ true
-or_right true q h = refl
-or_right false q h = h
-
 declared_or_none : (declared : Bool) (blocks : List PairCases) (k l : Kind) →
     nat_eq (count_by (is_for k l) blocks) (cond declared 1 0) ≡ true → (declared || nat_eq (length (cases_in blocks k l)) 0) ≡ true
 declared_or_none true blocks k l h = refl

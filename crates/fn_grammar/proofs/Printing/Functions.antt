@@ -39,8 +39,7 @@ use Rattle.fn_tokens.proofs.LexesBack.{lines_lex}
 use Rattle.fn_grammar.proofs.Printing.Lines.{function_in_lines}
 use Rattle.fn_grammar.proofs.OwnBlocks.{head_of, is_written_for, written_for, own_block_of}
 use Rattle.fn_grammar.proofs.KindLists.{list_all_from, same_pair}
-use Rattle.fn_grammar.proofs.Printing.Guards.{phrase_for, two_digits_up, two_digits_down, written_as-phrase_for, made-phrase_for}
-use Rattle.fn_grammar.proofs.Printing.Guards.{is_allowed-phrase_for, atoms_in-phrase_for, nesting_in-phrase_for}
+use Rattle.fn_grammar.proofs.Printing.Guards.{phrase_for, two_digits_up, two_digits_down, IsPhraseOf, phrase_is}
 
 -- the second language has all words
 has_words-two : (head : Head) → has_words Two head ≡ true
@@ -87,29 +86,29 @@ result_allowed (results.Keep base (negsuc n)) h = two_digits_down n h
 abbrev case_for : GuardedCase → WrittenCase
 case_for c = record { guard = phrase_for Loose c.guard; result = result_for c.res }
 
-valid_atoms : (chars : Bool) (c : GuardedCase) → is_valid_case chars c ≡ true → has_valid_atoms chars c.guard ≡ true
-valid_atoms chars c h = (and_parts _ _ (and_parts _ _ (and_parts _ _ h).0).0).0
+guard_is : (chars : Bool) (c : GuardedCase) → is_valid_case chars c ≡ true → IsPhraseOf chars (phrase_for Loose c.guard) c.guard
+guard_is chars c h = phrase_is chars Loose c.guard (and_parts _ _ (and_parts _ _ (and_parts _ _ h).0).0).0
 
 case_written : (chars : Bool) (kind : Kind) (c : GuardedCase) → is_valid_case chars c ≡ true →
     case_written_as kind (case_for c) ≡ case_tokens kind c
 case_written chars kind c h =
     ap (λ x. Known words.Case ∷ x ++ Colon ∷ result_written_as kind (result_for c.res) ++ LineEnd ∷ [])
-    (written_as-phrase_for chars Loose c.guard (valid_atoms chars c h))
+    (guard_is chars c h).written
     ∙ ap (λ x. Known words.Case ∷ guard_tokens Loose c.guard ++ Colon ∷ x ++ LineEnd ∷ []) (result_written kind c.res)
 
 case_made-case_for : (chars : Bool) (c : GuardedCase) → is_valid_case chars c ≡ true → case_made to_formulas (case_for c) ≡ c
 case_made-case_for chars c h =
-    let guard_made = made-phrase_for chars Loose c.guard (valid_atoms chars c h) in
+    let guard_made = (guard_is chars c h).means in
     let result_made = res_of-result_for c.res in
     ap (λ g. record { guard = g; res = res_of (result_for c.res) }) guard_made ∙ ap (λ r. record { guard = c.guard; res = r }) result_made
 
 case_allowed : (chars : Bool) (c : GuardedCase) → is_valid_case chars c ≡ true → is_allowed_case chars (case_for c) ≡ true
 case_allowed chars c h =
+    let guard = guard_is chars c h in
     let front = (and_parts _ _ (and_parts _ _ h).0).0 in
-    and_from _ _ (and_from _ _ (and_from _ _ (is_allowed-phrase_for chars Loose c.guard (and_parts _ _ front).0)
-    (ap (λ n. nat_le n 16) (atoms_in-phrase_for Loose c.guard) ∙ (and_parts (has_valid_atoms chars c.guard) _ front).1))
-    (ap (λ n. nat_le n 32) (nesting_in-phrase_for Loose c.guard) ∙ (and_parts _ _ (and_parts _ _ h).0).1))
-    (result_allowed c.res (and_parts _ _ h).1)
+    and_from _ _ (and_from _ _ (and_from _ _ guard.allowed
+    (ap (λ n. nat_le n 16) guard.counted ∙ (and_parts (has_valid_atoms chars c.guard) _ front).1))
+    (ap (λ n. nat_le n 32) guard.nested ∙ (and_parts _ _ (and_parts _ _ h).0).1)) (result_allowed c.res (and_parts _ _ h).1)
 
 cases_written : (chars : Bool) (kind : Kind) (cs : List GuardedCase) → list_all (is_valid_case chars) cs ≡ true →
     flat_map (case_written_as kind) (map case_for cs) ≡ flat_map (case_tokens kind) cs

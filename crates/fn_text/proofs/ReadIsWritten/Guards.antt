@@ -36,18 +36,6 @@ nots_written : (n : ℕ) (u : Phrase Tight) → written_as (negate to_phrases n 
 nots_written zero u = refl
 nots_written (suc n) u = ap (λ x. Known words.Not ∷ x) (nots_written n u)
 
-nots_allowed : (chars : Bool) (n : ℕ) (u : Phrase Tight) → is_allowed chars (negate to_phrases n u) ≡ is_allowed chars u
-nots_allowed chars zero u = refl
-nots_allowed chars (suc n) u = nots_allowed chars n u
-
-nots_atoms : (n : ℕ) (u : Phrase Tight) → atoms_in (negate to_phrases n u) ≡ atoms_in u
-nots_atoms zero u = refl
-nots_atoms (suc n) u = nots_atoms n u
-
-nots_nested : (n : ℕ) (u : Phrase Tight) → nesting_in (negate to_phrases n u) ≡ n + nesting_in u
-nots_nested zero u = omega arith
-nots_nested (suc n) u = let inner = nots_nested n u in omega (arith, inner)
-
 nots_more : (n : ℕ) → nots_front (suc n) ≡ nots_front n ++ Known words.Not ∷ []
 nots_more zero = refl
 nots_more (suc n) = ap (λ x. Known words.Not ∷ x) (nots_more n)
@@ -73,69 +61,62 @@ choose_written : (any : Option (Phrase Loose)) (c : Phrase Joined) →
 choose_written None c = refl
 choose_written (Some d) c = sym (append_assoc (written_as d) (Known words.Or ∷ []) (written_as c))
 
-join_allowed : (chars : Bool) (all : Option (Phrase Joined)) (u : Phrase Tight) → allowed_part chars all ≡ true →
-    is_allowed chars u ≡ true → is_allowed chars (join to_phrases all u) ≡ true
-join_allowed chars None u before now = now
-join_allowed chars (Some c) u before now = and_from _ _ before now
-
-choose_allowed : (chars : Bool) (any : Option (Phrase Loose)) (c : Phrase Joined) → allowed_part chars any ≡ true →
-    is_allowed chars c ≡ true → is_allowed chars (choose to_phrases any c) ≡ true
-choose_allowed chars None c before now = now
-choose_allowed chars (Some d) c before now = and_from _ _ before now
-
-join_atoms : (all : Option (Phrase Joined)) (u : Phrase Tight) → atoms_in (join to_phrases all u) ≡ atoms_part all + atoms_in u
-join_atoms None u = omega arith
-join_atoms (Some c) u = refl
-
-choose_atoms : (any : Option (Phrase Loose)) (c : Phrase Joined) → atoms_in (choose to_phrases any c) ≡ atoms_part any + atoms_in c
-choose_atoms None c = omega arith
-choose_atoms (Some d) c = refl
-
-join_nested : (outside : ℕ) (all : Option (Phrase Joined)) (u : Phrase Tight) → outside + nesting_part all ≤ 32 →
-    outside + nesting_in u ≤ 32 → outside + nesting_in (join to_phrases all u) ≤ 32
-join_nested outside None u before now = now
-join_nested outside (Some c) u before now = omega (arith, before, now)
-
-choose_nested : (outside : ℕ) (any : Option (Phrase Loose)) (c : Phrase Joined) → outside + nesting_part any ≤ 32 →
-    outside + nesting_in c ≤ 32 → outside + nesting_in (choose to_phrases any c) ≤ 32
-choose_nested outside None c before now = now
-choose_nested outside (Some d) c before now = omega (arith, before, now)
-
 -- a phrase that was read in its parentheses
 pub record IsPhrase {t : Tightness} (chars : Bool) (outside : ℕ) (atoms : ℕ) (p : Phrase t) : Type 0 where
   pub allowed : is_allowed chars p ≡ true
   pub nested : outside + nesting_in p ≤ 32
   pub counted : atoms_in p ≡ atoms
 
+-- operands behind `not` are phrases where the operand is one, inside the `not` too
+nots_is : (chars : Bool) (outside atoms n : ℕ) (u : Phrase Tight) → IsPhrase chars (outside + n) atoms u →
+    IsPhrase chars outside atoms (negate to_phrases n u)
+nots_is chars outside atoms zero u p =
+    let nested = p.nested in record { allowed = p.allowed; nested = omega (arith, nested); counted = p.counted }
+nots_is chars outside atoms (suc n) u p =
+    let nested = p.nested in
+    let inner = nots_is chars (outside + 1) atoms n u
+    record { allowed = p.allowed; nested = omega (arith, nested); counted = p.counted } in
+    let depth = inner.nested in
+    record { allowed = inner.allowed; nested = omega (arith, depth); counted = inner.counted }
+
+-- so is what an operand ends, behind what stands before the last `and`
+join_is : (chars : Bool) (outside atoms : ℕ) (all : Option (Phrase Joined)) (u : Phrase Tight) → allowed_part chars all ≡ true →
+    outside + nesting_part all ≤ 32 → IsPhrase chars outside atoms u →
+    IsPhrase chars outside (atoms_part all + atoms) (join to_phrases all u)
+join_is chars outside atoms None u before around p =
+    let count = p.counted in record { allowed = p.allowed; nested = p.nested; counted = omega (arith, count) }
+join_is chars outside atoms (Some c) u before around p =
+    let nested = p.nested in
+    let count = p.counted in
+    record { allowed = and_from _ _ before p.allowed; nested = omega (arith, around, nested); counted = omega (arith, count) }
+
+-- and behind what stands before the last `or`
+choose_is : (chars : Bool) (outside atoms : ℕ) (any : Option (Phrase Loose)) (c : Phrase Joined) → allowed_part chars any ≡ true →
+    outside + nesting_part any ≤ 32 → IsPhrase chars outside atoms c →
+    IsPhrase chars outside (atoms_part any + atoms) (choose to_phrases any c)
+choose_is chars outside atoms None c before around p =
+    let count = p.counted in record { allowed = p.allowed; nested = p.nested; counted = omega (arith, count) }
+choose_is chars outside atoms (Some d) c before around p =
+    let nested = p.nested in
+    let count = p.counted in
+    record { allowed = and_from _ _ before p.allowed; nested = omega (arith, around, nested); counted = omega (arith, count) }
+
 -- the conjunction that an operand ends is within the limits, where its level and the operand are
 conjunction_is : (chars : Bool) (level : Level Phrase) (last : Phrase Tight) → IsLevel chars level → IsOperand chars level last →
     IsPhrase chars level.outside (atoms_part level.all + atoms_in last) (conjunction_at level last)
 conjunction_is chars level last inner operand =
-    let u = negate to_phrases level.nots last in
-    let nested : nesting_in u ≡ level.nots + nesting_in last = nots_nested level.nots last in
-    let count : atoms_in u ≡ atoms_in last = nots_atoms level.nots last in
-    let within = operand.last_nested in
-    let room : level.outside + nesting_in u ≤ 32 = omega (arith, nested, within) in
-    let all : atoms_in (join to_phrases level.all u) ≡ atoms_part level.all + atoms_in u = join_atoms level.all u in
-    record {
-      allowed = join_allowed chars level.all u inner.all_allowed (nots_allowed chars level.nots last ∙ operand.last_allowed);
-      nested = join_nested level.outside level.all u inner.all_nested room;
-      counted = omega (arith, all, count);
-    }
+    join_is chars level.outside (atoms_in last) level.all (negate to_phrases level.nots last) inner.all_allowed inner.all_nested
+    (nots_is chars level.outside (atoms_in last) level.nots last
+    record { allowed = operand.last_allowed; nested = operand.last_nested; counted = refl })
 
 -- so is the disjunction that it ends
 pub disjunction_is : (chars : Bool) (level : Level Phrase) (last : Phrase Tight) → IsLevel chars level →
     IsOperand chars level last → IsPhrase chars level.outside (atoms_of_level level + atoms_in last) (disjunction_at level last)
 disjunction_is chars level last inner operand =
-    let c = conjunction_is chars level last inner operand in
-    let count = c.counted in
-    let all : atoms_in (choose to_phrases level.any (conjunction_at level last))
-    ≡ atoms_part level.any + atoms_in (conjunction_at level last) = choose_atoms level.any (conjunction_at level last) in
-    record {
-      allowed = choose_allowed chars level.any (conjunction_at level last) inner.any_allowed c.allowed;
-      nested = choose_nested level.outside level.any (conjunction_at level last) inner.any_nested c.nested;
-      counted = omega (arith, all, count);
-    }
+    let whole = choose_is chars level.outside (atoms_part level.all + atoms_in last) level.any (conjunction_at level last)
+    inner.any_allowed inner.any_nested (conjunction_is chars level last inner operand) in
+    let count = whole.counted in
+    record { allowed = whole.allowed; nested = whole.nested; counted = omega (arith, count) }
 
 pub disjunction_written : (level : Level Phrase) (last : Phrase Tight) →
     written_as (disjunction_at level last) ≡ level_front level ++ written_as last
