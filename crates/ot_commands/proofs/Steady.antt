@@ -3,7 +3,7 @@ use Rattle.std.proofs.Common.{refl, ◌≡◌, ◌≢◌, ℕ, ◌<◌, List, Op
 use Rattle.std.specs.Prelude.{IfSome}
 use Rattle.fn_rules.specs.Functions.{Function}
 use Rattle.fn_moves.specs.declared.fault.TextFault.{TextFault}
-use Rattle.fn_text.specs.Grammar.{IsTextOf}
+use Rattle.fn_grammar.specs.Grammar.{IsTextOf}
 use Rattle.fn_text.specs.Reading.{function_in}
 use Rattle.ot_replies.specs.declared.reply.FileKind.{FileKind}
 use Rattle.ot_replies.specs.declared.reply.FileKind.TheVariants as files

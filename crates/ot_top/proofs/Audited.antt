@@ -1,7 +1,7 @@
 -- What was written of functions that are audited or compared.
 use Rattle.std.proofs.Common.{◌≡◌, ℕ, List, Option, Ok, ap, ◌∙◌, subst}
 use Rattle.fn_rules.specs.Functions.{Function}
-use Rattle.fn_text.specs.Grammar.{IsTextOf}
+use Rattle.fn_grammar.specs.Grammar.{IsTextOf}
 use Rattle.fn_text.specs.Reading.{function_in}
 use Rattle.ot_replies.specs.declared.reply.Subject.TheVariants.{First, Second}
 use Rattle.ot_replies.specs.Texts.{status_of, text_of}

@@ -4,7 +4,7 @@ use Rattle.diff_graph.specs.declared.lit.Lit.{Lit}
 use Rattle.fn_rules.specs.declared.function.Level.{Level}
 use Rattle.fn_rules.specs.Functions.{Function}
 use Rattle.fn_rules.specs.Validity.{is_valid}
-use Rattle.fn_text.specs.Grammar.{IsTextOf}
+use Rattle.fn_grammar.specs.Grammar.{IsTextOf}
 use Rattle.fn_text.specs.Reading.{function_in}
 use Rattle.ask_core.specs.Plans.{Plan}
 use Rattle.ask_core.specs.Questions.{Questions, QuestionList}

@@ -1,7 +1,7 @@
 -- What `audit` and `same` show of functions whose files are told.
 use Rattle.std.specs.Prelude.{◌≡◌, ℕ, ◌≤◌, List, length, Option, Some}
 use Rattle.fn_rules.specs.Functions.{Function}
-use Rattle.fn_text.specs.Grammar.{IsTextOf}
+use Rattle.fn_grammar.specs.Grammar.{IsTextOf}
 use Rattle.ot_audit.specs.declared.audits.Audit.{Audit as Found}
 use Rattle.ot_audit.specs.declared.audits.Same.{Same as Compared}
 use Rattle.ot_audit.specs.Audits.{IsAuditedAs, IsComparedAs}

@@ -5,7 +5,7 @@ use Rattle.std.specs.Option.{ForSome}
 use Rattle.fn_rules.specs.declared.function.Level.{Level}
 use Rattle.fn_rules.specs.Functions.{Function}
 use Rattle.fn_rules.specs.Properties.{HasTp1, HasTp2}
-use Rattle.fn_text.specs.Grammar.{IsTextOf}
+use Rattle.fn_grammar.specs.Grammar.{IsTextOf}
 use Rattle.ot_sections.specs.declared.refusal.JudgeError.{JudgeError}
 use Rattle.ot_counter.specs.declared.counter.Counter.{Counter}
 use Rattle.ot_counter.specs.Counters.{Breaks, BreaksBy}

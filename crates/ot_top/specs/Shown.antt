@@ -10,7 +10,7 @@ use Rattle.fn_rules.specs.Functions.{Function}
 use Rattle.fn_rules.specs.Obligations.{obligations_of}
 use Rattle.fn_rules.specs.Orders.{HasOneOutcome}
 use Rattle.fn_rules.specs.Properties.{HasTp1, HasTp2}
-use Rattle.fn_text.specs.Grammar.{IsTextOf}
+use Rattle.fn_grammar.specs.Grammar.{IsTextOf}
 use Rattle.ot_questions.specs.declared.why.Why.{Why}
 use Rattle.ot_questions.specs.Instances.{form_behind}
 use Rattle.ot_questions.specs.Obligation.{plan_of}
