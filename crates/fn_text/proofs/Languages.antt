@@ -1,8 +1,7 @@
 -- The two languages: their numbers, and the words that they have for kinds.
-use Rattle.std.proofs.Common.{◌≡◌, ℕ, ◌==◌, Bool, true, false, not, ◌||◌, cond, Option, Some, None, refl, sym, ap, ◌∙◌, rules, inl, inr}
+use Rattle.std.proofs.Common.{◌≡◌, ℕ, ◌==◌, Bool, true, false, not, ◌||◌, cond, Option, Some, None, refl, sym, ap, ◌∙◌, rules}
 use Rattle.std.specs.Option.{is_none}
 use Rattle.std.specs.Prelude.{option_map}
-use Rattle.std.proofs.lemmas.Bool.{cases_Bool}
 use Rattle.std.proofs.lemmas.Bool.Decides.{nat_tests}
 use Rattle.ot_model.specs.declared.op.Kind.{Kind}
 use Rattle.ot_model.specs.declared.op.Kind.TheVariants as kinds
@@ -13,7 +12,7 @@ use Rattle.fn_rules.specs.Functions.{is_declared}
 use Rattle.fn_moves.specs.declared.language.Language.{Language}
 use Rattle.fn_moves.specs.declared.language.Language.TheVariants.{One, Two}
 use Rattle.fn_moves.specs.Kinds.{with_kind}
-use Rattle.fn_moves.specs.Languages.{language_numbered, number_of, has_word, has_words, language_for}
+use Rattle.fn_moves.specs.Languages.{language_numbered, number_of, has_word, has_words}
 use Rattle.fn_grammar.proofs.KindLists.{list_all_from, each_kind_true, same_kind}
 
 pub numbered : (language : Language) → language_numbered (number_of language) ≡ Some language
