@@ -118,11 +118,6 @@ module _ {N : Type 0} (is_own : N → Type 0) (old new : List (Level N)) (level 
   popped_is_own =
       let both = All-pop (λ l. is_own l.node) old new (Some level) popped all in (both.1, both.0)
 
-pub own_shown :
-    {N : Type 0} (is_own : N → Type 0) (lemmas : List (Lemma N)) (lemma : Lemma N) → AreOwn is_own lemmas
-    → is_own lemma.node → AreOwn is_own (lemmas ++ lemma ∷ [])
-own_shown is_own lemmas lemma own one = All-push (λ l. is_own l.node) lemmas lemma own one
-
 -- where no place is open, one node fewer is to be own
 pub own_none : {N : Type 0} (is_own : N → Type 0) (s : Search N) → IsOwnSearch is_own s → IsOwnSearch is_own (closed s)
 own_none is_own s own = record { at = tt; waiting = own.waiting; levels = own.levels; lemmas = own.lemmas }

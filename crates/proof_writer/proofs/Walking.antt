@@ -1,5 +1,5 @@
 -- Which nodes a walk has after a change.
-use Rattle.std.proofs.Common.{◌≡◌, ◌⊎◌, ℕ, inl, inr, refl, List, [], ◌∷◌, ◌++◌, Option, Some, None, sym, ap, subst, ◌∙◌}
+use Rattle.std.proofs.Common.{◌≡◌, ◌⊎◌, ℕ, inl, inr, refl, List, [], ◌∷◌, ◌++◌, Option, Some, sym, ap, subst, ◌∙◌}
 use Rattle.std.specs.Prelude.{slice_index_or}
 use Rattle.ask_core.specs.Plans.{Plan}
 use Rattle.proof_search.specs.declared.lemmas.Lemma.{Lemma}
