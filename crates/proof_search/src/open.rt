@@ -6,16 +6,18 @@ use crate::NoMemory;
 use crate::excuse::Excuse;
 use crate::facts::Facts;
 use crate::lemmas::Lemmas;
-use crate::levels::{Level, answers_before, assumed, part};
+use crate::levels::{Level, assumed};
 use diff_graph::{Lit, negate};
 use std::alloc::Global;
 
-/// A part for no that waits: its node, how many answers it shares with the open place, and its own answer after these.
+/// A part for no that waits: its node, how many answers it shares with the open place, its own answer after these, and
+/// what followed from all of them and from what the innermost level assumed when the question was asked.
 #[derive(Clone, Copy)]
 pub(crate) struct Waiting<N> {
     pub node: N,
     pub answers: usize,
     pub answer: Lit,
+    pub facts: Facts,
 }
 
 /// A search under way: the node of the open place, or none where that was closed; the lemmas that are being shown, the
@@ -88,10 +90,14 @@ impl<N: Copy> Search<N> {
             self.at = Some(no);
             return Ok(());
         }
+        let answer = negate(lit);
+        let mut facts = self.facts;
+        facts.try_add(answer, 0);
         self.waiting.push(Waiting {
             node: no,
             answers: self.answers.len(),
-            answer: negate(lit),
+            answer,
+            facts,
         })?;
         self.answers.push(lit)?;
         self.facts.try_add(lit, 0);
@@ -99,20 +105,14 @@ impl<N: Copy> Search<N> {
         Ok(())
     }
 
-    /// Answers with one literal more after the first answers, which a part that waited shares. False where no integers
-    /// meet these and what the innermost level assumes.
-    pub fn answer(&mut self, shared: usize, lit: Lit) -> Result<bool, NoMemory>
+    /// Takes the answers of a part that waited, and what follows from them. What the innermost level assumes by now is
+    /// added to that, since it may be more than when the question was asked. False where no integers meet all of them.
+    pub fn answer(&mut self, shared: usize, lit: Lit, facts: &Facts) -> Result<bool, NoMemory>
         ensures { self.new ≡ record self.old { answers = self.new.answers; facts = self.new.facts } }
     {
         self.answers.truncate(shared);
         self.answers.push(lit)?;
-        self.facts = Facts::new();
-        let since = answers_before(&self.levels);
-        Ok(
-            self.facts.try_add_all(assumed(&self.levels), 0)
-                && self
-                    .facts
-                    .try_add_all(part(&self.answers, since, self.answers.len()), 0),
-        )
+        self.facts = *facts;
+        Ok(self.facts.try_add_all(assumed(&self.levels), 0))
     }
 }

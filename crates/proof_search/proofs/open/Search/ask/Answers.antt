@@ -7,7 +7,7 @@ returns g c = record {
   waiting =
       inr
       (record {
-        item = record { node = c.args.no; answers = c.len.result; answer = c.negate.result };
+        item = record { node = c.args.no; answers = c.len.result; answer = c.negate-answer.result; facts = c.try_add.new.self };
         at_node = refl;
         items = c.in_ok-push.ensures.items;
       });
