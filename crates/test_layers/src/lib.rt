@@ -10,7 +10,11 @@ mod blocks;
 #[cfg(test)]
 mod checks;
 #[cfg(test)]
+mod counted_starts;
+#[cfg(test)]
 mod functions;
+#[cfg(test)]
+mod lemmas;
 #[cfg(test)]
 mod outside;
 #[cfg(test)]
@@ -25,3 +29,5 @@ mod splits;
 mod starts;
 #[cfg(test)]
 mod two_names;
+#[cfg(test)]
+mod written;
