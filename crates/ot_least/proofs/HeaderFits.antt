@@ -20,9 +20,3 @@ by_second_level bytes none Other fits = at
     at : (level : Level) (bound : ℕ) → bound ≤ MAX_BOUND → BeginsOtherwise bytes level bound
     at Tp1 = none
     at Tp2 = fits
-
--- where one of the first level does, they decide
-pub by_first_level : (bytes : List ℕ) (fit : HeaderFit) → (fit ≡ Other → ⊥) → FitsLevel Tp1 bytes fit → FitsHeader bytes fit
-by_first_level bytes (Whole level bound) some fits = fits
-by_first_level bytes Front some fits = fits
-by_first_level bytes Other some fits = absurd (some refl)

@@ -2,10 +2,9 @@
 use Rattle.std.proofs.Common.{◌≡◌, ◌↔◌, ◌⊎◌, ℕ, suc, ◌+◌, ◌-◌, ◌≤◌, ℤ, pos, negsuc, ◌-ℤ◌, ◌+ℤ◌, ◌≤ℤ◌, Bool, true, false, List, [], ◌∷◌, ◌++◌, length, Option}
 use Rattle.std.proofs.Common.{None, Some, slice_get, Ok, IsTrue, arith, refl, sym, ap, ◌∙◌, subst, inl, inr}
 use Rattle.std.proofs.lemmas.Int.{ints}
-use Rattle.std.proofs.lemmas.Bool.{cases_Bool}
 use Rattle.diff_graph.specs.declared.lit.Lit.{Lit}
 use Rattle.diff_graph.specs.declared.hop.Hop.{Hop}
-use Rattle.diff_graph.specs.Literals.{Meets, AreMet, IsPossible, answered_of, is_met, negated}
+use Rattle.diff_graph.specs.Literals.{AreMet, IsPossible, answered_of}
 use Rattle.diff_graph.specs.Cycles.{picked, pick_verdict}
 use Rattle.diff_graph.specs.Tables.{IsNamed, Numbered, literals_of, numbered_from, IsAmong, AreAmong, kept_of, StandsFor, IsPossibleWith, IsCycleOf}
 use Rattle.diff_graph.specs.Steps.{keeps, leaves_room}
@@ -136,14 +135,6 @@ IsCycleAmong-closed w l said number rows picks long closes stands =
     IsCycleAmong-push w (answered_of l said) number picks long (closes (numbered_from 0 w) stands)
 
 -- ---- the two answers to a literal
--- each valuation meets one of the two
-pub one_answer_is_met : (l : Lit) (v : ℕ → ℤ) → Meets v l ⊎ Meets v (negated l)
-one_answer_is_met l v =
-    elim (cases_Bool (is_met v l)) [
-      | inl passed ↦ inl (let met : Meets v l = grind (arith, ints) in met)
-      | inr failed ↦ inr (let met : Meets v (negated l) = grind (arith, ints) in met)
-    ]
-
 abbrev pub TellsPossible : Type 0
 TellsPossible =
     (n : ℕ) (t : ℕ → ℕ → Option Hop) (ps : List Numbered) (l : Lit)
