@@ -12,9 +12,8 @@ use Rattle.ot_terms.specs.Forms.{FormTree, True, Le, Lt, Eq, And, Or, Not}
 use Rattle.ot_terms.specs.Goals.{GoalTree, If}
 use Rattle.ot_terms.specs.Standing.{ask_form, ask_goal}
 use Rattle.ot_terms.specs.Weights.{form_weight, goal_weight}
-use Rattle.ot_rewrite.specs.Leading.{led_order}
 use Rattle.ot_rewrite.specs.Splits.{HasLowOffsets}
-use Rattle.laid_goals.specs.Sharing.{StandsAlike, laid_form}
+use Rattle.laid_goals.specs.Sharing.{StandsAlike, laid_form, laid_order}
 
 pub alike_on : (f : Function) (g h i : GoalTree) → StandsAlike f g h → StandsAlike f h i → StandsAlike f g i
 alike_on f g h i first next =
@@ -46,7 +45,7 @@ module _ (f : Function) where
   order_asks_by_tests x y p q true false e o = rw e (rw o refl)
   order_asks_by_tests x y p q false c e o = refl
 
-  order_asks : (x y : Place) (p q : GoalTree) → ask_goal f (led_order x y p q) ≡ ask_le x y (ask_goal f p) (ask_goal f q)
+  order_asks : (x y : Place) (p q : GoalTree) → ask_goal f (laid_order x y p q) ≡ ask_le x y (ask_goal f p) (ask_goal f q)
   order_asks x y p q = order_asks_by_tests x y p q (nat_eq x.var y.var) (int_le x.off y.off) refl refl
 
   laid_asks : (g : FormTree) (p q : GoalTree) → ask_goal f (laid_form g p q) ≡ ask_form g (ask_goal f p) (ask_goal f q)
@@ -55,7 +54,7 @@ module _ (f : Function) where
   laid_asks (Le x y) p q = order_asks x y p q
   laid_asks (Lt x y) p q = order_asks x (plus y (negsuc 0)) p q
   laid_asks (Eq x y) p q =
-      order_asks x y (led_order y x p q) q ∙ ap (λ t. ask_le x y t (ask_goal f q)) (order_asks y x p q)
+      order_asks x y (laid_order y x p q) q ∙ ap (λ t. ask_le x y t (ask_goal f q)) (order_asks y x p q)
   laid_asks (And g h) p q =
       laid_asks g (laid_form h p q) q ∙ ap (λ t. ask_form g t (ask_goal f q)) (laid_asks h p q)
   laid_asks (Or g h) p q =
@@ -74,7 +73,7 @@ module _ (f : Function) where
 
     order_parts :
         (x y : Place) (p q : GoalTree) → IsPlace (name_count ob) x → IsPlace (name_count ob) y → HasParts f ob p → HasParts f ob q
-        → HasParts f ob (led_order x y p q)
+        → HasParts f ob (laid_order x y p q)
     order_parts x y p q hx hy hp hq =
         order_parts_by_tests x y p q (nat_eq x.var y.var) (int_le x.off y.off) hx hy hp hq
 
@@ -86,7 +85,7 @@ module _ (f : Function) where
     laid_parts (Lt x y) p q h hp hq =
         order_parts x (plus y (negsuc 0)) p q h.0 (IsPlace-before (name_count ob) y h.1) hp hq
     laid_parts (Eq x y) p q h hp hq =
-        order_parts x y (led_order y x p q) q h.0 h.1 (order_parts y x p q h.1 h.0 hp hq) hq
+        order_parts x y (laid_order y x p q) q h.0 h.1 (order_parts y x p q h.1 h.0 hp hq) hq
     laid_parts (And g h) p q both hp hq = laid_parts g (laid_form h p q) q both.0 (laid_parts h p q both.1 hp hq) hq
     laid_parts (Or g h) p q both hp hq = laid_parts g p (laid_form h p q) both.0 hp (laid_parts h p q both.1 hp hq)
     laid_parts (Not g) p q h hp hq = laid_parts g q p h hq hp

@@ -7,11 +7,10 @@ ghost use Rattle.ot_terms.specs.Belonging.{IsGoalOf};
 ghost use Rattle.ot_terms.specs.Forms.{form_tree};
 ghost use Rattle.ot_terms.specs.Goals.{goal_tree, Deliver};
 ghost use Rattle.ot_terms.specs.Weights.{goal_weight};
-ghost use Rattle.ot_rewrite.specs.Leading.{led_order};
 ghost use Rattle.ot_rewrite.specs.Reaching.{IsStep};
 ghost use Rattle.ot_rewrite.specs.Splits.{HasLowOffsets};
 ghost use Rattle.goal_rules.specs.Steps.{front_tree};
-ghost use Rattle.laid_goals.specs.Sharing.{StandsAlike, IsKept, laid_form};
+ghost use Rattle.laid_goals.specs.Sharing.{StandsAlike, IsKept, laid_form, laid_order};
 
 use crate::behind::found;
 use crate::kept::Behind;
@@ -33,7 +32,7 @@ fn by_order<'a>(
     yes: &'a Goal<'a>,
     no: &'a Goal<'a>,
 ) -> Result<&'a Goal<'a>, NoMemory>
-    ensures { IfOk result (λ r. goal_tree r.now ≡ led_order x y (goal_tree yes.now) (goal_tree no.now)) }
+    ensures { IfOk result (λ r. goal_tree r.now ≡ laid_order x y (goal_tree yes.now) (goal_tree no.now)) }
 {
     if x.var != y.var {
         return Ok(Goal::either(bump, Form::le(bump, x, y)?, yes, no)?);

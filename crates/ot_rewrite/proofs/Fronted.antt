@@ -1,19 +1,19 @@
--- What a step of several rules gives: the next front, or that none fits.
-use Rattle.std.proofs.Common.{◌≡◌, Option, Some, None, MatchOption, sym, subst}
+-- What a rule gives: the next front, or that none fits.
+use Rattle.std.proofs.Common.{◌≡◌, Option, Some, None, option_map, sym, subst}
 use Rattle.fn_rules.specs.Functions.{Function}
 use Rattle.ot_terms.specs.Goals.{GoalTree}
 use Rattle.goal_rules.specs.declared.front.Front.{Front}
-use Rattle.ot_rewrite.specs.Reaching.{Advances}
 use Rattle.goal_rules.specs.Steps.{front_tree}
 use Rattle.goal_rules.specs.Table.{rewritten}
 
 abbrev pub Given : Function → GoalTree → Option Front → Type 0
-Given f old o = MatchOption o (rewritten f old ≡ None) (λ next. Advances f old (front_tree next))
+Given f old o = option_map front_tree o ≡ rewritten f old
 
 pub next_given :
     (f : Function) (old : GoalTree) (o : Option Front) (next got : Front) → Given f old o → o ≡ Some next → got ≡ next
-    → Advances f old (front_tree got)
-next_given f old o next got h e same = subst (λ t. Advances f old (front_tree t)) (sym same) (subst (Given f old) e h)
+    → rewritten f old ≡ Some (front_tree got)
+next_given f old o next got h e same =
+    subst (λ t. rewritten f old ≡ Some (front_tree t)) (sym same) (sym (subst (Given f old) e h))
 
 pub none_given : (f : Function) (old : GoalTree) (o : Option Front) → Given f old o → o ≡ None → rewritten f old ≡ None
-none_given f old o h e = subst (Given f old) e h
+none_given f old o h e = sym (subst (Given f old) e h)

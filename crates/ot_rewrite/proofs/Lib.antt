@@ -13,7 +13,6 @@ mod FrontLaws
 mod RulesKept
 mod Reached
 mod Ready
-mod Guarded
 mod Fronted
 mod SplitForms
 mod SplitEnds

@@ -9,15 +9,12 @@ use Rattle.ot_terms.specs.Standing.{ask_goal}
 use Rattle.ot_terms.specs.Weights.{goal_weight}
 use Rattle.ot_terms.specs.Belonging.{IsGoalOf}
 use Rattle.goal_rules.specs.Table.{rewritten}
-use Rattle.ot_rewrite.specs.Reaching.{after_rules, Reaches, Advances}
+use Rattle.ot_rewrite.specs.Reaching.{after_rules, Reaches}
 use Rattle.ot_rewrite.proofs.RulesKept.{rule_kept, rule_belongs}
 
 module _ (f : Function) where
   pub reaches_itself : (g : GoalTree) → Reaches f g g
   reaches_itself g = record { rules = zero; reached = refl }
-
-  pub reaches_same : (g h : GoalTree) → g ≡ h → Reaches f g h
-  reaches_same g h e = subst (Reaches f g) e (reaches_itself g)
 
   pub rule_before : (g h i : GoalTree) → rewritten f g ≡ Some h → Reaches f h i → Reaches f g i
   rule_before g h i e r = record { rules = suc r.rules; reached = rw e r.reached }
@@ -37,14 +34,8 @@ module _ (f : Function) where
   pub reaches_on : (g h i : GoalTree) → Reaches f g h → Reaches f h i → Reaches f g i
   reaches_on g h i r s = after r.rules g h i r.reached s
 
-  pub advances : (g h : GoalTree) → Advances f g h → Reaches f g h
-  advances g h a = rule_before g a.first h a.begins a.goes_on
-
-  pub advances_by : (g h : GoalTree) → rewritten f g ≡ Some h → Advances f g h
-  advances_by g h e = record { first = h; begins = e; goes_on = reaches_itself h }
-
-  pub advances_on : (g h i : GoalTree) → Reaches f g h → Advances f h i → Reaches f g i
-  advances_on g h i r a = reaches_on g h i r (advances h i a)
+  pub rule_behind : (g h i : GoalTree) → Reaches f g h → rewritten f h ≡ Some i → Reaches f g i
+  rule_behind g h i r e = reaches_on g h i r (rule_before h i i e (reaches_itself i))
 
 -- what stays when rules lead from the old goal to the new one
 pub record IsKept (f : Function) (ob : ObName) (old new : GoalTree) : Type 0 where
@@ -75,11 +66,3 @@ module _ (f : Function) (ob : ObName) (valid : IsTrue (is_valid f)) where
 
   pub reached_kept : (g h : GoalTree) → IsGoalOf f ob g → Reaches f g h → IsKept f ob g h
   reached_kept g h is_goal r = kept_after r.rules g h is_goal r.reached
-
-  pub advance_lighter : (g h : GoalTree) → IsGoalOf f ob g → Advances f g h → goal_weight f h < goal_weight f g
-  advance_lighter g h is_goal a =
-      let rule = rule_kept f ob g a.first valid is_goal a.begins in
-      let falls : goal_weight f a.first < goal_weight f g = rule.lighter in
-      let rest : IsKept f ob a.first h = reached_kept a.first h (rule_belongs f ob g a.first valid is_goal a.begins) a.goes_on in
-      let low : goal_weight f h ≤ goal_weight f a.first = rest.lighter in
-      omega arith

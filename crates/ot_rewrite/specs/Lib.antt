@@ -1,4 +1,3 @@
 pub mod Fronts
 pub mod Reaching
-pub mod Leading
 pub mod Splits

@@ -20,12 +20,6 @@ pub record Reaches (f : Function) (old new : GoalTree) : Type 0 where
   pub rules : ℕ
   pub reached : after_rules f rules old ≡ Some new
 
--- at least one rule leads from the old goal to the new one
-pub record Advances (f : Function) (old new : GoalTree) : Type 0 where
-  pub first : GoalTree
-  pub begins : rewritten f old ≡ Some first
-  pub goes_on : Reaches f first new
-
 -- what a rule keeps, and what falls: the new goal asks the same, is true at the same valuations, is of the same
 -- function and obligation, and weighs less
 pub record IsStep (f : Function) (old new : GoalTree) : Type 0 where

@@ -1,7 +1,6 @@
 //! The rules that rewrite a goal until a question or an end stands at its front.
 #![tactic(auto)]
 
-mod guarding;
 mod laws;
 mod question;
 mod simplifying;

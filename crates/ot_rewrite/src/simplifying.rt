@@ -1,5 +1,5 @@
 //! A goal after rules until none fits.
-ghost use Rattle.std.specs.Prelude.{◌≡◌, ◌↔◌, ◌≤◌, ℕ, ℤ, IsTrue, IfOk, MatchOption, None};
+ghost use Rattle.std.specs.Prelude.{◌≡◌, ◌↔◌, ◌≤◌, ℕ, ℤ, IsTrue, IfOk};
 ghost use Rattle.fn_rules.specs.declared.function.ObName.{ObName};
 ghost use Rattle.fn_rules.specs.Rules.{function_of};
 ghost use Rattle.ot_terms.specs.Belonging.{IsGoalOf};
@@ -8,34 +8,14 @@ ghost use Rattle.ot_terms.specs.Standing.{ask_goal};
 ghost use Rattle.ot_terms.specs.Truth.{goal_holds};
 ghost use Rattle.ot_terms.specs.Weights.{goal_weight};
 ghost use Rattle.ot_rewrite.specs.Fronts.{is_at_front};
-ghost use Rattle.ot_rewrite.specs.Reaching.{Reaches, Advances};
-ghost use Rattle.goal_rules.specs.Steps.{front_tree, IsReady};
-ghost use Rattle.goal_rules.specs.Table.{rewritten};
+ghost use Rattle.ot_rewrite.specs.Reaching.{Reaches};
+ghost use Rattle.goal_rules.specs.Steps.{front_tree};
 
-use crate::guarding::choose_on;
 use ask_core::NoMemory;
 use bumpalo::Bump;
 use fn_rules::Rules;
 use goal_rules::{Front, rewrite};
 use ot_terms::Goal;
-
-// The goal after one rule or several; none where no rule fits.
-#[tactic(auto, using(crate::proofs::Guarded::choice_leads, crate::proofs::Reached::advances_by))]
-#[inline]
-fn advance<'a>(
-    bump: &'a Bump,
-    rules: &Rules,
-    front: Front<'a>,
-) -> Result<Option<Front<'a>>, NoMemory>
-    requires { IsReady (function_of rules.now) (front_tree front) }
-    ensures { IfOk result (λ r. MatchOption r (rewritten (function_of rules.now) (front_tree front.entry) ≡ None)
-        (λ next. Advances (function_of rules.now) (front_tree front.entry) (front_tree next))) }
-{
-    match front {
-        Front::Choose { case, a, b, plan } => Ok(Some(choose_on(bump, rules, case, a, b, plan)?)),
-        _ => Ok(rewrite(bump, rules, front)?),
-    }
-}
 
 #[inline]
 fn same_front<'a>(front: Front<'a>) -> Front<'a>
@@ -65,7 +45,7 @@ pub fn front_of<'a>(
 {
     let _head = rules.head();
     let mut front = Front::of(goal);
-    while let Some(next) = advance(bump, rules, front)? {
+    while let Some(next) = rewrite(bump, rules, front)? {
         front = same_front(next);
     }
     Ok(front)

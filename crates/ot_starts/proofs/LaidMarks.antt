@@ -8,9 +8,8 @@ use Rattle.ot_terms.specs.Belonging.{IsGoalOf}
 use Rattle.ot_terms.specs.Weights.{goal_weight}
 use Rattle.ot_terms.specs.Forms.{FormTree, True, Le, Lt, Eq, And, Or, Not}
 use Rattle.ot_terms.specs.Goals.{GoalTree, If}
-use Rattle.ot_rewrite.specs.Leading.{led_order}
 use Rattle.ot_rewrite.specs.Splits.{HasLowOffsets}
-use Rattle.laid_goals.specs.Sharing.{laid_form}
+use Rattle.laid_goals.specs.Sharing.{laid_form, laid_order}
 use Rattle.laid_goals.proofs.LaidForms.{alike_laid, low_offsets_of, part_of_yes, part_of_no, yes_is_lighter, no_is_lighter}
 use Rattle.marked_goals.specs.Marking.{marked_le, marked_form, marked_goal}
 use Rattle.marked_goals.specs.Settled.{StandsMarked}
@@ -25,7 +24,7 @@ module _ (f : Function) where
   order_marks_by_tests x y p q true false e o = rw e (rw o refl)
   order_marks_by_tests x y p q false c e o = refl
 
-  order_marks : (x y : Place) (p q : GoalTree) → marked_goal f (led_order x y p q) ≡ marked_le x y (marked_goal f p) (marked_goal f q)
+  order_marks : (x y : Place) (p q : GoalTree) → marked_goal f (laid_order x y p q) ≡ marked_le x y (marked_goal f p) (marked_goal f q)
   order_marks x y p q = order_marks_by_tests x y p q (nat_eq x.var y.var) (int_le x.off y.off) refl refl
 
   laid_marks : (g : FormTree) (p q : GoalTree) → marked_goal f (laid_form g p q) ≡ marked_form g (marked_goal f p) (marked_goal f q)
@@ -34,7 +33,7 @@ module _ (f : Function) where
   laid_marks (Le x y) p q = order_marks x y p q
   laid_marks (Lt x y) p q = order_marks x (plus y (negsuc 0)) p q
   laid_marks (Eq x y) p q =
-      order_marks x y (led_order y x p q) q ∙ ap (λ t. marked_le x y t (marked_goal f q)) (order_marks y x p q)
+      order_marks x y (laid_order y x p q) q ∙ ap (λ t. marked_le x y t (marked_goal f q)) (order_marks y x p q)
   laid_marks (And g h) p q =
       laid_marks g (laid_form h p q) q ∙ ap (λ t. marked_form g t (marked_goal f q)) (laid_marks h p q)
   laid_marks (Or g h) p q =

@@ -5,12 +5,13 @@ use Rattle.ot_terms.proofs.GoalTruth.{goal_holds_alike}
 use Rattle.goal_rules.specs.Steps.{front_tree}
 use Rattle.ot_rewrite.proofs.Fronted.{next_given, none_given}
 use Rattle.ot_rewrite.proofs.FrontLaws.{goal_stops}
-use Rattle.ot_rewrite.proofs.Reached.{reached_kept, advance_lighter, advances_on}
+use Rattle.ot_rewrite.proofs.Reached.{reached_kept, rule_behind}
+use Rattle.ot_rewrite.proofs.RulesKept.{rule_kept}
 use Rattle.ot_rewrite.proofs.Ready.{ready}
 use Rattle.ot_rewrite.proofs.simplifying.front_of.Goals as goal
 
-pub advance-requires : goal.advance-requires
-advance-requires c =
+pub rewrite-requires : goal.rewrite-requires
+rewrite-requires c =
     let f = function_of c.args.rules.now in
     let kept = reached_kept f c.requires.0 c.head-head.ensures.valid (goal_tree c.args.goal.now) (front_tree c.loop-next.front)
     c.requires.1 c.loop-next.invariant in
@@ -23,15 +24,15 @@ loop-next-smaller c =
     c.requires.1 c.loop-next.invariant in
     let next = next_given f (front_tree c.loop-next.front) c.in_ok-next.field-0 c.in-Some.next c.same_front-front.result
     c.in_ok-next.ensures c.in-Some.is c.same_front-front.ensures in
-    advance_lighter f c.requires.0 c.head-head.ensures.valid (front_tree c.loop-next.front) (front_tree c.same_front-front.result)
-    kept.belongs next
+    (rule_kept f c.requires.0 (front_tree c.loop-next.front) (front_tree c.same_front-front.result) c.head-head.ensures.valid
+    kept.belongs next).lighter
 
 pub loop-next-preserved : goal.loop-next-preserved
 loop-next-preserved c =
     let f = function_of c.args.rules.now in
     let next = next_given f (front_tree c.loop-next.front) c.in_ok-next.field-0 c.in-Some.next c.same_front-front.result
     c.in_ok-next.ensures c.in-Some.is c.same_front-front.ensures in
-    advances_on f (goal_tree c.args.goal.now) (front_tree c.loop-next.front) (front_tree c.same_front-front.result)
+    rule_behind f (goal_tree c.args.goal.now) (front_tree c.loop-next.front) (front_tree c.same_front-front.result)
     c.loop-next.invariant next
 
 pub returns-clause-at_front : goal.returns-clause-at_front
