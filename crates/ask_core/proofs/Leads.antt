@@ -63,6 +63,7 @@ pub record IsFineAnswer (count : ℕ) (l : Lit) : Type 0 where
   pub low : neg_ℤ (pos 1001) ≤ℤ l.k
   pub high : l.k ≤ℤ pos 1001
 
+-- a fine literal is a fine answer, as it is asked and negated
 fine_parts : (count : ℕ) (l : Lit) → is_fine_literal count l ≡ true → IsFineAnswer count l × IsFineAnswer count (negated l)
 fine_parts count l e =
     let last = and_parts (not (nat_eq l.x l.y) && nat_lt l.x count && nat_lt l.y count && int_le (neg_ℤ MAX_LITERAL_OFFSET) l.k)

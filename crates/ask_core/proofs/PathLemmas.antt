@@ -75,6 +75,7 @@ pub IsNested-close :
     → (x.depth < length w) × IsNested x.depth (reverse rest)
 IsNested-close w waiting rest x same nested = rw (same, reverse-push) at nested
 
+-- where the open place is closed, the innermost part that waits is next, and the others stay
 pub places_of-close :
     {N : Type 0} (current : Option N) (w : List Lit) (waiting rest : List (Waiting N)) (x : Waiting N)
     → 0 < length (places_of current w waiting) → waiting ≡ rest ++ x ∷ []

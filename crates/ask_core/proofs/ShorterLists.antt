@@ -38,6 +38,7 @@ module _ {W : Type 0} where
       let whole = parts_are_shorter (length y.asked) 0 a b of_yes (some_power b) in
       omega (arith, ap (λ (x : Questions W). length x.asked) is)
 
+  -- a question list is shorter than 2 to the number of questions on the longest path
   pub list_is_shorter :
       (p : Plan W) (w : List Lit) (q : Questions W) → QuestionList p w q → length q.asked < 2 ^ longest_path p
   list_is_shorter (Ask l on_yes on_no) w q (inl none) =

@@ -44,6 +44,7 @@ pub record Behind (picks qs left : List ℕ) : Type 0 where
 comma_is_no_end : ◌≢◌ {A = ℕ} 44 59
 comma_is_no_end e = omega arith
 
+-- where some numbers of a cycle stand at the front with their commas, the others stand behind them
 pub numbers_behind :
     (picks qs bytes left : List ℕ) → AreShort picks → Next bytes qs [] → bytes ≡ numbers_before picks ++ left
     → Behind picks qs left

@@ -38,6 +38,7 @@ zero_alone : (n : ℕ) → n < PICK_LIMIT → get_or (decimal n) 0 0 ≡ 48 → 
 zero_alone zero small first = length-decimal-le 1 zero (omega arith) (omega arith) (omega arith)
 zero_alone (suc n) small first = absurd (omega (arith, first_decimal (suc n) (omega arith) (omega arith)))
 
+-- where the digits of a number stand with no digit behind them, they are found, with the number that they write
 pub found_at : (bs rest : List ℕ) (n : ℕ) → n < PICK_LIMIT → IsBehindNumber rest → bs ≡ decimal n ++ rest → Found bs rest n
 found_at bs rest n small behind is =
     let big : n < 2 ^ 64 = omega arith in

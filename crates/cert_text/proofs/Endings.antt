@@ -107,6 +107,7 @@ module _ (tp1 tp2 : List ObName) (offset : ℕ) where
   HasNoHeader level bytes =
       0 < length (names_of tp1 tp2 level) → AreApart (header_text (names_of tp1 tp2 level) level) bytes
 
+  -- bytes go on with the header of a level or end there, or they are apart from it
   before_a_header :
       (level : Level) (names : List ObName) (bytes : List ℕ) → names ≡ names_of tp1 tp2 level
       → GoesOnOrEnds (Start tp1 tp2) offset bytes ⊎ HasNoHeader level bytes
@@ -123,6 +124,7 @@ module _ (tp1 tp2 : List ObName) (offset : ℕ) where
           inl (truncated (Start tp1 tp2) offset (λ e. cc) bytes (inr (part.Header level, more, stands, some, is)))
       by stands (inr (inr apart)) = inr (λ some. apart)
 
+  -- bytes that go on with the header of neither level go on with no part
   neither_header :
       (bytes : List ℕ) → HasNoHeader Tp1 bytes → HasNoHeader Tp2 bytes → HasNoPart (Start tp1 tp2) bytes
   neither_header bytes one two p more stands =

@@ -22,6 +22,7 @@ pub no_digit_behind : (others rest : List ℕ) → IsBehindNumber (more_numbers_
 no_digit_behind [] rest = refl
 no_digit_behind (n ∷ ns) rest = refl
 
+-- a byte that does not end a cycle is a comma, and a further number stands behind it
 pub next_number :
     (b : ℕ) (more left rest : List ℕ) → b ≢ 59 → AreShort more → b ∷ left ≡ more_numbers_text more ++ 59 ∷ rest
     → (b ≡ 44) × Next left more rest

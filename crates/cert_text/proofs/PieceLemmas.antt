@@ -90,6 +90,7 @@ goes_on_reads was now (b ∷ bytes) goes rest items end =
     let more = goes_on_reads goes.0 now bytes goes.3 rest items end in
     (λ h. more.0 (one.0 h), λ h. one.1 (more.1 h))
 
+-- bytes up to the end of a part give what their last byte gives, and then what those behind them give
 ends_reads :
     (was now : Progress) (piece : List ℕ) (taken : ℕ) (result : Result (Option Item) CertError)
     → EndsWithin was piece taken result now

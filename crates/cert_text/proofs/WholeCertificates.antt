@@ -130,6 +130,7 @@ record Given (place : Place) (offset : ℕ) (bytes : List ℕ) (items : List Ite
   text : bytes ≡ parts_text place parts
   are : items ≡ placed place offset parts
 
+-- items that are read from a place on are parts that stand there, one behind the other
 given : (items : List Item) (place : Place) (offset : ℕ) (bytes : List ℕ) → ReadsFrom place offset bytes items (Ok tt) → Given place offset bytes items
 unfolding AreParts parts_text
 given [] place offset bytes h = record { parts = []; stand = h.0; text = h.1; are = refl }
@@ -184,6 +185,7 @@ join_question came names branches parts (t ∷ u ∷ trees) rest some count spel
       stand = stand;
     }
 
+-- the parts from within a tree on are a tree for each open branch, and then the line's end
 forest_of : (parts : List Part) (came : ℕ) (names : List ObName) (branches : ℕ) → AreParts (Tree came names branches) parts → Forest came names branches parts
 unfolding AreParts
 forest_of [] came names branches h = absurd (let e = h in cc)
@@ -222,6 +224,7 @@ record Sections (names : List ObName) (came : ℕ) (parts : List Part) : Type 0 
   has : HasTrees names trees
   are : parts ≡ section_parts came trees
 
+-- the parts of an obligation's line, of its one tree and of the sections behind it are sections
 one_tree :
     (name : ObName) (names : List ObName) (came : ℕ) (parts : List Part) (trees : List AnswerTree) (rest : List Part) → length trees ≡ 1
     → AllByRecursion (λ t. AreSpellable (tokens_of t)) trees → parts ≡ map part.Tok (flat_map tokens_of trees) ++ part.LineEnd ∷ rest
@@ -243,6 +246,7 @@ unfolding AreParts
 nothing_behind [] h = refl
 nothing_behind (p ∷ parts) h = absurd h.0
 
+-- the parts from a line on are a section for each name that is left
 sections_of : (names : List ObName) (came : ℕ) (parts : List Part) → AreParts (Line came names) parts → Sections names came parts
 unfolding AreParts
 sections_of [] came [] h = absurd (let e = h in cc)

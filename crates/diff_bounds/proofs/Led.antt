@@ -36,6 +36,7 @@ module _ (n : ℕ) (t : ℕ → ℕ → Option Hop) (ps : List Numbered) (stands
       (stands.tight x z xn zn (h.k +ℤ i.k)).1
       (λ v met. let a = first v met in let b = second v met in omega (arith, ints, a, b))
 
+  -- where the way of the literal's first name goes on no lower than what is kept, neither does that of another name
   no_lower_between :
       (l : Lit) (number x y : ℕ) → IsNamed n l → x < n → y < n → (front rest led kept : Option Hop)
       → t x l.x ≡ front → t l.y y ≡ rest → t l.x y ≡ led → t x y ≡ kept

@@ -119,6 +119,7 @@ StandsFor-new_rows n rows new =
     own_only-own : (x : ℕ) → own_only x x ≡ Some (record { k = pos 0; number = 0; second = x })
     own_only-own x = let e : (x == x) ≡ true = eq-eqb x x refl in rw e refl
 
+    -- new rows keep nothing from one name to another
     kept : (x y : ℕ) (h : Hop) → kept_of rows x y ≡ Some h → (x ≡ y) × (x < n)
     kept x y h is_h =
         elim (cases_lt y n) [

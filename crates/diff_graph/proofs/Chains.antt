@@ -370,6 +370,7 @@ module _ (n : ℕ) (t : ℕ → ℕ → Option Hop) (ps : List Numbered) (closed
           let chain = chains x y h (sym (added-kept x y kept') ∙ is_h) in
           (chain.0, Leads-kept chain.0 x y h.k xn yn kept' chain.1)
 
+      -- by what is kept to the literal's start and from its end
       by :
           (front back : Option Hop) → t x l.x ≡ front → t l.y y ≡ back
           → (count : ℕ) × Leads (added t number l) (ps ++ record { number = number; lit = l } ∷ []) count x y h.k

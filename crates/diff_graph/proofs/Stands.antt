@@ -218,6 +218,7 @@ StandsFor-new n t own same =
         let none : mine.0.k ≡ pos 0 = mine.2 in
         rw mine.1 (omega (arith, ints))
 
+    -- an offset of at most k is kept only from a name to itself, where k is at least 0
     kept-same : (x y : ℕ) (k : ℤ) → x < n → IsAtMost (t x y) k → (x ≡ y) × (pos 0 ≤ℤ k)
     kept-same x y k xn most = by (t x y) refl most
       where

@@ -73,6 +73,7 @@ text =
 abbrev head : Head
 head = record { mode = Plain; ins = true; del = false; upd = false; sites_differ = false; chars_differ = false }
 
+-- the block of these lines as the grammar writes it, with an atom in parentheses
 abbrev blocks : List WrittenBlock
 blocks =
     record {

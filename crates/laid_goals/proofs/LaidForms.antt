@@ -48,6 +48,7 @@ module _ (f : Function) where
   order_asks : (x y : Place) (p q : GoalTree) → ask_goal f (laid_order x y p q) ≡ ask_le x y (ask_goal f p) (ask_goal f q)
   order_asks x y p q = order_asks_by_tests x y p q (nat_eq x.var y.var) (int_le x.off y.off) refl refl
 
+  -- a form that is laid out asks what the form asks
   laid_asks : (g : FormTree) (p q : GoalTree) → ask_goal f (laid_form g p q) ≡ ask_form g (ask_goal f p) (ask_goal f q)
   unfolding ask_form ask_lt ask_eq
   laid_asks True p q = refl
@@ -77,6 +78,7 @@ module _ (f : Function) where
     order_parts x y p q hx hy hp hq =
         order_parts_by_tests x y p q (nat_eq x.var y.var) (int_le x.off y.off) hx hy hp hq
 
+    -- a form that is laid out has parts of the obligation where the form and both goals have
     laid_parts :
         (g : FormTree) (p q : GoalTree) → HasPlaces (name_count ob) g → HasParts f ob p → HasParts f ob q
         → HasParts f ob (laid_form g p q)

@@ -71,6 +71,7 @@ room_for : (ob : ObName) (plan : Progress) → IsProgressOf ob plan → plan.cou
 room_for (Pair k l) plan h = let room : length plan.got ≡ 6 = h.room in let awaited : plan.count < 2 = h.awaited in omega arith
 room_for (Triple k l m) plan h = let room : length plan.got ≡ 6 = h.room in let awaited : plan.count < 6 = h.awaited in omega arith
 
+-- a transformation begins at the front exactly where a start is there
 pub begun_is_some : (g : GoalTree) → is_begun g ≡ is_some (front_start g)
 begun_is_some Holds = refl
 begun_is_some (Fails why) = refl
@@ -106,6 +107,7 @@ module _ (f : Function) where
   same_test : (m n : ℕ) → nat_lt 0 (n - (1 + m)) ≡ nat_lt (1 + m) n
   same_test m n = grind (arith, nat_tests)
 
+  -- where a result is delivered, the plan has the start at the goal's front, if one is there
   start_of-result :
       (ob : ObName) (o : SymOp) (plan : Progress) → HasParts f ob (Deliver o plan)
       → start_of (marked_goal f (Deliver o plan)) ≡ front_start (Deliver o plan)
@@ -124,6 +126,7 @@ module _ (f : Function) where
   start_of-question x y p q true e asked = absurd (cc)
   start_of-question x y p q false e asked = rw e refl
 
+  -- the plan of a settled goal has the start at the goal's front, if one is there
   pub starts_at_front :
       (ob : ObName) (g : GoalTree) → IsGoalOf f ob g → IsTrue (is_settled g) → start_of (marked_goal f g) ≡ front_start g
   unfolding marked_goal marked_form

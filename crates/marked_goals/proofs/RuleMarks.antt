@@ -79,6 +79,7 @@ le_startless_by_tests x y p q false c e o = rw e refl
 le_startless : (x y : Place) (p q : Plan Why) → marked_le x y (startless p) (startless q) ≡ startless (ask_le x y p q)
 le_startless x y p q = le_startless_by_tests x y p q (nat_eq x.var y.var) (int_le x.off y.off) refl refl
 
+-- a form in front of two plans without starts has none
 form_startless : (g : FormTree) (p q : Plan Why) → marked_form g (startless p) (startless q) ≡ startless (ask_form g p q)
 unfolding marked_form ask_form ask_lt ask_eq
 form_startless forms.True p q = refl
@@ -93,6 +94,7 @@ form_startless (forms.Or g h) p q =
 form_startless (forms.Not g) p q = form_startless g q p
 
 module _ (f : Function) where
+  -- a goal in which no transformation is left has no starts
   quiet_startless : (g : GoalTree) → IsQuiet g → marked_goal f g ≡ startless (ask_goal f g)
   unfolding marked_goal ask_goal
   quiet_startless Holds h = refl
@@ -267,6 +269,7 @@ module _ (f : Function) where
         (subst (λ o. ask_goal f (go_on f (with_result plan r) o) ≡ ask_goal f (Deliver r plan)) e asked
         ∙ ap (ask_after f plan.ob plan.ops) (sym got_is))
 
+    -- what comes after the result, the next transformation or the end, has the starts of what is left
     go_on_marks :
         (most : ℕ) (next : Option (SymOp × SymOp)) → most ≡ transforms_of plan.ob - (1 + plan.count)
         → next_operands plan.ob plan.ops got ≡ next
@@ -298,6 +301,7 @@ module _ (f : Function) where
     same_marks left right h (Some g) is e asked quiet =
         named g h _ e (quiet_startless g quiet ∙ ap (λ t. startless t) (let same : g ≡ h = cc in ap (ask_goal f) same ∙ asked))
 
+    -- each rule keeps the starts, but for the one of a choice of the first case
     pub rule_marks : (g h : GoalTree) → IsGoalOf f ob g → rewritten f g ≡ Some h → marked_goal f h ≡ inner_marks g
     unfolding rewritten marked_goal
     rule_marks Holds h of e = absurd (cc)

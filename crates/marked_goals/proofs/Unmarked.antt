@@ -46,6 +46,7 @@ le_by_tests x y p q false c e o = rw e refl
 unmarked-le : (x y : Place) (p q : Marked) → unmarked (marked_le x y p q) ≡ ask_le x y (unmarked p) (unmarked q)
 unmarked-le x y p q = le_by_tests x y p q (nat_eq x.var y.var) (int_le x.off y.off) refl refl
 
+-- without its starts, a form in front of two plans asks what the form asks
 pub unmarked-form :
     (g : FormTree) (p q : Marked) → unmarked (marked_form g p q) ≡ ask_form g (unmarked p) (unmarked q)
 unfolding marked_form ask_form ask_lt ask_eq
@@ -90,6 +91,7 @@ module _ (f : Function) where
   asked_on ob os got None = ask_after f ob os got
   asked_on ob os got (Some next) = ask_transform f next.0 next.1 (λ r. ask_after f ob os (got ++ r ∷ []))
 
+  -- the next transformation, or the end, asks what is left after the results
   asks_on : (ob : ObName) (os got : List SymOp) → asked_on ob os got (next_operands ob os got) ≡ ask_after f ob os got
   unfolding ask_after ask_pair_after ask_triple_after ask_second_way_after ask_converge ask_commute ask_behind
   asks_on (Pair k l) [] got = refl
@@ -146,6 +148,7 @@ module _ (f : Function) where
       → unmarked (marked_transform f case a b (marked_with f plan)) ≡ ask_transform (from_case case f) a b (ask_with f plan)
   unmarked-choice case a b plan = unmarked-transform a b (marked_with f plan) (ask_with f plan) (unmarked-with plan) f case
 
+  -- without its starts, the plan of a goal is what the goal asks
   pub unmarked-goal : (g : GoalTree) → unmarked (marked_goal f g) ≡ ask_goal f g
   unfolding marked_goal ask_goal
   unmarked-goal goals.Holds = refl

@@ -63,6 +63,7 @@ nop_or_not : (a form : Op) (k : Kind) → kind_of a ≡ Some k → kind_of form 
 nop_or_not a form k is moved e =
     let none : None ≡ Some k = sym (ap kind_of e) ∙ (moved ∙ is) in cc
 
+-- two forms of an operation that is not nop are one, or they are not
 pub one_form :
     (a x y : Op) (k : Kind) → kind_of a ≡ Some k → IsFormOf a x → IsFormOf a y → (x ≡ y) ⊎ (x ≢ y)
 one_form a x y k is (inl gone) (inl other_gone) = inl (gone ∙ sym other_gone)

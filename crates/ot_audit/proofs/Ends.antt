@@ -226,6 +226,7 @@ module _ (at_most : EndsAtMost) (ends_guard : EndsGuard) (ends_allowed : EndsAll
       ∙ end_allowed next
       ∙ by_true (is_allowed f a b) (ended next) None ((tests f a b).1 posed.2)
 
+  -- where a goal of operations that are meant fails, they are meant and the goal behind it fails
   pub passed_meant :
       (next : GoalTree) (why : Why) → ended (if_meant f.head first_op second_op next) ≡ Some why
       → AreMeant f k l a b × (ended next ≡ Some why)

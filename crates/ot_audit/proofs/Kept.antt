@@ -225,6 +225,7 @@ module _ (named : StandsNamed) (comparison : KeepsComparison) (guard : KeepsGuar
       (there_kept (m + 4) B (if_allowed f.head first_op second_op next)
       (record { is = refl; free = lit< tt; steady = tt; near = near_zero }) (allowed_kept m next kept))
 
+  -- the guard of a case adds at most 32 questions
   guard_kept :
       (m : ℕ) (c : GuardedCase) (first second : GoalTree) → IsSmallCase (compares_chars k l) c → IsKept 9 m (ask_goal f first)
       → IsKept 9 m (ask_goal f second) → IsKept 9 (m + 32) (ask_goal f (If (guard_form c.guard first_op second_op) first second))

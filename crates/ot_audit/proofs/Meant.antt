@@ -44,6 +44,7 @@ posed_where_meant f k l a b meant =
     let both = meant.concurrent in
     (meant.first, meant.second, both.2.0, not_negative a (length meant.document) both.1, not_negative b (length meant.document) both.3.1)
 
+-- operations of which it is asked are meant, on a document that is long enough
 pub meant_where_posed : (f : Function) (k l : Kind) (a b : Op) → is_declared_pair f.head k l ≡ true → Posed f k l a b → AreMeant f k l a b
 meant_where_posed f k l a b declared (first, second, allowed, low, other_low) =
     let n = unsigned_abs (at_of a) + unsigned_abs (at_of b) + 1 in

@@ -75,6 +75,7 @@ Serves Q x = Q x × ((k : ℤ) → IsNear 99 k → Q (plus x k))
 abbrev pub OpServes : (Place → Type 0) → SymOp → Type 0
 OpServes Q o = (sort : Sort) → Serves Q (sym_thing sort o)
 
+-- where it holds of zero and of the names of an operation, it holds of each thing of the operation
 pub op_serves :
     (Q : Place → Type 0) (k : Kind) (who : Who) → Serves Q zero_place → Serves Q (place (position_name who) (pos 0))
     → Serves Q (place (site_name who) (pos 0)) → Serves Q (place (char_name who) (pos 0)) → OpServes Q (sym_op k who)
@@ -269,6 +270,7 @@ module _ (P : ℕ → Type 0) where
   asks_if true p q hp hq = hp
   asks_if false p q hp hq = hq
 
+  -- a comparison asks of the names of its two places alone
   asks_le : (x y : Place) (p q : Plan Why) → P x.var → P y.var → AsksOf p → AsksOf q → AsksOf (ask_le x y p q)
   unfolding ask_le
   asks_le x y p q hx hy hp hq =

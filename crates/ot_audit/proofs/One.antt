@@ -79,6 +79,7 @@ no_end k l (Some e) a b none ops = absurd (cc)
 pub within_and_longer : (n budget : ℕ) → n ≤ budget → budget < n → ⊥
 within_and_longer n budget within longer = omega arith
 
+-- two answers of one question list
 told_once :
     (k l : Kind) (budget : ℕ) (q : Questions Why) (one other : Found) → TellsList k l budget q one → TellsList k l budget q other
     → one ≡ other
@@ -152,6 +153,7 @@ module _ (one_list : OneList) where
       so.tells
 
   module _ (f : Function) (budget : ℕ) where
+    -- two lists of answers about the cases of a block
     cases_once :
         (k l : Kind) (i : ℕ) (xs ys : List (Option (Op × Op))) → length xs ≡ length ys → AreCases f k l budget i xs
         → AreCases f k l budget i ys → xs ≡ ys

@@ -78,6 +78,7 @@ module _ (f : Function) (k l : Kind) (next : GoalTree) where
         (λ e. low.0) (λ e. low.1) (of_next v zero first second) in
         spoken (NotNegative v) why (ask_goal f posed) w (asks_goal (NotNegative v) f posed whole) lead x named sort
 
+    -- a goal of operations that are meant may be searched, where its plan is kept and its places are small
     searchable :
         (m : ℕ) → FineKept → LikeKept → is_declared_pair f.head k l ≡ true → m ≤ MAX_QUESTIONS → IsKept 9 m (ask_goal f posed)
         → GoalOf IsSmallPlace next
@@ -104,6 +105,7 @@ module _ (at_most : EndsAtMost) (ends : EndsThere) (fine : FineKept) (like : Lik
       target_of (OfName (NotNegative v)) (name_serves (NotNegative v) 0 zero) (sym_op k A) (sym_op l B) first second (cases_of f k l) target
       near)
 
+  -- the goal of a difference may be searched
   pub difference_searchable :
       (f g : Function) (k l : Kind) → is_declared_pair f.head k l ≡ true → AllByRecursion IsNearCase (cases_of f k l)
       → AllByRecursion IsNearCase (cases_of g k l) → IsKept 9 36872 (ask_goal f (difference_goal f g k l))

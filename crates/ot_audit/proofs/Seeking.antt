@@ -45,6 +45,7 @@ no_end :
 no_end k l None m a b none is = is
 no_end k l (Some e) m a b none is = absurd (cc)
 
+-- two answers of one question list about its failing end
 end_told_once :
     (k l : Kind) (budget : ℕ) (q : Questions Why) (one other : Sought) → TellsEnd k l budget q one → TellsEnd k l budget q other
     → one ≡ other

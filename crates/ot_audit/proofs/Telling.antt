@@ -141,6 +141,7 @@ not_both : {X : Type 0} (o : Option X) (x : X) → o ≡ None → o ≡ Some x �
 not_both o x none some = cc
 
 module _ (stand : NamesStand) (names : HaveNames) (tell : ListsTell) where
+  -- what is found of a target is so: no operations reach it, or these two do
   pub target_told :
       TargetSought → TargetFails → (f : Function) (k l : Kind) (target : Target) (budget : ℕ) (found : Found)
       → is_declared_pair f.head k l ≡ true → IsFoundIn f k l (target_goal f k l target) budget found → TellsTarget f k l target found

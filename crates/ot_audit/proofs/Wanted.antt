@@ -52,6 +52,7 @@ pub record AreWanted (k l : Kind) (w : List Lit) : Type 0 where
   pub few : length w < 2 ^ 32
   pub possible : IsPossibleAtPositions w
 
+-- the answers that lead to a failing end of a goal that may be searched are what the least values want
 wanted :
     AnswersAreLike → AnswersAreFew → AnswersAreNamed → AnswersAreSmall → (f : Function) (k l : Kind) (g : GoalTree) (why : Why)
     (w : List Lit) → IsSearchable f k l g → LeadTo why (ask_goal f g) w → IsPossible w → AreWanted k l w

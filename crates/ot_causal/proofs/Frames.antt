@@ -40,6 +40,7 @@ module _ (old new : Past) (extends : Extends old new) where
       by None is = none_same
       by (Some x) is = same x (all.at x (has-newest_open old o l x is))
 
+  -- a form stays, by induction on the depth to which it is computed
   form_within-extended : (f : Function) (depth o : ℕ) (l : List ℕ) → o < old.count → AreMade old l
       → form_within depth f new o l ≡ form_within depth f old o l
   unfolding form_within
@@ -65,6 +66,7 @@ module _ (old new : Past) (extends : Extends old new) where
       (form-extended f o l (all.at o (has-itself o l)) (AreMade-older old o l all))
       ∙ ap (option_and_then (λ d. executed f (form f old o l) d)) (state-extended f first l (AreMade-older old o l all))
 
+  -- so do the forms that are sought
   sought_within-extended : (depth o : ℕ) (l : List ℕ) → o < old.count → AreMade old l
       → sought_within depth new o l ≡ sought_within depth old o l
   unfolding sought_within

@@ -235,6 +235,7 @@ module _ (f : Function) (both : CarriesForms f) (no_chars : f.head.chars_differ 
       none_there : (one other : List ℕ) → HaveOneSet one other → newest_open past o other ≡ None → newest_open past o one ≡ None
       none_there one other one_set none = newest_open-none past o one (λ z member. before-none_open past o other z none (sym (one_set.at z) ∙ member))
 
+      -- the newest open members of both lists, which are one or two
       at_both : (x y : ℕ) → newest_open past o l ≡ Some x → newest_open past o m ≡ Some y
           → transformed f (form f past o (without x l)) (form f past x (without x l))
           ≡ transformed f (form f past o (without y m)) (form f past y (without y m))

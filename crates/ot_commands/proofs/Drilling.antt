@@ -63,6 +63,7 @@ pub record IsShownBy (f : Function) (bytes : List ℕ) : Type 0 where
   pub asked : AreAsked (plan_of f) (obligations_of f.head Tp2) lists
   pub few : count_in lists ≤ most_questions
 
+-- where a verdict is told as a proof, its bytes are a short certificate, found within the budget
 shown_verdict :
     (f : Function) (bytes : List ℕ) (verdict : Verdict) → IsDecidedAs f Tp2 most_questions verdict
     → (most_questions ≤ most_questions → IsWithin (limit_of files.Certificate) verdict) → TellsVerdict f verdict (Proved bytes)

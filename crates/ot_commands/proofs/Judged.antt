@@ -67,6 +67,7 @@ goes_on_behind (suc n) limit left contents more none same told =
     sym (ap (λ (l : List ℕ). length (drop (suc n) l)) empty) ∙ ap length same ∙ length-drop limit contents in
     (λ t. absurd (let one : suc n ≡ 0 = (told.0 t).0 in omega (arith, one)), λ longer. absurd (omega (arith, count, longer)))
 
+-- of a feed that is at its end, whether it is told or not: whether its file goes on behind the limit
 pub goes_on :
     (room limit : ℕ) (left file : Option (List ℕ)) (more : Bool) → IsAtEnd (option_map (take room) left)
     → option_map (drop room) left ≡ option_map (drop limit) file

@@ -86,6 +86,7 @@ module _ {S : Type 0} {shelf : Ghosts S} {T : Type 0} (Judges : List ℕ → Res
     read_count : length (bytes_read last) ≡ length (gave_by new) + length (unread_of last)
     read_count = ap length read_is ∙ length-append (gave_by new) (unread_of last)
 
+    -- a byte follows where the feed has no room left: the file is too long
     pub further_reply :
         room_of new ≡ 0 → 0 < length (unread_of last) → IsReplyToCertificate Judges accepts (Some (bytes_read last)) (TooLong files.Certificate)
     further_reply full more = (

@@ -26,6 +26,7 @@ Is reason other = ◌≡◌ {A = Result ℕ NotMade} (Err reason) (Err other)
 other : (r named : Reply) → r ≡ named → status_of named ≢ 1 → status_of r ≢ 1
 other r named same steady is = steady (sym (ap (λ x. status_of x) same) ∙ is)
 
+-- an operation that is not made is refused for the first test that fails
 pub not_made :
     (v : View) (i t : ℕ) (o : Op) (reason : NotMade) (r : Reply)
     → (Is reason makes.NoSite ↔ (¬ (IsSite (data_in v).sites t)))

@@ -95,6 +95,7 @@ module _ (f : Function)
         (ob tree : List ℕ) (rest : List ℕ) → (ob ++ tree ++ 10 ∷ []) ++ rest ≡ ob ++ (tree ++ (newline_text ++ rest))
     section_alike ob tree rest = simp append_assoc
 
+    -- the sections of a certificate have the text of those of the proof
     sections_alike :
         (names : List ObName) (trees : List AnswerTree) → AreAnswers (plan_of f) names trees
         → cert.sections_text names trees ≡ sections_text names (proofs_of trees)

@@ -31,6 +31,7 @@ module _ (f : Function) (same : (ob : ObName) → unmarked (marked_plan f ob) �
   all_hold (ob ∷ obs) hold =
       (λ v zero. subst (λ (p : Plan Why). value p v ≡ true) (same ob) (hold.0 v tt), all_hold obs hold.1)
 
+  -- where bytes are judged to be a proof at a level, all plans of the level hold
   pub proof_shows :
       ((compare : Comparison Start) (meant : Start → Plan Why) (plan : ObName → MarkedPlan Start Why) (names : Level → List ObName)
       (bytes : List ℕ) (level : Level) → IsLawful compare meant

@@ -36,6 +36,7 @@ pub bound_fine :
 bound_fine (Pair k l) bound few = offset_passes bound few
 bound_fine (Triple k l m) bound few = offset_passes bound few
 
+-- a plan keeps the limits behind the question of a bound
 pub below_fine :
     (f : Function) (below : Option ℕ) (ob : ObName) → IsFine (name_count ob) (plan_of f ob)
     → longest_path (plan_of f ob) ≤ 12309 → IsBound below → IsFine (name_count ob) (plan_below f below ob)

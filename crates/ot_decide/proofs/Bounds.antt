@@ -11,6 +11,7 @@ pub at_most : (count times most : ℕ) → count ≤ times * most → times ≤ 
 at_most count times most is few = omega (arith, is, mul-le-mul_right most few)
 
 module _ {W : Type 0} (plan : ObName → Plan W) (most : ℕ) (few : (ob : ObName) (q : Questions W) → QuestionList (plan ob) [] q → length q.asked ≤ most) where
+  -- one obligation more adds at most so many questions
   count_joined :
       (ob : ObName) (obs : List ObName) (q : Questions W) (failing : Option (FailingEnd W)) (lists : List (ObQuestions W))
       → length q.asked ≤ most → ((later : List (ObQuestions W)) → AreAsked plan obs later → count_in later ≤ length obs * most)

@@ -55,6 +55,7 @@ module _ {W : Type 0} where
     abbrev AreCounted : List ObName → List AnswerTree → List (ObQuestions W) → Type 0
     AreCounted obs trees lists = leaves_in trees ≡ count_in lists + length obs
 
+    -- one more tree in front of trees that are counted
     counted_behind :
         (ob : ObName) (obs : List ObName) (t : AnswerTree) (trees : List AnswerTree) (q : Questions W) (failing : Option (FailingEnd W))
         (lists : List (ObQuestions W)) → q.failing ≡ failing → Fits t (plan ob) []

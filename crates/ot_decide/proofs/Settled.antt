@@ -61,6 +61,7 @@ module _ (head : Head) (plan : ObName → Plan Why) where
     },
   )
 
+  -- a section adds at most 74 bytes for each question, and 89 more
   section_few :
       (ob : ObName) (t : AnswerTree) (asked : ℕ) (more : List ℕ) → Fits t (plan ob) [] → AreSpellable (tokens_of t)
       → asked ≡ length (asked_along t (plan ob) [])
@@ -93,6 +94,7 @@ module _ (head : Head) (plan : ObName → Plan Why) where
     behind_failing : (later : List (ObQuestions Why)) → failing_in (behind later) ≡ failing_in later
     behind_failing later = ap (λ (o : Option (FailingEnd Why)). first_failing ob o (failing_in later)) searched.decided.1
 
+    -- where those behind the obligation are proved, so are all, with its tree in front
     behind_proved :
         (later : List (ObQuestions Why)) (before middle after : List ℕ) → middle ≡ before ++ section_text ob tree
         → AreProved plan obs (budget - asked) later middle after → AreProved plan (ob ∷ obs) budget (behind later) before after
@@ -115,6 +117,7 @@ module _ (head : Head) (plan : ObName → Plan Why) where
           few_bytes = omega (arith, proved.few_bytes, few);
         }
 
+    -- each outcome of the search of those behind it is one of all
     behind_settles :
         (later : List (ObQuestions Why)) (before middle after : List ℕ) (s : Search)
         → middle ≡ before ++ section_text ob tree
@@ -192,6 +195,7 @@ module _ (f : Function) (level : Level) (budget : ℕ) (obs : List ObName) (are 
 
   module _ (bytes : Vec ℕ Global) (begun : before ≡ header_text obs level) (ended : bytes.items ≡ after ++ end_text)
       (settled : AreSettled f.head (plan_of f) obs budget before after search.AllHold) where
+    -- where all of them hold, the bytes are a certificate of the level, and the verdict is yes
     pub decided_yes : IsDecidedAs f level budget (verdict.Yes bytes)
     decided_yes =
         let lists = settled.0 in

@@ -38,6 +38,7 @@ module _ (d : List Cell) (n : ℕ) where
         (subst (IsClientInStep f d server c fresh) (sym (nothing_ahead c there)) (begun c));
   }
     where
+      -- a fresh client is in step: it received and made nothing
       begun : (c : ℕ) → IsClientInStep f d server c fresh []
       begun c = record {
         forms = [];

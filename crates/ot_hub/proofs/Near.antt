@@ -116,6 +116,7 @@ carry-near f has m o (b ∷ bs) carried usable all is =
     others : AreUsable f (m + 99) bs
     others = AreUsable-wider has.wider f m (m + 99) bs (omega arith) (All-tail (λ x. IsUsable f m x.op) b bs all)
 
+    -- what is carried over the others, put behind the next one of the list, is near too
     rest : (both : Crossed) → AreUsableBoth f has (m + 99) both → (c : Option Carried)
         → ((k : Carried) → c ≡ Some k → IsCarriedNear f (m + 99 + 99 * length bs) (length bs) k)
         → option_map (behind (record b { op = both.other } ∷ [])) c ≡ Some carried → IsCarriedNear f (m + 99 * length (b ∷ bs)) (length (b ∷ bs)) carried

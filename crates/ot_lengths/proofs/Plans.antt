@@ -39,6 +39,7 @@ growth_near Tomb Nop = IsNear-zero 1
 -- where the index is a place within the document
 module _ (Inner : ℕ → Type 0) (index_inner : Inner 2) (mode : Mode) (a p b q : SymOp) (ha : IsForm Inner 99 a) (hp : IsForm Inner 99 p)
     (hb : IsForm Inner 99 b) (hq : IsForm Inner 99 q) where
+  -- comparing the lengths, and then the documents, asks short literals
   short_lengths : Short Inner (ask_lengths mode a p b q)
   unfolding ask_lengths ask_documents
   short_lengths =
@@ -112,6 +113,7 @@ abbrev pub inner_of : ObName → ℕ → Type 0
 inner_of (Pair k l) = IsOneOf 2 3 6
 inner_of (Triple k l m) = IsOneOf 3 6 9
 
+-- the plan of each obligation of a valid function asks short literals
 pub plans_ask_short : (f : Function) (ob : ObName) → is_valid f ≡ true → AsksShort (inner_of ob) (plan_of f ob)
 unfolding plan_of ask_pair ask_triple ask_all_enabled
 plans_ask_short f (Pair k l) valid =

@@ -137,6 +137,7 @@ module _ (Inner : ℕ → Type 0) where
         walk_compared atom.cmp (sym_thing atom.sort b) (plus (sym_thing atom.sort a) atom.k) p q
         (thing_more Inner 99 198 _ (lit≤ tt) tb) (thing_plus Inner 99 99 _ atom.k ta near) hp hq
 
+    -- the questions of a guard are short
     pub walk_guard :
         (g : Formula) (p q : Plan Why) → has_valid_atoms (compares_chars k l) g ≡ true → Short p → Short q → Short (ask_guard g a b p q)
     unfolding ask_guard ask_atom

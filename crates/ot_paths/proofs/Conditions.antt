@@ -40,6 +40,7 @@ module _ (count : ℕ) where
       → IsTrue (has_fine_literals count q) → IsTrue (has_fine_literals count (Ask l p q))
   fine_ask l p q fine hp hq = grind arith
 
+  -- by whether the two names are one, and then by the offsets
   le_goes_on_by :
       (x y : Place) (p q : Plan Why) (b c : Bool) → IsPlace count x → IsPlace count y → nat_eq x.var y.var ≡ b
       → int_le x.off y.off ≡ c → GoesOn count 1 p q (ask_le x y p q)
@@ -70,6 +71,7 @@ module _ (count : ℕ) where
     paths = omega (arith, first.paths, second.paths);
   }
 
+  -- a form asks fine literals, and on a path at most as many as it compares
   form_goes_on : (g : FormTree) (p q : Plan Why) → HasPlaces count g → GoesOn count (comparisons_left g) p q (ask_form g p q)
   unfolding ask_form ask_lt ask_eq
   form_goes_on True p q h = record { literals = λ hp hq. hp; paths = omega arith }
@@ -102,6 +104,7 @@ module _ (f : Function) (ob : ObName) where
   unfolding ask_goal
   condition_paths g y n places = (form_goes_on (name_count ob) g (ask_goal f y) (ask_goal f n) places).paths
 
+  -- a condition in front of two nodes is a node, if what it compares leaves them room
   pub condition_node :
       (g : FormTree) (y n : GoalTree) → HasPlaces (name_count ob) g → IsNode f ob y → IsNode f ob n
       → comparisons_left g + max (longest_path (ask_goal f y)) (longest_path (ask_goal f n)) ≤ MAX_QUESTIONS

@@ -89,6 +89,7 @@ BeginsAs f ob t l on_yes on_no =
     → IsNode f ob on_yes × IsNode f ob on_no
     × (ask_goal f (If t on_yes on_no) ≡ plans.Ask l (ask_goal f on_yes) (ask_goal f on_no))
 
+-- a comparison that is a question begins with its literal, and its parts are nodes where it is one
 pub question_begins :
     (f : Function) (ob : ObName) (t : FormTree) (l : Lit) (x y : Place) (on_yes on_no : GoalTree) → t ≡ Le x y → l ≡ literal x y
     → BeginsAs f ob t l on_yes on_no

@@ -14,6 +14,7 @@ possible-append [] ys xs_all ys_all = ys_all
 possible-append (x ∷ xs) ys xs_all ys_all = (xs_all.0, possible-append xs ys xs_all.1 ys_all)
 
 module _ {W : Type 0} where
+  -- where some integers meet each list of both parts, and that of the question, some meet each list of the whole
   possible_join :
       (w : List Lit) (y q : Questions W) (P : Questions W → Type 0) (failing : Option (FailingEnd W)) → IsPossible w
       → ((n : Questions W) → P n → AreAllPossible n) → AreAllPossible y

@@ -121,6 +121,7 @@ module _ {W : Type 0} where
         ∙ append-nil (asked_along t root []);
   }
 
+  -- where nothing is open any more and the budget was kept, the tokens are a proof by each question list
   pub AgreesWithLists-yes :
       (root : Plan W) (tokens : List Tok) (asked : List (List Lit)) (count budget : ℕ) → HasCome root tokens asked []
       → count ≡ length asked → count ≤ budget → AgreesWithLists root budget (Yes tokens count)

@@ -67,6 +67,7 @@ module _ (l : Lit) (number : ℕ) (numbers : List ℕ) (tables : List Rows) (som
       subst (λ (xs : List Rows). AreJudged (w ∷ ws) (None ∷ cycles) xs)
       (ap reverse whole ∙ reverse-push front (last_rows tables)) judged
 
+  -- both parts of a question stay open, each with its own table
   pub JudgesSides-both :
       (of_yes of_no : Rows) (new_tables : List Rows) (cycles : List (Option (List ℕ)))
       → AddsAnswer number l true (last_rows tables) of_yes → AddsAnswer number l false (last_rows tables) of_no

@@ -102,6 +102,7 @@ module _ {W : Type 0} where
     is,
   )
 
+  -- by the failing end of the part for yes, behind which the part for no is left out
   listed_yes :
       (l : Lit) (on_yes on_no : Plan W) (w : List Lit) (branches : List (Branch W)) (y z q : Questions W)
       (failing : Option (FailingEnd W))

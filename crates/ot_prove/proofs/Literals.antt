@@ -16,6 +16,7 @@ pub record IsFineLiteral (count : ℕ) (l : Lit) : Type 0 where
   pub named : IsNamed count l
   pub asked : IsAsked l
 
+-- what the test of a literal that may be asked says of it
 pub fine_literal : (count : ℕ) (l : Lit) → is_fine_literal count l ≡ true → IsFineLiteral count l
 fine_literal count l fine =
     let different = not (nat_eq l.x l.y) in

@@ -26,6 +26,7 @@ unfolding tabulated
 length-tabulated f zero = refl
 length-tabulated f (suc n) = omega (arith, length_push (tabulated f n) (f n), length-tabulated f n)
 
+-- at each number below the length stands the function's value there
 get_or-tabulated : {X : Type 0} (f : ℕ → X) (n k : ℕ) (d : X) → k < n → get_or (tabulated f n) k d ≡ f k
 unfolding tabulated
 get_or-tabulated f zero k d below = absurd (omega arith)
@@ -110,6 +111,7 @@ module _ {W : Type 0} where
           | inr no_room ↦ (no_questions, no_list p (w ++ l ∷ []) (impossible-with adds tells n t w l stands named no_room))
         ]
 
+    -- a plan of fine literals has a question list, after answers that a table stands for
     pub some_list :
         (n : ℕ) (t : ℕ → ℕ → Option Hop) (p : Plan W) (w : List Lit) → IsTrue (has_fine_literals n p)
         → StandsFor n t (numbered_from 0 w) → (q : Questions W) × QuestionList p w q
@@ -139,6 +141,7 @@ module _ {W : Type 0} where
       q_is ∙ ap (λ (x : Questions W). asked_with_both w y x) (only n m of_n of_m) ∙ sym r_is
   one_join w y P only q r (Some end) q_is r_is = q_is ∙ sym r_is
 
+  -- a plan has at most one question list after some answers
   pub one_list : (p : Plan W) (w : List Lit) (q r : Questions W) → QuestionList p w q → QuestionList p w r → q ≡ r
   one_list (Ask l on_yes on_no) w q r (inl none) (inl none') = none.1 ∙ sym none'.1
   one_list (Ask l on_yes on_no) w q r (inl none) (inr some) = absurd (none.0 some.0)

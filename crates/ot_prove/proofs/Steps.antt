@@ -33,6 +33,7 @@ pub without_last :
     (tables new : List Rows) (len : ℕ) → len ≡ length tables → new ≡ take (len - 1) tables → new ≡ take (length tables - 1) tables
 without_last tables new len same less = less ∙ ap (λ (n : ℕ). take (n - 1) tables) same
 
+-- the last table is that of the first place, and those before it are of the others
 pub table_at_last :
     (w : List Lit) (ws : List (List Lit)) (cycles : List (Option (List ℕ))) (tables : List Rows)
     → AreJudged (w ∷ ws) (None ∷ cycles) (reverse tables)
@@ -116,6 +117,7 @@ module _ {N W : Type 0} where
   }
 
   module _ (is_own : N → Type 0) (plan : N → Plan W) (root : Plan W) (budget : ℕ) where
+    -- a search begins with the first node open, after no answers
     pub IsSearching-begun :
         (count : ℕ) (first : N) (possible : Bool) (cycles : List (Option (List ℕ))) (tables : List Rows)
         → is_own first × (plan first ≡ root) → IsFine count (plan first) → (possible ≡ true) × (cycles ≡ [])
@@ -146,6 +148,7 @@ module _ {N W : Type 0} where
           IsPossible-by_table p.answers
           (table_at_last p.answers (answers_at places) cycles tables s.judged).1
 
+      -- a question puts the places of its two parts first, and is counted
       question_here :
           (l : Lit) (on_yes on_no : N) (new_cycles : List (Option (List ℕ))) (new_tables : List Rows)
           → is_own on_yes × is_own on_no × (plan p.node ≡ Ask l (plan on_yes) (plan on_no)) → asked ≢ budget
@@ -178,6 +181,7 @@ module _ {N W : Type 0} where
             within = omega (arith, s.within);
           }
 
+      -- an end that holds closes the first place
       holds_here :
           plan p.node ≡ Holds
           → IsSearching is_own plan root budget places cycles (reverse (take (length tables - 1) tables)) (tree ++ token.Holds ∷ []) asked
@@ -226,6 +230,7 @@ module _ {N W : Type 0} where
 
   -- ---- the same by the plan at the first place
   module _ (is_own : N → Type 0) (plan : N → Plan W) (root : Plan W) (budget : ℕ) where
+    -- a question
     pub IsSearching-question :
         (places : List (OpenPlace N)) (cycles : List (Option (List ℕ))) (tables : List Rows) (tree : List Tok) (asked : ℕ)
         (l : Lit) (on_yes on_no : N) (new_cycles : List (Option (List ℕ))) (new_tables : List Rows)
@@ -240,6 +245,7 @@ module _ {N W : Type 0} where
         question_here is_own plan root budget p places cycles tables tree asked s l on_yes on_no new_cycles new_tables begins fits
         judges
 
+    -- an end that holds
     pub IsSearching-holds :
         (places : List (OpenPlace N)) (cycles : List (Option (List ℕ))) (tables new_tables : List Rows) (tree : List Tok) (asked : ℕ)
         → 0 < length places
@@ -312,6 +318,7 @@ module _ {N W : Type 0} where
 
   -- ---- a question, whose side for yes is perhaps closed at once
   module _ (is_own : N → Type 0) (plan : N → Plan W) (root : Plan W) (budget : ℕ) where
+    -- the search goes on by the room of the two sides, and where only no has room, a cycle closes the side for yes
     pub IsSearching-on :
         (room : Room) (numbers : List ℕ) (places new_places : List (OpenPlace N)) (cycles new_cycles : List (Option (List ℕ)))
         (tables : List Rows) (tree new_tree : List Tok) (asked : ℕ) → 0 < length places → AreNeverMet
@@ -325,6 +332,7 @@ module _ {N W : Type 0} where
         rw (on.0, on.1, on.2)
         (IsSearching-cycle is_own plan root budget places numbers (None ∷ cycles) tables tree asked some never s)
 
+    -- a question, and then the sides that have room
     pub IsSearching-asked :
         (places new_places : List (OpenPlace N)) (cycles new_cycles : List (Option (List ℕ))) (tables new_tables : List Rows)
         (tree new_tree : List Tok) (asked : ℕ) (l : Lit) (on_yes on_no : N) (room : Room) (numbers : List ℕ)
@@ -366,6 +374,7 @@ module _ {N W : Type 0} where
     weight_of-on OnlyNo numbers places new_places cycles new_cycles tree new_tree some on =
         let less = weight_of-close places some in rw on.0 (omega (arith, less))
 
+    -- a question, and then the sides that have room, leave plans that weigh less
     pub weight_of-asked :
         (room : Room) (numbers : List ℕ) (places new_places : List (OpenPlace N)) (cycles new_cycles : List (Option (List ℕ)))
         (tree new_tree : List Tok) (l : Lit) (on_yes on_no : N) → 0 < length places

@@ -48,6 +48,7 @@ module _ {W : Type 0} where
   failing_part w y q IsNoPart e (Some other) is ends = inl (sym (ap (λ (x : Questions W). x.failing) is) ∙ ends)
 
   module _ (answers : AnswersSo) (v : ℕ → ℤ) where
+    -- where the list has no failing end, the plan holds at each valuation that meets the answers
     holds_by_list :
         (p : Plan W) (w : List Lit) (q : Questions W) → QuestionList p w q → q.failing ≡ None → AreMet v w → value p v ≡ true
     holds_by_list (Ask l on_yes on_no) w q (inl never) none met = absurd (never.0 (IsPossible-met v w met))
@@ -66,6 +67,7 @@ module _ {W : Type 0} where
     holds_by_list (Fails why) w q (inr some) none met =
         let ends : q.failing ≡ Some (record { answers = w; why = why }) = ap (λ (x : Questions W). x.failing) some.1 in absurd (cc)
 
+    -- a valuation that meets the answers of the failing end meets those before, and leads to its cause
     fails_by_list :
         (p : Plan W) (w : List Lit) (q : Questions W) (e : FailingEnd W) → QuestionList p w q → q.failing ≡ Some e
         → AreMet v e.answers → AreMet v w × (end_of p v ≡ Some e.why)

@@ -28,6 +28,7 @@ module _ {W : Type 0} where
   LeadsTo-yes Holds (m ∷ w) l on_yes on_no leads = absurd leads
   LeadsTo-yes (Fails why) (m ∷ w) l on_yes on_no leads = absurd leads
 
+  -- one more answer, which is no
   pub LeadsTo-no :
       (p : Plan W) (w : List Lit) (l : Lit) (on_yes on_no : Plan W) → LeadsTo p w (Ask l on_yes on_no)
       → LeadsTo p (with_answer w l false) on_no
@@ -60,6 +61,7 @@ module _ {N W : Type 0} (plan : N → Plan W) (n on_yes on_no : N) (l : Lit) (as
   abbrev pub GoesOn : Lit → List Lit → Plan W → Bool → Type 0
   GoesOn m w end said = (answered_of l said ≡ m) × LeadsTo (plan (if said then on_yes else on_no)) w end
 
+  -- whether a way goes on with yes or no is told by the first name of its next literal
   goes_on :
       (count : ℕ) (m : Lit) (w : List Lit) (end : Plan W) (said : Bool)
       → IsFine count (plan n) → said ≡ nat_eq m.x l.x → LeadsTo (plan n) (m ∷ w) end → GoesOn m w end said

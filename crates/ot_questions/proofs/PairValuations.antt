@@ -77,6 +77,7 @@ module _ (f : Function) (k l : Kind) (v : ℕ → ℤ) (d : List Cell) (a b : Op
         | inr none ↦ absurd (none.0 (posed_from concurrent))
       ]
 
+-- the plan ends in `Holds` exactly where concurrent operations agree at the index, on all documents of the length
 pub pair_holds_where :
     (f : Function) (k l : Kind) (v : ℕ → ℤ) (n : ℕ) (a b : Op) → NamesPair f k l v n a b
     → (end_of (plan_of f (Pair k l)) v ≡ None)

@@ -72,6 +72,7 @@ documents_end v mode left right k =
     then (if int_lt (v 2 +ℤ pos 0) (v 1 +ℤ k) then end_of (ask_same (seen v mode left (pos 0)) (seen v mode right (pos 0))) v else None)
     else None
 
+-- the questions about the final documents end where the tests at the valuation lead
 end-documents :
     (v : ℕ → ℤ) (mode : Mode) (left right : List SymOp) (k : ℤ)
     → end_of (ask_documents mode left right k) v ≡ documents_end v mode left right k
@@ -120,6 +121,7 @@ pub goes_on-same : (o : Option SymOp) (g h : SymOp → Option Why) → ((r : Sym
 goes_on-same None g h e = refl
 goes_on-same (Some r) g h e = e r
 
+-- the questions about two operations go on with both forms at the valuation, if they are there
 pub end-converge :
     (v : ℕ → ℤ) (f : Function) (a b : SymOp) → v 0 ≡ pos 0
     → end_of (ask_converge f a b) v ≡ goes_on (sym_transformed v f b a)

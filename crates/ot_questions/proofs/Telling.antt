@@ -220,6 +220,7 @@ module _ (v : ℕ → ℤ) (d : List Cell) (b : Cell) (dead : Option ℤ)
       → end_of (if is_same_flag l m then ask_same_source s t (Fails why) else Fails why) v ≡ None
   found s t l m why flags sources = rw flags sources
 
+  -- cells that the document tells apart are found the same, where they mean the same
   told_apart :
       (s t : Source) (l m : Flag) (why : Why) → dead ≡ dead_read s t l m → IsReadFlag s l → IsReadFlag t m → IsToldSource v d s
       → IsToldSource v d t → IsToldFlag v d l → IsToldFlag v d m

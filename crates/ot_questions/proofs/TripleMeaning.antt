@@ -121,6 +121,7 @@ triple_holds_means f k l m n holds a b c ka kb kc ea eb ec ab ac bc =
     (none_from_value (end_of (ask_triple f (sym_op k A) (sym_op l B) (sym_op m C)) v) (holds v refl refl))
     (record { a_enabled = ea; b_enabled = eb; c_enabled = ec; a_and_b = ab; a_and_c = ac; b_and_c = bc })
 
+-- where TP2 holds at a length for operations of the kinds, the plan holds at that length
 pub triple_meaning_holds :
     (f : Function) (k l m : Kind) (n : ℕ) → is_valid f ≡ true → HasTriple f k l m n → HoldsAtLength f (Triple k l m) n
 unfolding plan_of

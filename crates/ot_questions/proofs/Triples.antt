@@ -68,6 +68,7 @@ module _ (v : ℕ → ℤ) (x y : SymOp) (a b c : Op) (sx : StandsFor v x a) (sy
   two_kinds : (j k : Option Kind) → sym_kind x ≡ j → sym_kind y ≡ k → a ≡ b → j ≡ k
   two_kinds j k ex ey same = sym ex ∙ (sx.kind ∙ (ap kind_of same ∙ (sym sy.kind ∙ ey)))
 
+  -- by the kinds of the two forms, and where both have one, by their positions
   found_by_kinds :
       (j k : Option Kind) → sym_kind x ≡ j → sym_kind y ≡ k → FoundAs (a ≡ b) (end_of (ask_one_place j k (sym_at x) (sym_at y)) v)
   unfolding ask_one_place
@@ -103,6 +104,7 @@ goes_on-and_then :
 goes_on-and_then None h go = refl
 goes_on-and_then (Some p) h go = refl
 
+-- the questions about a form behind two operations go on with it, if there is one at the valuation
 end-behind :
     (v : ℕ → ℤ) (f : Function) (a b c : SymOp) (go : SymOp → Plan Why)
     → end_of (ask_behind f a b c go) v ≡ goes_on (sym_behind v f a b c) (λ r. end_of (go r) v)

@@ -38,6 +38,7 @@ if_end false p q v = refl
 abbrev pub by_test : Bool → Plan Why → Plan Why → (ℕ → ℤ) → Option Why
 by_test b p q v = if b then end_of p v else end_of q v
 
+-- a comparison goes on as the integers of the two places compare
 pub end-le :
     (a b : Place) (p q : Plan Why) (v : ℕ → ℤ) → end_of (ask_le a b p q) v ≡ by_test (int_le (integer_at v a) (integer_at v b)) p q v
 unfolding ask_le
@@ -93,6 +94,7 @@ end-atom atom a b p q v =
     end-compared atom.cmp (sym_thing atom.sort (of_side atom.left a b))
     (plus (sym_thing atom.sort (of_side (other_side atom.left) a b)) atom.k) p q v
 
+-- a guard goes on by its truth at the valuation
 pub end-guard :
     (g : Formula) (a b : SymOp) (p q : Plan Why) (v : ℕ → ℤ) → end_of (ask_guard g a b p q) v ≡ by_test (sym_holds v g a b) p q v
 unfolding ask_guard
@@ -180,6 +182,7 @@ end-has_cell at off p q v z =
     ∙ (if_and (int_le (integer_at v zero_place) (integer_at v at)) (int_lt (integer_at v at) (v 1 +ℤ off)) (end_of p v) (end_of q v)
     ∙ ap (λ x. by_test (int_le (x +ℤ pos 0) (integer_at v at) && int_lt (integer_at v at) (v 1 +ℤ off)) p q v) z))
 
+-- whether an operation is enabled goes on by the test of the operation that the names stand for
 pub end-enabled :
     (o : SymOp) (off : ℤ) (p q : Plan Why) (v : ℕ → ℤ) → v 0 ≡ pos 0
     → end_of (ask_enabled o off p q) v ≡ by_test (enabled_to (op_at v o) (v 1 +ℤ off)) p q v
@@ -254,6 +257,7 @@ through_two true c x y z g = refl
 through_two false true x y z g = refl
 through_two false false x y z g = refl
 
+-- an inserted character
 end-put :
     (mode : Mode) (p : Place) (c s : ℕ) (ops : List SymOp) (off : ℤ) (go : Finished → Plan Why) (v : ℕ → ℤ)
     → end_of (ask_cell mode ops off go) v ≡ end_of (go (seen v mode ops off)) v
@@ -293,6 +297,7 @@ end-changed mode change p ops off go v kept made =
     ∙ through_two (int_lt (v 2 +ℤ off) (integer_at v p)) (int_le (v 2 +ℤ off) (integer_at v p)) (seen v mode ops off)
     (change (seen v mode ops off)) (seen v mode ops off) (λ x. end_of (go x) v))))
 
+-- a reading goes on with the finished cell that is seen at the valuation
 pub end-cell :
     (mode : Mode) (ops : List SymOp) (off : ℤ) (go : Finished → Plan Why) (v : ℕ → ℤ)
     → end_of (ask_cell mode ops off go) v ≡ end_of (go (seen v mode ops off)) v

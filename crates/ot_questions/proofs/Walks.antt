@@ -147,6 +147,7 @@ module _ (count : ℕ) (known : ℕ → Bool) (Free : ℕ → Type 0) (below : (
   length_at : (n : ℕ) (off : ℤ) → IsNear n off → At n Pos (length_and off)
   length_at n off near = record { is = refl; free = length_free; steady = tt; near = near }
 
+  -- one comparison adds one question at most
   asked_le :
       (m : ℕ) (sort : Sort) (a b : Place) (p q : Plan Why) → sort_name a.var ≡ sort → sort_name b.var ≡ sort → Free a.var → Free b.var
       → IsNear 500 a.off → IsNear 500 b.off → IsStill sort (b.off -ℤ a.off) → Kept m p → Kept m q → Kept (m + 1) (ask_le a b p q)
@@ -218,6 +219,7 @@ module _ (count : ℕ) (known : ℕ → Bool) (Free : ℕ → Type 0) (below : (
         (Stands-more Free 299 499 atom.sort _ (lit≤ tt)
         (Stands-plus Free 200 99 atom.sort _ atom.k (Stands-thing Free 200 atom.sort a ha ta) still near)) hp hq
 
+    -- a guard adds at most two questions for each of its atoms
     pub walk_guard :
         (m : ℕ) (g : Formula) (p q : Plan Why) → has_valid_atoms (compares_chars k l) g ≡ true → Kept m p → Kept m q
         → Kept (m + 2 * guard_atoms g) (ask_guard g a b p q)
@@ -274,6 +276,7 @@ module _ (count : ℕ) (known : ℕ → Bool) (Free : ℕ → Type 0) (below : (
       (walk_lt m Pos at (length_and off) p q ha (length_at 499 off near) hp hq)
       (kept_more m (m + 1) q (omega arith) hq))
 
+  -- whether an operation is enabled adds two questions at most
   pub walk_enabled :
       (m : ℕ) (o : SymOp) (off : ℤ) (p q : Plan Why) → IsNear 499 off → OpStands Free 499 o → Kept m p → Kept m q
       → Kept (m + 2) (ask_enabled o off p q)
@@ -339,6 +342,7 @@ module _ (count : ℕ) (known : ℕ → Bool) (Free : ℕ → Type 0) (below : (
         (walk_le m Pos (index_and off) p at behind (index_at 500 off (IsNear-more 400 500 off (lit≤ tt) near))
         (Stands-more Free 400 500 Pos p (lit≤ tt) hp) ha hd))
 
+    -- an inserted character
     walk_put :
         (m n : ℕ) (mode : Mode) (p : Place) (c s : ℕ) (ops : List SymOp) (off : ℤ) (go : Finished → Plan Why)
         → IsNear n off → n ≤ 400 → OpStands Free 400 (Ins p c s) → CellGoesOn m go

@@ -147,6 +147,7 @@ known_three x = and_name known_two 9 x
 
 -- of a valid function, none of whose blocks has more atoms than so many
 module _ (f : Function) (valid : is_valid f ≡ true) (atoms : ℕ) (few_atoms : (k l : Kind) → block_atoms (cases_of f k l) ≤ atoms) where
+  -- what is kept of the plan of a pair, with so many questions on a path at most
   pub pair_walked : (k l : Kind) → IsWalked 9 known_at_first (4 * atoms + 16 + 4 + 1 + 1 + 1 + 1 + 1) (plan_of f (Pair k l))
   unfolding plan_of ask_pair ask_all_enabled
   pair_walked k l =
@@ -164,6 +165,7 @@ module _ (f : Function) (valid : is_valid f ≡ true) (atoms : ℕ) (few_atoms :
       (walk_converge 9 known_two Usable below found zero cells f valid atoms few_atoms
       (find_documents 9 known_two (lit< tt) zero cells) (sym_op k A) (sym_op l B) a b))))
 
+  -- the same of the plan of a triple
   pub triple_walked :
       (k l m : Kind)
       → IsWalked 12 known_at_first (2 + 6 * atoms + 6 * atoms + 4 + 4 + 4 + 1 + 1 + 1 + 1 + 1 + 1 + 1) (plan_of f (Triple k l m))

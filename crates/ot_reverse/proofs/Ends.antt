@@ -150,6 +150,7 @@ module _ (at_most : EndsAtMost) (ends_enabled : EndsEnabled) (ends_allowed : End
       ∙ end_allowed next
       ∙ by_true (is_allowed f a b) (ended next) None ((tests_allowed f a b).1 concurrent.2.0)
 
+  -- where a goal with its tests fails, the operations are concurrent and the goal behind the tests fails
   passed_concurrent :
       (next : GoalTree) (why : Why) → ended (posed next) ≡ Some why → AreConcurrent f d (a ∷ b ∷ []) × (ended next ≡ Some why)
   passed_concurrent next why failed =
@@ -192,6 +193,7 @@ module _ (at_most : EndsAtMost) (ends_enabled : EndsEnabled) (ends_allowed : End
         (goes_to v (ask_result e x second_op) (λ y. ask_goal f (unless_same first_op y)) (transform_of e p b)
         (results e v x second_op p b names.zero stands names.second))
 
+    -- what comes back of the form is the operation or another one, and the goal says which
     same_decided :
         (q : Op) (y : SymOp) → transform_of e p b ≡ Some q → StandsFor v y q
         → Decided (IsTakenBack f e a b) (ended (unless_same first_op (Some y)))

@@ -147,6 +147,7 @@ module _ (named : StandsNamed) (comparison : KeepsComparison) (enabled : KeepsEn
       subst (λ p. IsKept 9 (m + 4) p) (sym (ask_goal-if_allowed f first_op second_op next))
       (allowed 9 m 0 f.head first_op second_op (ask_goal f next) (lit< tt) first_stands second_stands kept)
 
+  -- the plan of a reversal keeps the limits
   pub reversal_kept : IsKept 9 36875 (ask_goal f (reversal_goal f e k l))
   reversal_kept =
       let few = few_atoms valid_cases f valid in

@@ -84,6 +84,7 @@ module _ (Q : Place → Type 0) (at_zero : Serves Q zero_place) (at_length : Q (
     enabled_of kinds.Del who next h goal = (((at_zero.0, (h Pos).0), ((h Pos).0, at_length)), goal, tt)
     enabled_of kinds.Upd who next h goal = (((at_zero.0, (h Pos).0), ((h Pos).0, at_length)), goal, tt)
 
+  -- it holds of each place of the tests, and so of the goal where it does of what is behind them
   pub posed_of :
       (head : Head) (k l : Kind) (next : GoalTree) → OpServesTwice Q (sym_op k A) → OpServesTwice Q (sym_op l B) → GoalOf Q next
       → GoalOf Q (if_length (if_all_enabled (sym_op k A ∷ sym_op l B ∷ []) (if_allowed head (sym_op k A) (sym_op l B) next)))

@@ -80,6 +80,7 @@ module _ (at_most : EndsAtMost) (f : Function) (v : ℕ → ℤ) (z : v zero_nam
       (some_passed (int_le (v (position_name who) +ℤ pos 0) (v 1 +ℤ (pos 0 +ℤ negsuc 0))) (ended next) why
       (sym (at_most v at (plus (length_and (pos 0)) (negsuc 0)) (ask_goal f next) plans.Holds) ∙ failed)).1
 
+  -- where a goal fails behind the test that an operation is enabled, its position is not negative
   enabled_passed :
       (k : Kind) (who : Who) (next : GoalTree) (why : Why) → ended (if_enabled (sym_op k who) next) ≡ Some why
       → (pos 0 ≤ℤ v (position_name who)) × (ended next ≡ Some why)

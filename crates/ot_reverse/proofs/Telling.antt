@@ -55,6 +55,7 @@ two_ops a b A = a
 two_ops a b B = b
 two_ops a b C = b
 
+-- two operations of the kinds and a length have names
 pair_named :
     HaveNames → (f : Function) (k l : Kind) (n : ℕ) (a b : Op) → is_declared_pair f.head k l ≡ true → kind_of a ≡ Some k
     → kind_of b ≡ Some l → (v : ℕ → ℤ) × NamesPair f k l v n a b
@@ -91,6 +92,7 @@ end_sought k l p None cells a b tells is = absurd is
 end_sought k l p (Some e) cells a b tells is = (e, tells, is)
 
 module _ (stand : NamesStand) (names : HaveNames) (tell : ListsTell) (means : ReversalSought) (held : ReversalHeld) (f e : Function) (budget : ℕ) where
+  -- where an instance is found, its operations are concurrent and the first is not taken back
   pub instance_told :
       (k l : Kind) (cells : ℕ) (a b : Op) → is_declared_pair f.head k l ≡ true
       → IsSoughtIn f k l (reversal_goal f e k l) budget (sought.At cells a b)
@@ -128,6 +130,7 @@ module _ (stand : NamesStand) (names : HaveNames) (tell : ListsTell) (means : Re
   one_more pair pairs (No doc a b there back) here others = others
   one_more pair pairs Spent here others = others
 
+  -- one more pair of kinds: what is found of it, and what is told of the others
   goes_told :
       (pair : Kind × Kind) (pairs : List (Kind × Kind)) (found : Sought) (answer : Back) → is_declared_of f.head pair ≡ true
       → IsSoughtIn f pair.0 pair.1 (reversal_goal f e pair.0 pair.1) budget found

@@ -53,6 +53,7 @@ none_left (Some cell) t go e = absurd (cc)
 
 -- what is read at a place of a document, by its last change
 module _ (d : DocTree) (at j : Place) (here : j.var ≡ 2) (go : Finished → Plan Why) where
+  -- the rule of an inserted character asks what reading through it asks
   put_asked :
       (mode : Mode) (ch : ℕ)
       → ask_read mode (If (forms.Lt j at) (At d j) (If (forms.Le j at) (Char ch) (At d (plus j (negsuc 0))))) go
@@ -74,6 +75,7 @@ module _ (d : DocTree) (at j : Place) (here : j.var ≡ 2) (go : Finished → Pl
       (sym (index_place j here))
   cut_asked Tomb is = absurd (cc)
 
+  -- the rule of a tombstone asks what reading through it asks
   mark_asked :
       (mode : Mode) → mode ≡ Tomb
       → ask_read mode (If (forms.Lt j at) (At d j) (If (forms.Le j at) (Dead (At d j)) (At d j))) go
@@ -88,6 +90,7 @@ module _ (d : DocTree) (at j : Place) (here : j.var ≡ 2) (go : Finished → Pl
       (ask_cell Tomb (changes_of d) j.off go)))
       (sym (index_place j here))
 
+  -- the rule of a replaced character asks what reading through it asks
   over_asked :
       (mode : Mode) (ch : ℕ)
       → ask_read mode (If (forms.Lt j at) (At d j) (If (forms.Le j at) (Over ch (At d j)) (At d j))) go
@@ -218,6 +221,7 @@ module _ (mode : Mode) (count : ℕ) (some : 2 < count) where
   over_dead ch (Over c cell) s e go = absurd (cc)
   over_dead ch (If g on_yes on_no) s e go = absurd (cc)
 
+  -- a dead cell, by the cell that it was, of which nothing is left to be read
   bury_step :
       (cell got : CellTree) → read_step cell ≡ None → bury cell ≡ Some got → IsCellOf mode count cell
       → IsStep mode count (Dead cell) got
@@ -234,6 +238,7 @@ module _ (mode : Mode) (count : ℕ) (some : 2 < count) where
       step_given (Dead (If g on_yes on_no)) (If g (Dead on_yes) (Dead on_no)) got e
       (record { asked = λ go. refl; kept = h; lighter = omega arith })
 
+  -- a cell with another character, by the cell that it was, of which nothing is left to be read
   replace_step :
       (ch : ℕ) (cell got : CellTree) → read_step cell ≡ None → replace ch cell ≡ Some got → IsCellOf mode count (Over ch cell)
       → IsStep mode count (Over ch cell) got
@@ -263,6 +268,7 @@ module _ (mode : Mode) (count : ℕ) (some : 2 < count) where
       (record { asked = λ go. inside.asked (λ x. go (buried_cell x)); kept = inside.kept; lighter = omega arith })
   dead_step cell got None s e h step = bury_step cell got s e h
 
+  -- a cell with another character: a step inside, or by the cell that it was
   over_step :
       (ch : ℕ) (cell got : CellTree) (s : Option CellTree) → read_step cell ≡ s
       → option_or (option_map (Over ch) s) (replace ch cell) ≡ Some got → IsCellOf mode count (Over ch cell)

@@ -134,6 +134,7 @@ module _ (f : Function) (a b : SymOp) (k l : Kind) (there : sym_kind a ≡ Some 
         )
 
 module _ (f : Function) (ob : ObName) (case : ℕ) (a b : SymOp) (plan : Progress) where
+  -- the choice by the kinds of the two operations asks what the transformation asks
   asked_of_kinds :
       (ka kb : Option Kind) → sym_kind a ≡ ka → sym_kind b ≡ kb
       → ask_goal f (choose_by_kinds f case a b ka kb plan) ≡ ask_goal f (Choose case a b plan)

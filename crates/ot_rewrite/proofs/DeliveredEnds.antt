@@ -99,6 +99,7 @@ module _ (f : Function) where
   if_asks true g p e = e
   if_asks false g p e = refl
 
+  -- two lengths, and then the documents
   lengths_ask :
       (a b_after_a b a_after_b : SymOp)
       → ask_goal f (same_lengths f.head.mode a b_after_a b a_after_b) ≡ ask_lengths f.head.mode a b_after_a b a_after_b
@@ -111,6 +112,7 @@ module _ (f : Function) where
       (ask_documents mode (b_after_a ∷ a ∷ []) (a_after_b ∷ b ∷ []) left)
       (documents_ask (b_after_a ∷ a ∷ []) (a_after_b ∷ b ∷ []) left)
 
+  -- whether both forms are enabled, and then the lengths
   pub both_ways_ask :
       (a b_after_a b a_after_b : SymOp)
       → ask_goal f (both_ways f.head.mode a b_after_a b a_after_b) ≡ ask_ways f.head.mode a b_after_a b a_after_b

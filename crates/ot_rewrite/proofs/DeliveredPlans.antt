@@ -44,6 +44,7 @@ module _ (f : Function) where
   go_on_asks plan (Some pair) = refl
   go_on_asks plan None = refl
 
+  -- the next transformation, or the end, asks what is left after the results
   next_asks :
       (ob : ObName) (os got : List SymOp) → AreMade ob os → ask_on ob os got (next_operands ob os got) ≡ ask_after f ob os got
   unfolding ask_goal ask_after ask_pair_after ask_triple_after ask_second_way_after ask_converge ask_commute ask_behind

@@ -40,6 +40,7 @@ module _ (f : Function) (ob : ObName) (y n : GoalTree) where
       (record { asked = rw e (rw o refl); parts = λ p. p.2; lighter = omega arith })
   rule_of_offsets s t false c e o h given_by = absurd (cc)
 
+  -- each rule of a form keeps what is asked and the parts of the goal, which it makes lighter
   pub form_rule : (g : FormTree) (h : GoalTree) → rewrite_if g y n ≡ Some h → IsRewriting f ob (If g y n) h
   unfolding ask_goal ask_form ask_lt ask_eq
   form_rule True h e =

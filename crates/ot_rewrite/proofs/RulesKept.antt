@@ -13,6 +13,7 @@ use Rattle.ot_rewrite.proofs.FormRules.{given, form_rule}
 use Rattle.ot_rewrite.proofs.SameRules.{same_rule}
 
 module _ (f : Function) (ob : ObName) where
+  -- each rule keeps what is asked and the parts of the goal, which it makes lighter
   pub rule_kept :
       (g h : GoalTree) → IsTrue (is_valid f) → IsGoalOf f ob g → rewritten f g ≡ Some h → IsRewriting f ob g h
   unfolding rewritten

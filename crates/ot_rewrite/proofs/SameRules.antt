@@ -50,6 +50,7 @@ dead_finished (Dead cell) s e = absurd (cc)
 dead_finished (Over ch cell) s e = absurd (cc)
 dead_finished (If g on_yes on_no) s e = absurd (cc)
 
+-- a cell that is read as far as it goes, and into which no character can be pulled, is finished
 over_finished :
     (ch : ℕ) (cell : CellTree) → read_step cell ≡ None → replace ch cell ≡ None → (x : Finished) × (finished_cell cell ≡ Some x)
 unfolding read_step
@@ -265,6 +266,7 @@ module _ (f : Function) (ob : ObName) where
       given f ob (Same (If g on_yes on_no) r) (goals.If g (Same on_yes r) (Same on_no r)) got e
       (record { asked = refl; parts = λ p. (h.0.0, (h.0.1, h.1), (h.0.2, h.1)); lighter = omega arith })
 
+  -- the left cell is read first, as long as a step is left
   left_rule :
       (l r : CellTree) → HasParts f ob (Same l r) → (s : Option CellTree) → read_step l ≡ s → (got : GoalTree)
       → rewrite_left l r s ≡ Some got → IsRewriting f ob (Same l r) got

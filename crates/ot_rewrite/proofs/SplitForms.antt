@@ -65,6 +65,7 @@ same_name_le :
     (x y : Place) (v : ℕ → ℤ) → nat_eq x.var y.var ≡ true → int_le (integer_at v x) (integer_at v y) ≡ int_le x.off y.off
 same_name_le x y v same = sym (int_le-same_name (v x.var) (v y.var) x.off y.off (ap v (eqb-true x.var y.var same)))
 
+-- one name compared with itself is yes or no
 le_decided :
     (x y : Place) (c : Bool) → nat_eq x.var y.var ≡ true → int_le x.off y.off ≡ c → IsSplit (forms.Le x y) (if c then Yes else No)
 unfolding ask_form ask_le
@@ -163,6 +164,7 @@ le_asks :
 unfolding ask_le
 le_asks x y c p q same is = rw same (rw is refl)
 
+-- an equality of one name with itself is yes or no
 eq_decided :
     (x y : Place) (c d : Bool) → nat_eq x.var y.var ≡ true → nat_eq y.var x.var ≡ true → int_le x.off y.off ≡ c
     → int_le y.off x.off ≡ d → IsSplit (forms.Eq x y) (if c then (if d then Yes else No) else No)
@@ -203,6 +205,7 @@ eq_decided x y false d same other is back =
       places = λ count h. tt;
     }
 
+-- an equality of two names asks at first whether the one is at most the other
 eq_asked : (x y : Place) → nat_eq x.var y.var ≡ false → IsSplit (forms.Eq x y) (Ask x y (forms.Le y x) (forms.Not forms.True))
 unfolding ask_form ask_eq rewritten
 eq_asked x y other =
@@ -229,6 +232,7 @@ eq_split_by x y false other = eq_asked x y other
 eq_split : (x y : Place) → IsSplit (forms.Eq x y) (split_eq x y)
 eq_split x y = eq_split_by x y (nat_eq x.var y.var) refl
 
+-- an `and` is split as its first form is, and behind a yes as its second
 and_split : (g h : FormTree) (s t : SplitTree) → IsSplit g s → IsSplit h t → IsSplit (forms.And g h) (split_and s h t)
 unfolding ask_form rewritten
 and_split g h Yes t one other =
@@ -261,6 +265,7 @@ and_split g h (Ask x y a b) t one other =
       places = λ count p. let r = one.places count p.0 in (r.0, r.1, (r.2, p.1), (r.3, p.1));
     }
 
+-- an `or` is split as its first form is, and behind a no as its second
 or_split : (g h : FormTree) (s t : SplitTree) → IsSplit g s → IsSplit h t → IsSplit (forms.Or g h) (split_or s h t)
 unfolding ask_form rewritten
 or_split g h No t one other =
@@ -293,6 +298,7 @@ or_split g h (Ask x y a b) t one other =
       places = λ count p. let r = one.places count p.0 in (r.0, r.1, (r.2, p.1), (r.3, p.1));
     }
 
+-- a `not` is split as its form is, with what comes of it negated
 not_split : (g : FormTree) (s : SplitTree) → IsSplit g s → IsSplit (forms.Not g) (split_not s)
 unfolding ask_form rewritten
 not_split g Yes one =
@@ -322,6 +328,7 @@ not_split g (Ask x y a b) one =
       places = λ count p. one.places count p;
     }
 
+-- each form is split as the definition says
 pub split_is : (g : FormTree) → IsSplit g (split_of g)
 unfolding ask_form rewritten
 split_is forms.True =

@@ -163,6 +163,7 @@ goes_on_by (Reading p o begun) now place offset byte at gives =
     gives ∙ (cc)
 goes_on_by (Refused e) now place offset byte at gives = absurd (cc)
 
+-- bytes within a part leave its place and offset, and are put behind those that came of it
 goes_on :
     (old now : Progress) (place : Place) (offset : ℕ) (bytes : List ℕ) → old ≡ Reading place offset (begun_of old)
     → GoesOn old bytes now → now ≡ Reading place offset (begun_of old ++ bytes)
@@ -176,6 +177,7 @@ goes_on old now place offset (byte ∷ bytes) at (between, gives, way, goes) =
     ∙ ap (λ (l : List ℕ). Reading place offset l)
     (ap (λ (l : List ℕ). l ++ bytes) begun ∙ append_assoc (begun_of old) (byte ∷ []) bytes)
 
+-- the part that a byte ends stands at its place and offset, and its text is the bytes that came
 part_given :
     (old now : Progress) (place : Place) (offset byte : ℕ) (item : Item) → old ≡ Reading place offset (begun_of old)
     → Gives old byte (Ok (Some item)) now

@@ -104,6 +104,7 @@ module _ {W : Type 0} (plan : ObName → Plan W) where
   end_shows : (bytes rest : List ℕ) → bytes ≡ end_text ++ rest → rest ≡ [] → bytes ≡ end_text
   end_shows bytes rest is nothing = is ∙ ap (λ (l : List ℕ). end_text ++ l) nothing ∙ append-nil end_text
 
+  -- the line of an obligation, before its tree and the sections behind it
   line_shows :
       (ob : ObName) (obs : List ObName) (came : ℕ) (bytes rest : List ℕ) (branches : List (Branch W))
       → bytes ≡ ob_text ob ++ rest → branches ≡ record { plan = plan ob; answers = [] } ∷ []
@@ -123,6 +124,7 @@ module _ {W : Type 0} (plan : ObName → Plan W) where
             ∙ sym (joined (ob_text ob) (tokens_text (tokens_of whole.0)) (sections_text obs tree.1) end_text),
       )
 
+  -- a token that is taken, before the tokens that complete what it leaves
   token_shows :
       ByToken W → (t : Tok) (obs : List ObName) (came waiting : ℕ) (bytes rest : List ℕ) (branches next : List (Branch W))
       → (0 < waiting) × IsSpellable t → bytes ≡ token_text t ++ rest → after t branches ≡ Ok next
@@ -150,6 +152,7 @@ module _ {W : Type 0} (plan : ObName → Plan W) where
   closed_shows obs came waiting bytes rest branches closed is shows counted =
       ([], shows.0, tt, none_open branches (sym closed ∙ counted), shows.1, is ∙ ap (λ (l : List ℕ). 10 ∷ l) shows.2)
 
+  -- any part that fits, before what is shown of the bytes behind it
   shows_behind :
       ByToken W → (place : Place) (p : Part) (offset : ℕ) (bytes rest : List ℕ) (branches next : List (Branch W))
       → Stands place p → bytes ≡ part_text place p ++ rest

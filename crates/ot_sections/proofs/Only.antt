@@ -117,6 +117,7 @@ module _ (one_part : OnePart) (takes_bytes : TakesBytes) where
         same_err why other (sym refused ∙ ap (λ (x : Tok). after x point.branches) tokens ∙ answered) in
         named ∙ ap (λ (x : CheckError). end_of_token point.offset x) causes ∙ sym called
 
+    -- bytes stop at a point in one way: all is judged, or they are refused for one cause
     stop_once :
         (point : Point W) (bytes : List ℕ) (a b : Result (Unit {0}) JudgeError)
         → StopsThere a point bytes → StopsThere b point bytes → a ≡ b

@@ -219,6 +219,7 @@ module _ {W : Type 0} (plan : ObName → Plan W) (end : Result (Unit {0}) JudgeE
       (judged_behind plan end (record { place = Tree came names branches; offset = offset; branches = old }) (part.Tok t)
       (token_text t ++ (tokens_text tokens ++ rest)) (tokens_text tokens ++ rest) next (some, spellable.0) refl leave.1 behind)
 
+  -- so it is at each place, since tokens are taken within a tree alone
   judged_at :
       (place : Place) (offset : ℕ) (bytes rest : List ℕ) (old new : List (Branch W)) → IsTreeOf (length old) place
       → AreTaken bytes old new
@@ -256,6 +257,7 @@ module _ {F W : Type 0} (feeds : Ghosts F) (was now : Fed F) (old new : List (Br
     pub leads : LeadsAnyway feeds (stand was old) (stand now new)
     pub leaves : GoesOn feeds was now
 
+  -- behind tokens that were taken from what is at hand, the reader is between parts of the same tree
   pub behind_tokens :
       (bytes : List ℕ) (count behind : ℕ) → IsBetween was.reader → IsTreeOf (length old) (place_of was.reader)
       → (bytes ≡ feeds.hand was.feed) × (count ≤ length bytes) → Consumes feeds was.feed now.feed count → KeepsFeed feeds was.feed now.feed

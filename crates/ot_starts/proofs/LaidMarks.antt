@@ -27,6 +27,7 @@ module _ (f : Function) where
   order_marks : (x y : Place) (p q : GoalTree) → marked_goal f (laid_order x y p q) ≡ marked_le x y (marked_goal f p) (marked_goal f q)
   order_marks x y p q = order_marks_by_tests x y p q (nat_eq x.var y.var) (int_le x.off y.off) refl refl
 
+  -- a form that is laid out has the starts of its two goals, where the form has them
   laid_marks : (g : FormTree) (p q : GoalTree) → marked_goal f (laid_form g p q) ≡ marked_form g (marked_goal f p) (marked_goal f q)
   unfolding marked_form
   laid_marks True p q = refl

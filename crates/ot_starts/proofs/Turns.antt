@@ -107,6 +107,7 @@ module _ (f : Function) where
         → IsStop f ob to_yes × IsStop f ob to_no
         × (p ≡ Ask (start_of p) (literal x y) (marked_goal f to_yes) (marked_goal f to_no))
 
+    -- a question at the front asks its literal, and goes on with the two settled goals, which are nodes
     asks_at : AsksOn (Le x y)
     asks_at asked node e =
         let marks = question_marks x y on_yes on_no (differs (nat_eq x.var y.var) asked) in

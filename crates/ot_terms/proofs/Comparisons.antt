@@ -102,6 +102,7 @@ module _ (v : ℕ → ℤ) where
   flags_equal (From off) Dead e base = absurd (false≢true e)
   flags_equal (From off) (From other) e base = ap (λ j. (base_cell_at base j).live) (int_eq-shifted_back (v 2) off other e)
 
+  -- characters that are the same for every base document are found the same
   sources_found :
       (s t : Source) (why : Why) → ((base : BaseDocument) → source_at base v s ≡ source_at base v t)
       → end_of (ask_same_source s t (Fails why)) v ≡ None
@@ -119,6 +120,7 @@ module _ (v : ℕ → ℤ) where
       ∙ (sym (if_end same Holds (Fails why) v)
       ∙ if_true same Holds (Fails why) v (int_eq-of_equal (v c) (v d) (h (everywhere (pos 0) true))))
 
+  -- characters that are found the same are the same for every base document
   sources_equal :
       (s t : Source) (why : Why) → end_of (ask_same_source s t (Fails why)) v ≡ None
       → (base : BaseDocument) → source_at base v s ≡ source_at base v t

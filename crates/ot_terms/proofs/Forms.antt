@@ -7,6 +7,7 @@ use Rattle.ot_questions.proofs.Values.{by_test, end-le, end-lt, end-eq}
 use Rattle.ot_terms.specs.Forms.{FormTree, True, Le, Lt, Eq, And, Or, Not, form_holds}
 use Rattle.ot_terms.specs.Standing.{ask_form}
 
+-- a form goes on by its truth at the valuation
 pub end_form :
     (t : FormTree) (p q : Plan Why) (v : ℕ → ℤ) → end_of (ask_form t p q) v ≡ by_test (form_holds v t) p q v
 unfolding ask_form

@@ -38,6 +38,7 @@ module _ (f : Function) (v : ℕ → ℤ) where
   with_holds : (ob : ObName) (plan : Progress) (r : SymOp) → IsProgressOf ob plan → HoldsWith f v plan r ↔ (end_of (ask_with f plan r) v ≡ None)
   with_holds ob plan r h = after_holds plan.ob plan.ops (results_of plan ++ r ∷ []) (subst (λ o. AreMade o plan.ops) (sym h.same) h.made)
 
+  -- a goal with the parts of an obligation is true exactly where its plan ends in `Holds`
   parts_hold : (ob : ObName) (g : GoalTree) → HasParts f ob g → goal_holds f v g ↔ (end_of (ask_goal f g) v ≡ None)
   unfolding ask_goal
   parts_hold ob goals.Holds h = (λ x. refl, λ n. tt)

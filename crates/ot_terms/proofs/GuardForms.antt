@@ -29,6 +29,7 @@ ask_form-atom_form : (atom : Atom) (a b : SymOp) (p q : Plan Why) → ask_form (
 unfolding ask_atom
 ask_form-atom_form atom a b p q = ask_form-compared atom.cmp _ _ p q
 
+-- the form of a guard asks what the guard asks
 pub ask_form_guard_form : (g : Formula) (a b : SymOp) (p q : Plan Why) → ask_form (guard_form g a b) p q ≡ ask_guard g a b p q
 unfolding ask_form ask_guard
 ask_form_guard_form Always a b p q = refl

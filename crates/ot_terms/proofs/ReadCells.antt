@@ -36,6 +36,7 @@ read_of v mode (cells.Dead cell) = buried_cell (read_of v mode cell)
 read_of v mode (cells.Over ch cell) = replaced_cell ch (read_of v mode cell)
 read_of v mode (cells.If g on_yes on_no) = if form_holds v g then read_of v mode on_yes else read_of v mode on_no
 
+-- reading a cell goes on with the finished cell that it comes to
 pub end-read :
     (mode : Mode) (cell : CellTree) (go : Finished → Plan Why) (v : ℕ → ℤ)
     → end_of (ask_read mode cell go) v ≡ end_of (go (read_of v mode cell)) v

@@ -78,6 +78,7 @@ module _ (f : Function) where
       ask_goal-if_length (if_all_enabled os next)
       ∙ ap (λ p. ask_le zero_place (length_and (pos 0)) p plans.Holds) (ask_goal-if_all_enabled os next)
 
+  -- the first goal of an obligation asks what its plan asks
   pub ask_goal_start_of : (ob : ObName) → ask_goal f (start_of f.head ob) ≡ plan_of f ob
   unfolding plan_of ask_pair ask_triple
   ask_goal_start_of (Pair k l) =

@@ -83,6 +83,7 @@ asked_at : (ob : ObName) → IsAskedAt (level_of ob) Tp2
 asked_at (Pair k l) = tt
 asked_at (Triple k l m) = tt
 
+-- the status of `bound` is that of the one judgement of the certificate
 pub bound_judged :
     ((bytes : List ℕ) (f : Function) → IsTextOf bytes f → function_in bytes ≡ Ok f)
     → (words : List (List ℕ)) (holds : List ℕ → Option (List ℕ)) (status : ℕ) (IsWritten : List ℕ → Type 0)
@@ -102,6 +103,7 @@ module _ (is_text : (bytes : List ℕ) (f : Function) → function_in bytes ≡ 
     (one_low :
     (f : Function) (bytes : List ℕ) (one other : Result (Level × ℕ) JudgeError) → IsLowJudgement f bytes one
     → IsLowJudgement f bytes other → one ≡ other) where
+  -- status 0 of `bound`: the certificate shows that no document of fewer cells breaks the property
   pub bounded :
       (words : List (List ℕ)) (holds : List ℕ → Option (List ℕ)) (r : Reply) (IsWritten : List ℕ → Type 0)
       → 0 ≡ status_of r → IsReply words holds r → IsWritten (text_of r) → IsBounded words holds IsWritten
@@ -142,6 +144,7 @@ module _ (is_text : (bytes : List ℕ) (f : Function) → function_in bytes ≡ 
       → BreaksBy f (level_of ob) (document_at (valuation_of values) why) (ops_at (valuation_of values) ob) why)
       (IsWritten : List ℕ → Type 0) (bytes : List ℕ) (f : Function) (small : length bytes ≤ limit_of files.Function)
       (text : IsTextOf bytes f) (r : Reply) (written : IsWritten (text_of r)) where
+    -- the counterexample of least length that was written: it breaks the property, and no shorter document does
     shortest_shown :
         (ob : ObName) (answers : List Answer) (why : Why) (cells : ℕ) (cert : List ℕ) (counter : Counter)
         → IsLeast f ob answers why cells cert → IsCounter f ob (answered_by answers) why counter
@@ -161,6 +164,7 @@ module _ (is_text : (bytes : List ℕ) (f : Function) → function_in bytes ≡ 
           subst IsWritten (ap (λ x. text_of x) same) written,
         )
 
+    -- the certificate that was written instead: `bound` accepts it
     certified_shown :
         (ob : ObName) (answers : List Answer) (why : Why) (cells : ℕ) (cert : List ℕ) → IsLeast f ob answers why cells cert
         → length cert ≤ limit_of files.Certificate → r ≡ replies.Certified cert → IsCertifiedWritten f bytes cells IsWritten
@@ -185,6 +189,7 @@ module _ (is_text : (bytes : List ℕ) (f : Function) → function_in bytes ≡ 
     least_shown false ob answers why cells low is within tells =
         (ap (λ x. status_of x) tells.2, shortest_shown ob answers why cells low tells.0 is tells.1 tells.2)
 
+    -- what was written, by what the search comes to
     short_shown :
         (cert : Bool) (short : Short) → IsTrueOf f short → IsWithin (limit_of files.Certificate) short → TellsShort f cert short r
         → ShowsShort f bytes cert IsWritten (status_of r) short
@@ -197,6 +202,7 @@ module _ (is_text : (bytes : List ℕ) (f : Function) → function_in bytes ≡ 
     short_shown cert shorts.Spent is within tells =
         (ap (λ x. status_of x) tells, subst IsWritten (ap (λ x. text_of x) tells) written)
 
+  -- what `least` writes, and its status, come by what the search comes to
   pub sought :
       ((f : Function) (ob : ObName) (w : List Lit) (why : Why) (values : List ℤ) → IsTrue (is_valid f) → IsTrue (is_obligation f.head ob)
       → LeadTo why (plan_of f ob) w → AreLeast w (floors_of ob) values

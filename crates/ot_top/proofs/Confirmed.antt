@@ -36,6 +36,7 @@ judgement_status (Err (confirm.Refused offset why)) r tells = ap (λ x. status_o
 judgement_status (Err confirm.NoMemory) r tells = absurd tells
 
 module _ (texts_are_read : (bytes : List ℕ) (f : Function) → IsTextOf bytes f → function_in bytes ≡ Ok f) where
+  -- the status of `confirm` is that of the one judgement of the proof
   pub confirm_judged :
       (words : List (List ℕ)) (holds : List ℕ → Option (List ℕ)) (status : ℕ) (IsWritten : List ℕ → Type 0)
       → IsAnswered words holds status IsWritten → IsConfirmJudgedAs words holds status
@@ -91,6 +92,7 @@ file_confirmed f told r zero (contents, are, inr h) =
 
 module _ (has_level : (f : Function) (bytes : List ℕ) (level : Level) → judgement_of f bytes ≡ Ok level → HasLevel f level)
     (is_text : (bytes : List ℕ) (f : Function) → function_in bytes ≡ Ok f → IsTextOf bytes f) where
+  -- status 0 of `confirm`: the proof shows what its level says
   pub confirmed :
       (words : List (List ℕ)) (holds : List ℕ → Option (List ℕ)) (r : Reply) (IsWritten : List ℕ → Type 0)
       → 0 ≡ status_of r → IsReply words holds r → IsWritten (text_of r) → IsConfirmed words holds IsWritten

@@ -38,6 +38,7 @@ module _ (is_within_limits : (bytes : List ℕ) (f : Function) → function_in b
     (is_broken :
     (e : Evidence) (f : Function) (level : Level) (budget : ℕ) (r : Reply) → 1 ≡ status_of r → IsTrue (is_valid f)
     → Gets e f level budget r → (counter : Counter) × IsBrokenBy f level counter × (r ≡ Broken counter)) where
+  -- no two replies about a told function and a level are a yes and a no
   pub never_both :
       (holds : List ℕ → Option (List ℕ)) (holding failing : Evidence) (level : Level) (budget allowed : ℕ) (name bytes : List ℕ) (r s : Reply)
       → holds name ≡ Some bytes → IsReplyTo holds (asks_for holding level budget name) r → IsReplyTo holds (asks_for failing level allowed name) s

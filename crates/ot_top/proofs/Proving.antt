@@ -95,6 +95,7 @@ module _ {T : Type 0} (Judges : List ℕ → Result T JudgeError → Type 0) (ac
   accepted_behind told contents r is (inl h) = absurd (let longer = h.1.0 certificate is in omega (arith, longer, within))
   accepted_behind told contents r is (inr h) = h.1
 
+  -- the reply to its file, where it is told, is that it is accepted
   pub accepted_file :
       (told : Option (List ℕ)) (r : Reply) → told ≡ Some certificate → IsReplyToCertificate Judges accepts told r → r ≡ accepts shown
   accepted_file told r is (contents, known, reply) =
@@ -212,6 +213,7 @@ evidence_accepted one_judgement Proof f valid evidence level is within bytes sma
 
 module _ (is_text : (bytes : List ℕ) (f : Function) → function_in bytes ≡ Ok f → IsTextOf bytes f)
     (is_within_limits : (bytes : List ℕ) (f : Function) → IsTextOf bytes f → IsTrue (is_valid f)) where
+  -- status 0: the evidence that was written is accepted, and the function has what the level says
   pub proved :
       ((e : Evidence) (bytes : List ℕ) (f : Function) (level : Level) → IsEvidence e bytes f level → HasLevel f level)
       → ((f : Function) (bytes : List ℕ) (one other : Result Level JudgeError) → IsTrue (is_valid f) → IsJudgement f bytes one
@@ -284,6 +286,7 @@ module _ (is_text : (bytes : List ℕ) (f : Function) → function_in bytes ≡ 
     before_settled f (Pair k l) before = tt
     before_settled f (Triple k l m) before = before
 
+    -- status 1: the counterexample breaks the property of the obligation that was refuted
     broken_settled :
         (f : Function) (level : Level) (r : Reply) (settled : Settled) → 1 ≡ status_of r → IsTrue (is_valid f)
         → IsSettled f level settled → TellsSettled f settled r
@@ -306,6 +309,7 @@ module _ (is_text : (bytes : List ℕ) (f : Function) → function_in bytes ≡ 
     counter_found Certificate f level budget r is valid got = broken_verdict f level budget r got.0 is valid got.1 got.3
     counter_found Proof f level budget r is valid got = broken_settled f level r got.0 is valid got.1 got.2
 
+    -- status 1: a counterexample was written that breaks a property which is asked at the level
     pub broken :
         (e : Evidence) (words : List (List ℕ)) (holds : List ℕ → Option (List ℕ)) (r : Reply) (IsWritten : List ℕ → Type 0)
         → 1 ≡ status_of r → IsReply words holds r → IsWritten (text_of r) → IsBroken e words holds IsWritten
@@ -335,6 +339,7 @@ within_budget budget count few = grind (arith, nat_tests)
 above_budget : (budget count : ℕ) → budget < count → nat_lt budget count ≡ true
 above_budget budget count many = grind (arith, nat_tests)
 
+-- the status that tells a verdict is that of the questions and the budget
 status_of_verdict :
     (f : Function) (level : Level) (budget : ℕ) (r : Reply) (verdict : Verdict) (lists : List (ObQuestions Why))
     → IsVerdict f level budget lists verdict → TellsVerdict f verdict r → status_of r ≡ status_by budget lists
@@ -350,6 +355,7 @@ status_of_verdict f level budget r verdicts.Spent lists many tells =
     let more = above_budget budget (count_in lists) many in
     rw (tells, more) refl
 
+-- the status of `prove` comes by the questions of the function and the budget
 pub complete :
     ((bytes : List ℕ) (f : Function) → IsTextOf bytes f → function_in bytes ≡ Ok f)
     → ((p : Plan Why) (w : List Lit) (q r : Questions Why) → QuestionList p w q → QuestionList p w r → q ≡ r)

@@ -20,6 +20,7 @@ use Rattle.ot_top.proofs.Told.{IsAnswered}
 
 module _ (texts_are_read : (bytes : List ℕ) (f : Function) → IsTextOf bytes f → function_in bytes ≡ Ok f)
     (words : List (List ℕ)) (holds : List ℕ → Option (List ℕ)) (status : ℕ) (IsWritten : List ℕ → Type 0) where
+  -- what `reverse` writes, and its status, come by whether the one function takes back the other
   pub reversed : IsAnswered words holds status IsWritten → IsReversed words holds IsWritten status
   reversed (r, reply, steady, is, written) name other bytes contents f e named told other_told small text few also =
       let second : IsReplyToReverser f (holds other) r =

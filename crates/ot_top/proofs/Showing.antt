@@ -83,6 +83,7 @@ module _ (tp1 : (bytes : List ℕ) (f : Function) → IsCertificate bytes f Tp1 
 
 module _ (has_level : (bytes : List ℕ) (f : Function) (level : Level) → IsCertificate bytes f level → HasLevel f level)
     (is_text : (bytes : List ℕ) (f : Function) → function_in bytes ≡ Ok f → IsTextOf bytes f) where
+  -- status 0 of `check`: the certificate shows what its level says
   pub shown :
       (words : List (List ℕ)) (holds : List ℕ → Option (List ℕ)) (r : Reply) (IsWritten : List ℕ → Type 0)
       → 0 ≡ status_of r → IsReply words holds r → IsWritten (text_of r) → IsShown words holds IsWritten

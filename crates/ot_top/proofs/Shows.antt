@@ -64,6 +64,7 @@ module _ (words : List (List ℕ)) (holds : List ℕ → Option (List ℕ)) (IsW
     (e : Evidence) (r : Reply) → 1 ≡ status_of r → IsReply words holds r → IsWritten (text_of r) → IsBroken e words holds IsWritten)
     (is_bounded : (r : Reply) → 0 ≡ status_of r → IsReply words holds r → IsWritten (text_of r) → IsBounded words holds IsWritten)
     (is_sought : (r : Reply) → IsReply words holds r → IsWritten (text_of r) → IsSought words holds IsWritten (status_of r)) where
+  -- each status shows what is said of it, from the reply that it is of
   pub shows : Shows words holds IsWritten status
   shows =
       record {

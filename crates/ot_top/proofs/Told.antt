@@ -72,6 +72,7 @@ differ_named (Some pair) = omega arith
 same_named : (same : Bool) → (if same then 0 else 1) ≤ 9
 same_named same = elim same as (λ b. (if b then 0 else 1) ≤ 9) [ true ↦ omega arith | false ↦ omega arith ]
 
+-- the status of each reply is at most 9
 reply_named : (r : Reply) → status_of r ≤ 9
 reply_named (replies.Proved bytes) = omega arith
 reply_named (replies.Broken counter) = omega arith
@@ -131,6 +132,7 @@ agrees : (differ : Option (ℕ × ℕ)) → differ_status differ ≢ 1 → (diff
 agrees None other = (refl, refl)
 agrees (Some pair) other = absurd (other refl)
 
+-- a drill that has written a reply was spent, or went through with nothing that differs
 pub gone_through : (words : List (List ℕ)) (holds : List ℕ → Option (List ℕ)) (status : ℕ) (IsWritten : List ℕ → Type 0)
     → IsAnswered words holds status IsWritten → IsGoneThrough words status IsWritten
 gone_through words holds status IsWritten (r, reply, steady, is, written) number named =

@@ -252,6 +252,7 @@ module _ (texts_are_read : (bytes : List ℕ) (f : Function) → IsTextOf bytes 
     λ g text. behind f gets,
   )
 
+  -- a reply has the status 3 exactly where a function's file that is reached is the text of no function
   unread_reply : (asked : Asked) → IsReplyTo holds asked r → IsUnreadFrom holds (status_of r) (function_names asked)
   unread_reply (Prove level budget name) reply =
       read_or_not First name [] _ (λ f gets. verdict_other f gets.0 r gets.3) reply

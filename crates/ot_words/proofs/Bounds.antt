@@ -90,6 +90,7 @@ module _ (most : ℕ) (Asks : Level → ℕ → List ℕ → Asked)
       let same : Asks level b name ≡ asked = cc in
       subst (λ (a : Asked). IsWithinBounds a) same (within level b name (few b refl))
 
+  -- what a deciding command asks for is within its bounds
   decisions_are_within :
       (name otherwise : List ℕ) (words : List (List ℕ))
       → IsWithin (option_map (λ (found : Level × ℕ × List ℕ). Asks found.0 found.1 found.2) (decision_by name most otherwise words))
@@ -127,6 +128,7 @@ drills_are_within words = go (found_by drill_app words)
         drill_is_within (option_and_then (number_by MOST_ROUNDS) (first_of (codes "number") rows))
         (found_within MOST_ROUNDS (first_of (codes "number") rows))
 
+-- what words ask for is within its bounds, by the command that the first word names
 pub within_bounds : (words : List (List ℕ)) (asked : Asked) → asked_by words ≡ Some asked → IsWithinBounds asked
 within_bounds [] = none_is_within
 within_bounds (word ∷ words) =

@@ -75,6 +75,7 @@ module _ {S W : Type 0} (compare : Comparison S) where
         let few : nat_lt (length known) MAX_LEMMAS ≡ true = grind (arith, nat_tests, may.1) in
         rw few (t, tokens_of u ++ rest, first, rw (← append_assoc) same, (u, rest, second, refl, later))
 
+    -- tokens that complete the rest after a lemma's token begin with the lemma's own tree and the tree behind it
     lemma_begun :
         (start : Option S) (p : MarkedPlan S W) (ls : List Lit) → length ls ≤ MAX_LITERALS
         → IsCompleted tokens (after_lemma start known ls p w wanted)
@@ -120,6 +121,7 @@ module _ {S W : Type 0} (compare : Comparison S) where
         (subst (λ (x : List ProofTok). Completes compare x (wanted_cycles w (ls ++ es) ++ wanted) known) (sym same)
         (cycles_taken (ls ++ es) cycles rest follows later))
 
+    -- the cycles of a citation that serves, and tokens for what is wanted behind it, complete what it leaves
     citation_taken :
         (start : Option S) (found : Option (Learned S W)) (cycles : List (List ℕ)) (rest : List ProofTok)
         → Serves compare found start w cycles → tokens ≡ cycle_tokens cycles ++ rest → Completes compare rest wanted known
@@ -247,6 +249,7 @@ module _ {S W : Type 0} (compare : Comparison S) where
         let serves = subst (λ (x : ℕ). Serves compare (slice_get known x) (start_of p) w cycles) f shows in
         citation_taken known w wanted tokens (start_of p) (slice_get known number) cycles rest serves e later
 
+    -- any token where a tree is wanted begins a tree that shows the plan, if tokens complete what it leaves
     begun_at_tree :
         (tok : ProofTok) (p : MarkedPlan S W) → HasFew tok → IsCompleted tokens (after_at_tree compare tok known p w wanted)
         → Completes compare (tok ∷ tokens) (Tree p w ∷ wanted) known

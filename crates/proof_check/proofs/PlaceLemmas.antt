@@ -127,6 +127,7 @@ module _ {N : Type 0} where
         nested = IsNested-more base depth (length (take depth list)) (reverse rest) (omega (arith, long)) nested.2;
       }
 
+  -- the path around a lemma has the list as it was when the lemma began
   pub outer_path :
       (base : ℕ) (list : List Lit) (parts rest : List (Waiting N)) (n : N) (below count : ℕ)
       → IsOpenPath base list parts → parts ≡ rest ++ waiting.Lemma n below count ∷ []
@@ -160,6 +161,7 @@ module _ {N : Type 0} where
         nested = IsNested-more base (length list) (length u) (reverse parts) (omega (arith, more)) path.nested;
       }
 
+  -- a lemma is begun: its tree is wanted after its own literals, and the place where it was begun waits
   pub begun_places :
       (known : List (Known N)) (current : Option (At N)) (base : ℕ) (list u ls : List Lit) (parts later : List (Waiting N))
       (n : N) (p : OpenProof N)
@@ -303,6 +305,7 @@ module _ {N : Type 0} where
   cycles_at_cut w [] wanted = (tt, refl)
   cycles_at_cut w (l ∷ ls) wanted = cycles_at_cut w ls wanted
 
+  -- cycles that wait innermost, one for each literal, are wanted next, and without them all is as before
   pub cycles_waiting :
       (known : List (Known N)) (current : Option (At N)) (base : ℕ) (list ls : List Lit) (parts later : List (Waiting N))
       (p : OpenProof N)
@@ -332,6 +335,7 @@ module _ {N : Type 0} where
       (omega (arith, later.0), later.1, later.2)
   cycles_dropped base limit (suc count) list (waiting.Lemma n below size ∷ parts) cycles nested = absurd cycles
 
+  -- innermost parts that wait for cycles may be forgotten: without them the path has the other places
   pub forgotten_places :
       (known : List (Known N)) (current : Option (At N)) (base : ℕ) (list : List Lit) (parts : List (Waiting N)) (count : ℕ)
       (p : OpenProof N)

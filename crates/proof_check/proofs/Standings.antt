@@ -78,6 +78,7 @@ module _ {N S W : Type 0} (marked : N → MarkedPlan S W) where
     cycle_taken (Cycle w ∷ wanted) picks settled some is = rw is (ap Ok (standing_of-settled known wanted))
     cycle_taken (Learn m ls ∷ wanted) picks settled some is = absurd settled
 
+    -- a lemma's token is taken at a place with a start, where few lemmas are known
     pub lemma_taken :
         (wanted : List (WantedAt N)) (n : N) (s : S) (ls : List Lit) → first_node wanted ≡ Some n
         → start_of (marked n) ≡ Some s → length known < MAX_LEMMAS
@@ -92,6 +93,7 @@ module _ {N S W : Type 0} (marked : N → MarkedPlan S W) where
     lemma_taken (Cycle w ∷ wanted) n s ls first begins few = absurd (cc)
     lemma_taken (Learn m ls ∷ wanted) n s others first begins few = absurd (cc)
 
+    -- a citation's token is taken where the lemma is known and its start compares with the one here
     pub citation_taken :
         (wanted : List (WantedAt N)) (n : N) (s : S) (number : ℕ) (k : Known N) (es : List Lit) → first_node wanted ≡ Some n
         → start_of (marked n) ≡ Some s → slice_get known number ≡ Some k

@@ -69,6 +69,7 @@ module _ {N S W : Type 0} {was_own is_own : N → Type 0} {old new : Starts N S 
       since_before token.Holds (standing_over new (closed p))
       (end_taken new.marked new.compare p.known p.wanted n (start_of (new.marked n)) first begins)
 
+  -- a citation's token is taken where the starts compare after the call
   pub citation_taken_over :
       (n lemma : N) (number : ℕ) (es : List Lit) → first_node p.wanted ≡ Some n
       → option_map (λ k. k.node) (slice_get p.known number) ≡ Some lemma

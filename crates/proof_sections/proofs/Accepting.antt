@@ -160,6 +160,7 @@ module _ {S W : Type 0} (exact : AreFound) (one_by_one : AreTakenOneByOne S W) (
         (exact.found tok (tokens_text (tok ∷ tokens) ++ rest) (tokens_text tokens ++ rest)).1
         (spelled, append_assoc (token_text tok) (tokens_text tokens) rest)
 
+    -- after the first token nothing is wanted any more, or the other tokens are judged
     by_wanted :
         (next : Standing S W) (w : List (Wanted S W)) → next.wanted ≡ w → IsTaken compare tok at next
         → tree_judged compare total at (tokens_text (tok ∷ tokens) ++ rest) ≡ Ok rest
@@ -209,6 +210,7 @@ module _ {S W : Type 0} (exact : AreFound) (one_by_one : AreTakenOneByOne S W) (
       ((found.found tt (text ++ rest) rest).1 (tt, refl))
 
   module _ (lines : LinesAreFound) where
+    -- a section whose tree shows its plan is accepted
     section_accepted :
         (t : ProofTree) (p : MarkedPlan S W) (name : ObName) (rest : List ℕ) → Shows compare t p [] [] → AreSpellable (tokens_of t)
         → section_judged compare p name total (ob_text name ++ (tokens_text (tokens_of t) ++ (newline_text ++ rest))) ≡ Ok rest
@@ -225,6 +227,7 @@ module _ {S W : Type 0} (exact : AreFound) (one_by_one : AreTakenOneByOne S W) (
     regroup : (a b c d rest : List ℕ) → (a ++ (b ++ (c ++ d))) ++ rest ≡ a ++ (b ++ (c ++ (d ++ rest)))
     regroup a b c d rest = simp append_assoc
 
+    -- sections whose trees show their plans are accepted
     sections_accepted :
         (plan : ObName → MarkedPlan S W) (names : List ObName) (trees : List ProofTree) (rest : List ℕ)
         → AreShown compare plan names trees

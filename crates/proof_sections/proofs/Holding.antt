@@ -74,6 +74,7 @@ module _ {S W : Type 0} (exact : AreFound) (one_by_one : AreTakenOneByOne S W) (
 
   module _ (at : Standing S W) (left rest : List ℕ) (most : ℕ)
       (go_on : (next : Standing S W) (more : List ℕ) → tree_by most compare total next more ≡ Ok rest → IsCompleted next) where
+    -- by what is found at the front: a token, or none
     by_front :
         (front : Front ProofTok) → token_front left ≡ front
         → after_part total left front
@@ -113,6 +114,7 @@ module _ {S W : Type 0} (exact : AreFound) (one_by_one : AreTakenOneByOne S W) (
     found_of left (Found a rest) next b ok = (a, rest, refl, ok)
     found_of left (Missing unread) next b ok = absurd (cc)
 
+    -- the plan of a section that is accepted holds
     section_holds :
         (p : MarkedPlan S W) (name : ObName) (left rest : List ℕ) → IsMarkedBy meaning p
         → section_judged compare p name total left ≡ Ok rest → HoldsUnder [] (unmarked p)

@@ -49,6 +49,7 @@ module _ {S W : Type 0} (exact : AreFound) (one_by_one : AreTakenOneByOne S W) (
     spelled : IsSpellable tok × (left ≡ token_text tok ++ more)
     spelled = (exact.found tok left more).0 found
 
+    -- after the token nothing is wanted any more, or what is left is made of further tokens
     by_wanted :
         (next : Standing S W) (w : List (Wanted S W)) → next.wanted ≡ w → after compare tok at.known at.wanted ≡ Ok next
         → ended_or w more (later next) ≡ Ok rest → IsMadeUpTo rest at left
@@ -79,6 +80,7 @@ module _ {S W : Type 0} (exact : AreFound) (one_by_one : AreTakenOneByOne S W) (
 
   module _ (at : Standing S W) (left rest : List ℕ) (most : ℕ)
       (go_on : (next : Standing S W) (more : List ℕ) → tree_by most compare total next more ≡ Ok rest → IsMadeUpTo rest next more) where
+    -- by what is found at the front: a token, or none
     by_front :
         (front : Front ProofTok) → token_front left ≡ front
         → after_part total left front
@@ -128,6 +130,7 @@ module _ {S W : Type 0} (exact : AreFound) (one_by_one : AreTakenOneByOne S W) (
       ((found.found tt left is.1).0 is.2).1 ∙ ap (λ (x : List ℕ). text ++ x) same
 
   module _ (lines : LinesAreFound) where
+    -- a section that is accepted is the text of a tree that shows its plan
     section_made :
         (p : MarkedPlan S W) (name : ObName) (left rest : List ℕ) → section_judged compare p name total left ≡ Ok rest
         → (t : ProofTree) × Shows compare t p [] [] × AreSpellable (tokens_of t)
@@ -152,6 +155,7 @@ module _ {S W : Type 0} (exact : AreFound) (one_by_one : AreTakenOneByOne S W) (
     regroup : (a b c d rest : List ℕ) → (a ++ (b ++ (c ++ d))) ++ rest ≡ a ++ (b ++ (c ++ (d ++ rest)))
     regroup a b c d rest = simp append_assoc
 
+    -- sections that are accepted are the texts of trees that show their plans
     sections_made :
         (plan : ObName → MarkedPlan S W) (names : List ObName) (left rest : List ℕ)
         → sections_judged compare plan names total left ≡ Ok rest

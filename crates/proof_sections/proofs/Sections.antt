@@ -34,6 +34,7 @@ module _ {S W : Type 0} (compare : Comparison S) (p : MarkedPlan S W) (name : Ob
         (judges_not bytes (tree_judged compare (length bytes) (opened p) (drop start bytes)) (line_judged (length bytes) line_end_front)
         e is)
 
+    -- a section whose line and tree are accepted is judged as what ends its line is
     pub section_whole :
         (behind : ℕ) (result : Result ℕ ConfirmError)
         → Judges bytes (tree_judged compare (length bytes) (opened p) (drop start bytes)) (Ok behind)
@@ -92,6 +93,7 @@ module _ {S W : Type 0} (compare : Comparison S) (plan : ObName → MarkedPlan S
     unfolding proof_judged
     after_header = rw header refl
 
+    -- what refuses the sections refuses the proof
     pub proof_no_section :
         (e : ConfirmError)
         → Judges bytes (sections_judged compare plan (names level) (length bytes) (drop start bytes)) (Err e)
@@ -114,6 +116,7 @@ module _ {S W : Type 0} (compare : Comparison S) (plan : ObName → MarkedPlan S
           ∙ ap (λ (x : Result (List ℕ) ConfirmError). and_then x (λ rest. and_then (end_judged (length bytes) rest) (λ done. Ok level)))
           sections.1
 
+      -- what refuses the last line refuses the proof
       pub proof_no_end :
           (e : ConfirmError) → Judges bytes (line_judged (length bytes) end_front (drop behind bytes)) (Err e)
           → AnswersJudged (proof_judged compare plan names bytes) (Err e)
@@ -152,6 +155,7 @@ module _ {S W : Type 0} (compare : Comparison S) (plan : ObName → MarkedPlan S
         proof_whole all =
             inr (sym (after_end ∙ nothing_left (drop end bytes) (omega (arith, length-drop end bytes))))
 
+        -- bytes behind the last line are refused where they begin
         pub proof_trailing :
             (end ≡ length bytes → ⊥)
             → AnswersJudged (proof_judged compare plan names bytes) (Err (confirm.Refused end why.Trailing))

@@ -34,6 +34,7 @@ pub record StaysFound {A : Type 0} (front : List ℕ → Front A) : Type 0 where
   pub found : (a : A) (bytes rest more : List ℕ) → front bytes ≡ Found a rest → front (bytes ++ more) ≡ Found a (rest ++ more)
   pub misspelt : (bytes more : List ℕ) → front bytes ≡ Missing Misspelt → front (bytes ++ more) ≡ Missing Misspelt
 
+-- what is found exactly stays found where more bytes follow, and what is misspelt stays misspelt
 pub stays_found :
     {A : Type 0} {front : List ℕ → Front A} {text : A → List ℕ} {Spelled : A → Type 0} → FindsExactly front text Spelled
     → StaysFound front
@@ -150,6 +151,7 @@ module _ (more : List ℕ) (total longer : ℕ) (grown : longer ≡ total + leng
     tree_stands at left within =
         tree_by-stands (length left) (length (left ++ more)) at left (omega (arith, length-append left more)) within
 
+    -- what is judged of a section stands where more bytes follow, unless they end too early
     section_stands :
         (p : MarkedPlan S W) (name : ObName) (left : List ℕ) → length left ≤ total
         → Stands KeepsRest (section_judged compare p name total left) (section_judged compare p name longer (left ++ more))
@@ -200,6 +202,7 @@ module _ (more : List ℕ) (total longer : ℕ) (grown : longer ≡ total + leng
 
 module _ {S W : Type 0} (parts : PartsStayFound) (compare : Comparison S) (plan : ObName → MarkedPlan S W)
     (names : Level → List ObName) (bytes more : List ℕ) where
+  -- what is judged of a proof stands where more bytes follow, unless they end too early
   proof_stands : Stands KeepsNone (proof_judged compare plan names bytes) (proof_judged compare plan names (bytes ++ more))
   unfolding proof_judged
   proof_stands =

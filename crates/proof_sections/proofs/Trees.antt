@@ -112,6 +112,7 @@ module _ {S W : Type 0} (compare : Comparison S) (total : ℕ) where
     tree_judged-missing at [] Cut missing = refl
     tree_judged-missing at (b ∷ left) unread missing = rw missing refl
 
+    -- behind a token that is taken, and after which something is wanted, the judgement goes on
     pub tree_judged-on :
         (at next : Standing S W) (left rest : List ℕ) (tok : ProofTok) → token_front left ≡ Found tok rest
         → IsTaken compare tok at next → 0 < length next.wanted
@@ -154,6 +155,7 @@ judges_error bytes judged confirm.NoMemory same = tt
 
 -- the token at a place of the bytes
 module _ {S W : Type 0} (exact : AreFound) (compare : Comparison S) (bytes : List ℕ) (at : ℕ) (old : Standing S W) where
+  -- a token that is found and taken leads behind it, or to the end where nothing more is wanted
   pub token_leads :
       {N : Type 0} (p : Progress) (next : ℕ) (tok : ProofTok) (starts : Starts N S W) (q : OpenProof N)
       → token_front (drop at bytes) ≡ Found tok (drop next bytes) → IsTaken compare tok old (standing_over starts q)
@@ -167,6 +169,7 @@ module _ {S W : Type 0} (exact : AreFound) (compare : Comparison S) (bytes : Lis
       (ap (λ (w : List (WantedAt _)). map (wanted_of starts.marked) w) (none refl))
 
   module _ (within : at ≤ length bytes) where
+    -- a token that is found and refused is what the tree is refused for, at the token's place
     pub token_refused :
         (tok : ProofTok) (rest : List ℕ) (e : ProofError) → token_front (drop at bytes) ≡ Found tok rest
         → IsCauseOf compare e tok old

@@ -6,6 +6,7 @@ use Rattle.proof_text.specs.Fronts.{Front, Found, Missing}
 use Rattle.proof_text.specs.Exact.{BeginNone, EndWithin, FindsExactly}
 use Rattle.proof_text.proofs.Spells.{Spells, IsAnything, found_is_not_missing, found_stays, same_found}
 
+-- a front that spells values, behind which anything may stand, finds them exactly where they stand
 pub finds_exactly :
     {A : Type 0} {front : List ℕ → Front A} {text : A → List ℕ} {Spelled : A → Type 0}
     → Spells front text Spelled IsAnything → FindsExactly front text Spelled

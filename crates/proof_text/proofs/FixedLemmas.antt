@@ -57,6 +57,7 @@ fixed_cut (b ∷ text) (c ∷ bytes) is =
     (λ (h : (nat_eq b c ≡ false) × (b ≢ c)). absurd (cut_is_not_misspelt (fixed_front (b ∷ text) (c ∷ bytes)) is (fixed_wrong b c text bytes h.0)))
     (same_byte_or_not b c)
 
+-- misspelt bytes stay so, whatever follows
 fixed_misspelt :
     (text bytes more : List ℕ) → fixed_front text bytes ≡ Missing Misspelt → fixed_front text (bytes ++ more) ≡ Missing Misspelt
 fixed_misspelt [] bytes more is = absurd (found_is_not_missing tt bytes Misspelt is)
@@ -104,6 +105,7 @@ number_before_spelled stop short none some few =
     alone (Found n rest) g = alone_next n (g rest)
     alone (Missing why) g = refl
 
+    -- the end byte adds no condition to the number's
     without_unit :
         {f : List ℕ → Front ℕ} {t : ℕ → List ℕ} {S : ℕ → Type 0} {N : List ℕ → Type 0}
         → Spells f t (λ n. S n × Unit {0}) N → Spells f t S N

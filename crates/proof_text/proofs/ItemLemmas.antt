@@ -75,6 +75,7 @@ closed_some {A} text between stop (a ∷ more) some = refl
 abbrev pub AreItems : {A : Type 0} → (A → Type 0) → ℕ → List A → Type 0
 AreItems S room items = (1 ≤ length items) × (length items ≤ room) × AllByRecursion S items
 
+-- a list is found exactly where its items stand, with a byte between two of them and one that ends them
 pub items_spelled :
     {A : Type 0} {item : List ℕ → Front A} {text : A → List ℕ} {S : A → Type 0} {N : List ℕ → Type 0} (between stop : ℕ)
     → Spells item text S N → ((rest : List ℕ) → N (between ∷ rest)) → ((rest : List ℕ) → N (stop ∷ rest))
@@ -121,6 +122,7 @@ items_spelled {A} {item} {text} {S} {N} between stop s between_next stop_next di
           ∙ sym (append_assoc (text a) (closed_text text between stop more) rest),
     )
 
+    -- behind an item that was found the list ends, or further items stand
     read_next :
         (room : ℕ) (items : List A) (a : A) (bytes behind rest : List ℕ)
         → ((more : List A) (b r : List ℕ) → items_front item between stop room b ≡ Found more r
@@ -160,6 +162,7 @@ items_spelled {A} {item} {text} {S} {N} between stop s between_next stop_next di
         let r = s.read found.0 bytes found.1 found.2 in
         read_next room items found.0 bytes found.1 rest (λ more b r e. read room more b r e) r.0 r.2 found.3
 
+    -- bytes that end behind an item are a front of some list
     cut_next :
         (room : ℕ) (a : A) (bytes behind : List ℕ)
         → ((b : List ℕ) → items_front item between stop room b ≡ Missing Cut
@@ -195,6 +198,7 @@ items_spelled {A} {item} {text} {S} {N} between stop s between_next stop_next di
               (at_other between stop b (items_front item between stop room) a behind other wrong))
         ]
 
+    -- bytes that end too early are a front of some list
     cut :
         (room : ℕ) (bytes : List ℕ) → items_front item between stop room bytes ≡ Missing Cut
         → (items : List A) × (more : List ℕ) × AreItems S room items × (items_text text between stop items ≡ bytes ++ more)
@@ -214,6 +218,7 @@ items_spelled {A} {item} {text} {S} {N} between stop s between_next stop_next di
         (and_then_missing (item bytes) (after_item between stop (items_front item between stop room)) Cut
         (sym (items_step item between stop room bytes) ∙ is))
 
+    -- what is misspelt behind an item stays so, whatever follows
     misspelt_next :
         (room : ℕ) (a : A) (behind more : List ℕ)
         → ((b : List ℕ) → items_front item between stop room b ≡ Missing Misspelt
@@ -235,6 +240,7 @@ items_spelled {A} {item} {text} {S} {N} between stop s between_next stop_next di
           | Other other wrong ↦ at_other between stop b (items_front item between stop room) a (behind ++ more) other wrong
         ]
 
+    -- a misspelt list stays so, whatever follows
     misspelt :
         (room : ℕ) (bytes more : List ℕ) → items_front item between stop room bytes ≡ Missing Misspelt
         → items_front item between stop room (bytes ++ more) ≡ Missing Misspelt

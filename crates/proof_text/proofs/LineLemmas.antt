@@ -48,6 +48,7 @@ header_misspelt level bytes more is =
     ((fixed_spelled (header_text level)).misspelt bytes more
     (found_as_missing (λ x. level) (fixed_front (header_text level) bytes) Misspelt is))
 
+-- a header is found exactly where it stands
 pub headers_spelled : Spells header_front header_text (λ level. Unit {0}) IsAnything
 headers_spelled =
     record {

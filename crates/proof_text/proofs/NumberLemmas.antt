@@ -83,6 +83,7 @@ number_is_reached fuel short n rest within below few = by_size fuel short n rest
         let value : 48 + n - 48 ≡ n = omega arith in
         rw (text, digit, value) refl
 
+    -- by whether the number has one digit or more
     by_size :
         (fuel short n : ℕ) (rest : List ℕ) → n ≤ fuel → n < short * 10 → short ≤ 100000 → (n < 10) ⊎ (10 ≤ n)
         → number_front short (decimal n ++ rest) ≡ digits_front short n rest
@@ -127,6 +128,7 @@ digits_read short n m (b ∷ bytes) rest below few is =
       ap (λ (k : ℕ). decimal k ++ b ∷ bytes) same.0 ∙ ap (λ (l : List ℕ). decimal m ++ l) same.1,
     )
 
+    -- one digit more, and what is found behind it
     goes_on :
         (short n m b : ℕ) (bytes rest : List ℕ) → short ≤ 100000 → is_ascii_digit b ≡ true
         → nat_lt 0 n && nat_lt n short ≡ true → 0 < n → n < short
@@ -225,6 +227,7 @@ numbers_spelled short some few =
     end short n [] behind = absurd behind
     end short n (b ∷ rest) behind = digits_end short n b rest behind
 
+    -- a number that is found stands there, and no digit follows
     read :
         (short n : ℕ) (bytes rest : List ℕ) → 1 ≤ short → short ≤ 100000 → number_front short bytes ≡ Found n rest
         → (n < short * 10) × NoDigitNext rest × (bytes ≡ decimal n ++ rest)
@@ -240,6 +243,7 @@ numbers_spelled short some few =
         (λ (none : is_ascii_digit b ≡ false). absurd (found_is_not_missing n rest Misspelt (sym is ∙ no_number short b bytes none)))
         (digit_or_none b)
 
+    -- bytes that end too early are a front of some number
     cut :
         (short : ℕ) (bytes : List ℕ) → 1 ≤ short → short ≤ 100000 → number_front short bytes ≡ Missing Cut
         → (n : ℕ) × (more : List ℕ) × (n < short * 10) × (decimal n ≡ bytes ++ more)
@@ -255,6 +259,7 @@ numbers_spelled short some few =
         (λ (none : is_ascii_digit b ≡ false). absurd (cut_is_not_misspelt (number_front short (b ∷ bytes)) is (no_number short b bytes none)))
         (digit_or_none b)
 
+    -- a misspelt number stays so, whatever follows
     misspelt :
         (short : ℕ) (bytes more : List ℕ) → number_front short bytes ≡ Missing Misspelt
         → number_front short (bytes ++ more) ≡ Missing Misspelt

@@ -41,6 +41,7 @@ begins_positive : (n b : ℕ) (bytes more : List ℕ) → b ≢ 48 → decimal n
 begins_positive zero b bytes more other is = absurd (other (same_head b 48 (bytes ++ more) [] (sym is ∙ zero_text)))
 begins_positive (suc n) b bytes more other is = omega arith
 
+-- a positive number is found exactly where its digits stand and no digit follows
 pub positives_spelled : Spells positive_front decimal (λ n. (0 < n) × (n < 10000)) NoDigitNext
 positives_spelled =
     record {
@@ -105,6 +106,7 @@ negated (suc n) some below = (omega arith, ap (λ (k : ℕ). 45 ∷ decimal k) (
 negated_suc : (m : ℕ) → neg_ℤ (pos (m + 1)) ≡ negsuc m
 negated_suc m = let e : m + 1 ≡ suc m = omega arith in ap (λ (k : ℕ). neg_ℤ (pos k)) e
 
+-- an offset is found exactly where it stands, with a minus if it is negative, and no digit follows
 pub offsets_spelled : Spells offset_front offset_text IsShortOffset NoDigitNext
 offsets_spelled =
     record {
@@ -123,6 +125,7 @@ offsets_spelled =
         ∙ ap (found_as (λ n. neg_ℤ (pos n))) (positives_spelled.written (m + 1) rest (omega arith, short) behind)
         ∙ ap (λ (k : ℤ). Found k rest) (negated_suc m)
 
+    -- an offset that is found stands there, and no digit follows
     read : (k : ℤ) (bytes rest : List ℕ) → offset_front bytes ≡ Found k rest → IsShortOffset k × NoDigitNext rest × (bytes ≡ offset_text k ++ rest)
     read k [] rest is = absurd (found_is_not_missing k rest Cut (sym is))
     read k (b ∷ bytes) rest is =
@@ -139,6 +142,7 @@ offsets_spelled =
         subst (λ (x : ℤ). IsShortOffset x × NoDigitNext rest × (b ∷ bytes ≡ offset_text x ++ rest)) found.2 (r.0, r.1, r.2))
         (same_byte_or_not b 45)
 
+    -- bytes that end too early are a front of some offset
     cut : (bytes : List ℕ) → offset_front bytes ≡ Missing Cut → (k : ℤ) × (more : List ℕ) × IsShortOffset k × (offset_text k ≡ bytes ++ more)
     cut [] is = (pos 0, decimal 0, omega arith, refl)
     cut (b ∷ bytes) is =
@@ -152,6 +156,7 @@ offsets_spelled =
         (pos c.0, c.1, c.2, c.3))
         (same_byte_or_not b 45)
 
+    -- a misspelt offset stays so, whatever follows
     misspelt : (bytes more : List ℕ) → offset_front bytes ≡ Missing Misspelt → offset_front (bytes ++ more) ≡ Missing Misspelt
     misspelt [] more is = absurd (cut_is_not_misspelt (offset_front []) refl is)
     misspelt (b ∷ bytes) more is =

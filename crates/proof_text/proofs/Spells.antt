@@ -120,6 +120,7 @@ pairs_spelled {A} {B} {f} {g} {t} {u} {S} {R} {N} {M} first second between some 
           front.2 ∙ ap (λ (l : List ℕ). t one.0 ++ l) next.2 ∙ sym (append_assoc (t one.0) (u two.0) rest),
         )
 
+    -- bytes end within the first, or within what comes behind it
     cut_both :
         (bytes : List ℕ)
         → (f bytes ≡ Missing Cut) ⊎ ((a : A) × (r : List ℕ) × (f bytes ≡ Found a r) × (paired_next g a r ≡ Missing Cut))

@@ -62,6 +62,7 @@ literal_of p = record { x = p.0; y = p.1.0; k = p.1.1 }
 abbrev parts_of : Lit → ℕ × (ℕ × ℤ)
 parts_of l = (l.x, (l.y, l.k))
 
+-- a literal is found as its parts are, one behind the other
 literal_by_parts : (bytes : List ℕ) → found_as literal_of (pair_front (number_before 44 10) (pair_front (number_before 44 10) offset_front) bytes)
     ≡ literal_front bytes
 literal_by_parts bytes = names (number_before 44 10 bytes)
@@ -83,6 +84,7 @@ literal_by_parts bytes = names (number_before 44 10 bytes)
     names (Found x rest) = second x (number_before 44 10 rest)
     names (Missing why) = refl
 
+-- a literal is found exactly where its two names and its offset stand, and no digit follows
 literals_are_spelled : Spells literal_front literal_text IsShortLiteral NoDigitNext
 literals_are_spelled =
     let parts : Spells (pair_front (number_before 44 10) (pair_front (number_before 44 10) offset_front))
@@ -143,6 +145,7 @@ some_found (b ∷ bytes) rest ls is =
 abbrev AreFewLiterals : List Lit → Type 0
 AreFewLiterals ls = (length ls ≤ 24) × AllByRecursion IsShortLiteral ls
 
+-- a lemma's literals are found exactly where they stand, with the byte that ends them
 lemmas_spelled : Spells literals_front (λ ls. literals_text ls ++ 59 ∷ []) AreFewLiterals IsAnything
 lemmas_spelled =
     record {
@@ -159,6 +162,7 @@ lemmas_spelled =
         some_found ((literals_text (l ∷ ls) ++ 59 ∷ []) ++ rest) rest (l ∷ ls)
         (some_spelled.written (l ∷ ls) rest (omega arith, few.0, few.1) tt)
 
+    -- literals that are found stand there
     read : (ls : List Lit) (bytes rest : List ℕ) → literals_front bytes ≡ Found ls rest → AreFewLiterals ls × (bytes ≡ (literals_text ls ++ 59 ∷ []) ++ rest)
     read ls [] rest is = absurd (found_is_not_missing ls rest Cut (sym is))
     read ls (b ∷ bytes) rest is =
@@ -206,6 +210,7 @@ data First (b : ℕ) : Type 0 where
   IsCite : b ≡ 99 → First b
   IsNone : ((bytes : List ℕ) → token_from b bytes ≡ Missing Misspelt) → First b
 
+-- which token a byte begins, if any
 first_of : (b : ℕ) → First b
 first_of b =
     ⊎_elim (λ (h : (nat_eq b 63 ≡ true) × (b ≡ 63)). IsAsk h.1)
@@ -284,6 +289,7 @@ tokens_spelled =
     written (token.Lemma ls) rest spelled = ap (found_as token.Lemma) (lemmas_spelled.written ls rest spelled tt)
     written (token.Cite n) rest spelled = ap (found_as token.Cite) (cites_spelled.written n rest spelled tt)
 
+    -- a token that is found stands there
     read : (t : ProofTok) (bytes rest : List ℕ) → token_front bytes ≡ Found t rest → IsSpellable t × Unit {0} × (bytes ≡ token_text t ++ rest)
     read t [] rest is = absurd (found_is_not_missing t rest Cut (sym is))
     read t (b ∷ bytes) rest is =
@@ -299,6 +305,7 @@ tokens_spelled =
     at_first : (b first : ℕ) (bytes more text : List ℕ) → b ≡ first → text ≡ bytes ++ more → first ∷ text ≡ b ∷ bytes ++ more
     at_first b first bytes more text e is = ap (λ (l : List ℕ). first ∷ l) is ∙ ap (λ (k : ℕ). k ∷ (bytes ++ more)) (sym e)
 
+    -- bytes that end too early are a front of some token
     cut : (bytes : List ℕ) → token_front bytes ≡ Missing Cut → (t : ProofTok) × (more : List ℕ) × IsSpellable t × (token_text t ≡ bytes ++ more)
     cut [] is = (token.Ask, 63 ∷ [], tt, refl)
     cut (b ∷ bytes) is =
@@ -318,6 +325,7 @@ tokens_spelled =
           | IsNone none ↦ absurd (cut_is_not_misspelt (token_front (b ∷ bytes)) is (none bytes))
         ]
 
+    -- a misspelt token stays so, whatever follows
     misspelt : (bytes more : List ℕ) → token_front bytes ≡ Missing Misspelt → token_front (bytes ++ more) ≡ Missing Misspelt
     misspelt [] more is = absurd (cut_is_not_misspelt (token_front []) refl is)
     misspelt (b ∷ bytes) more is =

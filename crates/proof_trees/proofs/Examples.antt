@@ -40,6 +40,7 @@ lemma_tree = Question End (Impossible (0 ∷ 1 ∷ []))
 abbrev citing : ProofTree → ProofTree
 citing later = Question (Question (Lemma (at_most ∷ []) lemma_tree (Citation 0 ((0 ∷ 2 ∷ []) ∷ []))) later) End
 
+-- the lemma is cited where it was shown, and at a later start that is equal
 shows-cited_twice : Shows equal (citing (Citation 0 ((0 ∷ 2 ∷ []) ∷ []))) (two_start_plan 3) [] []
 shows-cited_twice = (
   (

@@ -21,6 +21,7 @@ AllAgree v (o ∷ os) [] = ⊥
 AllAgree v (o ∷ os) (r ∷ rs) = Agree v o r × AllAgree v os rs
 
 module _ (v : ℕ → ℤ) (f : Function) where
+  -- what is left of a pair after results that agree ends alike
   pair_alike :
       (a b : SymOp) (got found : List SymOp) → AllAgree v got found → EndAlike v (ask_pair_after f a b got) (ask_pair_after f a b found)
   unfolding ask_pair_after
@@ -41,6 +42,7 @@ module _ (v : ℕ → ℤ) (f : Function) where
     right_alike left p q other r s h first second =
         transform_alike v f q p s r _ _ second first (λ x y agree. same_form_alike v left x other y h agree)
 
+    -- so does what is left of a triple's second way, where the forms of the first way agree too
     second_way_alike :
         (left other : SymOp) (got found : List SymOp) → Agree v left other → AllAgree v got found
         → EndAlike v (ask_second_way_after f a b c left got) (ask_second_way_after f a b c other found)
@@ -70,6 +72,7 @@ module _ (v : ℕ → ℤ) (f : Function) where
     left_alike p q r s first second =
         transform_alike v f q p s r _ _ second first (λ left other agree. second_way_alike left other [] [] agree tt)
 
+    -- what is left of a triple ends alike where the results that are still read agree
     triple_alike :
         (k l m : Kind) (got found : List SymOp) → length got ≡ length found
         → AllAgree v (still_read (Triple k l m) got) (still_read (Triple k l m) found)

@@ -130,6 +130,7 @@ module _ (v : ℕ → ℤ) where
       ∙ end-cell mode right (pos 0) (λ y. ask_same (seen v mode left (pos 0)) y) v
 
   module _ (mode : Mode) (a b p q r s : SymOp) (first : Agree v p r) (second : Agree v q s) where
+    -- comparing the documents of both ways ends alike where the forms agree
     documents_alike :
         (j k : ℤ) → j ≡ k
         → EndAlike (ask_documents mode (p ∷ a ∷ []) (q ∷ b ∷ []) j) (ask_documents mode (r ∷ a ∷ []) (s ∷ b ∷ []) k)
@@ -162,6 +163,7 @@ module _ (v : ℕ → ℤ) where
         enabled_alike p r (growth mode a) (growth mode a) _ (Fails OutOfRange) _ (Fails OutOfRange) first refl
         (enabled_alike q s (growth mode b) (growth mode b) _ (Fails OutOfRange) _ (Fails OutOfRange) second refl lengths_alike refl) refl
 
+  -- comparing two positions ends alike where their integers are the same
   one_place_alike :
       (j k : Option Kind) (x y z w : Place) → integer_at v x ≡ integer_at v z → integer_at v y ≡ integer_at v w
       → EndAlike (ask_one_place j k x y) (ask_one_place j k z w)

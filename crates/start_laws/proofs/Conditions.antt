@@ -58,6 +58,7 @@ one_list E tells (x ∷ xs) (y ∷ ys) e =
     let both = and_parts (E x y) (pointwise E xs ys) e in
     ap (λ z. z ∷ xs) (tells x y both.0) ∙ ap (λ zs. y ∷ zs) (one_list E tells xs ys both.1)
 
+-- obligations that are found the same are one
 one_ob : (x y : ObName) → is_same_ob x y ≡ true → x ≡ y
 one_ob (Pair j k) (Pair l m) e =
     let both = and_parts (is_same_kind j l) (is_same_kind k m) e in
@@ -179,6 +180,7 @@ pub record AreComparable (s here : Start) (es : List Lit) : Type 0 where
   pub ops : s.ops ≡ here.ops
   pub conditions : conditions_of_each (still_read s.ob s.got) (still_read here.ob here.got) ≡ Some es
 
+-- starts that compare have one obligation, the same operations and as many results
 comparable : (s here : Start) (es : List Lit) → compare_starts s here ≡ Some es → AreComparable s here es
 comparable s here es e =
     elim (chosen (nat_eq (length s.got) (length here.got) && is_same_ob s.ob here.ob && pointwise is_same_op s.ops here.ops) _ _ es e) [

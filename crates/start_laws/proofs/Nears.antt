@@ -48,6 +48,7 @@ few_transforms (Triple k l m) = lit≤ tt
 taken_few : {X : Type 0} (n : ℕ) (xs : List X) → length (take n xs) ≤ n
 taken_few n xs = omega (arith, length-take n xs)
 
+-- the results of a progress are few, and at small offsets
 pub progress_begun : (ob : ObName) (plan : Progress) → IsProgressOf ob plan → IsBegun plan None
 progress_begun ob plan h =
     let few = taken_few plan.count plan.got in
@@ -61,6 +62,7 @@ progress_begun ob plan h =
           (subst (λ o. AreResults o plan.ops [] (results_of plan)) (sym h.same) h.results);
     }
 
+-- so are they with one more result
 pub result_begun :
     (ob : ObName) (plan : Progress) (r : SymOp) → IsProgressOf ob plan → IsNextResult ob plan.ops (results_of plan) r
     → IsBegun plan (Some r)

@@ -250,6 +250,7 @@ module _ (f : Function) (valid : is_valid f ≡ true) where
   one_written true block tokens e = append-nil (block_written_as block) ∙ e
   one_written false block tokens e = refl
 
+  -- the block of a pair is written as it is printed, and none is where the pair is not declared
   pair_written : (k l : Kind) → flat_map block_written_as (block_for f k l) ≡ declared_block f k l
   unfolding declared_block
   pair_written k l =

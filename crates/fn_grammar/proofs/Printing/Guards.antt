@@ -86,6 +86,7 @@ joined_is chars Joined c g h p = p
 joined_is chars Loose c g h p =
     record { written = p.written; means = p.means; allowed = p.allowed; counted = p.counted; nested = p.nested }
 
+-- an `or`, in parentheses wherever the place is not loose
 loose_is : (chars : Bool) (t : Tightness) (d : Phrase Loose) (g h : Formula) → IsPhraseOf chars d (formulas.Or g h) →
     IsPhraseOf chars (loose_at t d) (formulas.Or g h)
 loose_is chars Tight d g h p =
@@ -122,6 +123,7 @@ no_offset (negsuc n) h = absurd (false≢true h)
 abbrev compared : Sort → Side → Cmp → ℤ → Formula
 compared sort left cmp k = formulas.Compare record { sort = sort; left = left; cmp = cmp; k = k }
 
+-- the phrase of an atom, with an offset where it has one
 atom_is : (chars : Bool) (sort : Sort) (left : Side) (cmp : Cmp) (k : ℤ) → is_offset_for chars sort k ≡ true →
     IsPhraseOf chars (atom_phrase sort left cmp k) (compared sort left cmp k)
 atom_is chars Pos left cmp (pos zero) h = record { written = refl; means = refl; allowed = refl; counted = refl; nested = refl }
@@ -148,6 +150,7 @@ atom_is chars Char left cmp k h =
       nested = refl;
     }
 
+-- phrases of two guards with `and` between them are a phrase of their `and`
 both_is : (chars : Bool) (c : Phrase Joined) (u : Phrase Tight) (g h : Formula) → IsPhraseOf chars c g → IsPhraseOf chars u h →
     IsPhraseOf chars (Both c u) (formulas.And g h)
 both_is chars c u g h first second =
@@ -164,6 +167,7 @@ both_is chars c u g h first second =
       nested = omega (arith, depth, deeper);
     }
 
+-- phrases of two guards with `or` between them are a phrase of their `or`
 either_is : (chars : Bool) (d : Phrase Loose) (c : Phrase Joined) (g h : Formula) → IsPhraseOf chars d g → IsPhraseOf chars c h →
     IsPhraseOf chars (Either d c) (formulas.Or g h)
 either_is chars d c g h first second =

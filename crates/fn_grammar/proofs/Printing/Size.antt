@@ -127,6 +127,7 @@ block_size f valid k l =
     let shown = present_size (is_declared_pair f.head k l) (block_tokens k l (cases_of f k l)) in
     omega (arith, few, cases, shown)
 
+-- the lines of a head have at most 100 tokens
 head_size : (language : Language) (head : Head) → length (head_tokens language head) ≤ 100
 unfolding head_tokens
 head_size language head =

@@ -8,6 +8,7 @@ use Rattle.case_json.proofs.doc_text.doc_write.Goals as goal
 abbrev no_cell : Cell
 no_cell = record { ch = 0; live = false }
 
+-- what was written is a front of the text: the cells before this one, and a front of this one
 pub returns-in_err-write_cell-clause-err : goal.returns-in_err-write_cell-clause-err
 returns-in_err-write_cell-clause-err c =
     let doc : List Cell = c.cells-cell-items.result.now in

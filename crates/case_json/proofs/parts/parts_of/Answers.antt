@@ -11,6 +11,7 @@ use Rattle.case_json.proofs.Readings.{document_from-few}
 use Rattle.case_json.proofs.Scripts.{sites_from-within}
 use Rattle.case_json.proofs.parts.parts_of.Goals as goal
 
+-- the document, the sites and the events that were read are within their limits
 pub returns-clause-limits : goal.returns-clause-limits
 returns-clause-limits g c =
     let json = view c.args.json.now in

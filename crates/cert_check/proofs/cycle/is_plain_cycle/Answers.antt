@@ -7,6 +7,7 @@ use Rattle.cert_check.specs.Walks.{Closes}
 use Rattle.cert_check.proofs.Cycles.{closes_all, closes_before, closes_there}
 use Rattle.cert_check.proofs.cycle.is_plain_cycle.Goals as goal
 
+-- the first literal begins the walk
 pub loop-pick-init : goal.loop-pick-init
 loop-pick-init c =
     let there = c.in-Some-get.ensures.lookup.3 in
@@ -27,6 +28,7 @@ overflow_add-sum c =
     let fits : FitsSigned w32 c.in-Some-get-2.lit.now.k = search rules in
     omega (arith, ints, c.loop-pick.invariant.1, c.loop-pick.invariant.2, c.loop-pick.invariant.3, c.loop-pick-test.true)
 
+-- one literal more goes on with the walk
 pub loop-pick-preserved : goal.loop-pick-preserved
 loop-pick-preserved c =
     let there = c.in-Some-get-2.ensures.lookup.3 in

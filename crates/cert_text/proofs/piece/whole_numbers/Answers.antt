@@ -7,6 +7,7 @@ use Rattle.cert_text.proofs.piece.whole_numbers.Goals as goal
 use Rattle.cert_text.proofs.piece.whole_numbers.Goals.{then-byte-ge48+then-byte-le57+in_ok-number_with_digit}
 use Rattle.cert_text.proofs.piece.whole_numbers.Goals.{else-byte-ge48+then-byte-eq44+else-as_slice-eq-MAX_PICKS+in_ok-number}
 
+-- the end of the cycle puts the last number with the others
 pub returns-then-byte-eq59 : goal.returns-then-byte-eq59
 returns-then-byte-eq59 c =
     let some : c.loop-i.number ≡ Some c.in_ok-number-2.field-0 = c.in_ok-number-2.was in
@@ -21,6 +22,7 @@ returns-then-byte-eq59 c =
       front_grows c.args.bytes.now c.loop-i.i 59 _ _ c.loop-i-test.true c.if-byte-eq59.true c.loop-i.invariant.3 text,
     )
 
+-- a digit more of a number, or a comma behind it
 pub loop-i-preserved : goal.loop-i-preserved
 loop-i-preserved c =
     elim c.if-byte-ge48.branch [

@@ -27,6 +27,7 @@ lower_along :
 lower_along rows row ways left from from_below square read len are x below =
     are x (omega (arith, len)) ∙ ap (λ (r : List (Option Hop)). lower_way (get_or r x None) (get_or ways x None)) read
 
+-- the ways that are left are modest, and where that of the first name goes on no lower, none does
 pub lower_rows-requires : goal.lower_rows-requires
 lower_rows-requires g c =
     let rows = c.args.rows.now in
@@ -75,6 +76,7 @@ lower_rows-requires g c =
       ),
     )
 
+-- the lowered rows keep what the table keeps once the literal is added
 pub returns-clause-added : goal.returns-clause-added
 returns-clause-added g c =
     let rows = c.args.rows.now in

@@ -5,6 +5,7 @@ use Rattle.diff_graph.specs.Steps.{numbers_along}
 use Rattle.diff_bounds.proofs.Kept.{append_on}
 use Rattle.diff_bounds.proofs.rows.append_cycle.Goals as goal
 
+-- the literal's number, and then the numbers on the chain that leads back
 pub returns-in-Ok-clause-ok : goal.returns-in-Ok-clause-ok
 returns-in-Ok-clause-ok g c =
     let rows = c.args.rows.now in

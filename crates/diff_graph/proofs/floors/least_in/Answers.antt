@@ -30,6 +30,7 @@ add_all-requires-2-clause-stands c = (
   AreSmall-numbered_from c.args.lits.now c.requires.small,
 )
 
+-- where a bound can't be added, no integers meet the literals and the bounds
 pub returns-in-Some-add_all-clause-none : goal.returns-in-Some-add_all-clause-none
 returns-in-Some-add_all-clause-none c = (
   λ none possible.
@@ -46,6 +47,7 @@ returns-in-Some-add_all-clause-none c = (
   λ not. refl,
 )
 
+-- the values of the table are the least that meet the literals and the bounds
 pub returns-clause-least : goal.returns-clause-least
 returns-clause-least c =
     AreLeastMeeting-from_stands (length c.args.rows.now) (length c.add_all-2.new.rows)

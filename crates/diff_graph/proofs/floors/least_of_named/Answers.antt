@@ -42,6 +42,7 @@ returns-clause-least c =
     AreLeast-from_meeting c.args.lits.now c.args.floors.now values.items (length c.deref_mut.result.now) len
     (subst (λ (ls : List Lit). AreLeastMeeting (length c.deref_mut.result.now) (c.args.lits.now ++ ls) values.items) bounds least))
 
+-- none come exactly where no integers that are at least the floors meet the literals
 pub returns-clause-none : goal.returns-clause-none
 returns-clause-none c =
     let bounds = c.deref.ensures.value ∙ c.in_ok-bounds.ensures in (

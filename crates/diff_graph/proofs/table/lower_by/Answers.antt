@@ -4,6 +4,7 @@ use Rattle.diff_graph.proofs.RowSteps.{DoneBelow-more, DoneBelow-same}
 use Rattle.diff_graph.proofs.table.lower_by.Goals.{in-Some, in_default}
 use Rattle.diff_graph.proofs.table.lower_by.Goals as goal
 
+-- one name more is lowered, or kept where the way is no lower
 pub loop-x-preserved : goal.loop-x-preserved
 loop-x-preserved c =
     elim c.match-lower.branch [

@@ -33,6 +33,7 @@ next_of-requires t c = (
       c.in-Deliver.op c.in-Deliver.plan c.in-Deliver.is c.requires.goal.0 c.requires.goal.1,
 )
 
+-- the goal behind the result is lighter, and of the obligation; nothing is known within it
 pub laid_out-requires-in-Deliver : goal.laid_out-requires-in-Deliver
 laid_out-requires-in-Deliver t c =
     let f = function_of c.args.rules.now in

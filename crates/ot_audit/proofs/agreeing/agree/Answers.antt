@@ -17,6 +17,7 @@ pub transform-requires-clause-b_in_range : goal.transform-requires-clause-b_in_r
 transform-requires-clause-b_in_range c =
     in_range c.in-Pair.b (subst (λ (x : Found). IsNearFound x) c.in-Pair.is c.in_ok-differ_in.ensures.near).1
 
+-- the first operation is of a kind that the other function declares too
 pub transform-requires-in-Pair-clause-a_declared : goal.transform-requires-in-Pair-clause-a_declared
 transform-requires-in-Pair-clause-a_declared c =
     let f = function_of c.args.rules.now in

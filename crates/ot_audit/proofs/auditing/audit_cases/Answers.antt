@@ -6,6 +6,7 @@ use Rattle.ot_audit.specs.Audits.{AreCases}
 use Rattle.ot_audit.proofs.CasesSoFar.{one_case_more}
 use Rattle.ot_audit.proofs.auditing.audit_cases.Goals as goal
 
+-- one answer more, about the next case
 pub loop-number-preserved : goal.loop-number-preserved
 loop-number-preserved c =
     let f = function_of c.args.rules.now in

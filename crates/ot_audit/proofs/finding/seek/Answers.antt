@@ -10,6 +10,7 @@ use Rattle.ot_terms.specs.Goals.{goal_tree}
 use Rattle.ot_audit.proofs.Wanted.{AreWanted, stopped_wanted}
 use Rattle.ot_audit.proofs.finding.seek.Goals as goal
 
+-- the answers to the failing end are what the least values want
 pub least_instance-requires : goal.least_instance-requires
 least_instance-requires c =
     let law = c.answers_lead_to_ends.ensures in

@@ -24,6 +24,7 @@ returns-in-Err-clause-given g c = (
       (λ f. IsReplyToCertificate (g.T.Finding.judges f) g.T.Finding.accepts (holds c.args.certificate.now) c.in-Err.reply) First (search rules),
 )
 
+-- of what the shelf's calls gave, the function was read and the certificate judged
 pub returns-in_ok-reply_to_certificate-in-Ok-clause-given : goal.returns-in_ok-reply_to_certificate-in-Ok-clause-given
 returns-in_ok-reply_to_certificate-in-Ok-clause-given g c =
     let old = g.H.Shelf.reads c.args.shelf.now in

@@ -57,6 +57,7 @@ returns-then-branch-clause-ok g c =
     too_long_reply (g.T.Finding.judges (function_of c.args.rules.now)) g.T.Finding.accepts c.args.feed.now judged.result c.requires.limit judged.ensures.judged
     rests c.in_ok-too_long.field-0 c.if-branch.true goes
 
+-- the judgement does not rest on the end, or no byte follows
 pub returns-clause-ok : goal.returns-clause-ok
 returns-clause-ok g c =
     let judged = c.judge-judgement in
@@ -91,6 +92,7 @@ returns-then-branch-clause-given g c =
     c.requires.begins c.requires.read kept
     judged.ensures.given c.too_long.new.self rests spent (c.too_long.ensures.read (kept.read c.requires.read)) c.too_long.ensures.gave there.0 there.1
 
+-- the same of the bytes that were read
 pub returns-clause-given : goal.returns-clause-given
 returns-clause-given g c =
     let judged = c.judge-judgement in

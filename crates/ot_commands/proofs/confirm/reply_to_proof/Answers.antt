@@ -32,6 +32,7 @@ returns-clause-ok g c =
     (λ e. subst (λ (n : ℕ). ForSome told (λ known. n < length known)) c.limit.ensures (c.read_all-read.ensures.too_long e))
     (λ e. c.read_all-read.ensures.full e ∙ c.limit.ensures) c.in_ok-reply.ensures.ok
 
+-- the reply is that of the bytes that the shelf's calls gave
 pub returns-clause-given : goal.returns-clause-given
 returns-clause-given g c =
     let given : List ℕ = (g.H.Shelf.reads c.read_all-read.new.shelf).bytes in

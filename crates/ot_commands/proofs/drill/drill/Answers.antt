@@ -29,6 +29,7 @@ returns-in-Proved-clause-reply c =
     (shown f c.in_ok-other.other c.in-Proved.certificate c.in_ok-other.ensures c.in-Proved.is) in
     (by.lists, by.asked, inr (by.few, (c.in_ok-drilled-in-Proved.drilled, c.in_ok-drilled-in-Proved.ensures.drilled, refl)))
 
+-- what is not proved of the workload's function has too many questions, since nothing breaks it
 pub returns : goal.returns
 returns c =
     let n : ℕ = c.args.number in

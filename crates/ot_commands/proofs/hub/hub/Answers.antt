@@ -30,6 +30,7 @@ returns-in-Err-clause-given g c = (
   ),
 )
 
+-- of what the shelf's calls gave, the function was read and then the hub
 pub returns-in_ok-reply_to_hub_file-in-Ok-clause-given : goal.returns-in_ok-reply_to_hub_file-in-Ok-clause-given
 returns-in_ok-reply_to_hub_file-in-Ok-clause-given g c =
     let old = g.H.Shelf.reads c.args.shelf.now in

@@ -6,6 +6,7 @@ use Rattle.ot_commands.proofs.HubRunning.{done_keeps}
 use Rattle.ot_commands.proofs.RunsBy.{goes_on}
 use Rattle.ot_commands.proofs.hub.run_events.Goals as goal
 
+-- one event more was done
 pub loop-number-preserved : goal.loop-number-preserved
 loop-number-preserved c =
     let old = view_of c.loop-number.hub in

@@ -4,6 +4,7 @@ use Rattle.ot_session.specs.Views.{view_of}
 use Rattle.ot_commands.proofs.Running.{done_is_open, done_keeps_function, done_keeps_sites, goes_on}
 use Rattle.ot_commands.proofs.replay.run_events.Goals as goal
 
+-- one event more was done
 pub loop-number-preserved : goal.loop-number-preserved
 loop-number-preserved c =
     let old = view_of c.loop-number.session in

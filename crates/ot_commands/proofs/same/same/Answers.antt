@@ -26,6 +26,7 @@ returns-in-Err-clause-given g c = (
   ),
 )
 
+-- of what the shelf's calls gave, both functions were read
 pub returns-in_ok-reply_to_second-in-Ok-clause-given : goal.returns-in_ok-reply_to_second-in-Ok-clause-given
 returns-in_ok-reply_to_second-in-Ok-clause-given g c =
     let old = g.H.Shelf.reads c.args.shelf.now in

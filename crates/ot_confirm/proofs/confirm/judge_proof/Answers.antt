@@ -22,6 +22,7 @@ returns-in-Err c =
           (proof_no_header compare_starts (marked_plan f) (obligations_of f.head) c.args.bytes.now m.0 m.1);
     }
 
+-- what refuses the sections refuses the proof
 pub returns-in-Err-judge_sections : goal.returns-in-Err-judge_sections
 unfolding judgement_of
 returns-in-Err-judge_sections c =
@@ -42,6 +43,7 @@ returns-in-Err-judge_sections c =
           c.in-Err-judge_sections.end (over (Err c.in-Err-judge_sections.end) c.in-Err-judge_sections.ensures);
     }
 
+-- what refuses the last line refuses the proof
 pub returns : goal.returns
 unfolding judgement_of
 returns c =
@@ -63,6 +65,7 @@ returns c =
           c.in-Err-judge_end.ensures;
     }
 
+-- the proof ends with its last line
 pub returns-in-Ok-judge_end : goal.returns-in-Ok-judge_end
 unfolding judgement_of
 returns-in-Ok-judge_end c =
@@ -84,6 +87,7 @@ returns-in-Ok-judge_end c =
           c.if-end-bytes.true;
     }
 
+-- bytes behind the last line are refused
 pub returns-in-Ok-2 : goal.returns-in-Ok-2
 unfolding judgement_of
 returns-in-Ok-2 c =

@@ -41,6 +41,7 @@ least_values-requires c =
       possible = possible_at_positions w c.requires.possible (λ v. plans.positions f ob why w v valid lead);
     }
 
+-- what the least values name: concurrent operations, of small parts, on a document of at least 0 cells
 pub read_off-requires : goal.read_off-requires
 read_off-requires c =
     let f = function_of c.args.rules.now in
@@ -58,6 +59,7 @@ read_off-requires c =
       cells = (least_length c.args.ob c.args.answers.now c.deref.result.now least).1;
     }
 
+-- what was read off the least values is a counterexample, and breaks the property by the cause
 pub returns : goal.returns
 returns c =
     let f = function_of c.args.rules.now in

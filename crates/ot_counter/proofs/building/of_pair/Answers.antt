@@ -6,6 +6,7 @@ use Rattle.ot_counter.proofs.building.of_pair.Goals as goal
 pub document_at-requires : goal.document_at-requires
 document_at-requires c = record { within = (let h = c.requires.first.within in omega arith); cells = c.requires.cells }
 
+-- the first way: its first operation is enabled, and both are declared and near
 pub document_way-requires : goal.document_way-requires
 document_way-requires c =
     let head = (function_of c.args.rules.now).head in
@@ -21,6 +22,7 @@ document_way-requires c =
       other_near = c.op_at-b.ensures.near;
     }
 
+-- the second way: its first operation is enabled, and both are declared and near
 pub document_way-requires-2 : goal.document_way-requires-2
 document_way-requires-2 c =
     let head = (function_of c.args.rules.now).head in
@@ -36,6 +38,7 @@ document_way-requires-2 c =
       other_near = c.op_at-a.ensures.near;
     }
 
+-- the document, the two operations and both ways are those that the values name
 pub returns : goal.returns
 returns c =
     let f = function_of c.args.rules.now in

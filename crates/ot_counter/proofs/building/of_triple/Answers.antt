@@ -6,6 +6,7 @@ use Rattle.ot_counter.proofs.building.of_triple.Goals as goal
 pub document_at-requires : goal.document_at-requires
 document_at-requires c = record { within = (let h = c.requires.first.within in omega arith); cells = c.requires.cells }
 
+-- the first way: the three operations are declared and near
 pub operation_way-left-requires : goal.operation_way-left-requires
 operation_way-left-requires c =
     let head = (function_of c.args.rules.now).head in
@@ -19,6 +20,7 @@ operation_way-left-requires c =
       c_near = c.op_at-c.ensures.near;
     }
 
+-- the second way, with the first two exchanged
 pub operation_way-right-requires : goal.operation_way-right-requires
 operation_way-right-requires c =
     let head = (function_of c.args.rules.now).head in
@@ -32,6 +34,7 @@ operation_way-right-requires c =
       c_near = c.op_at-c.ensures.near;
     }
 
+-- the document, the three operations and both forms are those that the values name
 pub returns : goal.returns
 returns c =
     let f = function_of c.args.rules.now in

@@ -8,6 +8,7 @@ use Rattle.ot_counter.specs.Documents.{document_at}
 use Rattle.ot_counter.proofs.Instances.{parts_of_pair, parts_of_triple}
 use Rattle.ot_counter.proofs.building.read_off.Goals as goal
 
+-- what is known of the obligation, said of a pair
 pub of_pair-requires : goal.of_pair-requires
 of_pair-requires c =
     let head = (function_of c.args.rules.now).head in

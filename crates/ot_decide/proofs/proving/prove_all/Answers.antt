@@ -24,6 +24,7 @@ search_all-requires c =
       bounded = tt;
     }
 
+-- all obligations hold: yes, with the certificate that was written
 pub returns-in-AllHold : goal.returns-in-AllHold
 returns-in-AllHold c =
     let f = function_of c.args.rules.now in
@@ -44,6 +45,7 @@ returns-in-AllHold c =
       within = few_yes f c.args.level c.args.budget obs are before after c.write_end.new.out begun ended settled;
     }
 
+-- an obligation fails: no, with the answers that lead there
 pub returns-in-Fails : goal.returns-in-Fails
 returns-in-Fails c =
     let f = function_of c.args.rules.now in
@@ -60,6 +62,7 @@ returns-in-Fails c =
       within = λ _. tt;
     }
 
+-- there are more questions than the budget allows
 pub returns : goal.returns
 returns c =
     let f = function_of c.args.rules.now in

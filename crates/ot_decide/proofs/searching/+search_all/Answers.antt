@@ -39,6 +39,7 @@ search_all-requires t c = (
   ),
 )
 
+-- the obligation holds: its section is written, and those behind it are searched
 pub returns-in_ok-write_ob-in-Yes : goal.returns-in_ok-write_ob-in-Yes
 returns-in_ok-write_ob-in-Yes t c =
     let f = function_of c.args.rules.now in
@@ -59,6 +60,7 @@ returns-in_ok-write_ob-in-Yes t c =
           c.search_all.ensures.settled;
     })
 
+-- the obligation fails: those behind it are not searched
 pub returns-in-No : goal.returns-in-No
 returns-in-No t c =
     let f = function_of c.args.rules.now in
@@ -77,6 +79,7 @@ returns-in-No t c =
           (subst (λ (o : Outcome Why). IsDecided (plan c.in-Some.ob.now) c.args.budget o) c.in-No.is c.in_ok-tree.ensures.decides));
     }
 
+-- the obligation has more questions than are left, and so have all together
 pub returns-in-Spent : goal.returns-in-Spent
 returns-in-Spent t c =
     let f = function_of c.args.rules.now in

@@ -15,6 +15,7 @@ few_names : (ob : ObName) → name_count ob ≤ MAX_NAMES
 few_names (Pair k l) = omega arith
 few_names (Triple k l m) = omega arith
 
+-- the plan behind the question of the bound keeps the limits
 pub search_behind-requires : goal.search_behind-requires
 search_behind-requires c =
     let f = function_of c.args.rules.now in

@@ -16,6 +16,7 @@ pub play_all-requires-clause-fine : goal.play_all-requires-clause-fine
 play_all-requires-clause-fine c =
     rw (c.deref.ensures.value, c.in_ok-events.ensures) (events_are_fine c.args.n c.requires.n)
 
+-- all events were done in a new session, whose sites count few forms
 pub returns : goal.returns
 returns c =
     let begun = view_of c.in_ok-session.session in

@@ -20,6 +20,7 @@ loop-event-preserved c =
     c.loop-event-test.true c.requires.function c.loop-event.invariant (view_of c.play_event.new.session) c.in_ok-tally.tally
     c.in_ok-tally.ensures
 
+-- the next event can be done, and few were done before
 pub play_event-requires : goal.play_event-requires
 play_event-requires c =
     let begun = view_of c.args.session.now in

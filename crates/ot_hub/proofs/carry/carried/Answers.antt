@@ -28,6 +28,7 @@ cross-requires c =
     (omega (arith, c.loop-other-test.true, c.requires.few)) in
     record { own = both.own; other = both.other }
 
+-- one of the list more: it was crossed, or stands before the place
 pub loop-other-preserved : goal.loop-other-preserved
 loop-other-preserved c =
     let f : Function = function_of c.args.rules.now in

@@ -27,6 +27,7 @@ cross-requires-clause-own c =
     c.args.list.now (farthest (length c.args.list.now)) i c.loop-other.form c.loop-other-test.true c.loop-other.invariant.usable c.requires.usable.list
     (omega (arith, c.loop-other-test.true, c.requires.usable.few))).own
 
+-- one of the list more: what it becomes was added, or it stands before the place
 pub loop-other-preserved : goal.loop-other-preserved
 loop-other-preserved c =
     let f : Function = function_of c.args.rules.now in

@@ -17,6 +17,7 @@ no_op = Ins (pos 0) 0 0
 pub loop-other-init : goal.loop-other-init
 loop-other-init c = record { form = refl; declared = c.requires.declared; near = c.requires.near }
 
+-- the form so far and the next operation are declared and near
 pub transform-requires : goal.transform-requires
 transform-requires c =
     let i : ℕ = c.loop-other.other-index in
@@ -30,6 +31,7 @@ transform-requires c =
       b_in_range = c.enabled_operations_are_near.ensures.wider most_cells 1099511627776 e (omega arith) other.near;
     }
 
+-- one operation more: what it makes of the form so far
 pub loop-other-preserved : goal.loop-other-preserved
 loop-other-preserved c =
     let f : Function = function_of c.args.rules.now in

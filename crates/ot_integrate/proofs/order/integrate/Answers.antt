@@ -23,6 +23,7 @@ loop-place-init c = record {
   cells = rw c.in_ok-current.ensures c.requires.cells;
 }
 
+-- the next operation is declared and near, and few were executed
 pub form_behind-requires : goal.form_behind-requires
 form_behind-requires c =
     let f : Function = function_of c.args.rules.now in
@@ -39,6 +40,7 @@ form_behind-requires c =
       few = rw c.deref.ensures.value (omega arith);
     }
 
+-- there is no form: the order is stuck here
 pub returns-in_default : goal.returns-in_default
 returns-in_default c =
     let f : Function = function_of c.args.rules.now in
@@ -56,6 +58,7 @@ returns-in_default c =
       one_document = EndsAsListed-from_law c.both_properties_give_one_outcome.ensures f c.args.doc.now ops order (StuckAt place) is;
     }
 
+-- the form is not enabled: the order is stuck here
 pub returns-in-Err-NotEnabled : goal.returns-in-Err-NotEnabled
 returns-in-Err-NotEnabled c =
     let f : Function = function_of c.args.rules.now in
@@ -77,6 +80,7 @@ returns-in-Err-NotEnabled c =
       one_document = EndsAsListed-from_law c.both_properties_give_one_outcome.ensures f c.args.doc.now ops order (StuckAt place) is;
     }
 
+-- one operation more was executed
 pub loop-place-preserved : goal.loop-place-preserved
 loop-place-preserved c =
     let f : Function = function_of c.args.rules.now in
@@ -105,6 +109,7 @@ loop-place-preserved c =
       cells = rw c.in-Ok.ensures.ok (omega (arith, c.documents_grow_by_one_cell_at_most.ensures c.head-mode.result.mode p c.loop-place.current));
     }
 
+-- all were executed: the outcome is the document
 pub returns : goal.returns
 returns c =
     let f : Function = function_of c.args.rules.now in

@@ -20,6 +20,7 @@ returns-in_err-level-clause-judged g c =
     (subst (λ (r : Progress). IsMisspeltBehind g.F.Feed (fed r c.args.feed.now) c.read_header.new.feed c.in_err-level.field-0.0) at
     c.in_err-level.ensures.misspelt)))
 
+-- behind the header the sections are refused
 pub returns-in_err-judge_sections-clause-judged : goal.returns-in_err-judge_sections-clause-judged
 returns-in_err-judge_sections-clause-judged g c =
     let p = err_from_is_err_and c.from_residual-in_err-judge_sections.result c.from_residual-in_err-judge_sections.ensures.1 in
@@ -33,6 +34,7 @@ returns-in_err-judge_sections-clause-judged g c =
     (refused_behind g.F.Feed f c.args.feed.now c.judge_sections.new.feed c.in_ok-level.level first header c.in_err-judge_sections.field-0.0
     c.in_err-judge_sections.ensures.refused))
 
+-- behind the header all sections came, and they are the certificate
 pub returns-clause-judged : goal.returns-clause-judged
 returns-clause-judged g c =
     let f = function_of c.args.rules.now in

@@ -13,6 +13,7 @@ returns-in_err-level-clause-judged g c =
     (answered g.F.Feed f c.args.feed.now c.read_low_header.new.feed c.in_err-level.field-0.0
     (header_refused g.F.Feed f c.args.feed.now c.read_low_header.new.feed c.in_err-level.field-0.0 c.in_err-level.ensures.refused))
 
+-- behind the first line the sections are refused
 pub returns-in_err-judge_sections-clause-judged : goal.returns-in_err-judge_sections-clause-judged
 returns-in_err-judge_sections-clause-judged g c =
     let p = err_from_is_err_and c.from_residual-in_err-judge_sections.result c.from_residual-in_err-judge_sections.ensures.1 in
@@ -27,6 +28,7 @@ returns-in_err-judge_sections-clause-judged g c =
     c.in_ok-level.ensures.bounded first c.in_ok-level.ensures.header reader at c.in_err-judge_sections.field-0.0
     c.in_err-judge_sections.ensures.refused))
 
+-- behind the first line all sections came, and they are the certificate
 pub returns-clause-judged : goal.returns-clause-judged
 returns-clause-judged g c =
     let f = function_of c.args.rules.now in

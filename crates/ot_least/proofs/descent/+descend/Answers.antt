@@ -16,6 +16,7 @@ use Rattle.ot_least.specs.Shortest.{Falls}
 use Rattle.ot_least.proofs.Descents.{FallsTo, falls_least, falls_on, falls_spent, few_bytes, is_least, is_low, same_level}
 use Rattle.ot_least.proofs.descent.+descend.Goals as goal
 
+-- all hold on shorter documents: the descent ends here
 pub returns-in_ok-write_end-in-AllHold-clause-falls : goal.returns-in_ok-write_end-in-AllHold-clause-falls
 returns-in_ok-write_end-in-AllHold-clause-falls t c =
     let f = function_of c.args.rules.now in
@@ -36,6 +37,7 @@ returns-in_ok-write_end-in-AllHold-clause-falls t c =
     let ended = c.in_ok-write_end-in-AllHold.ensures.ok in
     falls_least f c.args.budget e obs are before after c.write_end.new.out begun ended settled
 
+-- the property is broken at this length and at no lesser one, as the bytes certify
 pub returns-in_ok-write_end-in-AllHold-clause-holds : goal.returns-in_ok-write_end-in-AllHold-clause-holds
 returns-in_ok-write_end-in-AllHold-clause-holds t c =
     let f = function_of c.args.rules.now in
@@ -60,6 +62,7 @@ returns-in_ok-write_end-in-AllHold-clause-holds t c =
     e c.write_end.new.out.items c.requires.ending c.requires.broken
     (is_low f c.args.budget e obs are before after c.write_end.new.out begun ended settled c.requires.bounded)
 
+-- the certificate keeps the limit of a file
 pub returns-in_ok-write_end-in-AllHold-clause-within : goal.returns-in_ok-write_end-in-AllHold-clause-within
 returns-in_ok-write_end-in-AllHold-clause-within t c =
     let f = function_of c.args.rules.now in
@@ -82,6 +85,7 @@ returns-in_ok-write_end-in-AllHold-clause-within t c =
     subst (λ (l : List ObName). length l ≤ 24) (sym are) (c.parts_are_obligations.ensures.few f.head (level_of e.ob)) in
     few_bytes f c.args.budget e obs are before after c.write_end.new.out begun ended settled c.requires.bounded few
 
+-- the shorter failing end is of the same property
 pub descend-requires : goal.descend-requires
 descend-requires t c =
     let f = function_of c.args.rules.now in
@@ -108,6 +112,7 @@ descend-requires t c =
       ),
     )
 
+-- one fails on shorter documents: the descent goes on from there
 pub returns-in_ok-next-in-Fails-clause-falls : goal.returns-in_ok-next-in-Fails-clause-falls
 returns-in_ok-next-in-Fails-clause-falls t c =
     let f = function_of c.args.rules.now in
@@ -131,6 +136,7 @@ returns-in_ok-next-in-Fails-clause-falls t c =
     c.in_ok-next-in-Fails.ensures.why)
     c.descend.ensures.falls
 
+-- a turn has more questions than the budget allows
 pub returns-in-Spent-clause-falls : goal.returns-in-Spent-clause-falls
 returns-in-Spent-clause-falls t c =
     let f = function_of c.args.rules.now in

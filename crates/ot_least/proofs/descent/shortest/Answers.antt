@@ -21,6 +21,7 @@ returns-in-Yes-clause-holds c =
     c.triple_plans_mean_tp2.ensures.whole_shown f
     (answers_hold c.fitting_trees_hold.ensures.whole f (obligations_of f.head Tp2) proof.trees proof.fit)
 
+-- the property of the first failing end is broken
 pub descend_from-requires-clause-broken : goal.descend_from-requires-clause-broken
 descend_from-requires-clause-broken c =
     let f = function_of c.args.rules.now in

@@ -15,6 +15,7 @@ ending_at-requires-clause-way c =
     subst (λ (l : List Answer). AreAnswersTo (plan_of f c.args.ob) l (Fails c.args.why)) (sym c.remove.ensures.items)
     (way_behind f c.args.ob c.args.why c.args.bound c.args.answers.items c.requires.way)
 
+-- the failing end has fewer cells than the bound
 pub returns-clause-fewer : goal.returns-clause-fewer
 returns-clause-fewer c =
     let f = function_of c.args.rules.now in

@@ -13,6 +13,7 @@ returns-in-None c more is =
     c.deref.ensures.value ∙ c.in_ok-write_low_header.ensures ∙ ap (λ (x : List ℕ). x ++ text) c.new-line.ensures.items in
     strip_prefix_is Decides-eqb c.deref.result.now c.args.front.now None c.in-None.ensures.cases more (line ∙ is)
 
+-- the bytes are the whole line
 pub returns-in-Some-empty : goal.returns-in-Some-empty
 returns-in-Some-empty c =
     let text = low_header_text c.args.level c.args.bound in

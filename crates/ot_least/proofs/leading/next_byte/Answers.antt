@@ -9,6 +9,7 @@ returns-then-not-branch-clause-over g c =
     (spent_there g.F.Feed c.args.feed.now c.more.new.self same (c.in_ok-more.ensures.end c.if-not-branch.true)
     (c.in_ok-more.ensures.none c.if-not-branch.true))
 
+-- the first byte at hand was given
 pub returns-clause-byte : goal.returns-clause-byte
 returns-clause-byte g c =
     let same : IsAsked g.F.Feed c.args.feed.now c.more.new.self =

@@ -18,6 +18,7 @@ loop-line-init g c =
       kept = record { more_faults = omega arith; no_more_bytes = omega arith; same_object = refl; still_keeps = λ before h. h };
     }
 
+-- the bytes that came are a first line
 pub returns-in-Whole-clause-header : goal.returns-in-Whole-clause-header
 returns-in-Whole-clause-header g c =
     let line = c.loop-line.line.items in
@@ -31,6 +32,7 @@ returns-in-Whole-clause-header g c =
     (sym (append_assoc line (byte ∷ []) rest) ∙ ap (λ (l : List ℕ). l ++ rest) (sym text))
     (c.loop-line.invariant.bytes all (byte ∷ rest) (next all rest may))
 
+-- no first line begins with the bytes that came
 pub returns-in-Other-clause-refused : goal.returns-in-Other-clause-refused
 returns-in-Other-clause-refused g c =
     let line = c.loop-line.line.items in

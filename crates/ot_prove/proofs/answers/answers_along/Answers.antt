@@ -10,6 +10,7 @@ use Rattle.ot_prove.proofs.answers.answers_along.Goals as goal
 use Rattle.ot_prove.proofs.answers.answers_along.Goals.{else-loop-literal-test, then-loop-literal-test+in_ok-lit+in-Holds}
 use Rattle.ot_prove.proofs.answers.answers_along.Goals.{then-loop-literal-test+in_ok-lit+in-Fails}
 
+-- one literal more is answered, and the walk goes on by its answer
 pub loop-literal-preserved : goal.loop-literal-preserved
 loop-literal-preserved g c =
     let A = g.A.Asker in

@@ -6,6 +6,7 @@ use Rattle.ot_prove.specs.Searching.{AgreesWithLists}
 use Rattle.ot_prove.proofs.Steps.{IsSearching-begun, AgreesWithLists-done, IsDecided-by_list}
 use Rattle.ot_prove.proofs.proving.prove.Goals as goal
 
+-- the search has begun, and the plan has a question list
 pub places-init : goal.places-init
 places-init g c =
     let A = g.A.Asker in

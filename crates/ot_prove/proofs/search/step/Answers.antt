@@ -11,6 +11,7 @@ close_impossible-requires-clause-known g c =
     first_is_judged (A.is_own was) (A.plan was) (A.root was) c.args.budget s.path (known_of s) (reverse s.tables.items) s.tree
     s.asked c.requires.opened c.requires.searching
 
+-- a first place that no integers meet is closed by its cycle
 pub returns-then-branch-clause-step : goal.returns-then-branch-clause-step
 returns-then-branch-clause-step g c =
     let A = g.A.Asker in

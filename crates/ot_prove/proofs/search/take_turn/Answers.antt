@@ -64,6 +64,7 @@ ask-requires-clause-stands g c =
     (first_has_table (A.is_own was) (A.plan was) (A.root was) c.args.budget s.path s.cycles
     s.tables.items s.tree s.asked c.requires.opened (known_first s.possible c.requires.possible c.requires.searching)).1
 
+-- behind a question the search goes on at the sides that have room
 pub returns-in_ok-ask-in-Ask-clause-step : goal.returns-in_ok-ask-in-Ask-clause-step
 returns-in_ok-ask-in-Ask-clause-step g c =
     let A = g.A.Asker in
@@ -80,6 +81,7 @@ returns-in_ok-ask-in-Ask-clause-step g c =
     (IsSearching-same (known_first s.possible c.requires.possible c.requires.searching) kept.own kept.branches kept.root_kept)
     begins c.if-search-budget.false judged.2 judged.3)
 
+-- behind a question the plans that are open weigh less
 pub returns-in_ok-ask-in-Ask-clause-falls : goal.returns-in_ok-ask-in-Ask-clause-falls
 returns-in_ok-ask-in-Ask-clause-falls g c =
     let A = g.A.Asker in
@@ -93,6 +95,7 @@ returns-in_ok-ask-in-Ask-clause-falls g c =
     c.requires.opened begins.2 judged.3 in
     rw (← c.turn_at.ensures.branches) falls
 
+-- behind an end that holds the search goes on at the next place
 pub returns-in_ok-close_holds-in-Holds-clause-step : goal.returns-in_ok-close_holds-in-Holds-clause-step
 returns-in_ok-close_holds-in-Holds-clause-step g c =
     let A = g.A.Asker in
@@ -123,6 +126,7 @@ answers_along-requires g c =
           (IsSearching-same (known_first s.possible c.requires.possible c.requires.searching) kept.own kept.branches kept.root_kept)),
     )
 
+-- the failing end is that of the question list, and the answers lead there
 pub returns-in_ok-answers-in-Fails-clause-step : goal.returns-in_ok-answers-in-Fails-clause-step
 returns-in_ok-answers-in-Fails-clause-step g c q list =
     let A = g.A.Asker in

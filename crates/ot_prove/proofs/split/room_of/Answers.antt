@@ -7,6 +7,7 @@ use Rattle.ot_prove.specs.Sides.{ClosesCycle}
 use Rattle.ot_prove.proofs.Possible.{AddsAnswer-kept, keeps-yes, keeps-no}
 use Rattle.ot_prove.proofs.split.room_of.Goals as goal
 
+-- no has no room: yes follows already, and a cycle shows why
 pub returns-then-not-allows : goal.returns-then-not-allows
 returns-then-not-allows c =
     let rows = c.args.table.now in
@@ -20,6 +21,7 @@ returns-then-not-allows c =
           c.in_ok-write_why_not.ensures,
     )
 
+-- yes has no room: no follows already, and a cycle shows why
 pub returns-then-not-allows-2 : goal.returns-then-not-allows-2
 returns-then-not-allows-2 c =
     let rows = c.args.table.now in

@@ -3,6 +3,7 @@ use Rattle.ot_questions.proofs.PairMeaning.{ArePairsEnough, pair_holds_means, pa
 use Rattle.ot_questions.proofs.PairMeaning.{tp1_holds_all_pairs}
 use Rattle.ot_questions.proofs.meaning.pair_plans_mean_tp1.Goals as goal
 
+-- what the plans of pairs mean, at each length and at all lengths
 pub returns : goal.returns
 returns c =
     let enough : (f : Function) → ArePairsEnough f = λ f. record {

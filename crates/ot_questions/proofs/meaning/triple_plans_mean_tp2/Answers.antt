@@ -3,6 +3,7 @@ use Rattle.ot_questions.proofs.TripleMeaning.{AreTriplesEnough, triple_holds_mea
 use Rattle.ot_questions.proofs.TripleMeaning.{tp2_holds_triples, all_plans_mean_at, all_plans_mean, tp2_holds_all_at, tp2_holds_all}
 use Rattle.ot_questions.proofs.meaning.triple_plans_mean_tp2.Goals as goal
 
+-- what the plans of triples mean, at each length and at all lengths, and with those of pairs
 pub returns : goal.returns
 returns c =
     let enough : (f : Function) → AreTriplesEnough f = λ f. record {

@@ -10,6 +10,7 @@ use Rattle.ot_reverse.specs.Goals.{reversal_goal}
 use Rattle.ot_reverse.proofs.Alike.{declared_for, first_declared}
 use Rattle.ot_reverse.proofs.reversing.+reverses_pairs.Goals as goal
 
+-- the second operation of an instance that was found is of a declared kind
 pub broken_at-requires-clause-b_declared : goal.broken_at-requires-clause-b_declared
 broken_at-requires-clause-b_declared t c =
     let f = function_of c.args.rules.now in

@@ -15,6 +15,7 @@ loop-count-init c =
       c.along-walk.ensures (c.args.lits.now ++ c.args.last ∷ []) c.in_ok-pick.pick c.in_ok-lit.ensures,
     )
 
+-- one number more, along whose literal the walk goes on
 pub loop-count-preserved : goal.loop-count-preserved
 loop-count-preserved c =
     let came = c.loop-count.invariant in

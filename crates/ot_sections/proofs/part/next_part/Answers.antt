@@ -7,6 +7,7 @@ use Rattle.ot_sections.proofs.Coming.{IsAsked, bytes_misspelt, end_misspelt, fin
 use Rattle.ot_sections.proofs.Leaving.{GoesOn, goes_on_with, leaves_failed, leaves_on, leaves_with, rose_later, spelling_no_failure}
 use Rattle.ot_sections.proofs.part.next_part.Goals as goal
 
+-- a piece that ends no part was taken
 pub loop-reader-preserved : goal.loop-reader-preserved
 loop-reader-preserved g c =
     let same : IsAsked g.F.Feed c.loop-reader.feed c.more.new.self =
@@ -34,6 +35,7 @@ loop-reader-preserved g c =
           (fed c.feed_piece-taken.new.self c.consume.new.self) (Ok tt) c.loop-reader.invariant.leaves step;
     }
 
+-- what is left where the feed failed
 pub returns-in_err-more-clause-leaves : goal.returns-in_err-more-clause-leaves
 returns-in_err-more-clause-leaves g c =
     let p = err_from_is_err_and c.from_residual.result c.from_residual.ensures.1 in
@@ -66,6 +68,7 @@ returns-in-Some-clause-came g c =
     (fed c.feed_piece-taken.new.self c.consume.new.self) c.loop-reader.invariant.reads c.at_hand.result.now c.feed_piece-taken.result.0 c.in-Some.item took
     gives
 
+-- what is left behind a part
 pub returns-in-Some-clause-leaves : goal.returns-in-Some-clause-leaves
 returns-in-Some-clause-leaves g c =
     let step : GoesOn g.F.Feed (fed c.loop-reader.reader c.loop-reader.feed) (fed c.feed_piece-taken.new.self c.consume.new.self) = record {
@@ -83,6 +86,7 @@ returns-in-Some-clause-leaves g c =
     (fed c.feed_piece-taken.new.self c.consume.new.self) (Ok _) c.loop-reader.invariant.leaves
     (goes_on_with g.F.Feed (fed c.loop-reader.reader c.loop-reader.feed) (fed c.feed_piece-taken.new.self c.consume.new.self) _ step)
 
+-- a byte that no part goes on with is where the bytes are misspelt
 pub returns-in_err-item-clause-misspelt : goal.returns-in_err-item-clause-misspelt
 returns-in_err-item-clause-misspelt g c =
     let p = err_from_is_err_and c.from_residual-in_err-item.result c.from_residual-in_err-item.ensures.1 in
@@ -96,6 +100,7 @@ returns-in_err-item-clause-misspelt g c =
     (take c.feed_piece-taken.result.0 c.at_hand.result.now)
     c.in_err-item.field-0.0 c.feed_piece-taken.new.self (rw c.in_err-item.was at c.feed_piece-taken.ensures.reads) p.0 c.consume.new.self took p.2)
 
+-- what is left where a byte was refused
 pub returns-in_err-item-clause-leaves : goal.returns-in_err-item-clause-leaves
 returns-in_err-item-clause-leaves g c =
     let p = err_from_is_err_and c.from_residual-in_err-item.result c.from_residual-in_err-item.ensures.1 in
@@ -131,6 +136,7 @@ returns-in_err-finish-clause-misspelt g c =
     c.more.new.self (over_by g.F.Feed (fed c.loop-reader.reader c.loop-reader.feed) c.more.new.self same spent)
     c.finish.ensures.reads c.in_err-finish.field-0.0 p.0 c.in_err-finish.was p.2)
 
+-- what is left where the bytes end too early: nothing more is given
 pub returns-in_err-finish-clause-leaves : goal.returns-in_err-finish-clause-leaves
 returns-in_err-finish-clause-leaves g c =
     let p = err_from_is_err_and c.from_residual-in_err-finish.result c.from_residual-in_err-finish.ensures.1 in
@@ -187,6 +193,7 @@ returns-clause-nothing_left g c =
     (c.in_ok-more.ensures.none c.if-branch.false) in
     spent
 
+-- what is left behind the last part
 pub returns-clause-leaves : goal.returns-clause-leaves
 returns-clause-leaves g c =
     let step : GoesOn g.F.Feed (fed c.loop-reader.reader c.loop-reader.feed) (fed c.loop-reader.reader c.more.new.self) = record {

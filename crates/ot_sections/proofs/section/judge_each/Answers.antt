@@ -16,6 +16,7 @@ judge_section-requires-clause-line g c = (
   line_at c.args.names.now c.loop-ob.ob-index _ (place_of c.loop-ob.reader) c.loop-ob-test.true c.loop-ob.invariant.lines,
 )
 
+-- one section more was judged
 pub loop-ob-preserved : goal.loop-ob-preserved
 loop-ob-preserved g c =
     record {

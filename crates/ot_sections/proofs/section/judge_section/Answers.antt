@@ -47,6 +47,7 @@ returns-in_err-_newline-clause-refused g c =
     (record { at = c.requires.line.1; came = c.in_ok-_line.ensures.came }) (fed c.judge_in.new.reader c.judge_in.new.feed) c.in_ok-judge_in.ensures.leads
     c.in_ok-judge_in.ensures.closed.1 c.expect_part-2.new.feed c.in_err-_newline.field-0.0 c.in_err-_newline.ensures.misspelt)
 
+-- what is left where the line's end was refused
 pub returns-in_err-_newline-clause-leaves : goal.returns-in_err-_newline-clause-leaves
 returns-in_err-_newline-clause-leaves g c =
     let p = err_from_is_err_and c.from_residual-in_err-_newline.result c.from_residual-in_err-_newline.ensures.1 in

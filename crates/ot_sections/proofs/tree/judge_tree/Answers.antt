@@ -26,6 +26,7 @@ returns-in_err-offset-clause-leaves g c =
     (leaves_on g.F.Feed (fed c.args.reader.now c.args.feed.now) (fed c.loop-tok.reader c.loop-tok.feed) (fed c.next_token.new.reader c.next_token.new.feed) _
     c.loop-tok.invariant.leaves (rw c.in_err-offset.was at c.next_token.ensures.leaves)))
 
+-- one token more was taken, with those at hand behind it
 pub loop-tok-preserved : goal.loop-tok-preserved
 loop-tok-preserved g c =
     let counts : length (open_branches g.A.Asker.plan c.loop-tok.checker) ≡ length c.loop-tok.checker.places =
@@ -62,6 +63,7 @@ loop-tok-preserved g c =
           c.take_at_hand.ensures.leaves;
     }
 
+-- the tokens at hand closed the last place
 pub returns-then-not-is_open-clause-leads : goal.returns-then-not-is_open-clause-leads
 returns-then-not-is_open-clause-leads g c =
     let none =
@@ -90,6 +92,7 @@ returns-then-not-is_open-clause-leaves g c =
     (rw c.in_ok-offset.was at c.next_token.ensures.leaves)))
     c.take_at_hand.ensures.leaves
 
+-- the token closed the last place
 pub returns-in-Ok-Done-clause-closed : goal.returns-in-Ok-Done-clause-closed
 returns-in-Ok-Done-clause-closed g c =
     let counts : length (open_branches g.A.Asker.plan c.loop-tok.checker) ≡ length c.loop-tok.checker.places =

@@ -19,6 +19,7 @@ returns-in-Some-clause-token g c =
     (not_begun g.F.Feed (fed c.args.reader.now c.args.feed.now) c.requires.between) c.at_hand.result.now c.in-Some.taken _ took
     c.in-Some.ensures.gives
 
+-- the bytes are misspelt where no token came
 pub returns-in_err-offset-clause-misspelt : goal.returns-in_err-offset-clause-misspelt
 returns-in_err-offset-clause-misspelt g c =
     let p = err_from_is_err_and c.from_residual-in_err-offset.result c.from_residual-in_err-offset.ensures.1 in
@@ -34,6 +35,7 @@ returns-in_err-offset-clause-misspelt g c =
     (subst (λ (r : Progress). IsMisspeltBehind g.F.Feed (fed r c.more.new.self) c.split_token.new.feed c.in_err-offset.field-0.0) reader_is
     c.in_err-offset.ensures.misspelt))
 
+-- a token that does not stand whole at hand came
 pub returns-clause-token : goal.returns-clause-token
 returns-clause-token g c =
     let same : IsAsked g.F.Feed c.args.feed.now c.more.new.self =

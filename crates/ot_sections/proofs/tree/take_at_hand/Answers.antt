@@ -12,6 +12,7 @@ pass-requires-clause-tokens g c =
     (taken_passed c.args.reader.now (take took.result.0 c.at_hand-bytes.result.now) (open_branches g.A.Asker.plan c.args.checker.now)
     (open_branches g.A.Asker.plan took.new.checker) c.requires.between c.requires.tree took.ensures.taken)
 
+-- the tokens that were taken lead behind them
 pub returns-clause-leads : goal.returns-clause-leads
 returns-clause-leads g c =
     let took = c.take_tokens-taken in

@@ -16,6 +16,7 @@ returns-clause-taken g c =
     (c.close.ensures.taken front.1.0
     (subst (λ (l : List Lit). pick_verdict l front.1.0 ≡ Ok tt) (sym c.in_ok-last.ensures.cases.0 ∙ c.answers.ensures) front.1.3))
 
+-- a cycle leaves one place less open
 pub returns-clause-count : goal.returns-clause-count
 returns-clause-count g c =
     let front = c.in_ok-len.ensures in

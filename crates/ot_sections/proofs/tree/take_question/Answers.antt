@@ -11,6 +11,7 @@ use Rattle.ot_sections.proofs.Taking.{byte_taken, skip_taken}
 use Rattle.ot_sections.proofs.Tokens.{open_as_counted}
 use Rattle.ot_sections.proofs.tree.take_question.Goals as goal
 
+-- the question was taken, and the cycle behind it
 pub returns-in-true-clause-taken : goal.returns-in-true-clause-taken
 returns-in-true-clause-taken g c =
     let old = open_branches g.A.Asker.plan c.args.checker.now in
@@ -27,6 +28,7 @@ returns-in-true-clause-taken g c =
     subst (λ (l : List ℕ). AreTakenFront old new (63 ∷ l) (c.in-Some.len + 2)) (sym rest_is)
     (skip_taken (c.answers.result.now ++ lit ∷ []) behind c.in-Some.len old new front skips)
 
+-- a question and a cycle leave as many places open
 pub returns-in-true-clause-count : goal.returns-in-true-clause-count
 returns-in-true-clause-count g c =
     let old = open_branches g.A.Asker.plan c.args.checker.now in

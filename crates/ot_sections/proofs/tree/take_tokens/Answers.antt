@@ -3,6 +3,7 @@ use Rattle.cert_check.specs.Judging.{open_branches}
 use Rattle.ot_sections.proofs.Taking.{bytes_from, more_taken}
 use Rattle.ot_sections.proofs.tree.take_tokens.Goals as goal
 
+-- further tokens were taken at the front of what was left
 pub tokens-preserved : goal.tokens-preserved
 tokens-preserved g c =
     let bytes = c.args.bytes.now in

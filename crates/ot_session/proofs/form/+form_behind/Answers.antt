@@ -21,6 +21,7 @@ use Rattle.ot_session.proofs.Reaches.{form-usable}
 use Rattle.ot_session.proofs.Sought.{form_code, MaySeek-own, MaySeek-member, HasSought-own, HasSought-by}
 use Rattle.ot_session.proofs.form.+form_behind.Goals as goal
 
+-- a form that is found in the table is the one that is sought
 pub returns-in-Some-find-clause-ok : goal.returns-in-Some-find-clause-ok
 returns-in-Some-find-clause-ok t c =
     let f : Function = function_of c.args.seeking.rules.now in
@@ -34,6 +35,7 @@ returns-in-Some-find-clause-ok t c =
     table.has.forms (sym c.find.ensures ∙ c.in-Some-find.is) m.sought c.requires.counts).0))
     (Coded-set form_code _ _) (λ is. is)
 
+-- a form that is found in the table was counted before, so nothing changes
 pub returns-in-Some-find-clause-sought : goal.returns-in-Some-find-clause-sought
 returns-in-Some-find-clause-sought t c = λ names others has total.
     let f : Function = function_of c.args.seeking.rules.now in
@@ -70,6 +72,7 @@ with_one_less-fewer-requires-clause-site t c =
     (sym c.in-Some.ensures)).made) in
     rw c.maker.ensures (∥∥₁_elim site le_prop (λ s. s.0), ∥∥₁_elim site le_prop (λ s. s.1))
 
+-- the site of the member that is taken out made at least one of the list
 pub with_one_less-fewer-requires-clause-some : goal.with_one_less-fewer-requires-clause-some
 with_one_less-fewer-requires-clause-some t c =
     let past : Past = past_of c.args.seeking.made.now in
@@ -85,6 +88,7 @@ with_one_less-fewer-requires-clause-some t c =
     ∙ get_or-clock past l (maker past x) site.0 site.1 in
     omega (arith, count, c.closed_lists_are_told_by_their_counts.ensures.taken_out past (maker past x) x l opening.member refl))
 
+-- the operation may be sought behind the shorter list
 pub form_behind-requires : goal.form_behind-requires
 form_behind-requires t c =
     let f : Function = function_of c.args.seeking.rules.now in
@@ -112,6 +116,7 @@ form_behind-requires t c =
     (MaySeek-own f past seen o x l (λ k m. c.sublists_are_told_by_their_sets.ensures.without x k m) b.0 b.1)) in
     (search (rules, shorter), (may, (fewer, (omega (arith, shorter, c.requires.few), (c.requires.table, c.requires.counted)))))
 
+-- the search of the operation's own form stopped
 pub returns-in_err-own-clause-sought : goal.returns-in_err-own-clause-sought
 returns-in_err-own-clause-sought t c = λ names others has total.
     let f : Function = function_of c.args.seeking.rules.now in
@@ -130,6 +135,7 @@ returns-in_err-own-clause-sought t c = λ names others has total.
     subst (λ (r : Result Op Refusal). HasSought f past seen names others o l c.form_behind.new.table c.form_behind.new.counted r) (sym same)
     (HasSought-own f past seen o x l split names others c.form_behind.new.table c.form_behind.new.table c.form_behind.new.counted e stopped)
 
+-- the member that is taken out may be sought behind the shorter list, with the table as it is now
 pub form_behind-requires-2 : goal.form_behind-requires-2
 form_behind-requires-2 t c =
     let f : Function = function_of c.args.seeking.rules.now in
@@ -167,6 +173,7 @@ form_behind-requires-2 t c =
     })) in
     (search (rules, shorter), (may, (fewer, (omega (arith, shorter, c.requires.few), (table, c.in_ok-own.ensures.counted)))))
 
+-- the operation's own form is of a declared kind
 pub transform-requires-clause-a_declared : goal.transform-requires-clause-a_declared
 transform-requires-clause-a_declared t c =
     let f : Function = function_of c.args.seeking.rules.now in
@@ -184,6 +191,7 @@ transform-requires-clause-a_declared t c =
     (c.forms_keep_all_but_the_position.ensures.near f past most_cells o (without x l) c.in_ok-own.own c.head-head.ensures.valid
     (λ y _. m.usable.near y) opening.next.made (c.members_were_made.ensures.made past (without x l) opening.closed) is)).0)
 
+-- the operation's own form is in range
 pub transform-requires-clause-a_in_range : goal.transform-requires-clause-a_in_range
 transform-requires-clause-a_in_range t c =
     let f : Function = function_of c.args.seeking.rules.now in
@@ -201,6 +209,7 @@ transform-requires-clause-a_in_range t c =
     (c.forms_keep_all_but_the_position.ensures.near f past most_cells o (without x l) c.in_ok-own.own c.head-head.ensures.valid
     (λ y _. m.usable.near y) opening.next.made (c.members_were_made.ensures.made past (without x l) opening.closed) is)).1)
 
+-- the form of the member that is taken out is of a declared kind
 pub transform-requires-clause-b_declared : goal.transform-requires-clause-b_declared
 transform-requires-clause-b_declared t c =
     let f : Function = function_of c.args.seeking.rules.now in
@@ -217,6 +226,7 @@ transform-requires-clause-b_declared t c =
     (c.forms_keep_all_but_the_position.ensures.near f past most_cells x (without x l) c.in_ok-by.by c.head-head.ensures.valid
     (λ y _. m.usable.near y) opening.made (c.members_were_made.ensures.made past (without x l) opening.closed) is)).0)
 
+-- the form of the member that is taken out is in range
 pub transform-requires-clause-b_in_range : goal.transform-requires-clause-b_in_range
 transform-requires-clause-b_in_range t c =
     let f : Function = function_of c.args.seeking.rules.now in
@@ -233,6 +243,7 @@ transform-requires-clause-b_in_range t c =
     (c.forms_keep_all_but_the_position.ensures.near f past most_cells x (without x l) c.in_ok-by.by c.head-head.ensures.valid
     (λ y _. m.usable.near y) opening.made (c.members_were_made.ensures.made past (without x l) opening.closed) is)).1)
 
+-- the search of the form of the member that is taken out stopped
 pub returns-in_err-by-clause-sought : goal.returns-in_err-by-clause-sought
 returns-in_err-by-clause-sought t c = λ names others has total.
     let f : Function = function_of c.args.seeking.rules.now in
@@ -256,6 +267,7 @@ returns-in_err-by-clause-sought t c = λ names others has total.
     (HasSought-by f past seen o x l split names others own.free c.form_behind-2.new.table c.form_behind-2.new.table
     c.form_behind-2.new.counted e stopped)
 
+-- both forms are there, and no more forms may be counted
 pub returns-in_err-count_one-clause-sought : goal.returns-in_err-count_one-clause-sought
 returns-in_err-count_one-clause-sought t c = λ names others has total.
     let f : Function = function_of c.args.seeking.rules.now in
@@ -279,6 +291,7 @@ returns-in_err-count_one-clause-sought t c = λ names others has total.
     c.form_behind.new.table c.form_behind-2.new.table c.form_behind.new.counted c.form_behind-2.new.counted
     (c.in_ok-own.ensures.sought names others has total) c.in_ok-by.ensures.sought new full.1)
 
+-- both forms are there, and the one has no form behind the other
 pub returns-in_default-transform-clause-sought : goal.returns-in_default-transform-clause-sought
 returns-in_default-transform-clause-sought t c = λ names others has total.
     let f : Function = function_of c.args.seeking.rules.now in
@@ -305,6 +318,7 @@ returns-in_default-transform-clause-sought t c = λ names others has total.
     (c.forms_are_made_from_shorter_ones.ensures.moved f past o l x (sym c.in-Some.ensures)
     ∙ rw (own_is, by_is) (sym c.transform.ensures ∙ c.in_default-transform.is))
 
+-- both forms are there, and the form that they make is counted and stored
 pub returns-clause-sought : goal.returns-clause-sought
 returns-clause-sought t c = λ names others has total.
     let f : Function = function_of c.args.seeking.rules.now in

@@ -23,6 +23,7 @@ execute-requires c =
     let room : length site.integrated ≡ MAX_MADE = (AllByRecursion-at IsMarked sites c.args.place site marked was).integrated in
     rw (← c.index-sites-place.is) (omega (arith, room, c.requires.few, c.len-number.ensures)))
 
+-- the site at the place executed the operation, which was put behind those made
 pub returns-in-Ok-clause-ok : goal.returns-in-Ok-clause-ok
 returns-in-Ok-clause-ok c =
     let sites : List Site = c.args.sites.now in

@@ -15,6 +15,7 @@ use Rattle.ot_session.proofs.Integrating.{Changes, Changes-executed, MaySeek-nex
 use Rattle.ot_session.proofs.Integrating.{IsStuck-refused, count_behind-sought, HasIntegrated-sought, CanTake-sought}
 use Rattle.ot_session.proofs.taking.integrate.Goals as goal
 
+-- the operation may be sought behind what the site has integrated
 pub form_behind-requires-clause-may : goal.form_behind-requires-clause-may
 form_behind-requires-clause-may c =
     let f : Function = function_of c.args.rules.now in
@@ -125,6 +126,7 @@ set-requires c =
     ∥∥₁_elim c.requires.can le_prop (λ k.
     omega (arith, k.sorted.marked.held, c.requires.next.made, c.requires.few, ap (λ (marks : List Bool). length marks) c.in-Ok.ensures.ok.held))
 
+-- the operation's form was sought, is enabled, and was executed
 pub returns-in-Ok-clause-ok : goal.returns-in-Ok-clause-ok
 returns-in-Ok-clause-ok c =
     let items : c.in_ok-seen.seen.items ≡ reverse c.args.site.now.seen.items = c.in_ok-seen.ensures ∙ ap reverse c.deref.ensures.value in
@@ -139,6 +141,7 @@ returns-in-Ok-clause-ok c =
     (c.forms_are_sought_before_they_are_made.ensures.counted_next (past_of c.args.made.now)) new change
     (ap (λ (cells : ℕ). is_enabled p cells) (sym c.len.ensures) ∙ sym c.enabled.ensures.test ∙ c.if-not-enabled.false)
 
+-- a site that executed the form can take further operations
 pub returns-in-Ok-clause-can : goal.returns-in-Ok-clause-can
 returns-in-Ok-clause-can c =
     let items : c.in_ok-seen.seen.items ≡ reverse c.args.site.now.seen.items = c.in_ok-seen.ensures ∙ ap reverse c.deref.ensures.value in

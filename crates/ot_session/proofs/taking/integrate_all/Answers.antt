@@ -11,6 +11,7 @@ use Rattle.ot_session.specs.Taking.{standing, HasIntegrated, IsTurn, IsCourse, s
 use Rattle.ot_session.proofs.Turns.{IsTurn-later, IsNext-unknown, IsSorted-same, IsLeastDue-marked, IsNext-due, NoneIsDue-marked}
 use Rattle.ot_session.proofs.taking.integrate_all.Goals as goal
 
+-- the course begins with the operation itself
 pub loop-next-init : goal.loop-next-init
 loop-next-init c =
     let f : Function = function_of c.args.rules.now in
@@ -50,6 +51,7 @@ pub returns-in-Err-NoMemory-clause-sorted : goal.returns-in-Err-NoMemory-clause-
 returns-in-Err-NoMemory-clause-sorted c = ∥∥₁_map c.loop-next.invariant.can
     (λ k. IsSorted-same (length c.args.made.now) c.loop-next.site c.integrate.new.site c.in-Err-NoMemory.ensures.err k.sorted)
 
+-- one operation more is integrated, of those that were made
 pub loop-next-smaller : goal.loop-next-smaller
 loop-next-smaller c =
     let f : Function = function_of c.args.rules.now in
@@ -66,6 +68,7 @@ loop-next-smaller c =
     omega (arith, longer, few)) in
     less
 
+-- one operation more of the course, and the least of those held that are due is next
 pub loop-next-preserved : goal.loop-next-preserved
 loop-next-preserved c =
     let f : Function = function_of c.args.rules.now in

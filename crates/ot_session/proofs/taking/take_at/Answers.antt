@@ -44,6 +44,7 @@ take_here-requires-clause-total c =
     subst (λ (found : Option Site). IfSome found (λ s. length (counted past (reverse s.seen.items)) ≤ c.args.total.now)) was c.requires.total in
     subst (λ (s : Site). length (counted past (reverse s.seen.items)) ≤ c.args.total.now) c.index-sites-place.is some
 
+-- the site at the place takes the operation
 pub returns-clause-takes : goal.returns-clause-takes
 returns-clause-takes c =
     let f : Function = function_of c.args.rules.now in

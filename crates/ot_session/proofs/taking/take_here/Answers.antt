@@ -18,6 +18,7 @@ returns-then-is_marked-2-clause-sorted c = ∥∥₁_map c.requires.can (λ k. k
 pub set-requires : goal.set-requires
 set-requires c = ∥∥₁_elim c.requires.can le_prop (λ k. omega (arith, k.sorted.marked.held, c.requires.made, c.requires.few))
 
+-- something before the operation is missing, so it is held
 pub returns-then-not-knows_all-clause-takes : goal.returns-then-not-knows_all-clause-takes
 returns-then-not-knows_all-clause-takes c =
     let past : Past = past_of c.args.made.now in
@@ -50,6 +51,7 @@ returns-then-not-knows_all-clause-sorted c =
     ∥∥₁_map c.requires.can (λ k. IsSorted-held (length c.args.made.now) n site new holds c.requires.made
     (omega (arith, k.sorted.marked.held, c.requires.made, c.requires.few)) unmarked k.sorted)
 
+-- a site that holds one operation more can take further ones
 pub returns-then-not-knows_all-clause-can : goal.returns-then-not-knows_all-clause-can
 returns-then-not-knows_all-clause-can c =
     let site : Site = c.args.site.now in

@@ -6,6 +6,7 @@ use Rattle.ot_prove.proofs.Ways.{side_has, way_on}
 use Rattle.ot_settle.proofs.Walks.{met_on}
 use Rattle.ot_settle.proofs.ending.end_at.Goals as goal
 
+-- one question more is answered as the values say
 pub loop-question-preserved : goal.loop-question-preserved
 loop-question-preserved g c =
     let A = g.A.Asker in

@@ -7,6 +7,7 @@ use Rattle.ot_starts.proofs.LaidMarks.{yes_falls, no_falls, yes_belongs, no_belo
 use Rattle.ot_starts.proofs.SettledGoals.{settled_on}
 use Rattle.ot_starts.proofs.laying.+laid.Goals as goal
 
+-- the goal behind no is lighter, and of the obligation
 pub laid-requires : goal.laid-requires
 laid-requires t c =
     let f = function_of c.args.rules.now in
@@ -21,6 +22,7 @@ laid-requires t c =
       ),
     )
 
+-- the goal behind yes is lighter, and of the obligation
 pub laid-requires-in-If : goal.laid-requires-in-If
 laid-requires-in-If t c =
     let f = function_of c.args.rules.now in

@@ -7,6 +7,7 @@ use Rattle.marked_goals.specs.Marking.{marked_goal}
 use Rattle.ot_starts.proofs.Turns.{question_begins}
 use Rattle.ot_starts.proofs.walking.asked.Goals as goal
 
+-- the turn asks the question's literal, and goes on with both settled goals
 pub returns : goal.returns
 returns c = λ ob p node e.
     let f = function_of c.args.rules.now in

@@ -10,6 +10,7 @@ use Rattle.ot_top.proofs.Shows.{reply_known, shows}
 use Rattle.ot_top.proofs.Told.{named, whole}
 use Rattle.ot_top.proofs.program.run.Goals as goal
 
+-- what the status shows, by the laws of the layers below
 pub returns-clause-shows : goal.returns-clause-shows
 returns-clause-shows g c =
     λ holds known.
@@ -48,6 +49,7 @@ returns-clause-answered g c =
           let told = c.write_answer.ensures.replied no_shelf_fault no_sink_fault no_want in (told.0, told.4));
     }
 
+-- when the statuses of faults and of want of memory come, and what was written then
 pub returns-clause-faults : goal.returns-clause-faults
 returns-clause-faults g c =
     record {

@@ -5,6 +5,7 @@ use Rattle.ot_words.specs.Words.{bare_app, budget_rule, flag_rule, required_rule
 use Rattle.ot_words.proofs.Apps.{with_argument}
 use Rattle.ot_words.proofs.words.deciding_app.Goals as goal
 
+-- the command has its flag, its budget and its function, in this order
 pub returns : goal.returns
 returns c =
     let bare = bare_app c.args.name.now in

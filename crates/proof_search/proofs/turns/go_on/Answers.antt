@@ -2,6 +2,7 @@ use Rattle.std.proofs.Common.{inl, inr, refl, sym, ap, ◌∙◌, [], ◌∷◌,
 use Rattle.proof_search.specs.declared.open.Search.{Search}
 use Rattle.proof_search.proofs.turns.go_on.Goals as goal
 
+-- the innermost part was taken out, and is open
 pub returns-then-branch : goal.returns-then-branch
 returns-then-branch g c =
     let kept = c.answer.ensures in
@@ -18,6 +19,7 @@ returns-then-branch g c =
       asked = ap (λ (s : Search g.row.N.Denot). s.asked) kept;
     }
 
+-- the innermost part was taken out, and what was open stays
 pub returns : goal.returns
 returns g c =
     let kept = c.answer.ensures in

@@ -1,6 +1,7 @@
 use Rattle.proof_sections.proofs.Standing.{PartsStayFound, refusal_stands, stays_found}
 use Rattle.proof_sections.proofs.laws.refusals_stand.Goals as goal
 
+-- all that is found exactly stays found, so refusals stand
 pub returns : goal.returns
 returns g c =
     let lines = c.lines_are_found_exactly.ensures in

@@ -2,6 +2,7 @@ use Rattle.proof_sections.proofs.Accepting.{LinesAreFound, proof_accepted}
 use Rattle.proof_sections.proofs.Made.{accepted_made}
 use Rattle.proof_sections.proofs.spelled.proofs_are_accepted_exactly.Goals as goal
 
+-- bytes that are accepted are made of trees, and a proof is accepted
 pub returns : goal.returns
 returns g c compare plan names bytes level =
     let lines : LinesAreFound = record {

@@ -40,6 +40,7 @@ returns-then-as_slice-eq-MAX_PICKS-clause-missing t c =
     (omega (arith, count, ap length c.as_slice.ensures.value, c.if-as_slice-eq-MAX_PICKS.true)) c.in-Ok.ensures.found c.in-Some.ensures.cases.0
     c.if-byte-eq59.false c.if-byte-ne44.false
 
+-- the first number, and those that are found behind it
 pub returns-clause-found : goal.returns-clause-found
 returns-clause-found t c =
     let count = one_more c.args.picks.now c.push.new.self c.in-Ok.found.0 c.push.ensures in

@@ -14,6 +14,7 @@ use Rattle.ot_rewrite.specs.Splits.{comparisons_left}
 use Rattle.test_layers.proofs.GuardGoals.{guard_goal}
 use Rattle.test_layers.proofs.askers.asker_of_guard.Goals as goal
 
+-- the goal that is made of the guard is a node of the obligation
 pub over-requires : goal.over-requires
 over-requires c =
     let f = function_of c.args.rules.now in

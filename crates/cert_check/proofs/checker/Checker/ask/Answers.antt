@@ -5,6 +5,7 @@ use Rattle.cert_check.proofs.Places.{own_after, question_taken}
 use Rattle.cert_check.proofs.checker.Checker.ask.Goals as goal
 use Rattle.cert_check.proofs.checker.Checker.ask.Goals.{in-Ok, in-Err}
 
+-- the checker is under way behind the question, or as before where memory was wanting
 pub invariant_of-self : goal.invariant_of-self
 invariant_of-self g c =
     let places = c.self.inside.path in

@@ -6,6 +6,7 @@ use Rattle.cert_check.proofs.Places.{answers_after, cycle_taken, own_after, own_
 use Rattle.cert_check.proofs.checker.Checker.skip.Goals as goal
 use Rattle.cert_check.proofs.checker.Checker.skip.Goals.{in-Ok, in-Err}
 
+-- the checker is under way behind the question and the cycle, or as before where memory was wanting
 pub invariant_of-self : goal.invariant_of-self
 invariant_of-self g c =
     let places = c.self.inside.path in
@@ -33,6 +34,7 @@ invariant_of-self g c =
           (rw w.in-Err.ensures.err refl)
     ]
 
+-- the question's token is taken, and then that of the cycle
 pub returns-clause-taken : goal.returns-clause-taken
 returns-clause-taken g c =
     λ done picks among.

@@ -13,6 +13,7 @@ returns-then-as_slice-eq-MAX_PICKS c =
     byte_is_wrong _ _ _ _ c.requires.begun.1 c.in-Some.is short (λ low high. omega arith) (λ e. omega arith)
     (λ e room. omega (arith, c.if-as_slice-eq-MAX_PICKS.true, ap length c.as_slice.ensures.value))
 
+-- a comma behind a number puts the number with the others
 pub returns : goal.returns
 returns c =
     let short : c.in-Some.number < PICK_LIMIT = subst IsShortNumber c.in-Some.is c.requires.begun.2 in

@@ -15,6 +15,7 @@ returns-in-Some c =
       reads = piece_reads c.args.self.now c.feed_token.new.self c.args.piece.now c.in-Some.taken (Ok (Some _)) given;
     }
 
+-- where no token is read at once, the bytes are fed one after another
 pub returns-in-None : goal.returns-in-None
 returns-in-None c =
     let given =

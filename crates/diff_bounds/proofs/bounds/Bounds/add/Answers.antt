@@ -4,6 +4,7 @@ use Rattle.diff_graph.specs.Tables.{kept_of, IsAtMost}
 use Rattle.diff_bounds.proofs.Kept.{AreModest-from_bounds, IsNamed-from_bounds}
 use Rattle.diff_bounds.proofs.bounds.Bounds.add.Goals as goal
 
+-- the table is square and its offsets are modest, and the literal is named and small
 pub insert-requires : goal.insert-requires
 insert-requires g c = (
   search rules,

@@ -4,6 +4,7 @@ use Rattle.diff_bounds.specs.Kept.{has_room}
 use Rattle.diff_bounds.proofs.Kept.{AreModest-from_bounds, IsNamed-from_bounds}
 use Rattle.diff_bounds.proofs.bounds.Bounds.allows.Goals as goal
 
+-- the table is square and its offsets are modest, and the literal is named and small
 pub allows-requires : goal.allows-requires
 allows-requires g c =
     let rows = c.self.inside.rows in (

@@ -4,6 +4,7 @@ use Rattle.diff_graph.specs.Tables.{kept_of}
 use Rattle.diff_graph.specs.Steps.{numbers_along}
 use Rattle.diff_bounds.proofs.bounds.Bounds.append_why_not.Goals as goal
 
+-- the literal's number and those of the chain that leads back name a negative cycle
 pub returns-clause-ok : goal.returns-clause-ok
 returns-clause-ok g c =
     let rows = c.args.self.now in

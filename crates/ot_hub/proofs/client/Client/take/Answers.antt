@@ -54,6 +54,7 @@ returns-in_err-execute c =
     (rw (← c.as_slice.ensures) c.in-Some.ensures) (ap (is_enabled c.in-Some.form) (sym c.len.ensures) ∙ sym c.if-not-enabled.ensures.test)) in
     search (rules, leads)
 
+-- another client's entry: its form was executed, and what is pending was carried over it
 pub returns : goal.returns
 returns c =
     let f : Function = function_of c.args.rules.now in

@@ -27,6 +27,7 @@ leads_at : (all : List Client) (i : ℕ) (step : Step Client) → {P : Client �
     → LeadsTo (λ (clients : List Client). Unit {0}) (step_map (slice_set all i) step)
 leads_at all i step leads = record { to = slice_set all i leads.to; is = ap (step_map (slice_set all i)) leads.is; holds = tt }
 
+-- the client can take the next entry of the log
 pub take_at-requires-clause-client : goal.take_at-requires-clause-client
 take_at-requires-clause-client c =
     let s = c.args.self.now in
@@ -45,6 +46,7 @@ take_at-requires-clause-client c =
     (one-kept f s.made s.server all s.kept place inside) s.kept.server.few (slice_get_within s.server.log one.received entry next) entry.op
     (All-at (λ e. IsUsable f (reach (length s.server.log)) e.op) s.server.log one.received entry s.kept.server.log next))
 
+-- the hub stays kept, counted and in step where the client took the next entry
 pub invariant_of-self-in-Ok : goal.invariant_of-self-in-Ok
 invariant_of-self-in-Ok c =
     let s = c.args.self.now in
@@ -80,6 +82,7 @@ invariant_of-self-in-Ok c =
           s.first s.server all k c.args.client there entry next) (subst (λ (n : ℕ). client_step f n entry one ≡ To to.client) number to.is)));
     }
 
+-- the client's step is done, and so is that of the hub
 pub returns-in-Ok-clause-moved : goal.returns-in-Ok-clause-moved
 returns-in-Ok-clause-moved c =
     let s = c.args.self.now in
@@ -109,6 +112,7 @@ invariant_of-self-in-Err c =
     let items : (with_items s.clients new).items ≡ s.clients.items = items_same s.clients new same in
     record { small = s.small; kept = rw items s.kept; counted = rw items s.counted; in_step = rw items s.in_step }
 
+-- the client's step was refused, and so was that of the hub
 pub returns-in-Err-clause-moved : goal.returns-in-Err-clause-moved
 returns-in-Err-clause-moved c =
     let s = c.args.self.now in
@@ -133,6 +137,7 @@ returns-in-Err-clause-moved c =
     (Err c.in-Err.refusal))
     (sym items) (down-refused hub c.args.client there entry next new c.in-Err.refusal refused)
 
+-- a client in step is not stuck
 pub returns-in-Err-clause-never_stuck : goal.returns-in-Err-clause-never_stuck
 returns-in-Err-clause-never_stuck c tp1 chars is =
     let s = c.args.self.now in

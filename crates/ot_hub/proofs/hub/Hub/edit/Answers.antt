@@ -27,6 +27,7 @@ edit_at-requires-clause-client c =
     (CanEdit-kept (function_of s.rules) s.made s.server all s.kept (c.args.client - 1) (omega (arith, there.low, there.high)) c.args.op enabled
     (omega (arith, s.kept.few, c.if-self-eq-MAX_EDITS.false)))
 
+-- the hub stays kept, counted and in step where the client made the operation
 pub invariant_of-self-in-Ok : goal.invariant_of-self-in-Ok
 invariant_of-self-in-Ok c =
     let s = c.args.self.now in

@@ -27,6 +27,7 @@ use Rattle.ot_hub.proofs.Acting.{inside_of, client_read, items_set}
 use Rattle.ot_hub.proofs.Together.{led_to, not_stuck, AreCounted-up, AreInStep-up}
 use Rattle.ot_hub.proofs.hub.Hub.up.Goals as goal
 
+-- the hub stays kept, counted and in step where the server took the message
 pub invariant_of-self : goal.invariant_of-self
 invariant_of-self c =
     let s = c.args.self.now in
@@ -76,6 +77,7 @@ invariant_of-self c =
           s.first s.server all k c.args.client there message first s.kept.sides) c.in-Ok.ensures));
     }
 
+-- the server's step is done, the message is gone, and so the hub's step is done
 pub returns-in-Ok-clause-moved : goal.returns-in-Ok-clause-moved
 returns-in-Ok-clause-moved c =
     let s = c.args.self.now in
@@ -94,6 +96,7 @@ returns-in-Ok-clause-moved c =
     let whole : Server → HubData = λ server. record hub { server = server; clients = slice_set all place (sent one) } in
     (there, up_with-first hub c.args.client one.messages message first ∙ rw items (ap (step_map whole) c.in-Ok.ensures))
 
+-- the server's step was refused, and so was that of the hub
 pub returns-in-Err-clause-moved : goal.returns-in-Err-clause-moved
 returns-in-Err-clause-moved c =
     let s = c.args.self.now in
@@ -114,6 +117,7 @@ returns-in-Err-clause-moved c =
     (server_step f c.args.client message s.server) whole c.in-Err.refusal c.in-Err.ensures
     (ap (λ (server : Server). record hub { server = server; is_open = false })))
 
+-- a server in step is not stuck
 pub returns-in-Err-clause-never_stuck : goal.returns-in-Err-clause-never_stuck
 returns-in-Err-clause-never_stuck c tp1 chars is =
     let s = c.args.self.now in

@@ -21,6 +21,7 @@ carry_list-requires-clause-usable c =
     rw c.as_slice-ahead.ensures (CanBeCarried-ahead c.enabled_operations_are_near.ensures.wider (function_of c.args.rules.now) c.args.self.now c.requires.kept
     (c.args.client - 1) c.index.result.now c.index.ensures c.args.message.now.op c.requires.usable)
 
+-- the form was executed, put at the end of the log, and told to the other clients
 pub returns : goal.returns
 returns c =
     let f : Function = function_of c.args.rules.now in

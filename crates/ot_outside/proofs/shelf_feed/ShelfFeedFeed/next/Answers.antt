@@ -22,6 +22,7 @@ returns-clause-ok g c =
     let some : 0 < c.fill.new.self.room = omega (arith, c.in_ok-fill.ensures.room) in
     rw (← c.in_ok-fill.ensures.room, ← c.in_ok-fill.ensures.file_left) (next_given _ _ _ _ _ some below within)
 
+-- what was kept before the call is kept, with the byte that was given
 pub returns-clause-keeps : goal.returns-clause-keeps
 returns-clause-keeps g c =
     λ before kept.

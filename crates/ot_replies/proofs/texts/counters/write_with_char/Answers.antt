@@ -9,6 +9,7 @@ use Rattle.case_json.specs.DocText.{char_text}
 use Rattle.ot_replies.proofs.Lines.{parts_joined}
 use Rattle.ot_replies.proofs.texts.counters.write_with_char.Goals as goal
 
+-- the word, the position, the character and the site, with spaces between them
 pub returns : goal.returns
 returns c =
     let word = c.args.word.now in

@@ -50,6 +50,7 @@ execute_at-requires-clause-enabled c =
     subst (λ (d : List Cell). IsEnabled c.args.op (length d))
     (ap document_in (slice_get-map view_site sites i ∙ ap (option_map view_site) is)) enabled))
 
+-- where memory was wanting the sites are as they were, and the session is not open
 pub invariant_of-self-in-Err : goal.invariant_of-self-in-Err
 invariant_of-self-in-Err c =
     let s = c.args.self.now in
@@ -74,6 +75,7 @@ invariant_of-self-in-Err c =
       counts = λ is. absurd (false≢true is);
     }
 
+-- the session is kept, with its forms and their count, where the site executed the operation
 pub invariant_of-self-in-Ok-1 : goal.invariant_of-self-in-Ok-1
 invariant_of-self-in-Ok-1 c =
     let s = c.args.self.now in
@@ -125,6 +127,7 @@ invariant_of-self-in-Ok-1 c =
           (λ old new. c.steps_count_what_they_seek.ensures.all_made f old new t o) s.counted (s.counts is)));
     }
 
+-- the operation is the last one made, and its site alone has executed it
 pub returns-in-Ok-clause-made : goal.returns-in-Ok-clause-made
 returns-in-Ok-clause-made c =
     let s = c.args.self.now in

@@ -6,6 +6,7 @@ use Rattle.ot_session.specs.Past.{past_of}
 use Rattle.ot_session.proofs.Beginning.{fresh-viewed, KeepsForms-fresh, IsKept-fresh, all_counted-fresh}
 use Rattle.ot_session.proofs.session.Session.new.Goals as goal
 
+-- a new session is kept, and nothing is counted
 pub invariant_of-result : goal.invariant_of-result
 invariant_of-result c = record {
   few = omega (arith, ap length c.new.ensures.items);

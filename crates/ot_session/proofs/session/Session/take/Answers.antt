@@ -20,6 +20,7 @@ take_at-taken-requires-clause-total c =
     rw (c.deref.ensures.value, c.deref_mut.ensures.value)
     (counted-before c.args.self.now c.args.site (c.if-not-has_site.ensures.0 refl) c.requires)
 
+-- the session is kept, with its forms and their count as long as it is open
 pub invariant_of-self-2 : goal.invariant_of-self-2
 invariant_of-self-2 c =
     let s = c.args.self.now in

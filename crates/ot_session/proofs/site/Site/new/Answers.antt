@@ -4,6 +4,7 @@ use Rattle.ot_session.specs.declared.limits.TheConstants.{MAX_MADE}
 use Rattle.ot_session.proofs.Marks.{unmarked}
 use Rattle.ot_session.proofs.site.Site.new.Goals as goal
 
+-- the site holds the document, and nothing is integrated, held or stored
 pub returns : goal.returns
 returns c =
     let integrated = c.in_ok-integrated.ensures in

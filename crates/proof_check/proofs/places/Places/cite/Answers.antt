@@ -23,6 +23,7 @@ overflow_sub-cycles g c =
     cycles_more (length c.self.inside.list.items) ls c.self.inside.waiting.items c.wait_for_all.new.waiting.items waits in
     omega (arith, before, now, more)
 
+-- what waits innermost are the cycles that were just put there
 pub forget-requires : goal.forget-requires
 forget-requires g c =
     let depth : c.len-depth.result ≡ length c.self.inside.list.items = c.len-depth.ensures ∙ c.self.inside.list.ok.0 in
@@ -38,6 +39,7 @@ forget-requires g c =
     c.self.inside.waiting.items c.wait_for_all.new.waiting.items c.args.self.now c.self.view_is c.requires.opened waits in
     rw (c.in-Err.ensures.err, cycles) waiting.0
 
+-- without the cycles the places are as they were
 pub returns-in-Err-clause-err : goal.returns-in-Err-clause-err
 returns-in-Err-clause-err g c =
     let depth : c.len-depth.result ≡ length c.self.inside.list.items = c.len-depth.ensures ∙ c.self.inside.list.ok.0 in
@@ -55,6 +57,7 @@ returns-in-Err-clause-err g c =
     rw (c.in-Err.ensures.err, cycles) waiting.1 in
     c.forget.ensures ∙ forgotten
 
+-- a cycle waits for each literal of the lemma and for each condition
 pub returns-in-Ok-clause-ok : goal.returns-in-Ok-clause-ok
 returns-in-Ok-clause-ok g c =
     let depth : c.len-depth.result ≡ length c.self.inside.list.items = c.len-depth.ensures ∙ c.self.inside.list.ok.0 in

@@ -26,6 +26,7 @@ returns-in_ok-reserve-in-Some-Place-clause-ok g c =
     c.in-Some-Place.depth c.in-Some-Place.answer c.args.self.now c.self.view_is c.requires c.self.invariant same
     (rw (c.truncate.ensures.items, c.reserve.ensures.items) at c.push_reserved.ensures.items)
 
+-- a lemma whose tree has ended is known, and the place where it was begun is next
 pub returns-in_ok-push-in-Some-Lemma-clause-ok : goal.returns-in_ok-push-in-Some-Lemma-clause-ok
 returns-in_ok-push-in-Some-Lemma-clause-ok g c =
     let base = c.self.inside.base in

@@ -1,6 +1,7 @@
 use Rattle.std.proofs.Common.{inr, refl}
 use Rattle.proof_search.proofs.open.Search.begin_level.Goals as goal
 
+-- one level more, of the node
 pub returns : goal.returns
 returns g c = record {
   levels =
