@@ -1,6 +1,6 @@
 -- Readings one behind another, and what a trial that was read keeps.
 use Rattle.std.proofs.Common.{◌≡◌, ◌⊎◌, ◌≤◌, ℕ, zero, suc, Bool, true, false, List, [], ◌∷◌, length, Option, Some, None, Result, Ok}
-use Rattle.std.proofs.Common.{Err, refl, sym, ap, ◌∙◌, subst, inl, inr, arith, is_some, codes, if◌then◌else◌}
+use Rattle.std.proofs.Common.{Err, refl, sym, ap, subst, inl, inr, arith, is_some, codes, if◌then◌else◌}
 use Rattle.std.specs.Prelude.{IsUtf8, IsErrAnd}
 use Rattle.std.specs.Option.{ok_or, option_and_then}
 use Rattle.std.specs.Str.{is_utf8, chars}

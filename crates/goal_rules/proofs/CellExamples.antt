@@ -7,7 +7,6 @@ use Rattle.ot_terms.specs.Forms as forms
 use Rattle.ot_terms.specs.Documents as documents
 use Rattle.ot_terms.specs.Cells.{CellTree, At, Char, Dead, Over, If}
 use Rattle.ot_terms.specs.Goals as goals
-use Rattle.ot_terms.specs.Goals.{GoalTree}
 use Rattle.cell_rules.specs.Cells.{read_step}
 use Rattle.goal_rules.specs.Table.{rewritten}
 

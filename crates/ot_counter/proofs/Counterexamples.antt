@@ -1,6 +1,6 @@
 -- The least values of answers that lead to an end that fails name operations that break the property on the
 -- document that shows the cause.
-use Rattle.std.proofs.Common.{◌≡◌, ◌≢◌, ◌↔◌, ℕ, ◌<◌, ◌≤◌, lit≤, lit<, ℤ, pos, negsuc, ◌≤ℤ◌, Some, List, [], ◌∷◌, length, IsTrue, refl, arith}
+use Rattle.std.proofs.Common.{◌≡◌, ◌≢◌, ◌↔◌, ℕ, ◌<◌, lit<, ℤ, pos, negsuc, ◌≤ℤ◌, Some, List, [], ◌∷◌, length, IsTrue, refl, arith}
 use Rattle.std.specs.Prelude.{unsigned_abs}
 use Rattle.std.proofs.lemmas.Int.{ints}
 use Rattle.diff_graph.specs.declared.lit.Lit.{Lit}

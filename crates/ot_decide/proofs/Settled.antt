@@ -1,7 +1,7 @@
 -- What the search of obligations comes to, by the search of the first and of those behind it, over any family of plans.
 use Rattle.std.specs.Prelude.{IsTrue}
 use Rattle.std.specs.declared.alloc.Global.{Global}
-use Rattle.std.proofs.Common.{◌≡◌, ℕ, ◌+◌, ◌-◌, ◌*◌, ◌≤◌, List, [], ◌∷◌, ◌++◌, length, Option, Some, None, MatchOption, Vec, arith, refl, sym, ap, subst, ◌∙◌}
+use Rattle.std.proofs.Common.{◌≡◌, ℕ, ◌+◌, ◌-◌, ◌*◌, ◌≤◌, List, [], ◌∷◌, ◌++◌, length, Option, None, MatchOption, Vec, arith, refl, sym, ap, subst, ◌∙◌}
 use Rattle.std.proofs.Common.{append_assoc}
 use Rattle.std.proofs.lemmas.List.{append-nil}
 use Rattle.std.proofs.Math.ListN.{length-append}
@@ -28,9 +28,8 @@ use Rattle.ot_questions.specs.Obligation.{plan_of}
 use Rattle.ot_sections.specs.Certificates.{AreAnswers}
 use Rattle.ot_decide.specs.declared.verdict.Search.{Search}
 use Rattle.ot_decide.specs.declared.verdict.Search.TheVariants as search
-use Rattle.ot_decide.specs.declared.verdict.Verdict.{Verdict}
 use Rattle.ot_decide.specs.declared.verdict.Verdict.TheVariants as verdict
-use Rattle.ot_decide.specs.Verdicts.{ObQuestions, AreAsked, IsDecidedAs, IsVerdict, IsWithin, failing_in}
+use Rattle.ot_decide.specs.Verdicts.{ObQuestions, AreAsked, IsDecidedAs, failing_in}
 use Rattle.ot_decide.specs.Proving.{AreProved, Settles, AreSettled}
 use Rattle.ot_decide.proofs.Lines.{header_text_few, ob_text_few, obligations_few}
 use Rattle.ot_decide.proofs.Lists.{Joins, asked_of, begins_with, first_failing}

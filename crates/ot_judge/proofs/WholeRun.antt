@@ -1,5 +1,5 @@
 -- A whole certificate, from its header to its last line.
-use Rattle.std.proofs.Common.{◌≡◌, ℕ, true, IsTrue, List, [], ◌∷◌, ◌++◌, Option, Some, Result, Ok, Err, ◌⊎◌, inl, inr, refl, sym, ap, subst, ◌∙◌}
+use Rattle.std.proofs.Common.{◌≡◌, ℕ, true, IsTrue, List, [], ◌∷◌, ◌++◌, Option, Some, Result, Err, ◌⊎◌, inl, inr, refl, sym, ap, subst, ◌∙◌}
 use Rattle.fn_rules.specs.declared.function.Head.{Head}
 use Rattle.fn_rules.specs.declared.function.Level.{Level}
 use Rattle.fn_rules.specs.declared.function.Level.TheVariants.{Tp1, Tp2}
@@ -18,10 +18,10 @@ use Rattle.ot_questions.specs.Obligation.{plan_of}
 use Rattle.ot_sections.specs.declared.refusal.JudgeError.{JudgeError}
 use Rattle.ot_sections.specs.declared.refusal.JudgeError.TheVariants as judge
 use Rattle.ot_sections.specs.Feeding.{Fed, Has, MayGive, MayGiveOf, MayHave, Whole, Yields, fed}
-use Rattle.ot_sections.specs.Parts.{FitThen, IsJudged, IsRefused, Point, point_behind}
+use Rattle.ot_sections.specs.Parts.{FitThen, IsRefused, Point, point_behind}
 use Rattle.ot_sections.specs.Sections.{IsLineWith}
-use Rattle.ot_sections.specs.Stands.{Came, Comes, IsJudgedBehind, IsMisspeltBehind, offset_of, place_of, point_of, stand}
-use Rattle.ot_judge.specs.Refusals.{IsJudgement, IsWant, IsWhole, start_of}
+use Rattle.ot_sections.specs.Stands.{Came, IsJudgedBehind, IsMisspeltBehind, offset_of, place_of, point_of, stand}
+use Rattle.ot_judge.specs.Refusals.{IsJudgement, IsWant, start_of}
 
 line_of_level :
     (f : Function) (level : Level)

@@ -16,7 +16,7 @@ use Rattle.cert_text.specs.Pieces.{EndsWithin, GivesOf, GoesOn}
 use Rattle.ot_sections.specs.declared.refusal.JudgeError.{JudgeError}
 use Rattle.ot_sections.specs.Parts.{end_of_spelling}
 use Rattle.ot_outside.specs.declared.feed.Feed.{Ghosts}
-use Rattle.ot_sections.specs.Feeding.{Fed, Has, IsSpent, IsTruncated, MayGive, MayGiveOf, MayHave, Whole, Yields, fed}
+use Rattle.ot_sections.specs.Feeding.{Fed, Has, IsSpent, IsTruncated, MayGive, MayGiveOf, Whole, Yields, fed}
 use Rattle.ot_sections.specs.Stands.{Came, IsBetween, IsMisspeltBehind, IsOver, begun_of, offset_of, place_of}
 
 -- told bytes begin with those that are given

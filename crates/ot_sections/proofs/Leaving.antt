@@ -1,5 +1,5 @@
 -- How calls leave a reader and its feed, one after another.
-use Rattle.std.proofs.Common.{◌≡◌, ℕ, ◌+◌, ◌≤◌, Option, Result, Ok, Err, arith, refl, ◌∙◌}
+use Rattle.std.proofs.Common.{◌≡◌, ℕ, Result, Ok, Err, arith, refl, ◌∙◌}
 use Rattle.cert_check.specs.declared.verdict.CheckError.{CheckError}
 use Rattle.cert_check.specs.declared.verdict.CheckError.TheVariants as check
 use Rattle.cert_text.specs.declared.item.CertError.{CertError}
@@ -9,7 +9,7 @@ use Rattle.ot_outside.specs.declared.feed.Feed.{Ghosts}
 use Rattle.ot_sections.specs.declared.refusal.JudgeError.{JudgeError}
 use Rattle.ot_sections.specs.declared.refusal.JudgeError.TheVariants as judge
 use Rattle.ot_sections.specs.Parts.{end_of_spelling, end_of_token}
-use Rattle.ot_sections.specs.Feeding.{Fed, IsKept, IsTruncated, Leaves, count_of}
+use Rattle.ot_sections.specs.Feeding.{Fed, IsKept, IsTruncated, Leaves}
 
 -- a refusal by spelling is no failure
 pub spelling_no_failure : (c : CertError) (e : JudgeError) → e ≡ end_of_spelling c → e ≡ judge.Failed → ⊥

@@ -1,7 +1,6 @@
 -- The question whether a document is short keeps the limits of literals.
 use Rattle.std.proofs.Common.{◌≡◌, ℕ, ◌≤◌, ℤ, pos, negsuc, ◌-ℤ◌, true, IsTrue, int_le, arith, refl}
 use Rattle.std.proofs.lemmas.Int.{ints}
-use Rattle.diff_graph.specs.declared.lit.Lit.{Lit}
 use Rattle.ask_core.specs.Askers.{is_fine_literal}
 use Rattle.fn_rules.specs.declared.function.ObName.{ObName}
 use Rattle.fn_rules.specs.declared.function.ObName.TheVariants.{Pair, Triple}

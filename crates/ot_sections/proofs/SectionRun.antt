@@ -8,16 +8,15 @@ use Rattle.cert_text.specs.declared.item.Part.{Part}
 use Rattle.cert_text.specs.declared.item.Part.TheVariants as part
 use Rattle.cert_text.specs.Spelling.{end_text}
 use Rattle.cert_text.specs.Places.{Place, Start, Line, Tree, Finish, Stands, part_text, place_after}
-use Rattle.cert_text.specs.Reading.{Progress}
 use Rattle.ot_sections.specs.declared.refusal.JudgeError.{JudgeError}
 use Rattle.ot_sections.specs.Parts.{IsJudged, branches_behind}
 use Rattle.ot_outside.specs.declared.feed.Feed.{Ghosts}
 use Rattle.ot_sections.specs.Feeding.{Fed, Yields}
 use Rattle.ot_sections.specs.Stands.{Came, IsJudgedBehind, IsMisspeltBehind, IsOver, IsRefusedAnyway, IsRefusedBehind, Leads, LeadsAnyway, opened, offset_of}
-use Rattle.ot_sections.specs.Stands.{place_of, point_of, stand, tree_with}
+use Rattle.ot_sections.specs.Stands.{place_of, stand, tree_with}
 use Rattle.ot_sections.specs.Sections.{IsLineWith}
 use Rattle.ot_sections.proofs.Fitting.{last_line_fits}
-use Rattle.ot_sections.proofs.Leading.{judged_through, leads_on, misspelt_refused, part_leads, refused_through}
+use Rattle.ot_sections.proofs.Leading.{leads_on, misspelt_refused, part_leads, refused_through}
 
 -- in a tree, of an obligation behind which these are still to come
 abbrev pub IsTreeWith : List ObName → ℕ → Place → Type 0

@@ -15,7 +15,7 @@ use Rattle.cert_text.specs.declared.item.Part.TheVariants as part
 use Rattle.cert_text.specs.Numbers.{AreShort, PICK_LIMIT, more_numbers_text, numbers_text}
 use Rattle.cert_text.specs.Spelling.{AreSpellable, IsSpellable, token_text, tokens_text}
 use Rattle.cert_text.specs.Places.{Place, Start, Line, Tree, Finish, open_after}
-use Rattle.cert_text.specs.Passing.{AreOpen, IsPassed, open_in, passed}
+use Rattle.cert_text.specs.Passing.{AreOpen, IsPassed, passed}
 use Rattle.cert_text.specs.Reading.{Progress, Reading, Refused, fed_to}
 use Rattle.ot_outside.specs.declared.feed.Feed.{Ghosts}
 use Rattle.ot_sections.specs.declared.refusal.JudgeError.{JudgeError}

@@ -1,5 +1,5 @@
 -- The statuses of `confirm` are those of the one judgement of a proof's bytes.
-use Rattle.std.proofs.Common.{◌≡◌, ◌≢◌, ◌≤◌, ℕ, List, length, take, Option, Some, Result, Ok, Err, IsTrue, refl, sym, ap, ◌∙◌, subst, inl, inr, arith}
+use Rattle.std.proofs.Common.{◌≡◌, ◌≤◌, ℕ, List, length, take, Option, Some, Result, Ok, Err, IsTrue, refl, sym, ap, ◌∙◌, subst, inl, inr, arith}
 use Rattle.std.specs.Prelude.{is_ok, if◌then◌else◌}
 use Rattle.std.specs.Option.{ForSome}
 use Rattle.std.proofs.lemmas.List.{take_all}
@@ -17,7 +17,7 @@ use Rattle.ot_replies.specs.declared.reply.FileKind.TheVariants as files
 use Rattle.ot_replies.specs.declared.reply.Reply.{Reply}
 use Rattle.ot_replies.specs.declared.reply.Reply.TheVariants as replies
 use Rattle.ot_replies.specs.declared.reply.Subject.TheVariants.{First}
-use Rattle.ot_replies.specs.Limits.{limit_of, IsTooLong}
+use Rattle.ot_replies.specs.Limits.{limit_of}
 use Rattle.ot_replies.specs.Texts.{status_of, text_of}
 use Rattle.ot_words.specs.Commands.{Confirm}
 use Rattle.ot_commands.specs.Confirmations.{IsReplyToConfirmed, IsReplyToJudged, TellsJudgement, rests_on_more}

@@ -15,7 +15,7 @@ use Rattle.ot_replies.specs.declared.reply.Reply.TheVariants.{Broken}
 use Rattle.ot_replies.specs.declared.reply.Subject.TheVariants.{First}
 use Rattle.ot_replies.specs.Texts.{status_of}
 use Rattle.ot_commands.specs.Replies.{IsReplyTo}
-use Rattle.ot_top.specs.Evidence.{Evidence, Certificate, Proof, IsEvidence, asks_for}
+use Rattle.ot_top.specs.Evidence.{Evidence, IsEvidence, asks_for}
 use Rattle.ot_top.specs.Shown.{HasLevel, IsAskedAt}
 use Rattle.ot_top.proofs.Breaking.{IsBrokenBy}
 use Rattle.ot_top.proofs.OneFile.{function_once}

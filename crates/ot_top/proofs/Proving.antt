@@ -38,7 +38,7 @@ use Rattle.ot_replies.specs.declared.reply.Reply.{Reply}
 use Rattle.ot_replies.specs.declared.reply.Subject.{Subject}
 use Rattle.ot_replies.specs.declared.reply.Subject.TheVariants.{First}
 use Rattle.ot_replies.specs.declared.reply.Reply.TheVariants.{Proved, Broken, Accepted, Confirmed, Usage}
-use Rattle.ot_words.specs.Commands.{Asked, Prove, Settle}
+use Rattle.ot_words.specs.Commands.{Asked, Prove}
 use Rattle.proof_sections.specs.declared.refusal.ConfirmError.{ConfirmError}
 use Rattle.ot_confirm.specs.Judgement.{judgement_of}
 use Rattle.ot_settle.specs.declared.settled.Settled.{Settled}

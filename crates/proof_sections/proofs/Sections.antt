@@ -1,15 +1,15 @@
 -- A section, all sections and a whole proof, by what is judged of their parts.
-use Rattle.std.proofs.Common.{◌≡◌, ◌⊎◌, inl, inr, ℕ, ◌-◌, ◌<◌, ◌≤◌, List, [], ◌∷◌, length, drop, Result, Ok, Err, arith, refl, sym, ap, ◌∙◌, subst, length-drop}
+use Rattle.std.proofs.Common.{◌≡◌, ◌⊎◌, inl, inr, ℕ, ◌-◌, ◌<◌, ◌≤◌, List, [], ◌∷◌, length, drop, Result, Ok, Err, arith, refl, sym, ap, ◌∙◌, length-drop}
 use Rattle.fn_rules.specs.declared.function.Level.{Level}
 use Rattle.fn_rules.specs.declared.function.ObName.{ObName}
 use Rattle.proof_trees.specs.Starts.{MarkedPlan, Comparison}
 use Rattle.proof_text.specs.declared.unread.Unread.{Unread}
-use Rattle.proof_text.specs.Fronts.{Front, Found, Missing}
+use Rattle.proof_text.specs.Fronts.{Found, Missing}
 use Rattle.proof_text.specs.Lines.{header_front, ob_front, line_end_front, end_front}
 use Rattle.proof_sections.specs.declared.refusal.ProofRefusal.TheVariants as why
 use Rattle.proof_sections.specs.declared.refusal.ConfirmError.{ConfirmError}
 use Rattle.proof_sections.specs.declared.refusal.ConfirmError.TheVariants as confirm
-use Rattle.proof_sections.specs.Judgement.{Judges, after_part, and_then, end_judged, line_judged, nothing_after, opened, proof_judged, section_judged}
+use Rattle.proof_sections.specs.Judgement.{Judges, and_then, end_judged, line_judged, nothing_after, opened, proof_judged, section_judged}
 use Rattle.proof_sections.specs.Judgement.{sections_judged, tree_judged, unread_at}
 use Rattle.proof_sections.proofs.Trees.{judges_not, judges_then}
 

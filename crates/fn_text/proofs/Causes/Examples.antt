@@ -8,7 +8,7 @@ use Rattle.fn_rules.specs.declared.guard.Side.TheVariants.{First, Second}
 use Rattle.fn_rules.specs.declared.guard.Cmp.TheVariants.{Lt}
 use Rattle.fn_tokens.specs.declared.token.Token.{Token}
 use Rattle.fn_tokens.specs.declared.token.Token.TheVariants as tokens
-use Rattle.fn_tokens.specs.declared.token.Token.TheVariants.{Number, Open, Close, Colon, LineEnd, FileEnd}
+use Rattle.fn_tokens.specs.declared.token.Token.TheVariants.{Number, Open, Close, Colon, LineEnd}
 use Rattle.fn_tokens.specs.declared.token.Word.TheVariants as words
 use Rattle.fn_tokens.specs.declared.token.Sign.TheVariants as signs
 use Rattle.fn_moves.specs.declared.fault.FaultKind.{FaultKind}
