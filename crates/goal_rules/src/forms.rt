@@ -18,10 +18,7 @@ use ot_terms::{Form, Goal, Place};
 fn by_le<'a>(x: Place, y: Place, yes: &'a Goal<'a>, no: &'a Goal<'a>) -> Option<Front<'a>>
     ensures { option_map front_tree result ≡ rewrite_if (trees.Le x y) (goal_tree yes.now) (goal_tree no.now) }
 {
-    if x.var != y.var {
-        return None;
-    }
-    if x.off <= y.off {
+    if x.is_at_most(y)? {
         return Some(Front::of(yes));
     }
     Some(Front::of(no))

@@ -34,13 +34,11 @@ fn by_order<'a>(
 ) -> Result<&'a Goal<'a>, NoMemory>
     ensures { IfOk result (λ r. goal_tree r.now ≡ laid_order x y (goal_tree yes.now) (goal_tree no.now)) }
 {
-    if x.var != y.var {
-        return Ok(Goal::either(bump, Form::le(bump, x, y)?, yes, no)?);
+    match x.is_at_most(y) {
+        None => Ok(Goal::either(bump, Form::le(bump, x, y)?, yes, no)?),
+        Some(true) => Ok(yes),
+        Some(false) => Ok(no),
     }
-    if x.off <= y.off {
-        return Ok(yes);
-    }
-    Ok(no)
 }
 
 /// One of two goals, by a form. All questions of the form share the two goals.

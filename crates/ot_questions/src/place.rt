@@ -1,5 +1,5 @@
 //! Places, and operations whose parts have names.
-ghost use Rattle.std.specs.Prelude.{◌≡◌, pos, IsTrue};
+ghost use Rattle.std.specs.Prelude.{◌≡◌, pos, IsTrue, Some, None, if◌then◌else◌, nat_eq, int_le};
 ghost use Rattle.ot_questions.specs.Nears.{IsNear, IsNearOp, IsResultOf, IsDeclaredOp};
 ghost use Rattle.ot_questions.specs.Places as places;
 ghost use Rattle.fn_rules.specs.declared.function.Head.{Head};
@@ -71,6 +71,17 @@ impl Place {
             var: self.var,
             off: self.off + off,
         }
+    }
+
+    /// Whether this place is at most another one of its name. Of two names it is a question, so that there is no answer.
+    #[inline(always)]
+    pub fn is_at_most(self, other: Place) -> Option<bool>
+        ensures { result ≡ (if nat_eq self.var other.var then Some (int_le self.off other.off) else None) }
+    {
+        if self.var != other.var {
+            return None;
+        }
+        Some(self.off <= other.off)
     }
 }
 

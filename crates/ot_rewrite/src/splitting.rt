@@ -31,8 +31,8 @@ fn decided<'a>(holds: bool) -> Split<'a>
 fn split_le<'a>(bump: &'a Bump, x: Place, y: Place) -> Result<Split<'a>, NoMemory>
     ensures { IfOk result (λ r. split_tree r ≡ splits.split_le x y) }
 {
-    if x.var == y.var {
-        return Ok(decided(x.off <= y.off));
+    if let Some(holds) = x.is_at_most(y) {
+        return Ok(decided(holds));
     }
     Ok(Split::Ask {
         x,

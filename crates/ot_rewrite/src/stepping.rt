@@ -27,10 +27,7 @@ fn part_of<'a>(goal: &'a Goal<'a>) -> Option<&'a Goal<'a>>
     match *form {
         Form::True => Some(yes),
         Form::Le(x, y) => {
-            if x.var != y.var {
-                return None;
-            }
-            if x.off <= y.off {
+            if x.is_at_most(y)? {
                 return Some(yes);
             }
             Some(no)
