@@ -16,6 +16,9 @@ ghost use Rattle.fn_rules.specs.Conditions.{IsWithin, IsFormOf, has_char_atoms, 
 ghost use Rattle.fn_rules.specs.Obligations.{declared_kinds, pairs_of, triples_of, obligations_of, is_obligation};
 ghost use Rattle.fn_rules.specs.Properties.{ConvergesAt, CommutesAt};
 ghost use Rattle.fn_rules.specs.Orders.{names_each_once, NamesEachOnce};
+ghost use Rattle.fn_rules.specs.Rules.{function_of};
+
+use crate::rules::Rules;
 
 /// Who may be with whom does not depend on the order.
 pub fn allowed_is_symmetric()
@@ -61,6 +64,12 @@ pub fn transform_keeps_allowed()
 pub fn transform_stays_near()
     ensures { (f : Function) (a b c : Op) (m : ℕ) → IsTrue (is_valid f) → IsWithin m a → IsWithin m b
         → transform_of f a b ≡ Some c → IsWithin (m + 99) c }
+{}
+
+/// Rules keep the limits: their function is valid.
+#[tactic(auto, unfolding(crate::specs::Rules::function_of))]
+pub fn rules_are_valid(rules: &Rules)
+    ensures { IsTrue (is_valid (function_of rules.now)) }
 {}
 
 /// The cases of a valid function are valid in their block.

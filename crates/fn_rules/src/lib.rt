@@ -26,7 +26,7 @@ pub use guard::{Atom, Cmp, Guard, Side, Sort, Tightness};
 pub use laws::{
     allowed_is_symmetric, cases_are_valid, characters_are_compared_where_they_are,
     functions_are_equal_by_their_cases, levels_have_few_obligations, nop_changes_nothing,
-    nop_stays_nop, obligations_are_those_of_the_kinds, properties_are_symmetric,
+    nop_stays_nop, obligations_are_those_of_the_kinds, properties_are_symmetric, rules_are_valid,
     tests_decide_their_facts, transform_keeps_all_but_the_position, transform_keeps_allowed,
     transform_stays_near, undeclared_pairs_have_no_cases,
 };

@@ -12,7 +12,7 @@ use crate::goals::difference_goal;
 use crate::laws::{findings_tell_of_all_operations, goals_are_searchable};
 use ask_core::NoMemory;
 use bumpalo::Bump;
-use fn_rules::{Rules, transform};
+use fn_rules::{Rules, rules_are_valid, transform};
 use ot_model::Kind;
 use std::alloc::Global;
 
@@ -32,9 +32,8 @@ fn differ_in<'a>(
         (goals.difference_goal (function_of rules.now) (function_of others.now) first second) budget) }
     ensures near { IfOk result IsNearFound }
 {
-    // The contract of `head` tells that each function keeps the limits, which the law below wants.
-    let _head = rules.head();
-    let _other_head = others.head();
+    rules_are_valid(rules);
+    rules_are_valid(others);
     goals_are_searchable();
     let goal = difference_goal(bump, rules, others, first, second)?;
     Ok(find(alloc, bump, rules, first, second, goal, budget)?)

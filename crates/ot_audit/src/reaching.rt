@@ -14,7 +14,7 @@ use crate::laws::{findings_tell_of_all_operations, goals_are_searchable};
 use crate::target::Target;
 use ask_core::NoMemory;
 use bumpalo::Bump;
-use fn_rules::Rules;
+use fn_rules::{Rules, rules_are_valid};
 use ot_model::Kind;
 use std::alloc::Global;
 
@@ -33,8 +33,7 @@ fn reach_in<'a>(
     ensures { IfOk result (IsFoundIn (function_of rules.now) first second
         (goals.target_goal (function_of rules.now) first second target) budget) }
 {
-    // The contract of `head` tells that the function keeps the limits, which the law below wants.
-    let _head = rules.head();
+    rules_are_valid(rules);
     goals_are_searchable();
     let goal = target_goal(bump, rules, first, second, target)?;
     Ok(find(alloc, bump, rules, first, second, goal, budget)?)

@@ -22,7 +22,7 @@ use crate::laws::failing_ends_have_counterexamples;
 use crate::sides::{document_way, operation_way};
 use ask_core::answers_lead_to_ends;
 use diff_graph::Lit;
-use fn_rules::{Level, ObName, Rules};
+use fn_rules::{Level, ObName, Rules, rules_are_valid};
 use ot_model::{Kind, Op};
 use ot_questions::{Who, Why, plans_compare_like_with_like, plans_keep_limits};
 use ot_values::{least_values, op_at};
@@ -48,8 +48,7 @@ pub fn build(
     ensures by_the_cause { IfOk result (λ counter. BreaksBy (function_of rules.now) counter.level counter.doc
         counter.ops why) }
 {
-    // The contract of `head` tells that the function keeps the limits, which the laws want.
-    let _head = rules.head();
+    rules_are_valid(rules);
     plans_keep_limits();
     plans_compare_like_with_like();
     answers_lead_to_ends::<Why>();

@@ -11,7 +11,9 @@ ghost use Rattle.ot_counter.specs.Sides as sides;
 
 use crate::NoMemory;
 use crate::counter::Side;
-use fn_rules::{Rules, transform, transform_keeps_all_but_the_position, transform_stays_near};
+use fn_rules::{
+    Rules, rules_are_valid, transform, transform_keeps_all_but_the_position, transform_stays_near,
+};
 use ot_model::{Apply, Doc, Mode, Op, apply};
 
 // An operation executed where it is enabled.
@@ -71,8 +73,7 @@ fn form_behind(rules: &Rules, a: &Op, b: &Op, c: &Op) -> Option<Op>
     requires c_near { IsWithin farthest c.now }
     ensures { result ≡ instances.form_behind (function_of rules.now) a.now b.now c.now }
 {
-    // The contract of `head` tells that the function keeps the limits, which the laws below want.
-    let _head = rules.head();
+    rules_are_valid(rules);
     transform_stays_near();
     transform_keeps_all_but_the_position();
     let b_after_a = transform(rules, b, a)?;

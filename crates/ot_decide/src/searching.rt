@@ -19,7 +19,7 @@ use ask_core::{Asker, NoMemory, Premised};
 use bumpalo::Bump;
 use cert_text::write_ob;
 use diff_graph::Lit;
-use fn_rules::{ObName, Rules};
+use fn_rules::{ObName, Rules, rules_are_valid};
 use ot_paths::PathAsker;
 use ot_prove::{Outcome, prove};
 use ot_questions::Why;
@@ -70,7 +70,7 @@ fn search_below<'a>(
     ensures decides { IfOk result (IsDecided (plan_below (function_of rules.now) (Some bound) ob) budget) }
 {
     shorter_plans_keep_limits();
-    let _head = rules.head();
+    rules_are_valid(rules);
     let asker = PathAsker::new(bump, rules, ob);
     search_behind(alloc, shorter_than(bound), asker, budget)
 }
@@ -89,7 +89,7 @@ fn search_ob(
     ensures short { longest_path (plan_below (function_of rules.now) below ob) ≤ MAX_QUESTIONS }
 {
     shorter_plans_keep_limits();
-    let _head = rules.head();
+    rules_are_valid(rules);
     let bump = Bump::new(alloc);
     match below {
         None => search_in(alloc, &bump, rules, ob, budget),
@@ -118,7 +118,7 @@ pub fn search_all(
         bytes.old.items bytes.new.items) }
 {
     obligations_have_one_question_list();
-    let _head = rules.head();
+    rules_are_valid(rules);
     let Some((ob, others)) = names.split_first() else {
         return Ok(Search::AllHold);
     };

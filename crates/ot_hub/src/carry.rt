@@ -6,7 +6,8 @@ ghost use Rattle.ot_hub.specs.Usable.{IsUsable, CanBeCarried, farthest};
 
 use crate::placed::Placed;
 use fn_rules::{
-    Rules, enabled_operations_are_near, functions_keep_forms, transform, transform_stays_near,
+    Rules, enabled_operations_are_near, functions_keep_forms, rules_are_valid, transform,
+    transform_stays_near,
 };
 use ot_model::{NoMemory, Op};
 use plain_list::List;
@@ -36,8 +37,7 @@ pub(crate) fn carried(rules: &Rules, op: Op, list: &[Placed], place: u32) -> Opt
     requires { CanBeCarried (function_of rules.now) op list.now }
     ensures { result ≡ carried_op (carry (function_of rules.now) op (from_place place list.now)) }
 {
-    // The contract of `head` tells that the function keeps the limits, which the laws below want.
-    let _head = rules.head();
+    rules_are_valid(rules);
     transform_stays_near();
     functions_keep_forms();
     enabled_operations_are_near();
@@ -63,7 +63,7 @@ pub(crate) fn carry_list(
     ensures { IfOk result (λ new. carried_list (carry (function_of rules.now) op (from_place place list.now))
         ≡ Some new) }
 {
-    let _head = rules.head();
+    rules_are_valid(rules);
     transform_stays_near();
     functions_keep_forms();
     enabled_operations_are_near();

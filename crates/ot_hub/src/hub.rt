@@ -13,7 +13,7 @@ use crate::limits::MAX_EDITS;
 use crate::placed::{entry_at, first_of, has_declared_kind, is_made_at};
 use crate::server::{Server, fresh_server};
 use fn_rules::{
-    Rules, enabled_operations_are_near, functions_keep_forms, tp1_holds_of_forms,
+    Rules, enabled_operations_are_near, functions_keep_forms, rules_are_valid, tp1_holds_of_forms,
     transform_keeps_all_but_the_position, transform_stays_near,
 };
 use ot_model::{Doc, NoMemory, Op, documents_grow_by_one_cell_at_most, enabled};
@@ -152,7 +152,7 @@ impl Hub {
         ensures never_stuck { HasTp1 (view_of self.old).function → (view_of self.old).function.head.chars_differ ≡ false
             → result ≢ Err moves.Stuck }
     {
-        let _head = self.rules.head();
+        rules_are_valid(&self.rules);
         tp1_holds_of_forms();
         transform_keeps_all_but_the_position();
         transform_stays_near();
@@ -191,7 +191,7 @@ impl Hub {
         ensures never_stuck { HasTp1 (view_of self.old).function → (view_of self.old).function.head.chars_differ ≡ false
             → result ≢ Err moves.Stuck }
     {
-        let _head = self.rules.head();
+        rules_are_valid(&self.rules);
         tp1_holds_of_forms();
         transform_keeps_all_but_the_position();
         transform_stays_near();

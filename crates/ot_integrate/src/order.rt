@@ -12,7 +12,7 @@ ghost use Rattle.ot_integrate.specs.Ends.{outcome_of, EndsAsListed};
 use crate::end::End;
 use crate::one_outcome::both_properties_give_one_outcome;
 use fn_rules::{
-    Rules, enabled_operations_are_near, functions_keep_forms, is_integrable,
+    Rules, enabled_operations_are_near, functions_keep_forms, is_integrable, rules_are_valid,
     tests_decide_their_facts, transform, transform_stays_near,
 };
 use ot_model::{
@@ -87,8 +87,7 @@ fn form_behind(rules: &Rules, op: Op, executed: &[Op]) -> Option<Op>
     ensures form { result ≡ through (function_of rules.now) op executed.now }
     ensures declared { IfSome result (λ form. IsForKind (function_of rules.now).head (kind_of form)) }
 {
-    // The contract of `head` tells that the function keeps the limits, which the laws below want.
-    let _head = rules.head();
+    rules_are_valid(rules);
     transform_stays_near();
     functions_keep_forms();
     enabled_operations_are_near();

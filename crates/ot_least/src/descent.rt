@@ -15,7 +15,7 @@ use crate::parts::{level_of, parts, parts_are_obligations};
 use crate::short::Short;
 use ask_core::{NoMemory, fitting_trees_hold};
 use cert_text::write_end;
-use fn_rules::{Level, Rules};
+use fn_rules::{Level, Rules, rules_are_valid};
 use ot_decide::{Search, Verdict, failing_triples_show_tp1, prove_all, search_all};
 use ot_questions::{Why, triple_plans_mean_tp2};
 use ot_sections::MAX_BOUND;
@@ -102,7 +102,7 @@ pub fn shortest(alloc: Global, rules: &Rules, budget: u64) -> Result<Short, NoMe
     failing_ends_break_at_their_length();
     fitting_trees_hold::<Why>();
     triple_plans_mean_tp2();
-    let _head = rules.head();
+    rules_are_valid(rules);
     match prove_all(alloc, rules, Level::Tp2, budget)? {
         Verdict::Yes(_) => Ok(Short::Fine),
         Verdict::No { ob, answers, why } => {

@@ -14,7 +14,7 @@ ghost use Rattle.ot_least.specs.Shortest.{HasCells};
 use crate::laws::failing_ends_below_a_bound_are_shorter;
 use ask_core::{NoMemory, answers_lead_to_ends};
 use diff_graph::Lit;
-use fn_rules::{ObName, Rules};
+use fn_rules::{ObName, Rules, rules_are_valid};
 use ot_prove::{Answer, literals_of};
 use ot_questions::{LENGTH, Why, plans_compare_like_with_like, plans_keep_limits};
 use ot_values::least_values;
@@ -50,8 +50,7 @@ fn cells_of(
     requires possible { IsPossible answers.now }
     ensures { IfOk result (λ cells. HasCells ob answers.now cells) }
 {
-    // The contract of `head` tells that the function keeps the limits, which the laws want.
-    let _head = rules.head();
+    rules_are_valid(rules);
     plans_keep_limits();
     plans_compare_like_with_like();
     answers_lead_to_ends::<Why>();
@@ -106,7 +105,7 @@ pub(crate) fn shorter_ending(
     ensures why { IfOk result (λ e. e.why ≡ why) }
 {
     failing_ends_below_a_bound_are_shorter();
-    let _head = rules.head();
+    rules_are_valid(rules);
     answers.remove(0);
     ending_at(alloc, rules, ob, answers, why)
 }

@@ -18,7 +18,7 @@ use ask_core::{Asker, NoMemory, Turn};
 use bumpalo::Bump;
 use diff_graph::Lit;
 use first_goals::start_goal;
-use fn_rules::{ObName, Rules};
+use fn_rules::{ObName, Rules, rules_are_valid};
 use goal_rules::Front;
 use laid_goals::laid_out;
 use ot_questions::plans_keep_limits;
@@ -64,7 +64,7 @@ fn laid_obligation<'a>(bump: &'a Bump, rules: &Rules, ob: ObName) -> Result<&'a 
 {
     plans_keep_limits();
     first_goals_stand_for_obligations();
-    let _head = rules.head();
+    rules_are_valid(rules);
     let start = start_goal(bump, rules, ob)?;
     let mut known = Vec::new(bump);
     Ok(laid_out(bump, rules, &mut known, start)?)

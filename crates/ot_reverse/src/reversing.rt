@@ -19,7 +19,8 @@ use crate::laws::{answers_tell_of_all_documents, goals_are_searchable};
 use ask_core::NoMemory;
 use bumpalo::Bump;
 use fn_rules::{
-    Head, Rules, blocks, transform, transform_keeps_all_but_the_position, transform_stays_near,
+    Head, Rules, blocks, rules_are_valid, transform, transform_keeps_all_but_the_position,
+    transform_stays_near,
 };
 use ot_audit::{Sought, seek};
 use ot_model::{Kind, Op};
@@ -61,9 +62,8 @@ fn seek_in<'a>(
         (goals.reversal_goal (function_of rules.now) (function_of others.now) first second) budget) }
     ensures near { IfOk result IsNearSought }
 {
-    // The contract of `head` tells that each function keeps the limits, which the law below wants.
-    let _head = rules.head();
-    let _other_head = others.head();
+    rules_are_valid(rules);
+    rules_are_valid(others);
     goals_are_searchable();
     let goal = reversal_goal(bump, rules, others, first, second)?;
     Ok(seek(alloc, bump, rules, first, second, goal, budget)?)
@@ -98,8 +98,7 @@ fn back_from(rules: &Rules, others: &Rules, a: &Op, b: &Op, there: Option<Op>) -
     requires b_near { IsWithin farthest b.now }
     ensures { result ≡ back_of (function_of others.now) b.now there }
 {
-    // The contract of `head` tells that the first function keeps the limits, so that a form stays near.
-    let _head = rules.head();
+    rules_are_valid(rules);
     transform_stays_near();
     transform_keeps_all_but_the_position();
     match there {

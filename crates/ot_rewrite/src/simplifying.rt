@@ -13,7 +13,7 @@ ghost use Rattle.goal_rules.specs.Steps.{front_tree};
 
 use ask_core::NoMemory;
 use bumpalo::Bump;
-use fn_rules::Rules;
+use fn_rules::{Rules, rules_are_valid};
 use goal_rules::{Front, rewrite};
 use ot_terms::Goal;
 
@@ -43,7 +43,7 @@ pub fn front_of<'a>(
     ensures weighs { IfOk result (λ r. goal_weight (function_of rules.now) (front_tree r)
         ≤ goal_weight (function_of rules.now) (goal_tree goal.now)) }
 {
-    let _head = rules.head();
+    rules_are_valid(rules);
     let mut front = Front::of(goal);
     while let Some(next) = rewrite(bump, rules, front)? {
         front = same_front(next);

@@ -11,7 +11,7 @@ ghost use Rattle.goal_rules.specs.Table.{rewritten};
 
 use ask_core::NoMemory;
 use bumpalo::Bump;
-use fn_rules::Rules;
+use fn_rules::{Rules, rules_are_valid};
 use goal_rules::{Front, rewrite};
 use ot_terms::{Form, Goal};
 
@@ -71,6 +71,6 @@ pub fn step<'a>(
         (λ g. IsStep (function_of rules.now) (goal_tree goal.now) (goal_tree g.now))) }
     ensures stops { IfOk result (λ r. IsTrue (is_at_front (goal_tree goal.now)) → r ≡ None) }
 {
-    let _head = rules.head();
+    rules_are_valid(rules);
     Ok(stepped(bump, rules, goal)?)
 }

@@ -13,7 +13,7 @@ use crate::refusal::JudgeError;
 use crate::tree::{judge_tree, judge_tree_behind};
 use bumpalo::Bump;
 use cert_text::Reader;
-use fn_rules::{ObName, Rules};
+use fn_rules::{ObName, Rules, rules_are_valid};
 use ot_outside::Feed;
 use ot_paths::PathAsker;
 use ot_questions::plans_keep_limits;
@@ -43,7 +43,7 @@ pub(crate) fn judge_in<'a, F: Feed>(
     ensures leaves { Leaves F.Feed (fed reader.old feed.old) (fed reader.new feed.new) result }
 {
     plans_keep_limits();
-    let _head = rules.head();
+    rules_are_valid(rules);
     let asker = PathAsker::new(bump, rules, ob);
     match below {
         None => judge_tree(alloc, asker, reader, feed),

@@ -14,7 +14,7 @@ ghost use Rattle.ot_session.specs.declared.form.Refusal.TheVariants.{NoForm, Spe
 use crate::limits::{MAX_FORMS, MAX_MADE, MAX_SITES};
 use crate::made::{Made, is_before, maker, operation};
 use crate::table::{Key, Table};
-use fn_rules::{Rules, transform};
+use fn_rules::{Rules, rules_are_valid, transform};
 use ot_causal::{
     closed_lists_are_told_by_their_counts, counted_forms_need_not_be_sought,
     forms_are_made_from_shorter_ones, forms_are_sought_before_they_are_made,
@@ -96,8 +96,7 @@ pub(crate) fn form_behind(
     sublists_are_told_by_their_sets();
     forms_keep_all_but_the_position();
     members_were_made();
-    // The contract of `head` tells that the function keeps the limits, which the laws above want.
-    let _head = seeking.rules.head();
+    rules_are_valid(seeking.rules);
     let Some(other) = newest_open(seeking.made, number, list) else {
         return Ok(operation(seeking.made, number));
     };

@@ -17,7 +17,7 @@ use crate::fronts::{is_at_front, start_at};
 use ask_core::NoMemory;
 use bumpalo::Bump;
 use first_goals::start_goal;
-use fn_rules::{ObName, Rules};
+use fn_rules::{ObName, Rules, rules_are_valid};
 use marked_goals::rules_keep_starts;
 use ot_questions::plans_keep_limits;
 use ot_rewrite::step;
@@ -45,7 +45,7 @@ pub(crate) fn next_of<'a>(
         (function_of rules.now) (goal_tree goal.now)) }
 {
     rules_keep_starts();
-    let _head = rules.head();
+    rules_are_valid(rules);
     match step(bump, rules, goal)? {
         Some(next) => Ok(next),
         None => Ok(goal),
@@ -85,7 +85,7 @@ pub(crate) fn first_stop<'a>(
 {
     plans_keep_limits();
     first_goals_stand_for_obligations();
-    let _head = rules.head();
+    rules_are_valid(rules);
     let start = start_goal(bump, rules, ob)?;
     Ok(settled(bump, rules, start)?)
 }

@@ -13,7 +13,7 @@ use crate::kept::{Kept, found};
 use crate::laying::laid;
 use ask_core::NoMemory;
 use bumpalo::Bump;
-use fn_rules::Rules;
+use fn_rules::{Rules, rules_are_valid};
 use marked_goals::rules_keep_starts;
 use ot_rewrite::{rules_keep_what_is_asked, step};
 use ot_terms::Goal;
@@ -31,7 +31,7 @@ fn laid_behind<'a>(
     ensures { IfOk result (λ r. Opens (function_of rules.now) (goal_tree goal.now) (goal_tree r.now)) }
 {
     rules_keep_starts();
-    let _head = rules.head();
+    rules_are_valid(rules);
     match step(bump, rules, goal)? {
         Some(next) => Ok(laid(bump, rules, next)?),
         None => Ok(goal),

@@ -21,7 +21,7 @@ use crate::table::laid_on;
 use ask_core::{NoMemory, Turn};
 use bumpalo::Bump;
 use diff_graph::Lit;
-use fn_rules::Rules;
+use fn_rules::{Rules, rules_are_valid};
 use goal_rules::Front;
 use marked_goals::rules_keep_starts;
 use ot_rewrite::{front_of, rules_keep_what_is_asked};
@@ -98,7 +98,7 @@ fn opened<'a>(bump: &'a Bump, rules: &Rules, goal: &'a Goal<'a>) -> Result<Front
 {
     rules_keep_what_is_asked();
     rules_keep_starts();
-    let _head = rules.head();
+    rules_are_valid(rules);
     Ok(front_of(bump, rules, goal)?)
 }
 

@@ -27,7 +27,7 @@ least_values-requires c =
     let ob = c.args.ob in
     let w = c.args.answers.now in
     let why = c.args.why in
-    let valid = c.head-head.ensures.valid in
+    let valid = c.rules_are_valid.ensures in
     let lead = c.requires.leads in
     let plans = c.plans_compare_like_with_like.ensures in
     let limits = c.plans_keep_limits.ensures in
@@ -52,10 +52,10 @@ read_off-requires c =
       concurrent =
           concurrent_where_broken f (level_of c.args.ob) _ _
           (c.failing_ends_have_counterexamples.ensures.broken f c.args.ob c.args.answers.now c.args.why c.deref.result.now
-          c.head-head.ensures.valid c.requires.declared c.requires.leads least);
+          c.rules_are_valid.ensures c.requires.declared c.requires.leads least);
       parts = λ who below.
           c.failing_ends_have_counterexamples.ensures.parts f c.args.ob c.args.answers.now c.args.why c.deref.result.now who
-          c.head-head.ensures.valid c.requires.leads least below;
+          c.rules_are_valid.ensures c.requires.leads least below;
       cells = (least_length c.args.ob c.args.answers.now c.deref.result.now least).1;
     }
 
@@ -73,9 +73,9 @@ returns c =
       counter = record { values = values; least = least; read = read };
       breaks =
           breaks_there f _ _ _ _ _ _ read.level read.doc read.ops
-          (law.broken f c.args.ob c.args.answers.now c.args.why values c.head-head.ensures.valid c.requires.declared c.requires.leads least);
+          (law.broken f c.args.ob c.args.answers.now c.args.why values c.rules_are_valid.ensures c.requires.declared c.requires.leads least);
       by_the_cause =
           breaks_by_there f c.args.why _ _ _ _ _ _ read.level read.doc read.ops
-          (law.by_the_cause f c.args.ob c.args.answers.now c.args.why values c.head-head.ensures.valid c.requires.declared c.requires.leads
+          (law.by_the_cause f c.args.ob c.args.answers.now c.args.why values c.rules_are_valid.ensures c.requires.declared c.requires.leads
           least);
     }

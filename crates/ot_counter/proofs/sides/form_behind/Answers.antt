@@ -32,10 +32,10 @@ pub transform-requires-3-clause-a_in_range : goal.transform-requires-3-clause-a_
 transform-requires-3-clause-a_in_range c =
     IsWithin-more (farthest + 99) 1099511627776 c.in_ok-c_after_a.c_after_a (omega arith)
     (c.transform_stays_near.ensures (function_of c.args.rules.now) c.args.c.now c.args.a.now c.in_ok-c_after_a.c_after_a farthest
-    c.head-head.ensures.valid c.requires.c_near c.requires.a_near (sym c.in_ok-c_after_a.ensures))
+    c.rules_are_valid.ensures c.requires.c_near c.requires.a_near (sym c.in_ok-c_after_a.ensures))
 
 pub transform-requires-3-clause-b_in_range : goal.transform-requires-3-clause-b_in_range
 transform-requires-3-clause-b_in_range c =
     IsWithin-more (farthest + 99) 1099511627776 c.in_ok-b_after_a.b_after_a (omega arith)
     (c.transform_stays_near.ensures (function_of c.args.rules.now) c.args.b.now c.args.a.now c.in_ok-b_after_a.b_after_a farthest
-    c.head-head.ensures.valid c.requires.b_near c.requires.a_near (sym c.in_ok-b_after_a.ensures))
+    c.rules_are_valid.ensures c.requires.b_near c.requires.a_near (sym c.in_ok-b_after_a.ensures))

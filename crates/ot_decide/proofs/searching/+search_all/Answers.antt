@@ -90,7 +90,7 @@ returns-in-Spent t c =
           (λ (n : List ObName). AreSettled f.head plan n c.args.budget c.args.bytes.now.items c.args.bytes.now.items search.Spent)
           (sym c.in-Some.ensures.cases.0)
           (settled_spent f.head plan c.in-Some.ob.now c.in-Some.others.now c.args.budget c.args.bytes.now.items c.args.bytes.now.items
-          (c.obligations_have_one_question_list.ensures.some_below f c.args.below c.in-Some.others.now c.head-head.ensures.valid
+          (c.obligations_have_one_question_list.ensures.some_below f c.args.below c.in-Some.others.now c.rules_are_valid.ensures
           c.requires.bounded)
           (subst (λ (o : Outcome Why). IsDecided (plan c.in-Some.ob.now) c.args.budget o) c.in-Spent.is c.in_ok-tree.ensures.decides));
     }

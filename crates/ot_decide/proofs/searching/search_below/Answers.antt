@@ -25,7 +25,7 @@ search_behind-requires c =
     let own : own_plan (function_of asker.rules.now) asker.ob asker.goal ≡ plan_of f ob = c.new-asker.ensures.root in
     let fine : IsFine (name_count ob) (premised lit (plan_of f ob)) =
     subst (λ (p : Plan Why). IsFine (name_count ob) p) (sym (c.shorter_than.ensures.plan f ob))
-    (c.shorter_plans_keep_limits.ensures f (Some c.args.bound) ob c.head-head.ensures.valid c.requires.bounded) in
+    (c.shorter_plans_keep_limits.ensures f (Some c.args.bound) ob c.rules_are_valid.ensures c.requires.bounded) in
     let of_own : IsFine (name_count ob) (premised lit (own_plan (function_of asker.rules.now) asker.ob asker.goal)) =
     subst (λ (p : Plan Why). IsFine (name_count ob) (premised lit p)) (sym own) fine in
     record {

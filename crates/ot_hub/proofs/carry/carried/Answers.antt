@@ -23,7 +23,7 @@ cross-requires c =
     let m : ℕ = farthest (length c.args.list.now) in
     let both : CanCross f c.loop-other.form (get_or c.args.list.now i no_one).op =
     CanCross-next f (keeps_near f c.functions_keep_forms.ensures c.transform_stays_near.ensures c.enabled_operations_are_near.ensures.wider
-    c.head-head.ensures.valid)
+    c.rules_are_valid.ensures)
     c.args.list.now m i c.loop-other.form c.loop-other-test.true c.loop-other.invariant.usable c.requires.list
     (omega (arith, c.loop-other-test.true, c.requires.few)) in
     record { own = both.own; other = both.other }
@@ -39,7 +39,7 @@ loop-other-preserved c =
     let here : Placed = get_or list i no_one in
     let inside : i < length list = c.loop-other-test.true in
     let has : KeepsNear f =
-    keeps_near f c.functions_keep_forms.ensures c.transform_stays_near.ensures c.enabled_operations_are_near.ensures.wider c.head-head.ensures.valid in
+    keeps_near f c.functions_keep_forms.ensures c.transform_stays_near.ensures c.enabled_operations_are_near.ensures.wider c.rules_are_valid.ensures in
     elim c.if-other-place.branch [
       | then-other-place+in_ok-form w ↦
           (let both : Crossed = w.in_ok-form.field-0 in

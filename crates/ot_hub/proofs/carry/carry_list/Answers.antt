@@ -23,7 +23,7 @@ cross-requires-clause-own c =
     let f : Function = function_of c.args.rules.now in
     let i : ℕ = c.loop-other.other-index in
     (CanCross-next f (keeps_near f c.functions_keep_forms.ensures c.transform_stays_near.ensures c.enabled_operations_are_near.ensures.wider
-    c.head-head.ensures.valid)
+    c.rules_are_valid.ensures)
     c.args.list.now (farthest (length c.args.list.now)) i c.loop-other.form c.loop-other-test.true c.loop-other.invariant.usable c.requires.usable.list
     (omega (arith, c.loop-other-test.true, c.requires.usable.few))).own
 
@@ -38,7 +38,7 @@ loop-other-preserved c =
     let here : Placed = get_or list i no_one in
     let inside : i < length list = c.loop-other-test.true in
     let has : KeepsNear f =
-    keeps_near f c.functions_keep_forms.ensures c.transform_stays_near.ensures c.enabled_operations_are_near.ensures.wider c.head-head.ensures.valid in
+    keeps_near f c.functions_keep_forms.ensures c.transform_stays_near.ensures c.enabled_operations_are_near.ensures.wider c.rules_are_valid.ensures in
     elim c.if-other-place.branch [
       | then-other-place+in-Some+in_ok-push w ↦
           (let both : Crossed = w.in-Some.both in

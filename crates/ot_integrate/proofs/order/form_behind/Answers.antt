@@ -41,7 +41,7 @@ loop-other-preserved c =
     let p : Op = c.in_ok-form.form in
     let other : IsExecuted f e = All-get_or (IsExecuted f) c.args.executed.now i no_op c.loop-other-test.true c.requires.executed in
     let near : IsWithin (most_cells + 99 * i + 99) p =
-    c.transform_stays_near.ensures f o e p (most_cells + 99 * i) c.head-head.ensures.valid
+    c.transform_stays_near.ensures f o e p (most_cells + 99 * i) c.rules_are_valid.ensures
     c.loop-other.invariant.near (c.enabled_operations_are_near.ensures.wider most_cells (most_cells + 99 * i) e (omega arith) other.near)
     (sym c.in_ok-form.ensures) in
     record {

@@ -18,4 +18,4 @@ returns-clause-node c =
     (subst (IsGoalOf (function_of c.args.rules.now) c.args.ob) (sym c.in_ok-start.ensures)
     (c.first_goals_stand_for_obligations.ensures.belongs (function_of c.args.rules.now) c.args.ob c.requires)))
     (returns-clause-plan c)
-    (c.plans_keep_limits.ensures.fine _ _ c.head-head.ensures.valid)
+    (c.plans_keep_limits.ensures.fine _ _ c.rules_are_valid.ensures)

@@ -24,7 +24,7 @@ pub transform-requires-clause-a_in_range : goal.transform-requires-clause-a_in_r
 transform-requires-clause-a_in_range c =
     form_in_range c.in-Some.there
     (c.transform_stays_near.ensures (function_of c.args.rules.now) c.args.a.now c.args.b.now c.in-Some.there farthest
-    c.head-head.ensures.valid c.requires.a_near c.requires.b_near (sym c.requires.form ∙ c.in-Some.is))
+    c.rules_are_valid.ensures c.requires.a_near c.requires.b_near (sym c.requires.form ∙ c.in-Some.is))
 
 pub transform-requires-clause-b_in_range : goal.transform-requires-clause-b_in_range
 transform-requires-clause-b_in_range c = in_range c.args.b.now c.requires.b_near

@@ -13,18 +13,18 @@ use Rattle.ot_rewrite.proofs.simplifying.front_of.Goals as goal
 pub rewrite-requires : goal.rewrite-requires
 rewrite-requires c =
     let f = function_of c.args.rules.now in
-    let kept = reached_kept f c.requires.0 c.head-head.ensures.valid (goal_tree c.args.goal.now) (front_tree c.loop-next.front)
+    let kept = reached_kept f c.requires.0 c.rules_are_valid.ensures (goal_tree c.args.goal.now) (front_tree c.loop-next.front)
     c.requires.1 c.loop-next.invariant in
     ready f c.requires.0 (front_tree c.loop-next.front) kept.belongs
 
 pub loop-next-smaller : goal.loop-next-smaller
 loop-next-smaller c =
     let f = function_of c.args.rules.now in
-    let kept = reached_kept f c.requires.0 c.head-head.ensures.valid (goal_tree c.args.goal.now) (front_tree c.loop-next.front)
+    let kept = reached_kept f c.requires.0 c.rules_are_valid.ensures (goal_tree c.args.goal.now) (front_tree c.loop-next.front)
     c.requires.1 c.loop-next.invariant in
     let next = next_given f (front_tree c.loop-next.front) c.in_ok-next.field-0 c.in-Some.next c.same_front-front.result
     c.in_ok-next.ensures c.in-Some.is c.same_front-front.ensures in
-    (rule_kept f c.requires.0 (front_tree c.loop-next.front) (front_tree c.same_front-front.result) c.head-head.ensures.valid
+    (rule_kept f c.requires.0 (front_tree c.loop-next.front) (front_tree c.same_front-front.result) c.rules_are_valid.ensures
     kept.belongs next).lighter
 
 pub loop-next-preserved : goal.loop-next-preserved
@@ -43,22 +43,22 @@ returns-clause-at_front c =
 
 pub returns-clause-asks : goal.returns-clause-asks
 returns-clause-asks c =
-    (reached_kept (function_of c.args.rules.now) c.requires.0 c.head-head.ensures.valid (goal_tree c.args.goal.now)
+    (reached_kept (function_of c.args.rules.now) c.requires.0 c.rules_are_valid.ensures (goal_tree c.args.goal.now)
     (front_tree c.loop-next.front) c.requires.1 c.loop-next.invariant).asked
 
 pub returns-clause-belongs : goal.returns-clause-belongs
 returns-clause-belongs c = λ ob is_goal.
-    (reached_kept (function_of c.args.rules.now) ob c.head-head.ensures.valid (goal_tree c.args.goal.now)
+    (reached_kept (function_of c.args.rules.now) ob c.rules_are_valid.ensures (goal_tree c.args.goal.now)
     (front_tree c.loop-next.front) is_goal c.loop-next.invariant).belongs
 
 pub returns-clause-weighs : goal.returns-clause-weighs
 returns-clause-weighs c =
-    (reached_kept (function_of c.args.rules.now) c.requires.0 c.head-head.ensures.valid (goal_tree c.args.goal.now)
+    (reached_kept (function_of c.args.rules.now) c.requires.0 c.rules_are_valid.ensures (goal_tree c.args.goal.now)
     (front_tree c.loop-next.front) c.requires.1 c.loop-next.invariant).lighter
 
 pub returns-clause-truth : goal.returns-clause-truth
 returns-clause-truth c = λ v.
     let f = function_of c.args.rules.now in
-    let kept = reached_kept f c.requires.0 c.head-head.ensures.valid (goal_tree c.args.goal.now) (front_tree c.loop-next.front)
+    let kept = reached_kept f c.requires.0 c.rules_are_valid.ensures (goal_tree c.args.goal.now) (front_tree c.loop-next.front)
     c.requires.1 c.loop-next.invariant in
     goal_holds_alike f c.requires.0 (front_tree c.loop-next.front) (goal_tree c.args.goal.now) v kept.belongs c.requires.1 kept.asked

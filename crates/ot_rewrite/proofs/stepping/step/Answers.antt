@@ -5,10 +5,10 @@ use Rattle.ot_rewrite.proofs.stepping.step.Goals as goal
 
 pub returns-clause-kept : goal.returns-clause-kept
 returns-clause-kept c =
-    step_kept (function_of c.args.rules.now) c.requires.0 c.head-head.ensures.valid (goal_tree c.args.goal.now) c.requires.1
+    step_kept (function_of c.args.rules.now) c.requires.0 c.rules_are_valid.ensures (goal_tree c.args.goal.now) c.requires.1
     (λ g. goal_tree g.now) _ c.in_ok-stepped.ensures
 
 pub returns-clause-stops : goal.returns-clause-stops
 returns-clause-stops c =
-    step_stops (function_of c.args.rules.now) c.requires.0 c.head-head.ensures.valid (goal_tree c.args.goal.now) c.requires.1
+    step_stops (function_of c.args.rules.now) c.requires.0 c.rules_are_valid.ensures (goal_tree c.args.goal.now) c.requires.1
     (λ g. goal_tree g.now) _ c.in_ok-stepped.ensures

@@ -33,4 +33,4 @@ returns-clause-stop c =
     (subst (IsGoalOf f c.args.ob) (sym c.in_ok-start.ensures)
     (c.first_goals_stand_for_obligations.ensures.belongs f c.args.ob c.requires))
     (ap (ask_goal f) c.in_ok-start.ensures ∙ c.first_goals_stand_for_obligations.ensures.plan f c.args.ob)
-    (c.plans_keep_limits.ensures.fine _ _ c.head-head.ensures.valid)
+    (c.plans_keep_limits.ensures.fine _ _ c.rules_are_valid.ensures)

@@ -7,7 +7,7 @@ use Rattle.ot_starts.proofs.walking.opened.Goals as goal
 pub returns-clause-opens : goal.returns-clause-opens
 returns-clause-opens c =
     let f = function_of c.args.rules.now in
-    let valid = c.head-head.ensures.valid in record {
+    let valid = c.rules_are_valid.ensures in record {
       marked = reached_opens f c.requires.0
           (λ g h of e. c.rules_keep_starts.ensures.opened f c.requires.0 g h valid of e)
           (λ g h of e. c.rules_keep_what_is_asked.ensures.belongs f c.requires.0 g h valid of e)

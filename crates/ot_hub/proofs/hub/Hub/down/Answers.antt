@@ -41,7 +41,7 @@ take_at-requires-clause-client c =
     let entry : Entry = c.in-Some.entry in
     let next : slice_get s.server.log one.received ≡ Some entry = rw client_is (sym c.in-Some.ensures) in
     let has : KeepsNear f =
-    keeps_near f c.functions_keep_forms.ensures c.transform_stays_near.ensures c.enabled_operations_are_near.ensures.wider c.head-head.ensures.valid in
+    keeps_near f c.functions_keep_forms.ensures c.transform_stays_near.ensures c.enabled_operations_are_near.ensures.wider c.rules_are_valid.ensures in
     rw c.deref_mut.ensures.value (CanTake-kept f has c.documents_grow_by_one_cell_at_most.ensures f.head.mode (length s.server.log) one
     (one-kept f s.made s.server all s.kept place inside) s.kept.server.few (slice_get_within s.server.log one.received entry next) entry.op
     (All-at (λ e. IsUsable f (reach (length s.server.log)) e.op) s.server.log one.received entry s.kept.server.log next))
@@ -60,7 +60,7 @@ invariant_of-self-in-Ok c =
     let entry : Entry = c.in-Some.entry in
     let next : slice_get s.server.log one.received ≡ Some entry = rw client_is (sym c.in-Some.ensures) in
     let has : KeepsNear f =
-    keeps_near f c.functions_keep_forms.ensures c.transform_stays_near.ensures c.enabled_operations_are_near.ensures.wider c.head-head.ensures.valid in
+    keeps_near f c.functions_keep_forms.ensures c.transform_stays_near.ensures c.enabled_operations_are_near.ensures.wider c.rules_are_valid.ensures in
     let n : ℕ = length s.server.log in
     let new : List Client = c.take_at.new.clients in
     let step : step_map (slice_set all place) (client_step f (place + 1) entry one) ≡ To new = rw (← c.deref_mut.ensures.value) c.in-Ok.ensures in

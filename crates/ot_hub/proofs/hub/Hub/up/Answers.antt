@@ -42,7 +42,7 @@ invariant_of-self c =
     let first : Some message ≡ slice_get one.messages 0 = rw client_is c.in-Some.ensures in
     let some : 0 < length one.messages = some_first one.messages message first in
     let has : KeepsNear f =
-    keeps_near f c.functions_keep_forms.ensures c.transform_stays_near.ensures c.enabled_operations_are_near.ensures.wider c.head-head.ensures.valid in
+    keeps_near f c.functions_keep_forms.ensures c.transform_stays_near.ensures c.enabled_operations_are_near.ensures.wider c.rules_are_valid.ensures in
     let new : Server = c.take.new.self in
     let mode : Mode = f.head.mode in
     let went : WentOn (carry f message.op (from_place message.place (ahead_of s.server c.args.client))) (length s.server.doc)
