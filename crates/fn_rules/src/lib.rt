@@ -30,7 +30,7 @@ pub use laws::{
     tests_decide_their_facts, transform_keeps_all_but_the_position, transform_keeps_allowed,
     transform_stays_near, undeclared_pairs_have_no_cases,
 };
-pub use limits::{MAX_ATOMS, MAX_CASES, MAX_NESTING, MAX_OFFSET};
+pub use limits::{MAX_ATOMS, MAX_CASES, MAX_NESTING, MAX_OFFSET, MOST_ROUNDS};
 pub use obligation::{blocks, obligations, pairs, triples};
 pub use rules::{Rules, is_within_limits};
 pub use std::alloc::AllocError as NoMemory;

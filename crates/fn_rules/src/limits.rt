@@ -21,6 +21,10 @@ pub const MAX_NESTING: u64 = 32;
 /// The greatest offset; the least is its negative.
 pub const MAX_OFFSET: i32 = 99;
 
+/// The greatest number that a workload is generated from: its function has so many cases more than it needs, and the
+/// sites of its session make operations in so many rounds.
+pub const MOST_ROUNDS: u32 = 16;
+
 // The atoms of a guard and its `true`, as far as they can be counted.
 fn atoms(guard: &Guard) -> u64
     ensures { result ≡ min (atoms_of (formula_of guard.now)) (2 ^ 64 - 1) }

@@ -9,11 +9,12 @@ use Rattle.case_json.specs.declared.script.Event.TheVariants.{Make, Take}
 use Rattle.ot_causal.specs.Counting.{made_at, most_forms}
 use Rattle.ot_causal.specs.Past.{maker}
 use Rattle.ot_causal.specs.Sessions.{IsSite, MayMake}
+use Rattle.fn_rules.specs.declared.limits.TheConstants.{MOST_ROUNDS}
 use Rattle.fn_rules.specs.Functions.{Function}
 use Rattle.ot_session.specs.declared.limits.TheConstants.{MAX_FORMS, MAX_MADE}
 use Rattle.ot_session.specs.Past.{past_of}
 use Rattle.ot_session.specs.Views.{View, data_in}
-use Rattle.ot_drill.specs.declared.limits.TheConstants.{SITES, MOST_ROUNDS}
+use Rattle.ot_drill.specs.declared.limits.TheConstants.{SITES}
 use Rattle.ot_drill.specs.Workload.{drill_function}
 
 -- how many operations each site made, how many were made in all, and whether one was taken since

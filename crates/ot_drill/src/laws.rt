@@ -2,7 +2,7 @@
 ghost use Rattle.std.specs.Prelude.{◌≡◌, ◌≤◌, ℕ, false, IsTrue};
 ghost use Rattle.fn_rules.specs.Properties.{HasTp1, HasTp2};
 ghost use Rattle.fn_rules.specs.Validity.{is_valid};
-ghost use Rattle.ot_drill.specs.declared.limits.TheConstants.{MOST_ROUNDS};
+ghost use Rattle.fn_rules.specs.declared.limits.TheConstants.{MOST_ROUNDS};
 ghost use Rattle.ot_drill.specs.Workload.{drill_function};
 
 /// The functions of workloads have both properties, do not assume that characters differ, and keep the limits.

@@ -1,7 +1,5 @@
 //! The limits of workloads.
-
-/// The greatest number that a workload is generated from.
-pub const MOST_ROUNDS: u32 = 16;
+pub use fn_rules::MOST_ROUNDS;
 
 /// The sites of a workload's session.
 pub const SITES: u32 = 3;

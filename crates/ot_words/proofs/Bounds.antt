@@ -8,9 +8,9 @@ use Rattle.clap.specs.ValueTests.{is_unsigned_in}
 use Rattle.clap.specs.Words.{Row, first_of}
 use Rattle.clap.specs.declared.builder.value_parser.ValueParser.TheVariants.{Unsigned}
 use Rattle.fn_rules.specs.declared.function.Level.{Level}
+use Rattle.fn_rules.specs.declared.limits.TheConstants.{MOST_ROUNDS}
 use Rattle.ot_words.specs.Commands.{Asked, Prove, Settle, Check, Integrate, Replay, Hub, Audit, Same, Reverse, Least, Bound, Confirm}
 use Rattle.ot_words.specs.Commands.{Drill}
-use Rattle.ot_drill.specs.declared.limits.TheConstants.{MOST_ROUNDS}
 use Rattle.clap_words.specs.Found.{found_by}
 use Rattle.ot_words.specs.Words.{IsWithinBounds, asked_by, audit_in, bound_in, check_in, confirm_in, deciding_app, decision_by, decision_in, drill_app}
 use Rattle.ot_words.specs.Words.{drill_by, drill_in, hub_in, integrate_in, is_given, least_app, least_by, least_in, level_by, most_questions}

@@ -1,7 +1,7 @@
 //! The words of a command. The first one says which command it is, and clap reads the others.
 ghost use Rattle.std.specs.Prelude.{◌≡◌, ◌≤◌, codes, map, false, true, IfOk, IfSome, string_bytes, option_map};
 ghost use Rattle.clap.specs.Words.{app_of, first_of, found_of, rows_of, rule_of};
-ghost use Rattle.ot_drill.specs.declared.limits.TheConstants.{MOST_ROUNDS};
+ghost use Rattle.fn_rules.specs.declared.limits.TheConstants.{MOST_ROUNDS};
 ghost use Rattle.ot_words.specs.Commands.{asked_of};
 ghost use Rattle.ot_words.specs.Words.{asked_by, audit_in, bare_app, bound_in, budget_rule, check_in, confirm_in};
 ghost use Rattle.ot_words.specs.Words.{deciding_app, decision_by, decision_in, drill_app, drill_by, drill_in};
@@ -14,8 +14,7 @@ use crate::command::Command;
 use clap::builder::ValueParser;
 use clap::{Arg, ArgAction, ArgMatches};
 use clap_words::matches_in;
-use fn_rules::Level;
-use ot_drill::MOST_ROUNDS;
+use fn_rules::{Level, MOST_ROUNDS};
 use ot_model::NoMemory;
 use std::alloc::Global;
 
