@@ -2,7 +2,6 @@ mod Agreeing
 mod Behind
 mod Confirming
 mod Drilling
-mod Ending
 mod Ends
 mod Feeding
 mod Given

@@ -5,6 +5,7 @@ use Rattle.fn_rules.specs.Obligations.{obligations_of}
 use Rattle.ot_questions.specs.declared.why.Why.{Why}
 use Rattle.ot_questions.specs.Obligation.{plan_of}
 use Rattle.ot_decide.specs.Verdicts.{ObQuestions, AreAsked, count_in}
+use Rattle.ot_session.specs.Sites.{end_of}
 use Rattle.ot_session.specs.Views.{View, data_in, IsBegun}
 use Rattle.ot_drill.specs.declared.limits.TheConstants.{SITES}
 use Rattle.ot_drill.specs.Events.{drill_events}
@@ -13,7 +14,7 @@ use Rattle.ot_drill.specs.Workload.{case_count, drill_function}
 use Rattle.ot_replies.specs.declared.reply.Drilled.{Drilled}
 use Rattle.ot_replies.specs.declared.reply.Reply.{Reply}
 use Rattle.ot_replies.specs.declared.reply.Reply.TheVariants as replies
-use Rattle.ot_commands.specs.Sessions.{IsFirstPair, end_of}
+use Rattle.ot_commands.specs.Sessions.{IsFirstPair}
 use Rattle.ot_words.specs.Words.{most_questions}
 
 -- what came of the workload of a number: the cases of its function, the level that its certificate shows, what was

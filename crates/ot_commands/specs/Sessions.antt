@@ -1,5 +1,5 @@
 -- What the events of a session come to, and which reply tells it.
-use Rattle.std.specs.Prelude.{◌≡◌, ◌≢◌, ℕ, ◌+◌, ◌<◌, ◌⊎◌, List, [], ◌∷◌, length, map, reverse, Option, Some, None}
+use Rattle.std.specs.Prelude.{◌≡◌, ◌≢◌, ℕ, ◌+◌, ◌<◌, ◌⊎◌, List, [], ◌∷◌, length, map, Option, Some, None}
 use Rattle.std.specs.Prelude.{Result, Ok, Err}
 use Rattle.ot_model.specs.declared.op.Op.{Op}
 use Rattle.ot_model.specs.Effect.{IsEnabled}
@@ -19,17 +19,13 @@ use Rattle.ot_session.specs.declared.answer.Make.TheVariants as makes
 use Rattle.ot_session.specs.declared.answer.Take.{Take as NotTaken}
 use Rattle.ot_session.specs.declared.answer.Take.TheVariants as takes
 use Rattle.ot_session.specs.declared.answer.Took.{Took}
+use Rattle.ot_session.specs.declared.ending.SiteEnd.{SiteEnd}
 use Rattle.ot_session.specs.declared.limits.TheConstants.{MAX_MADE}
-use Rattle.ot_session.specs.Sites.{SiteView}
+use Rattle.ot_session.specs.Sites.{end_of}
 use Rattle.ot_session.specs.Views.{View, data_in, IsBegun, HasMade, HasTaken}
 use Rattle.ot_replies.specs.declared.reply.EventFault.TheVariants as why
 use Rattle.ot_replies.specs.declared.reply.Reply.{Reply}
 use Rattle.ot_replies.specs.declared.reply.Reply.TheVariants.{Replayed, StuckAt, EventRefused, CaseRefused, Spent}
-use Rattle.ot_replies.specs.declared.reply.SiteEnd.{SiteEnd}
-
--- what a site has integrated, in order, and its document
-abbrev pub end_of : SiteView → SiteEnd
-end_of site = record { seen = reverse site.seen; doc = site.document }
 
 -- the sites have integrated the same operations and hold different documents
 pub record Differ (a b : SiteEnd) : Type 0 where

@@ -7,13 +7,11 @@ ghost use Rattle.ot_commands.specs.Drills.{IsDrilled, IsReplyToDrill};
 ghost use Rattle.ot_replies.specs.Texts.{status_of};
 
 use crate::prove::reply_to_function;
-use crate::replay::{ends_of, first_pair};
+use crate::replay::first_pair;
 use fn_rules::{Level, Rules};
 use fn_text::read_back;
 use ot_counter::failing_ends_have_counterexamples;
-use ot_drill::{
-    MOST_ROUNDS, SITES, count_cases, drill_functions_have_both_properties, play, rules,
-};
+use ot_drill::{MOST_ROUNDS, count_cases, drill_functions_have_both_properties, play, rules};
 use ot_judge::{JudgeError, check_all};
 use ot_model::NoMemory;
 use ot_outside::SliceFeed;
@@ -63,13 +61,14 @@ fn gone_through(
     let level = accepted(alloc, rules, certificate)?;
     let played = play(alloc, rules, number)?;
     played.session.sites_agree();
-    let ends = ends_of(alloc, &played.session, SITES)?;
+    let cells = played.session.doc(1).len();
+    let ends = played.session.into_ends()?;
     Ok(Drilled {
         number,
         cases: count_cases(rules),
         level,
         tally: played.tally,
-        cells: played.session.doc(1).len(),
+        cells,
         differ: first_pair(ends.as_slice()),
     })
 }

@@ -1,5 +1,5 @@
 //! `replay FUNCTION SESSION`: the events of a session, and whether sites that have integrated the same agree.
-ghost use Rattle.std.specs.Prelude.{◌≡◌, ◌≢◌, ◌+◌, ◌-◌, ◌≤◌, ◌↔◌, ℕ, List, length, map, reverse, Err, Some, None, IfOk};
+ghost use Rattle.std.specs.Prelude.{◌≡◌, ◌≢◌, ◌+◌, ◌-◌, ◌≤◌, ◌↔◌, ℕ, List, length, map, Err, Some, None, IfOk};
 ghost use Rattle.std.specs.Prelude.{IsErrOf, IsTrue, OnOk, Ok, true, false};
 ghost use Rattle.std.specs.List.{list_all};
 ghost use Rattle.case_json.specs.Scripts.{IsPlayable};
@@ -7,17 +7,16 @@ ghost use Rattle.case_json.specs.declared.limits.TheConstants.{MAX_EVENTS, MAX_S
 ghost use Rattle.case_json.specs.declared.script.Event.TheVariants as events;
 ghost use Rattle.fn_rules.specs.Rules.{function_of};
 ghost use Rattle.ot_causal.specs.Members.{has, have_one_set};
-ghost use Rattle.ot_causal.specs.Sessions.{IsSite};
 ghost use Rattle.ot_outside.specs.Faults.{Rose};
 ghost use Rattle.ot_outside.specs.Reads.{after_reading};
 ghost use Rattle.ot_outside.specs.Unchanged.{Unchanged};
-ghost use Rattle.ot_session.specs.Views.{view_of, data_in};
+ghost use Rattle.ot_session.specs.Views.{view_of};
 ghost use Rattle.ot_words.specs.Commands.{Replay};
 ghost use Rattle.ot_commands.specs.Given.{IsReplyOfGiven};
 ghost use Rattle.ot_commands.specs.Replies.{GoesOn, IsReplyTo, IsReplyToSessionFile};
 ghost use Rattle.ot_commands.specs.Sessions.{Differ, IsDone, IsFirstOther, IsFirstPair, IsRefused, IsReplyToSession};
 ghost use Rattle.ot_commands.specs.Sessions.{IsReplyToScript};
-ghost use Rattle.ot_commands.specs.Sessions.{Runs, TellsNotMade, TellsNotTaken, TellsSites, end_of};
+ghost use Rattle.ot_commands.specs.Sessions.{Runs, TellsNotMade, TellsNotTaken, TellsSites};
 ghost use Rattle.ot_commands.specs.Steady.{IsSteadyReply, MakesSitesAgree};
 ghost use Rattle.ot_replies.specs.Texts.{status_of};
 ghost use Rattle.ot_commands.specs.declared.halt.Halt.TheVariants as halts;
@@ -31,7 +30,6 @@ use ot_model::{NoMemory, Op};
 use ot_outside::Shelf;
 use ot_replies::{EventFault, FileKind, Reply, SiteEnd, Subject};
 use ot_session::{Make, Session, Take};
-use plain_list::List;
 use std::alloc::Global;
 
 // What comes of an operation that is not made, in the event with this number.
@@ -125,36 +123,6 @@ fn run_events(session: &mut Session, events: &[Event]) -> Result<(), Halt>
     Ok(())
 }
 
-// What a site has integrated, and its document.
-fn end_at(alloc: Global, session: &Session, site: u32) -> Result<SiteEnd, NoMemory>
-    requires { IsSite (data_in (view_of session.now)).sites site }
-    ensures seen { IfOk result (λ end. reverse end.seen ≡ (data_in (view_of session.now)).seen site) }
-    ensures document { IfOk result (λ end. end.doc ≡ (data_in (view_of session.now)).document site) }
-{
-    let seen = Vec::from_slice(alloc, session.seen(site))?;
-    let doc = session.doc(site).try_clone()?;
-    Ok(SiteEnd {
-        seen: List::from_vec(seen),
-        doc,
-    })
-}
-
-/// The same of each site, of which there are so many.
-pub(crate) fn ends_of(
-    alloc: Global,
-    session: &Session,
-    sites: u32,
-) -> Result<List<SiteEnd>, NoMemory>
-    requires { length (view_of session.now).sites ≡ sites }
-    ensures { IfOk result (λ ends. ends ≡ map end_of (view_of session.now).sites) }
-{
-    let mut ends = List::new(alloc);
-    for place in 0..sites {
-        ends.push(end_at(alloc, session, place + 1)?)?;
-    }
-    Ok(ends)
-}
-
 fn has(list: &[u32], number: u32) -> bool
     ensures { result ≡ has list.now number }
 {
@@ -209,14 +177,13 @@ pub(crate) fn first_pair(ends: &[SiteEnd]) -> Option<(u32, u32)>
 }
 
 // The reply to a session whose events were all done.
-fn ended(alloc: Global, session: &Session, sites: u32) -> Result<Reply, NoMemory>
-    requires sites { length (view_of session.now).sites ≡ sites }
-    requires few { sites ≤ MAX_SITES }
-    ensures tells { IfOk result (TellsSites (view_of session.now)) }
-    ensures steady { MakesSitesAgree (view_of session.now).function → IfOk result (λ r. status_of r ≢ 1) }
+fn ended(session: Session) -> Result<Reply, NoMemory>
+    requires { length (view_of session).sites ≤ MAX_SITES }
+    ensures tells { IfOk result (TellsSites (view_of session)) }
+    ensures steady { MakesSitesAgree (view_of session).function → IfOk result (λ r. status_of r ≢ 1) }
 {
     session.sites_agree();
-    let ends = ends_of(alloc, session, sites)?;
+    let ends = session.into_ends()?;
     let differ = first_pair(ends.as_slice());
     Ok(Reply::Replayed(ends, differ))
 }
@@ -229,7 +196,7 @@ fn run_script(alloc: Global, rules: &Rules, script: &Script) -> Result<Reply, No
 {
     let mut session = Session::new(alloc, rules, &script.doc, script.sites)?;
     match run_events(&mut session, script.events.as_slice()) {
-        Ok(()) => ended(alloc, &session, script.sites),
+        Ok(()) => ended(session),
         Err(Halt::Refused(reply)) => Ok(reply),
         Err(Halt::NoMemory) => Err(NoMemory),
     }

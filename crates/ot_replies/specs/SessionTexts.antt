@@ -3,7 +3,7 @@ use Rattle.std.specs.Prelude.{ℕ, ◌+◌, List, [], ◌∷◌, ◌++◌, lengt
 use Rattle.std.specs.Fmt.{decimal}
 use Rattle.ot_replies.specs.declared.reply.EventFault.{EventFault}
 use Rattle.ot_replies.specs.declared.reply.EventFault.TheVariants as why
-use Rattle.ot_replies.specs.declared.reply.SiteEnd.{SiteEnd}
+use Rattle.ot_session.specs.declared.ending.SiteEnd.{SiteEnd}
 use Rattle.ot_replies.specs.DocumentTexts.{document_text}
 
 abbrev pub event_fault_word : EventFault → List ℕ

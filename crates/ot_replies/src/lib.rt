@@ -4,5 +4,6 @@
 mod reply;
 mod texts;
 
-pub use reply::{ClientEnd, Drilled, EventFault, FileKind, HubEnd, Reply, SiteEnd, Subject};
+pub use ot_session::SiteEnd;
+pub use reply::{ClientEnd, Drilled, EventFault, FileKind, HubEnd, Reply, Subject};
 pub use texts::{status, text};

@@ -9,6 +9,7 @@ use ot_integrate::End;
 use ot_model::Doc;
 use ot_reverse::Back;
 use ot_sections::Refusal;
+use ot_session::SiteEnd;
 use plain_list::List;
 use proof_sections::ProofRefusal;
 
@@ -36,16 +37,6 @@ pub enum Subject {
 
     /// The one that is compared with the first.
     Second,
-}
-
-/// What a site of a session has integrated, and the document that it holds.
-#[derive(Debug, Drop)]
-pub struct SiteEnd {
-    /// The numbers of the operations, in the order in which they were integrated.
-    pub seen: List<u32>,
-
-    /// The document.
-    pub doc: Doc,
 }
 
 /// How many entries of the log a client of a hub has received, how many of its operations are pending, and the document

@@ -11,6 +11,7 @@ use Rattle.ot_causal.specs.Members.{has}
 use Rattle.ot_causal.specs.Past.{Past, IsClosed, IsOrderly}
 use Rattle.ot_causal.specs.Counting.{counted}
 use Rattle.ot_causal.specs.Sessions.{SessionData, IsSound}
+use Rattle.ot_session.specs.declared.ending.SiteEnd.{SiteEnd}
 use Rattle.ot_session.specs.declared.limits.TheConstants.{MAX_MADE}
 use Rattle.ot_session.specs.declared.made.Made.{Made}
 use Rattle.ot_session.specs.declared.site.Site.{Site}
@@ -25,6 +26,10 @@ pub record SiteView : Type 0 where
 
 abbrev pub view_site : Site → SiteView
 view_site site = record { document = site.doc; seen = reverse site.seen.items; held = site.held }
+
+-- what a site leaves: what it has integrated, in order, and its document
+abbrev pub end_of : SiteView → SiteEnd
+end_of site = record { seen = reverse site.seen; doc = site.document }
 
 -- the document of a site, if there is the site
 abbrev pub document_in : Option SiteView → List Cell

@@ -12,6 +12,7 @@
 #![tactic(auto)]
 
 mod answer;
+mod ending;
 mod form;
 mod laws;
 mod limits;
@@ -23,6 +24,7 @@ mod table;
 mod taking;
 
 pub use answer::{Make, Take, Took};
+pub use ending::SiteEnd;
 pub use laws::{makes_have_one_outcome, sessions_begin_as_one, takes_have_one_answer};
 pub use limits::{MAX_FORMS, MAX_MADE, MAX_SITES};
 pub use session::Session;

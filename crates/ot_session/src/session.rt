@@ -6,10 +6,11 @@ ghost use Rattle.ot_model.specs.declared.limits.TheConstants.{MAX_CELLS};
 ghost use Rattle.fn_rules.specs.Rules.{function_of};
 ghost use Rattle.ot_causal.specs.Sessions.{all_counted};
 ghost use Rattle.ot_session.specs.Past.{past_of};
-ghost use Rattle.ot_session.specs.Sites.{view_site, data_of, KeepsForms, IsKept};
+ghost use Rattle.ot_session.specs.Sites.{view_site, data_of, end_of, KeepsForms, IsKept};
 ghost use Rattle.ot_session.specs.declared.limits.TheConstants.{MAX_MADE, MAX_SITES, MAX_FORMS};
 
 use crate::answer::{Make, Take, Took};
+use crate::ending::SiteEnd;
 use crate::limits::{MAX_FORMS, MAX_MADE, MAX_SITES};
 use crate::made::{Made, is_before};
 use crate::site::Site;
@@ -23,6 +24,7 @@ use ot_causal::{
     sites_count_no_more_than_the_bound, steps_count_what_they_seek, steps_keep_sessions_sound,
 };
 use ot_model::{Doc, NoMemory, Op, documents_grow_by_one_cell_at_most, enabled};
+use plain_list::List;
 use std::alloc::Global;
 
 /// A session of some sites.
@@ -223,6 +225,18 @@ impl Session {
         );
         self.is_open = taken.is_ok();
         taken
+    }
+
+    /// Ends the session: what each site has integrated and the document that it holds, in the order of the sites. They
+    /// are handed over, and nothing of them is copied.
+    pub fn into_ends(self) -> Result<List<SiteEnd>, NoMemory>
+        ensures { IfOk result (λ ends. ends ≡ map end_of (view_of self).sites) }
+    {
+        let mut ends = List::new(*self.sites.allocator());
+        for site in self.sites {
+            ends.push(site.into_end())?;
+        }
+        Ok(ends)
     }
 
     /// Whether the operation is enabled on a site's document.

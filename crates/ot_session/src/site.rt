@@ -1,8 +1,9 @@
 //! A site of a session.
 ghost use Rattle.std.specs.Prelude.{◌≡◌, ◌<◌, ◌↔◌, length, replicate, false, IfOk, OnOk, OnErr, Err};
 ghost use Rattle.ot_model.specs.Effect.{IsEnabled};
-ghost use Rattle.ot_session.specs.Sites.{IsFresh, Executes, IsSameSite};
+ghost use Rattle.ot_session.specs.Sites.{IsFresh, Executes, IsSameSite, end_of, view_site};
 
+use crate::ending::SiteEnd;
 use crate::limits::MAX_MADE;
 use crate::table::Table;
 use ot_model::{Apply, Doc, Mode, Op, apply};
@@ -63,5 +64,15 @@ impl Site {
         self.seen.push_reserved(number);
         self.integrated.set(number as usize, true);
         Ok(())
+    }
+
+    /// What the site leaves.
+    pub fn into_end(self) -> SiteEnd
+        ensures { result ≡ end_of (view_site self) }
+    {
+        SiteEnd {
+            seen: List::from_vec(self.seen),
+            doc: self.doc,
+        }
     }
 }

@@ -15,6 +15,7 @@ use Rattle.ot_decide.specs.Verdicts.{AreAsked, ObQuestions}
 use Rattle.ot_session.specs.declared.answer.Take.{Take as NotTaken}
 use Rattle.ot_session.specs.declared.answer.Take.TheVariants as takes
 use Rattle.ot_session.specs.declared.answer.Took.{Took}
+use Rattle.ot_session.specs.Sites.{end_of}
 use Rattle.ot_session.specs.Views.{View, data_in, IsBegun, HasMade, HasTaken}
 use Rattle.ot_drill.specs.declared.limits.TheConstants.{SITES}
 use Rattle.ot_drill.specs.declared.tally.Tally.{Tally}
@@ -27,7 +28,7 @@ use Rattle.ot_replies.specs.declared.reply.Reply.TheVariants as replies
 use Rattle.ot_words.specs.Commands.{Drill}
 use Rattle.ot_commands.specs.Drills.{IsDrilled, IsReplyToQuestions}
 use Rattle.ot_commands.specs.Replies.{IsReplyTo}
-use Rattle.ot_commands.specs.Sessions.{IsFirstPair, end_of}
+use Rattle.ot_commands.specs.Sessions.{IsFirstPair}
 use Rattle.ot_top.proofs.OneReply.{first_pair_one, taken_is_no_refusal}
 
 -- the events are done one after the other from a session and a count on, which are these two in the end

@@ -15,12 +15,13 @@ use Rattle.ot_session.specs.declared.answer.Make.TheVariants as makes
 use Rattle.ot_session.specs.declared.answer.Take.{Take as NotTaken}
 use Rattle.ot_session.specs.declared.answer.Take.TheVariants as takes
 use Rattle.ot_session.specs.declared.answer.Took.{Took}
+use Rattle.ot_session.specs.declared.ending.SiteEnd.{SiteEnd}
 use Rattle.ot_session.specs.declared.limits.TheConstants.{MAX_MADE}
+use Rattle.ot_session.specs.Sites.{end_of}
 use Rattle.ot_session.specs.Views.{View, data_in, IsBegun, HasMade, HasTaken}
 use Rattle.ot_replies.specs.declared.reply.Reply.{Reply}
 use Rattle.ot_replies.specs.declared.reply.Reply.TheVariants.{Replayed}
-use Rattle.ot_replies.specs.declared.reply.SiteEnd.{SiteEnd}
-use Rattle.ot_commands.specs.Sessions.{IsFirstOther, IsFirstPair, end_of, TellsSites, CannotMake, TellsNotMade, TellsNotTaken, IsRefused, IsDone, Runs}
+use Rattle.ot_commands.specs.Sessions.{IsFirstOther, IsFirstPair, TellsSites, CannotMake, TellsNotMade, TellsNotTaken, IsRefused, IsDone, Runs}
 use Rattle.ot_commands.specs.Sessions.{IsReplyToScript, IsReplyToSession}
 
 -- the first that differs from one is one

@@ -4,8 +4,9 @@ ghost use Rattle.ot_replies.specs.SessionTexts.{event_fault_text, event_fault_wo
 ghost use Rattle.ot_replies.specs.SessionTexts.{sites_text, stuck_text};
 
 use super::documents::write_document;
-use crate::reply::{EventFault, SiteEnd};
+use crate::reply::EventFault;
 use ot_model::NoMemory;
+use ot_session::SiteEnd;
 use std::alloc::Global;
 
 fn event_fault_word(fault: EventFault) -> &'static str

@@ -2,9 +2,10 @@
 use Rattle.std.proofs.Common.{◌≡◌, List, sym, subst, ◌∙◌, map, false}
 use Rattle.fn_rules.specs.Functions.{Function}
 use Rattle.fn_rules.specs.Properties.{HasTp1, HasTp2}
+use Rattle.ot_session.specs.Sites.{end_of}
 use Rattle.ot_session.specs.Views.{view_of}
-use Rattle.ot_replies.specs.declared.reply.SiteEnd.{SiteEnd}
-use Rattle.ot_commands.specs.Sessions.{IsFirstPair, end_of}
+use Rattle.ot_session.specs.declared.ending.SiteEnd.{SiteEnd}
+use Rattle.ot_commands.specs.Sessions.{IsFirstPair}
 use Rattle.ot_commands.proofs.Agreeing.{none_differ}
 use Rattle.ot_commands.proofs.drill.gone_through.Goals as goal
 
