@@ -17,8 +17,8 @@ use Rattle.cert_text.specs.declared.item.CertError.{CertError}
 use Rattle.cert_text.specs.declared.item.CertError.TheVariants as cert
 use Rattle.cert_text.specs.Cycles.{IsNoFront, IsShortNumber, cycle_text, number_text, numbers_before}
 use Rattle.cert_text.specs.Numbers.{AreShort, IsSpellableCycle, PICK_LIMIT}
-use Rattle.cert_text.specs.Places.{Place, Start, Line, Tree, Finish, Stands, names_of, part_text, place_after}
-use Rattle.cert_text.specs.Reading.{Progress, Reading, Refused, EndsThere, HasNoPart, IsFrontOfPart, Reads, ReadsFrom}
+use Rattle.cert_text.specs.Places.{PartPlace, Start, Line, Tree, Finish, Stands, names_of, part_text, place_after}
+use Rattle.cert_text.specs.Reading.{ReaderState, Reading, Refused, EndsThere, HasNoPart, IsFrontOfPart, Reads, ReadsFrom}
 use Rattle.cert_text.specs.Spelling.{IsSpellable, header_text, token_text}
 use Rattle.cert_text.proofs.CycleLemmas.{AreShort-push, byte_is_wrong, digit_is_too_much, digit_is_wanted, front_of_cycle, front_with_digit}
 use Rattle.cert_text.proofs.CycleLemmas.{front_with_more_digits, other_byte_is_wrong, with_comma, with_end}
@@ -26,14 +26,14 @@ use Rattle.cert_text.proofs.PartLemmas.{end_part, ob_part, start_parts}
 use Rattle.cert_text.proofs.ReadingLemmas.{more_has_no_part, some_text, wrong_byte}
 
 -- the bytes begin with a part that may stand at the place
-abbrev GoesOn : Place → List ℕ → Type 0
+abbrev GoesOn : PartPlace → List ℕ → Type 0
 GoesOn place bytes = (p : Part) × (rest : List ℕ) × Stands place p × (bytes ≡ part_text place p ++ rest)
 
 -- they end there in some way
-abbrev Ends : Place → ℕ → List ℕ → Type 0
+abbrev Ends : PartPlace → ℕ → List ℕ → Type 0
 Ends place offset bytes = (end : Result (Unit {0}) CertError) × EndsThere place offset bytes end
 
-abbrev GoesOnOrEnds : Place → ℕ → List ℕ → Type 0
+abbrev GoesOnOrEnds : PartPlace → ℕ → List ℕ → Type 0
 GoesOnOrEnds place offset bytes = GoesOn place bytes ⊎ Ends place offset bytes
 
 -- one list is not a front of the other
@@ -61,7 +61,7 @@ compared (a ∷ text) (b ∷ bytes) =
     (λ (other : (eqb a b ≡ false) × (a ≢ b)). inr (inr (λ more. (λ is. other.1 (cc), λ is. other.1 (cc)))))
     (eqb_tells a b)
 
-module _ (place : Place) (offset : ℕ) (still_open : place ≢ Finish) where
+module _ (place : PartPlace) (offset : ℕ) (still_open : place ≢ Finish) where
   -- bytes that are a front of a part end too early
   truncated : (bytes : List ℕ) → IsFrontOfPart place bytes → GoesOnOrEnds place offset bytes
   truncated bytes front = inr (Err (cert.Truncated (offset + length bytes)), (refl, still_open, front))
@@ -186,7 +186,7 @@ no_cycle_part came names branches some text wrong part.End s is = absurd s
 
 -- in a tree with an open branch
 module _ (came : ℕ) (names : List ObName) (branches : ℕ) (some : 0 < branches) (offset : ℕ) where
-  abbrev here : Place
+  abbrev here : PartPlace
   here = Tree came names branches
 
   open_here : here ≢ Finish
@@ -361,7 +361,7 @@ module _ (came : ℕ) (names : List ObName) (branches : ℕ) (some : 0 < branche
       (eqb_tells b 63)
 
 -- before any part
-goes_on_or_ends : (place : Place) (offset : ℕ) (bytes : List ℕ) → GoesOnOrEnds place offset bytes
+goes_on_or_ends : (place : PartPlace) (offset : ℕ) (bytes : List ℕ) → GoesOnOrEnds place offset bytes
 goes_on_or_ends (Start tp1 tp2) offset bytes = before_the_header tp1 tp2 offset bytes
 goes_on_or_ends (Line came []) offset bytes =
     one_line (Line came []) offset (λ e. cc) part.End bytes tt (end_part came)
@@ -375,12 +375,12 @@ goes_on_or_ends Finish offset [] = inr (Ok tt, (refl, refl))
 goes_on_or_ends Finish offset (b ∷ bytes) = inr (Err (cert.Trailing offset), (refl, refl, omega arith))
 
 -- bytes give parts from a place on, and end
-abbrev AreRead : Place → ℕ → List ℕ → Type 0
+abbrev AreRead : PartPlace → ℕ → List ℕ → Type 0
 AreRead place offset bytes = (items : List Item) × (end : Result (Unit {0}) CertError) × ReadsFrom place offset bytes items end
 
 read_on :
-    (place : Place) (offset : ℕ) (bytes : List ℕ)
-    → ((next : Place) (at : ℕ) (rest : List ℕ) → length rest < length bytes → AreRead next at rest)
+    (place : PartPlace) (offset : ℕ) (bytes : List ℕ)
+    → ((next : PartPlace) (at : ℕ) (rest : List ℕ) → length rest < length bytes → AreRead next at rest)
     → GoesOnOrEnds place offset bytes → AreRead place offset bytes
 read_on place offset bytes later (inl (p, rest, stands, is)) =
     let shorter : length rest < length bytes =
@@ -389,7 +389,7 @@ read_on place offset bytes later (inl (p, rest, stands, is)) =
     (record { offset = offset; part = p } ∷ on.0, on.1, (refl, stands, (rest, is, on.2)))
 read_on place offset bytes later (inr (end, ends)) = ([], end, ends)
 
-read_within : (room : ℕ) (place : Place) (offset : ℕ) (bytes : List ℕ) → length bytes ≤ room → AreRead place offset bytes
+read_within : (room : ℕ) (place : PartPlace) (offset : ℕ) (bytes : List ℕ) → length bytes ≤ room → AreRead place offset bytes
 read_within zero place offset bytes few =
     read_on place offset bytes (λ next at rest less. absurd (omega (arith, few, less))) (goes_on_or_ends place offset bytes)
 read_within (suc room) place offset bytes few =
@@ -398,7 +398,7 @@ read_within (suc room) place offset bytes few =
 
 -- whatever bytes are still to come, they give a reader some parts, and end
 pub all_read :
-    (reader : Progress) (bytes : List ℕ) → (items : List Item) × (end : Result (Unit {0}) CertError) × Reads reader bytes items end
+    (reader : ReaderState) (bytes : List ℕ) → (items : List Item) × (end : Result (Unit {0}) CertError) × Reads reader bytes items end
 all_read (Reading place offset begun) bytes =
     read_within (length (begun ++ bytes)) place offset (begun ++ bytes) (omega arith)
 all_read (Refused refusal) bytes = ([], Err refusal, (refl, refl))

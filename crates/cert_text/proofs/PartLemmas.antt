@@ -13,7 +13,7 @@ use Rattle.cert_text.specs.declared.item.Part.{Part}
 use Rattle.cert_text.specs.declared.item.Part.TheVariants as part
 use Rattle.cert_text.specs.Numbers.{AreShort, IsSpellableCycle, more_numbers_text, numbers_text}
 use Rattle.cert_text.specs.Spelling.{IsSpellable, has_update, header_text, level_text, token_text}
-use Rattle.cert_text.specs.Places.{Place, Start, Line, Tree, Finish, Stands, names_of, part_text}
+use Rattle.cert_text.specs.Places.{PartPlace, Start, Line, Tree, Finish, Stands, names_of, part_text}
 use Rattle.cert_text.proofs.CycleLemmas.{same_number}
 use Rattle.cert_text.proofs.NumberLists.{first_number, no_digit_behind}
 
@@ -106,7 +106,7 @@ end_part came part.LineEnd s = absurd s
 end_part came part.End s = refl
 
 -- two parts that may stand at a place, of which one begins with the other, are the same
-parts_same : (place : Place) (p q : Part) (more : List ℕ) → Stands place p → Stands place q → part_text place p ≡ part_text place q ++ more → p ≡ q
+parts_same : (place : PartPlace) (p q : Part) (more : List ℕ) → Stands place p → Stands place q → part_text place p ≡ part_text place q ++ more → p ≡ q
 parts_same (Start tp1 tp2) p q more a b is =
     let one = start_parts tp1 tp2 p a in
     let two = start_parts tp1 tp2 q b in
@@ -135,7 +135,7 @@ parts_same Finish p q more a b is = absurd a
 
 -- and nothing is more in the one than in the other
 pub no_front :
-    (place : Place) (p q : Part) (more : List ℕ) → Stands place p → Stands place q → part_text place p ≡ part_text place q ++ more
+    (place : PartPlace) (p q : Part) (more : List ℕ) → Stands place p → Stands place q → part_text place p ≡ part_text place q ++ more
     → (p ≡ q) × (more ≡ [])
 no_front place p q more a b is =
     let same = parts_same place p q more a b is in (

@@ -12,12 +12,12 @@ use Rattle.cert_text.specs.declared.item.Item.{Item}
 use Rattle.cert_text.specs.declared.item.CertError.{CertError}
 use Rattle.cert_text.specs.declared.stage.Stage.{Stage}
 use Rattle.cert_text.specs.declared.stage.Stage.TheVariants as stage
-use Rattle.cert_text.specs.declared.step.Begun.{Begun}
-use Rattle.cert_text.specs.declared.step.Begun.TheVariants as begun
+use Rattle.cert_text.specs.declared.step.PartFront.{PartFront}
+use Rattle.cert_text.specs.declared.step.PartFront.TheVariants as begun
 use Rattle.cert_text.specs.Spelling.{IsSpellable, token_text}
-use Rattle.cert_text.specs.Stages.{IsSound, begun_text, place_of, progress_at}
-use Rattle.cert_text.specs.Places.{Place, Stands, Tree, names_of, open_after, part_text, place_after}
-use Rattle.cert_text.specs.Reading.{Progress, Reading, Gives, IsFrontOfPart, Reads, ReadsOn}
+use Rattle.cert_text.specs.Stages.{IsSound, begun_text, place_of, state_at}
+use Rattle.cert_text.specs.Places.{PartPlace, Stands, Tree, names_of, open_after, part_text, place_after}
+use Rattle.cert_text.specs.Reading.{ReaderState, Reading, Gives, IsFrontOfPart, Reads, ReadsOn}
 use Rattle.cert_text.specs.Pieces.{IsUnderWay, GoesOn, EndsWithin, GivesOf}
 use Rattle.cert_text.proofs.ReadingLemmas.{reads_on, some_text}
 
@@ -31,7 +31,7 @@ last_of (b ∷ c ∷ bytes) some =
 
 -- through the bytes of a part that stands there, where more of it comes behind them
 through_part :
-    (place : Place) (offset : ℕ) (p : Part) (begun bytes more : List ℕ) → Stands place p → 0 < length more
+    (place : PartPlace) (offset : ℕ) (p : Part) (begun bytes more : List ℕ) → Stands place p → 0 < length more
     → part_text place p ≡ (begun ++ bytes) ++ more
     → GoesOn (Reading place offset begun) bytes (Reading place offset (begun ++ bytes))
 through_part place offset p begun [] more stands some text = ap (Reading place offset) (append-nil begun)
@@ -50,7 +50,7 @@ through_part place offset p begun (b ∷ bytes) more stands some text =
 -- a whole part at the front of a piece, of which nothing came before: fed byte by byte, each byte but the last one
 -- leaves a front of it, and the last one ends it
 pub whole_part :
-    (place : Place) (offset taken : ℕ) (p : Part) (piece : List ℕ) → Stands place p → taken ≤ length piece
+    (place : PartPlace) (offset taken : ℕ) (p : Part) (piece : List ℕ) → Stands place p → taken ≤ length piece
     → part_text place p ≡ take taken piece
     → EndsWithin (Reading place offset []) piece taken (Ok (Some (record { offset = offset; part = p })))
     (Reading (place_after place p) (offset + taken) [])
@@ -71,20 +71,20 @@ whole_part place offset taken p piece stands within text =
 
 -- one byte further
 pub goes_on_more :
-    (was between now : Progress) (bytes : List ℕ) (byte : ℕ) → GoesOn was bytes between → Gives between byte (Ok None) now
+    (was between now : ReaderState) (bytes : List ℕ) (byte : ℕ) → GoesOn was bytes between → Gives between byte (Ok None) now
     → IsUnderWay now → GoesOn was (bytes ++ byte ∷ []) now
 goes_on_more was between now [] byte goes gives way =
-    (now, subst (λ (p : Progress). Gives p byte (Ok None) now) goes gives, way, refl)
+    (now, subst (λ (p : ReaderState). Gives p byte (Ok None) now) goes gives, way, refl)
 goes_on_more was between now (b ∷ bytes) byte goes gives way =
     (goes.0, goes.1, goes.2, goes_on_more goes.0 between now bytes byte goes.3 gives way)
 
 -- bytes that end no part leave what those behind them give
 goes_on_reads :
-    (was now : Progress) (bytes : List ℕ) → GoesOn was bytes now
+    (was now : ReaderState) (bytes : List ℕ) → GoesOn was bytes now
     → (rest : List ℕ) (items : List Item) (end : Result (Unit {0}) CertError)
     → Reads was (bytes ++ rest) items end ↔ Reads now rest items end
 goes_on_reads was now [] goes rest items end =
-    subst (λ (p : Progress). Reads was rest items end ↔ Reads p rest items end) (sym goes) (λ h. h, λ h. h)
+    subst (λ (p : ReaderState). Reads was rest items end ↔ Reads p rest items end) (sym goes) (λ h. h, λ h. h)
 goes_on_reads was now (b ∷ bytes) goes rest items end =
     let one = reads_on was b (Ok None) goes.0 goes.1 (bytes ++ rest) items end in
     let more = goes_on_reads goes.0 now bytes goes.3 rest items end in
@@ -92,7 +92,7 @@ goes_on_reads was now (b ∷ bytes) goes rest items end =
 
 -- bytes up to the end of a part give what their last byte gives, and then what those behind them give
 ends_reads :
-    (was now : Progress) (piece : List ℕ) (taken : ℕ) (result : Result (Option Item) CertError)
+    (was now : ReaderState) (piece : List ℕ) (taken : ℕ) (result : Result (Option Item) CertError)
     → EndsWithin was piece taken result now
     → (rest : List ℕ) (items : List Item) (end : Result (Unit {0}) CertError)
     → Reads was (take taken piece ++ rest) items end ↔ ReadsOn result now rest items end
@@ -106,13 +106,13 @@ ends_reads was now piece taken result (within, (front, byte, between, text, goes
 
 -- of a piece that is not empty some bytes are taken, and none behind it
 pub ends_within :
-    (was now : Progress) (piece : List ℕ) (taken : ℕ) (result : Result (Option Item) CertError)
+    (was now : ReaderState) (piece : List ℕ) (taken : ℕ) (result : Result (Option Item) CertError)
     → EndsWithin was piece taken result now → (taken ≤ length piece) × (0 < taken)
 ends_within was now piece taken result (within, (front, byte, between, text, goes, gives)) =
     (within, omega (arith, ap length text, length-append front (byte ∷ []), length-take-le taken piece within))
 
 pub piece_within :
-    (was now : Progress) (piece : List ℕ) (taken : ℕ) (result : Result (Option Item) CertError)
+    (was now : ReaderState) (piece : List ℕ) (taken : ℕ) (result : Result (Option Item) CertError)
     → GivesOf was piece taken result now → (taken ≤ length piece) × (0 < length piece → 0 < taken)
 piece_within was now piece taken (Ok None) g = (omega (arith, g.0), λ some. omega (arith, g.0))
 piece_within was now piece taken (Ok (Some item)) g =
@@ -122,7 +122,7 @@ piece_within was now piece taken (Err refusal) g =
 
 -- what a piece gives and what is behind the bytes that were taken of it
 pub piece_reads :
-    (was now : Progress) (piece : List ℕ) (taken : ℕ) (result : Result (Option Item) CertError)
+    (was now : ReaderState) (piece : List ℕ) (taken : ℕ) (result : Result (Option Item) CertError)
     → GivesOf was piece taken result now
     → (rest : List ℕ) (items : List Item) (end : Result (Unit {0}) CertError)
     → Reads was (take taken piece ++ rest) items end ↔ ReadsOn result now rest items end
@@ -152,20 +152,20 @@ digits_grow bytes i b text longer within byte text_is longer_is =
 
 -- a whole token ends at a reader that stands between tokens in a tree
 pub token_ends :
-    (tp1 tp2 : List ObName) (at : Stage) (level : Level) (came branches behind offset taken : ℕ) (b : Begun) (line : List ℕ)
-    (refused : Option CertError) (was : Progress) (t : Tok) (piece : List ℕ)
-    → progress_at refused (place_of tp1 tp2 at) offset (begun_text b) ≡ was → refused ≡ None
+    (tp1 tp2 : List ObName) (at : Stage) (level : Level) (came branches behind offset taken : ℕ) (b : PartFront) (line : List ℕ)
+    (refused : Option CertError) (was : ReaderState) (t : Tok) (piece : List ℕ)
+    → state_at refused (place_of tp1 tp2 at) offset (begun_text b) ≡ was → refused ≡ None
     → at ≡ stage.Tree level came branches → b ≡ begun.Line line → IsSound (place_of tp1 tp2 at) b → 0 < branches
     → behind ≡ open_after branches t → IsSpellable t → taken ≤ length piece → token_text t ≡ take taken piece
     → EndsWithin was piece taken (Ok (Some (record { offset = offset; part = part.Tok t })))
-    (progress_at refused (place_of tp1 tp2 (stage.Tree level came behind)) (offset + taken) (begun_text b))
+    (state_at refused (place_of tp1 tp2 (stage.Tree level came behind)) (offset + taken) (begun_text b))
 token_ends tp1 tp2 at level came branches behind offset taken b line refused was t piece is none at_is b_is sound some behind_is spellable within text =
     let none_came : line ≡ [] = rw (at_is, b_is) at sound in
     let empty : begun_text b ≡ [] = ap begun_text b_is ∙ none_came in
     let was_is : Reading (Tree came (drop came (names_of tp1 tp2 level)) branches) offset [] ≡ was = rw (none, at_is, empty) at is in
     subst
-    (λ (p : Progress). EndsWithin p piece taken (Ok (Some (record { offset = offset; part = part.Tok t })))
-    (progress_at refused (place_of tp1 tp2 (stage.Tree level came behind)) (offset + taken) (begun_text b)))
+    (λ (p : ReaderState). EndsWithin p piece taken (Ok (Some (record { offset = offset; part = part.Tok t })))
+    (state_at refused (place_of tp1 tp2 (stage.Tree level came behind)) (offset + taken) (begun_text b)))
     was_is
     (rw (none, empty, behind_is)
     (whole_part (Tree came (drop came (names_of tp1 tp2 level)) branches) offset taken (part.Tok t) piece (some, spellable) within text))

@@ -11,8 +11,8 @@ use Rattle.cert_text.specs.declared.item.Item.{Item}
 use Rattle.cert_text.specs.declared.item.CertError.{CertError}
 use Rattle.cert_text.specs.declared.item.CertError.TheVariants as cert
 use Rattle.cert_text.specs.Spelling.{token_text}
-use Rattle.cert_text.specs.Places.{Place, Start, Line, Tree, Finish, Stands, part_text, place_after}
-use Rattle.cert_text.specs.Reading.{Progress, Reading, Refused, EndsThere, Gives, HasNoPart, IsFrontOfPart, Reads, ReadsFrom, ReadsOn}
+use Rattle.cert_text.specs.Places.{PartPlace, Start, Line, Tree, Finish, Stands, part_text, place_after}
+use Rattle.cert_text.specs.Reading.{ReaderState, Reading, Refused, EndsThere, Gives, HasNoPart, IsFrontOfPart, Reads, ReadsFrom, ReadsOn}
 use Rattle.cert_text.proofs.PartLemmas.{end_part, no_front, ob_part, start_parts}
 
 -- of two fronts of the same bytes, one is a front of the other
@@ -30,12 +30,12 @@ fronts (x ∷ a) b (y ∷ c) d is =
     (fronts a b c d rests)
 
 -- where a part stands, the last line is not over
-not_over : (place : Place) (p : Part) → Stands place p → place ≢ Finish
-not_over place p stands over = subst (λ (l : Place). Stands l p) over stands
+not_over : (place : PartPlace) (p : Part) → Stands place p → place ≢ Finish
+not_over place p stands over = subst (λ (l : PartPlace). Stands l p) over stands
 
 -- two parts at the front of the same bytes are the same
 pub same_part :
-    (place : Place) (p q : Part) (r s : List ℕ) → Stands place p → Stands place q → part_text place p ++ r ≡ part_text place q ++ s
+    (place : PartPlace) (p q : Part) (r s : List ℕ) → Stands place p → Stands place q → part_text place p ++ r ≡ part_text place q ++ s
     → (p ≡ q) × (r ≡ s)
 same_part place p q r s a b is =
     ⊎_elim
@@ -48,7 +48,7 @@ same_part place p q r s a b is =
     (fronts (part_text place p) r (part_text place q) s is)
 
 -- where no part goes on so, none does with more bytes
-pub more_has_no_part : (place : Place) (bytes rest : List ℕ) → HasNoPart place bytes → HasNoPart place (bytes ++ rest)
+pub more_has_no_part : (place : PartPlace) (bytes rest : List ℕ) → HasNoPart place bytes → HasNoPart place (bytes ++ rest)
 more_has_no_part place bytes rest none p more stands = (
   λ is. (none p (rest ++ more) stands).0 (is ∙ append_assoc bytes rest more),
   λ is.
@@ -60,7 +60,7 @@ more_has_no_part place bytes rest none p more stands = (
 
 -- where the bytes are a front of a part, no whole part is a front of them
 no_part_inside :
-    (place : Place) (bytes rest : List ℕ) (q : Part) → IsFrontOfPart place bytes → Stands place q → 0 < length (part_text place q)
+    (place : PartPlace) (bytes rest : List ℕ) (q : Part) → IsFrontOfPart place bytes → Stands place q → 0 < length (part_text place q)
     → bytes ≡ part_text place q ++ rest → ⊥
 no_part_inside place bytes rest q (inl none) stands some is =
     omega (arith, ap length (sym is ∙ none), length-append (part_text place q) rest)
@@ -75,7 +75,7 @@ some_bytes token.Holds = omega arith
 some_bytes (token.Cycle picks) = omega arith
 
 -- so has a part
-pub some_text : (place : Place) (p : Part) → Stands place p → 0 < length (part_text place p)
+pub some_text : (place : PartPlace) (p : Part) → Stands place p → 0 < length (part_text place p)
 some_text (Start tp1 tp2) p stands = let one = start_parts tp1 tp2 p stands in rw one.1 (omega arith)
 some_text (Line came []) p stands = rw (end_part came p stands) (omega arith)
 some_text (Line came (name ∷ names)) p stands = rw (ob_part came name names p stands) (omega arith)
@@ -88,7 +88,7 @@ some_text Finish p stands = absurd stands
 
 -- where a whole part is in front, the bytes do not end there
 part_is_no_end :
-    (place : Place) (offset : ℕ) (bytes rest : List ℕ) (p : Part) (end : Result (Unit {0}) CertError) → Stands place p
+    (place : PartPlace) (offset : ℕ) (bytes rest : List ℕ) (p : Part) (end : Result (Unit {0}) CertError) → Stands place p
     → bytes ≡ part_text place p ++ rest → EndsThere place offset bytes end → ⊥
 part_is_no_end place offset bytes rest p (Ok x) stands is h = not_over place p stands h.0
 part_is_no_end place offset bytes rest p (Err (cert.BadToken at)) stands is h = (h.3 p rest stands).1 is
@@ -103,13 +103,13 @@ same_item a b offsets parts =
 
 -- reading goes on alike behind the same part
 along :
-    (place : Place) (p q : Part) (a b : ℕ) (r s : List ℕ) (items : List Item) (end : Result (Unit {0}) CertError) → p ≡ q → a ≡ b → r ≡ s
+    (place : PartPlace) (p q : Part) (a b : ℕ) (r s : List ℕ) (items : List Item) (end : Result (Unit {0}) CertError) → p ≡ q → a ≡ b → r ≡ s
     → ReadsFrom (place_after place p) a r items end → ReadsFrom (place_after place q) b s items end
 along place p q a b r s items end parts offsets rests h = rw (← parts, ← offsets, ← rests) h
 
 -- after a byte in a token
 reads_more :
-    (place : Place) (offset byte : ℕ) (begun : List ℕ) (now : Progress) → now ≡ Reading place offset (begun ++ byte ∷ [])
+    (place : PartPlace) (offset byte : ℕ) (begun : List ℕ) (now : ReaderState) → now ≡ Reading place offset (begun ++ byte ∷ [])
     → (rest : List ℕ) (items : List Item) (end : Result (Unit {0}) CertError)
     → ReadsFrom place offset (begun ++ byte ∷ rest) items end ↔ Reads now rest items end
 reads_more place offset byte begun now is rest items end =
@@ -121,7 +121,7 @@ reads_more place offset byte begun now is rest items end =
 
 -- after the byte that ends a part
 reads_part :
-    (place : Place) (offset byte : ℕ) (begun : List ℕ) (item : Item) (now : Progress)
+    (place : PartPlace) (offset byte : ℕ) (begun : List ℕ) (item : Item) (now : ReaderState)
     → Gives (Reading place offset begun) byte (Ok (Some item)) now
     → (rest : List ℕ) (items : List Item) (end : Result (Unit {0}) CertError)
     → ReadsFrom place offset (begun ++ byte ∷ rest) items end ↔ ReadsOn (Ok (Some item)) now rest items end
@@ -144,7 +144,7 @@ reads_part place offset byte begun item now g rest (first ∷ items) end =
       λ h.
           let parts : item.part ≡ first.part = ap (λ (i : Item). i.part) (sym h.0) in
           let reads : ReadsFrom (place_after place item.part) (offset + length begun + 1) rest items end =
-          subst (λ (q : Progress). Reads q rest items end) g.3 h.1 in (
+          subst (λ (q : ReaderState). Reads q rest items end) g.3 h.1 in (
             ap (λ (i : Item). i.offset) h.0 ∙ g.0,
             subst (λ (p : Part). Stands place p) parts g.1,
             (
@@ -158,7 +158,7 @@ reads_part place offset byte begun item now g rest (first ∷ items) end =
 
 -- after the byte that no part goes on with
 reads_bad :
-    (place : Place) (offset byte at : ℕ) (begun : List ℕ) → EndsThere place offset (begun ++ byte ∷ []) (Err (cert.BadToken at))
+    (place : PartPlace) (offset byte at : ℕ) (begun : List ℕ) → EndsThere place offset (begun ++ byte ∷ []) (Err (cert.BadToken at))
     → (rest : List ℕ) (items : List Item) (end : Result (Unit {0}) CertError)
     → ReadsFrom place offset (begun ++ byte ∷ rest) items end ↔ ((items ≡ []) × (end ≡ Err (cert.BadToken at)))
 reads_bad place offset byte at begun g rest items end =
@@ -171,7 +171,7 @@ reads_bad place offset byte at begun g rest items end =
     )
   where
     to :
-        (place : Place) (offset at : ℕ) (bytes : List ℕ) (items : List Item) (end : Result (Unit {0}) CertError) → at ≡ offset → place ≢ Finish
+        (place : PartPlace) (offset at : ℕ) (bytes : List ℕ) (items : List Item) (end : Result (Unit {0}) CertError) → at ≡ offset → place ≢ Finish
         → 0 < length bytes → HasNoPart place bytes → ReadsFrom place offset bytes items end → (items ≡ []) × (end ≡ Err (cert.BadToken at))
     to place offset at bytes [] (Ok x) is still_open some none h = absurd (still_open h.0)
     to place offset at bytes [] (Err (cert.BadToken k)) is still_open some none h =
@@ -185,14 +185,14 @@ reads_bad place offset byte at begun g rest items end =
     to place offset at bytes (first ∷ items) end is still_open some none h = absurd ((none first.part h.2.0 h.1).1 h.2.1)
 
     from :
-        (place : Place) (offset at : ℕ) (bytes : List ℕ) (items : List Item) (end : Result (Unit {0}) CertError) → at ≡ offset → place ≢ Finish
+        (place : PartPlace) (offset at : ℕ) (bytes : List ℕ) (items : List Item) (end : Result (Unit {0}) CertError) → at ≡ offset → place ≢ Finish
         → 0 < length bytes → HasNoPart place bytes → items ≡ [] → end ≡ Err (cert.BadToken at) → ReadsFrom place offset bytes items end
     from place offset at bytes items end is still_open some none items_are end_is =
         rw (items_are, end_is) (is, still_open, some, none)
 
 -- after a byte behind the last line
 reads_trailing :
-    (place : Place) (offset byte at : ℕ) (begun : List ℕ) → EndsThere place offset (begun ++ byte ∷ []) (Err (cert.Trailing at))
+    (place : PartPlace) (offset byte at : ℕ) (begun : List ℕ) → EndsThere place offset (begun ++ byte ∷ []) (Err (cert.Trailing at))
     → (rest : List ℕ) (items : List Item) (end : Result (Unit {0}) CertError)
     → ReadsFrom place offset (begun ++ byte ∷ rest) items end ↔ ((items ≡ []) × (end ≡ Err (cert.Trailing at)))
 reads_trailing place offset byte at begun g rest items end =
@@ -200,7 +200,7 @@ reads_trailing place offset byte at begun g rest items end =
     (to place offset at (begun ++ byte ∷ rest) items end g.0 g.1 some, λ h. rw (h.0, h.1) (g.0, g.1, some))
   where
     to :
-        (place : Place) (offset at : ℕ) (bytes : List ℕ) (items : List Item) (end : Result (Unit {0}) CertError) → at ≡ offset → place ≡ Finish
+        (place : PartPlace) (offset at : ℕ) (bytes : List ℕ) (items : List Item) (end : Result (Unit {0}) CertError) → at ≡ offset → place ≡ Finish
         → 0 < length bytes → ReadsFrom place offset bytes items end → (items ≡ []) × (end ≡ Err (cert.Trailing at))
     to place offset at bytes [] (Ok x) is over some h = absurd (omega (arith, some, ap length h.1))
     to place offset at bytes [] (Err (cert.BadToken k)) is over some h = absurd (h.1 over)
@@ -210,7 +210,7 @@ reads_trailing place offset byte at begun g rest items end =
 
 -- what a reader gives for a byte, and the bytes behind it, is what they give together
 pub reads_on :
-    (old : Progress) (byte : ℕ) (result : Result (Option Item) CertError) (now : Progress) → Gives old byte result now
+    (old : ReaderState) (byte : ℕ) (result : Result (Option Item) CertError) (now : ReaderState) → Gives old byte result now
     → (rest : List ℕ) (items : List Item) (end : Result (Unit {0}) CertError)
     → Reads old (byte ∷ rest) items end ↔ ReadsOn result now rest items end
 reads_on (Reading place offset begun) byte (Ok None) now g = reads_more place offset byte begun now g
@@ -226,7 +226,7 @@ reads_on (Refused refusal) byte (Err e) now g =
 
 -- where no byte is left and the last line did not come
 pub reads_truncated :
-    (place : Place) (offset : ℕ) (begun : List ℕ) → IsFrontOfPart place begun → place ≢ Finish
+    (place : PartPlace) (offset : ℕ) (begun : List ℕ) → IsFrontOfPart place begun → place ≢ Finish
     → (items : List Item) (end : Result (Unit {0}) CertError)
     → ReadsFrom place offset (begun ++ []) items end ↔ ((items ≡ []) × (end ≡ Err (cert.Truncated (offset + length begun))))
 reads_truncated place offset begun front still_open items end =
@@ -234,7 +234,7 @@ reads_truncated place offset begun front still_open items end =
     (to place offset begun items end front still_open, λ h. rw (h.0, h.1) (refl, still_open, front))
   where
     to :
-        (place : Place) (offset : ℕ) (bytes : List ℕ) (items : List Item) (end : Result (Unit {0}) CertError) → IsFrontOfPart place bytes
+        (place : PartPlace) (offset : ℕ) (bytes : List ℕ) (items : List Item) (end : Result (Unit {0}) CertError) → IsFrontOfPart place bytes
         → place ≢ Finish → ReadsFrom place offset bytes items end → (items ≡ []) × (end ≡ Err (cert.Truncated (offset + length bytes)))
     to place offset bytes [] (Ok x) front still_open h = absurd (still_open h.0)
     to place offset bytes [] (Err (cert.BadToken k)) front still_open h =
@@ -262,7 +262,7 @@ reads_whole offset items end = (to offset items end, λ h. rw (h.0, h.1) (refl, 
 
 -- a byte that no part goes on with
 pub wrong_byte :
-    (place : Place) (begun : List ℕ) (byte : ℕ) → IsFrontOfPart place begun
+    (place : PartPlace) (begun : List ℕ) (byte : ℕ) → IsFrontOfPart place begun
     → ((p : Part) (more : List ℕ) → Stands place p → part_text place p ≡ begun ++ byte ∷ more → ⊥) → HasNoPart place (begun ++ byte ∷ [])
 wrong_byte place begun byte front wrong p more stands = (
   λ is. wrong p more stands (is ∙ append_snoc begun byte more),
@@ -276,7 +276,7 @@ wrong_byte place begun byte front wrong p more stands = (
 )
   where
     longer :
-        (place : Place) (begun : List ℕ) (byte : ℕ) (p : Part) (m more : List ℕ) → Stands place p → IsFrontOfPart place begun
+        (place : PartPlace) (begun : List ℕ) (byte : ℕ) (p : Part) (m more : List ℕ) → Stands place p → IsFrontOfPart place begun
         → ((p : Part) (more : List ℕ) → Stands place p → part_text place p ≡ begun ++ byte ∷ more → ⊥)
         → part_text place p ≡ begun ++ m → byte ∷ [] ≡ m ++ more → ⊥
     longer place begun byte p [] more stands front wrong text is =

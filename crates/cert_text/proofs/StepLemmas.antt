@@ -11,13 +11,13 @@ use Rattle.cert_text.specs.declared.item.Part.TheVariants as part
 use Rattle.cert_text.specs.declared.line.Fit.TheVariants as fit
 use Rattle.cert_text.specs.declared.stage.Stage.{Stage}
 use Rattle.cert_text.specs.declared.stage.Stage.TheVariants as stage
-use Rattle.cert_text.specs.declared.step.Begun.{Begun}
-use Rattle.cert_text.specs.declared.step.Begun.TheVariants as begun
-use Rattle.cert_text.specs.declared.step.Step.{Step}
-use Rattle.cert_text.specs.declared.step.Step.TheVariants as step
+use Rattle.cert_text.specs.declared.step.PartFront.{PartFront}
+use Rattle.cert_text.specs.declared.step.PartFront.TheVariants as begun
+use Rattle.cert_text.specs.declared.step.PartStep.{PartStep}
+use Rattle.cert_text.specs.declared.step.PartStep.TheVariants as step
 use Rattle.cert_text.specs.Spelling.{ob_text, end_text, header_text}
 use Rattle.cert_text.specs.Cycles.{cycle_text}
-use Rattle.cert_text.specs.Places.{Place, Start, Line, Tree, Finish, Stands, names_of, part_text, place_after}
+use Rattle.cert_text.specs.Places.{PartPlace, Start, Line, Tree, Finish, Stands, names_of, part_text, place_after}
 use Rattle.cert_text.specs.Reading.{IsFrontOfPart}
 use Rattle.cert_text.specs.Steps.{FitsHeader}
 use Rattle.cert_text.specs.Stages.{IsLineSound, IsSound, LineStepsTo, PartStepsTo, begun_text, branches_of, place_of}
@@ -25,7 +25,7 @@ use Rattle.cert_text.proofs.CycleLemmas.{front_of_cycle}
 use Rattle.cert_text.proofs.PartLemmas.{end_part, ob_part, start_parts}
 
 -- what came is a front of a part
-pub sound_front : (place : Place) (b : Begun) → IsSound place b → IsFrontOfPart place (begun_text b)
+pub sound_front : (place : PartPlace) (b : PartFront) → IsSound place b → IsFrontOfPart place (begun_text b)
 sound_front (Tree came names branches) (begun.Line bytes) sound = inl sound
 sound_front (Tree came names branches) (begun.Cycle c) sound =
     let front = front_of_cycle c.picks c.number sound.0.0 sound.0.1 sound.0.2 in
@@ -39,7 +39,7 @@ sound_front Finish (begun.Cycle c) sound = absurd sound
 
 -- what the bytes are of a part, where they are that of the line of the only part
 line_steps_to :
-    (tp1 tp2 : List ObName) (at : Stage) (old now line : List ℕ) (byte : ℕ) (p : Part) (next : Stage) (s : Step)
+    (tp1 tp2 : List ObName) (at : Stage) (old now line : List ℕ) (byte : ℕ) (p : Part) (next : Stage) (s : PartStep)
     → now ≡ old ++ byte ∷ [] → LineStepsTo line now p next s
     → Stands (place_of tp1 tp2 at) p → part_text (place_of tp1 tp2 at) p ≡ line
     → ((q : Part) → Stands (place_of tp1 tp2 at) q → q ≡ p)
@@ -64,7 +64,7 @@ line_steps_to tp1 tp2 at old now line byte p next step.Wrong now_is h stands tex
 
 -- before the line of an obligation
 pub ob_steps :
-    (tp1 tp2 : List ObName) (level : Level) (came : ℕ) (names rest : List ObName) (name : ObName) (old now : List ℕ) (byte : ℕ) (s : Step)
+    (tp1 tp2 : List ObName) (level : Level) (came : ℕ) (names rest : List ObName) (name : ObName) (old now : List ℕ) (byte : ℕ) (s : PartStep)
     → names_of tp1 tp2 level ≡ names → drop came names ≡ name ∷ rest → drop (came + 1) names ≡ rest → now ≡ old ++ byte ∷ []
     → LineStepsTo (ob_text name) now (part.Ob came) (stage.Tree level (came + 1) 1) s
     → PartStepsTo tp1 tp2 (stage.Line level came) old byte s
@@ -78,7 +78,7 @@ ob_steps tp1 tp2 level came names rest name old now byte s are here behind now_i
 
 -- before the last line
 pub end_steps :
-    (tp1 tp2 : List ObName) (level : Level) (came : ℕ) (names : List ObName) (old now : List ℕ) (byte : ℕ) (s : Step)
+    (tp1 tp2 : List ObName) (level : Level) (came : ℕ) (names : List ObName) (old now : List ℕ) (byte : ℕ) (s : PartStep)
     → names_of tp1 tp2 level ≡ names → drop came names ≡ [] → now ≡ old ++ byte ∷ []
     → LineStepsTo end_text now part.End stage.Over s → PartStepsTo tp1 tp2 (stage.Line level came) old byte s
 end_steps tp1 tp2 level came names old now byte s are here now_is h =
@@ -117,18 +117,18 @@ names_from names came name within is =
 
 -- in a tree, where no byte of a token came
 pub tree_steps :
-    (tp1 tp2 : List ObName) (at : Stage) (level : Level) (came branches : ℕ) (b : Begun) (bytes : List ℕ) (byte : ℕ) (s : Step)
+    (tp1 tp2 : List ObName) (at : Stage) (level : Level) (came branches : ℕ) (b : PartFront) (bytes : List ℕ) (byte : ℕ) (s : PartStep)
     → at ≡ stage.Tree level came branches → b ≡ begun.Line bytes → IsSound (place_of tp1 tp2 at) b
     → PartStepsTo tp1 tp2 (stage.Tree level came branches) [] byte s → PartStepsTo tp1 tp2 at (begun_text b) byte s
 tree_steps tp1 tp2 at level came branches b bytes byte s at_is b_is sound h =
     let empty : bytes ≡ [] =
     subst (λ (a : Stage). IsSound (place_of tp1 tp2 a) (begun.Line bytes)) at_is
-    (subst (λ (x : Begun). IsSound (place_of tp1 tp2 at) x) b_is sound) in
+    (subst (λ (x : PartFront). IsSound (place_of tp1 tp2 at) x) b_is sound) in
     rw (at_is, b_is, empty) h
 
 -- in a cycle of a tree
 pub cycle_steps :
-    (tp1 tp2 : List ObName) (at : Stage) (level : Level) (came branches : ℕ) (b : Begun) (c : Cycle) (byte : ℕ) (s : Step)
+    (tp1 tp2 : List ObName) (at : Stage) (level : Level) (came branches : ℕ) (b : PartFront) (c : Cycle) (byte : ℕ) (s : PartStep)
     → at ≡ stage.Tree level came branches → b ≡ begun.Cycle c
     → PartStepsTo tp1 tp2 (stage.Tree level came branches) (cycle_text c.picks c.number) byte s → PartStepsTo tp1 tp2 at (begun_text b) byte s
 cycle_steps tp1 tp2 at level came branches b c byte s at_is b_is h = rw (at_is, b_is) h

@@ -13,7 +13,7 @@ use Rattle.cert_text.specs.declared.item.Part.TheVariants as part
 use Rattle.cert_text.specs.declared.item.Item.{Item}
 use Rattle.cert_text.specs.declared.item.CertError.{CertError}
 use Rattle.cert_text.specs.Spelling.{AreSpellable, token_text, tokens_text, ob_text, end_text, header_text}
-use Rattle.cert_text.specs.Places.{Place, Start, Line, Tree, Finish, Stands, names_of, part_text, place_after}
+use Rattle.cert_text.specs.Places.{PartPlace, Start, Line, Tree, Finish, Stands, names_of, part_text, place_after}
 use Rattle.cert_text.specs.Reading.{Reading, Reads, ReadsFrom}
 use Rattle.cert_text.specs.Certificates.{HasTrees, certificate_parts, certificate_text, placed, section_parts, sections_text}
 use Rattle.cert_text.proofs.PartLemmas.{end_part, ob_part, start_parts}
@@ -111,12 +111,12 @@ certificate_read tp1 tp2 level trees some has =
     )
 
 -- the parts from a place on stand where they are, up to behind the last line
-AreParts : Place → List Part → Type 0
+AreParts : PartPlace → List Part → Type 0
 AreParts place [] = place ≡ Finish
 AreParts place (p ∷ parts) = Stands place p × AreParts (place_after place p) parts
 
 -- their text
-parts_text : Place → List Part → List ℕ
+parts_text : PartPlace → List Part → List ℕ
 parts_text place [] = []
 parts_text place (p ∷ parts) = part_text place p ++ parts_text (place_after place p) parts
 
@@ -124,14 +124,14 @@ part_of : Item → Part
 part_of item = item.part
 
 -- the parts that bytes give, where they end with Ok
-record Given (place : Place) (offset : ℕ) (bytes : List ℕ) (items : List Item) : Type 0 where
+record Given (place : PartPlace) (offset : ℕ) (bytes : List ℕ) (items : List Item) : Type 0 where
   parts : List Part
   stand : AreParts place parts
   text : bytes ≡ parts_text place parts
   are : items ≡ placed place offset parts
 
 -- items that are read from a place on are parts that stand there, one behind the other
-given : (items : List Item) (place : Place) (offset : ℕ) (bytes : List ℕ) → ReadsFrom place offset bytes items (Ok tt) → Given place offset bytes items
+given : (items : List Item) (place : PartPlace) (offset : ℕ) (bytes : List ℕ) → ReadsFrom place offset bytes items (Ok tt) → Given place offset bytes items
 unfolding AreParts parts_text
 given [] place offset bytes h = record { parts = []; stand = h.0; text = h.1; are = refl }
 given (item ∷ items) place offset bytes h =
@@ -145,7 +145,7 @@ given (item ∷ items) place offset bytes h =
     }
 
 -- what is placed has the parts that were placed
-parts_placed : (parts : List Part) (place : Place) (offset : ℕ) → map part_of (placed place offset parts) ≡ parts
+parts_placed : (parts : List Part) (place : PartPlace) (offset : ℕ) → map part_of (placed place offset parts) ≡ parts
 unfolding part_of
 parts_placed [] place offset = refl
 parts_placed (p ∷ parts) place offset =

@@ -8,7 +8,7 @@ use Rattle.cert_text.specs.declared.item.Part.TheVariants as part
 use Rattle.cert_text.specs.declared.item.Item.{Item}
 use Rattle.cert_text.specs.Spelling.{AreSpellable, header_text, end_text}
 use Rattle.cert_text.specs.Writing.{section_text}
-use Rattle.cert_text.specs.Places.{Place, part_text, place_after}
+use Rattle.cert_text.specs.Places.{PartPlace, part_text, place_after}
 
 -- there is one tree for each obligation, and each can be spelled
 abbrev pub HasTrees : List ObName → List AnswerTree → Type 0
@@ -38,7 +38,7 @@ abbrev pub certificate_parts : Level → List AnswerTree → List Part
 certificate_parts level trees = part.Header level ∷ section_parts 0 trees
 
 -- parts from a place on, each with its offset, where so many bytes stand before the first one
-abbrev pub placed : Place → ℕ → List Part → List Item
+abbrev pub placed : PartPlace → ℕ → List Part → List Item
 placed place offset [] = []
 placed place offset (p ∷ parts) =
     record { offset = offset; part = p } ∷ placed (place_after place p) (offset + length (part_text place p)) parts

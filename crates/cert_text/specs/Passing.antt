@@ -1,19 +1,19 @@
 -- Tokens of a tree that a reader passes together.
 use Rattle.std.specs.Prelude.{◌≡◌, ℕ, ◌+◌, ◌<◌, List, [], ◌∷◌}
 use Rattle.ask_core.specs.declared.tree.Tok.{Tok}
-use Rattle.cert_text.specs.Places.{Place, Start, Line, Tree, Finish, open_after}
-use Rattle.cert_text.specs.Reading.{Progress, Reading, Refused}
+use Rattle.cert_text.specs.Places.{PartPlace, Start, Line, Tree, Finish, open_after}
+use Rattle.cert_text.specs.Reading.{ReaderState, Reading, Refused}
 use Rattle.cert_text.specs.Spelling.{IsSpellable, tokens_text}
 
 -- the open branches of the tree at a place, and none elsewhere
-abbrev pub branches_in : Place → ℕ
+abbrev pub branches_in : PartPlace → ℕ
 branches_in (Tree came names branches) = branches
 branches_in (Start tp1 tp2) = 0
 branches_in (Line came names) = 0
 branches_in Finish = 0
 
 -- the same of a reader
-abbrev pub open_in : Progress → ℕ
+abbrev pub open_in : ReaderState → ℕ
 open_in (Reading place offset begun) = branches_in place
 open_in (Refused refusal) = 0
 
@@ -24,7 +24,7 @@ AreOpen branches (t ∷ tokens) behind = (0 < branches) × IsSpellable t × AreO
 
 -- a reader stands in a tree, between two parts, and the bytes are tokens that may stand there, behind which so many
 -- branches are open
-abbrev pub IsPassed : Progress → List ℕ → ℕ → Type 0
+abbrev pub IsPassed : ReaderState → List ℕ → ℕ → Type 0
 IsPassed (Reading (Tree came names branches) offset begun) bytes behind =
     (begun ≡ []) × ((tokens : List Tok) × AreOpen branches tokens behind × (tokens_text tokens ≡ bytes))
 IsPassed (Reading (Start tp1 tp2) offset begun) bytes behind = ⊥
@@ -33,7 +33,7 @@ IsPassed (Reading Finish offset begun) bytes behind = ⊥
 IsPassed (Refused refusal) bytes behind = ⊥
 
 -- the reader behind so many bytes, where so many branches are open
-abbrev pub passed : Progress → ℕ → ℕ → Progress
+abbrev pub passed : ReaderState → ℕ → ℕ → ReaderState
 passed (Reading (Tree came names branches) offset begun) len behind = Reading (Tree came names behind) (offset + len)
     begun
 passed (Reading (Start tp1 tp2) offset begun) len behind = Reading (Start tp1 tp2) offset begun

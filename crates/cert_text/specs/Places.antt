@@ -10,16 +10,16 @@ use Rattle.cert_text.specs.declared.item.Part.TheVariants as part
 use Rattle.cert_text.specs.Spelling.{IsSpellable, token_text, header_text, ob_text, end_text}
 
 -- a place in a certificate
-pub data Place : Type 0 where
+pub data PartPlace : Type 0 where
   -- before the header, where the levels have these obligations
-  Start : List ObName → List ObName → Place
+  Start : List ObName → List ObName → PartPlace
   -- before a line, where so many obligations came and these ones are still to come
-  Line : ℕ → List ObName → Place
+  Line : ℕ → List ObName → PartPlace
   -- in the tree of an obligation, where so many obligations came, this one with them, these ones are still to
   -- come, and so many branches of the tree are open
-  Tree : ℕ → List ObName → ℕ → Place
+  Tree : ℕ → List ObName → ℕ → PartPlace
   -- behind the last line
-  Finish : Place
+  Finish : PartPlace
 
 -- the obligations of a level
 abbrev pub names_of : List ObName → List ObName → Level → List ObName
@@ -35,7 +35,7 @@ open_after branches (token.Cycle picks) = branches - 1
 -- the part may stand at the place: the header of a level that has obligations, the line of the next
 -- obligation, a token while a branch of the tree is open, a newline when none is, the end when no obligation is
 -- left
-abbrev pub Stands : Place → Part → Type 0
+abbrev pub Stands : PartPlace → Part → Type 0
 Stands (Start tp1 tp2) (part.Header level) = 0 < length (names_of tp1 tp2 level)
 Stands (Start tp1 tp2) p = ⊥
 Stands (Line came []) part.End = Unit {0}
@@ -48,7 +48,7 @@ Stands (Tree came names branches) p = ⊥
 Stands Finish p = ⊥
 
 -- the spelling of a part that stands at the place
-abbrev pub part_text : Place → Part → List ℕ
+abbrev pub part_text : PartPlace → Part → List ℕ
 part_text (Start tp1 tp2) (part.Header level) = header_text (names_of tp1 tp2 level) level
 part_text (Line came (name ∷ names)) (part.Ob number) = ob_text name
 part_text (Line came []) part.End = end_text
@@ -57,7 +57,7 @@ part_text (Tree came names branches) part.LineEnd = 10 ∷ []
 part_text place p = []
 
 -- the place behind such a part
-abbrev pub place_after : Place → Part → Place
+abbrev pub place_after : PartPlace → Part → PartPlace
 place_after (Start tp1 tp2) (part.Header level) = Line 0 (names_of tp1 tp2 level)
 place_after (Line came (name ∷ names)) (part.Ob number) = Tree (came + 1) names 1
 place_after (Line came []) part.End = Finish

@@ -1,10 +1,10 @@
 -- A reader, as its callers see it.
 use Rattle.cert_text.specs.declared.reader.Reader.TheInside.{Inside}
-use Rattle.cert_text.specs.Reading.{Progress}
-use Rattle.cert_text.specs.Stages.{IsHeld, begun_text, place_of, progress_at}
+use Rattle.cert_text.specs.Reading.{ReaderState}
+use Rattle.cert_text.specs.Stages.{IsHeld, begun_text, place_of, state_at}
 
-abbrev pub progress_of : Inside → Progress
-progress_of a = progress_at a.refused (place_of a.tp1.items a.tp2.items a.stage) a.offset (begun_text a.begun)
+abbrev pub state_of : Inside → ReaderState
+state_of a = state_at a.refused (place_of a.tp1.items a.tp2.items a.stage) a.offset (begun_text a.begun)
 
 abbrev pub HeldIn : Inside → Type 0
 HeldIn a = IsHeld a.tp1.items a.tp2.items a.stage a.offset a.begun

@@ -7,16 +7,16 @@ use Rattle.cert_text.specs.declared.item.CertError.{CertError}
 use Rattle.cert_text.specs.declared.item.CertError.TheVariants as cert
 use Rattle.cert_text.specs.declared.stage.Stage.{Stage}
 use Rattle.cert_text.specs.declared.stage.Stage.TheVariants as stage
-use Rattle.cert_text.specs.declared.step.Begun.{Begun}
-use Rattle.cert_text.specs.declared.step.Begun.TheVariants as begun
-use Rattle.cert_text.specs.declared.step.Step.{Step}
-use Rattle.cert_text.specs.declared.step.Step.TheVariants as step
+use Rattle.cert_text.specs.declared.step.PartFront.{PartFront}
+use Rattle.cert_text.specs.declared.step.PartFront.TheVariants as begun
+use Rattle.cert_text.specs.declared.step.PartStep.{PartStep}
+use Rattle.cert_text.specs.declared.step.PartStep.TheVariants as step
 use Rattle.cert_text.specs.Cycles.{IsBegunCycle, cycle_text}
-use Rattle.cert_text.specs.Places.{Place, Start, Line, Tree, Finish, Stands, names_of, part_text, place_after}
-use Rattle.cert_text.specs.Reading.{Progress, Reading, Refused, IsFrontOfPart}
+use Rattle.cert_text.specs.Places.{PartPlace, Start, Line, Tree, Finish, Stands, names_of, part_text, place_after}
+use Rattle.cert_text.specs.Reading.{ReaderState, Reading, Refused, IsFrontOfPart}
 
 -- the place of a stage, where the levels have these obligations
-abbrev pub place_of : List ObName → List ObName → Stage → Place
+abbrev pub place_of : List ObName → List ObName → Stage → PartPlace
 place_of tp1 tp2 stage.Header = Start tp1 tp2
 place_of tp1 tp2 (stage.Line level came) = Line came (drop came (names_of tp1 tp2 level))
 place_of tp1 tp2 (stage.Tree level came branches) = Tree came (drop came (names_of tp1 tp2 level)) branches
@@ -30,16 +30,16 @@ branches_of (stage.Tree level came branches) = branches
 branches_of stage.Over = 0
 
 -- the bytes that came of a token
-abbrev pub begun_text : Begun → List ℕ
+abbrev pub begun_text : PartFront → List ℕ
 begun_text (begun.Line bytes) = bytes
 begun_text (begun.Cycle c) = cycle_text c.picks c.number
 
 -- the bytes are a front of a line that may stand at the place
-abbrev pub IsLineSound : Place → List ℕ → Type 0
+abbrev pub IsLineSound : PartPlace → List ℕ → Type 0
 IsLineSound place bytes = (length bytes < LINE_ROOM) × IsFrontOfPart place bytes
 
 -- what came is a front of a part that may stand at the place: of a line, or of a cycle in a tree
-abbrev pub IsSound : Place → Begun → Type 0
+abbrev pub IsSound : PartPlace → PartFront → Type 0
 IsSound (Tree came names branches) (begun.Line bytes) = bytes ≡ []
 IsSound (Tree came names branches) (begun.Cycle c) = IsBegunCycle c × (0 < branches)
 IsSound (Start tp1 tp2) (begun.Line bytes) = IsLineSound (Start tp1 tp2) bytes
@@ -50,13 +50,13 @@ IsSound Finish (begun.Line bytes) = bytes ≡ []
 IsSound Finish (begun.Cycle c) = ⊥
 
 -- what came of a cycle knows its length
-abbrev pub KnowsLength : Begun → Type 0
+abbrev pub KnowsLength : PartFront → Type 0
 KnowsLength (begun.Line bytes) = Unit {0}
 KnowsLength (begun.Cycle c) = c.len ≡ length (cycle_text c.picks c.number)
 
 -- what a byte makes of what came, at a stage: more of a part, a whole part with the stage behind it, or the front
 -- of none
-abbrev pub PartStepsTo : List ObName → List ObName → Stage → List ℕ → ℕ → Step → Type 0
+abbrev pub PartStepsTo : List ObName → List ObName → Stage → List ℕ → ℕ → PartStep → Type 0
 PartStepsTo tp1 tp2 at came byte (step.More b) = IsSound (place_of tp1 tp2 at) b × (begun_text b ≡ came ++ byte ∷ [])
 PartStepsTo tp1 tp2 at came byte (step.Whole p next) =
     Stands (place_of tp1 tp2 at) p × (part_text (place_of tp1 tp2 at) p ≡ came ++ byte ∷ [])
@@ -66,20 +66,20 @@ PartStepsTo tp1 tp2 at came byte step.Wrong =
     → part_text (place_of tp1 tp2 at) p ≡ came ++ byte ∷ more → ⊥
 
 -- the same where only this part may stand, with this line as its text
-abbrev pub LineStepsTo : List ℕ → List ℕ → Part → Stage → Step → Type 0
+abbrev pub LineStepsTo : List ℕ → List ℕ → Part → Stage → PartStep → Type 0
 LineStepsTo line came part next (step.More b) =
     (b ≡ begun.Line came) × (length came < LINE_ROOM) × ((more : List ℕ) × (0 < length more) × (line ≡ came ++ more))
 LineStepsTo line came part next (step.Whole p behind) = (p ≡ part) × (behind ≡ next) × (line ≡ came)
 LineStepsTo line came part next step.Wrong = (more : List ℕ) → line ≡ came ++ more → ⊥
 
 -- a reader that reads on, or has refused
-abbrev pub progress_at : Option CertError → Place → ℕ → List ℕ → Progress
-progress_at None place offset bytes = Reading place offset bytes
-progress_at (Some refusal) place offset bytes = Refused refusal
+abbrev pub state_at : Option CertError → PartPlace → ℕ → List ℕ → ReaderState
+state_at None place offset bytes = Reading place offset bytes
+state_at (Some refusal) place offset bytes = Refused refusal
 
 -- what a reader's fields hold: there are few obligations, fewer branches are open than bytes came before, and
 -- what came is sound
-pub record IsHeld (tp1 tp2 : List ObName) (at : Stage) (offset : ℕ) (b : Begun) : Type 0 where
+pub record IsHeld (tp1 tp2 : List ObName) (at : Stage) (offset : ℕ) (b : PartFront) : Type 0 where
   pub few_tp1 : length tp1 < 2 ^ 32
   pub few_tp2 : length tp2 < 2 ^ 32
   pub branches : branches_of at ≤ offset

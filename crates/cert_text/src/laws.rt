@@ -6,9 +6,9 @@ ghost use Rattle.fn_rules.specs.declared.function.ObName.{ObName};
 ghost use Rattle.ask_core.specs.Trees.{AnswerTree};
 ghost use Rattle.cert_text.specs.declared.item.Item.{Item};
 ghost use Rattle.cert_text.specs.declared.item.Part.{Part};
-ghost use Rattle.cert_text.specs.Places.{Place, Start, Stands, names_of, part_text};
+ghost use Rattle.cert_text.specs.Places.{PartPlace, Start, Stands, names_of, part_text};
 ghost use Rattle.cert_text.specs.declared.item.CertError.{CertError};
-ghost use Rattle.cert_text.specs.Reading.{Progress, Reading, Reads};
+ghost use Rattle.cert_text.specs.Reading.{ReaderState, Reading, Reads};
 ghost use Rattle.cert_text.specs.Certificates.{HasTrees, certificate_parts, certificate_text, placed};
 
 /// A law and no code: what the writers append for the whole list of a level, where that is not empty,
@@ -32,14 +32,14 @@ pub fn read_certificates_are_written()
 
 /// A law and no code: whatever bytes are still to come, they give a reader some parts, and end in some way.
 pub fn all_bytes_are_read()
-    ensures { (reader : Progress) (bytes : List ℕ) → (items : List Item) × (end : Result (Unit {0}) CertError)
+    ensures { (reader : ReaderState) (bytes : List ℕ) → (items : List Item) × (end : Result (Unit {0}) CertError)
         × Reads reader bytes items end }
 {}
 
 /// A law and no code: two parts that may stand at a place, and that the same bytes begin with, are the same; and each
 /// part that may stand there has some bytes.
 pub fn parts_are_told_apart()
-    ensures one_part { (place : Place) (p q : Part) (rest more : List ℕ) → Stands place p → Stands place q
+    ensures one_part { (place : PartPlace) (p q : Part) (rest more : List ℕ) → Stands place p → Stands place q
         → part_text place p ++ rest ≡ part_text place q ++ more → (p ≡ q) × (rest ≡ more) }
-    ensures some_bytes { (place : Place) (p : Part) → Stands place p → 0 < length (part_text place p) }
+    ensures some_bytes { (place : PartPlace) (p : Part) → Stands place p → 0 < length (part_text place p) }
 {}

@@ -12,7 +12,7 @@ ghost use Rattle.cert_text.specs.Passing.{IsPassed, open_in, passed};
 use crate::line::LineBytes;
 use crate::piece::{branches_behind, whole_token};
 use crate::stage::Stage;
-use crate::step::{Begun, Step, part_step};
+use crate::step::{PartFront, PartStep, part_step};
 use crate::{CertError, Item, Part, Tok};
 use fn_rules::{Level, ObName};
 use std::alloc::Global;
@@ -30,18 +30,18 @@ pub struct Reader {
     tp2: Vec<ObName>,
     stage: Stage,
     offset: u64,
-    begun: Begun,
+    begun: PartFront,
     refused: Option<CertError>,
 }
 
 impl Model for Reader {
-    ghost use Rattle.cert_text.specs.Reading.{Progress};
+    ghost use Rattle.cert_text.specs.Reading.{ReaderState};
 
-    ghost Value = { Progress };
+    ghost Value = { ReaderState };
 
-    ghost use Rattle.cert_text.specs.Readers.{HeldIn, progress_of};
+    ghost use Rattle.cert_text.specs.Readers.{HeldIn, state_of};
 
-    ghost view = { progress_of };
+    ghost view = { state_of };
 
     ghost invariant = { HeldIn };
 }
@@ -60,7 +60,7 @@ impl Reader {
             tp2,
             stage: Stage::Header,
             offset: 0,
-            begun: Begun::Line(LineBytes::new(alloc)),
+            begun: PartFront::Line(LineBytes::new(alloc)),
             refused: None,
         }
     }
@@ -78,7 +78,7 @@ impl Reader {
             tp2: Vec::new(alloc),
             stage: Stage::Line(Level::Tp1, 0),
             offset: before,
-            begun: Begun::Line(LineBytes::new(alloc)),
+            begun: PartFront::Line(LineBytes::new(alloc)),
             refused: None,
         }
     }
@@ -99,19 +99,19 @@ impl Reader {
             return Err(refusal);
         }
         let len = self.begun.len();
-        let begun = mem::replace(&mut self.begun, Begun::Line(LineBytes::new(self.alloc)));
+        let begun = mem::replace(&mut self.begun, PartFront::Line(LineBytes::new(self.alloc)));
         match part_step(self.alloc, &self.tp1, &self.tp2, self.stage, begun, byte) {
-            Step::More(begun) => {
+            PartStep::More(begun) => {
                 self.begun = begun;
                 Ok(None)
             }
-            Step::Whole(part, next) => {
+            PartStep::Whole(part, next) => {
                 let offset = self.offset;
                 self.offset = offset + len + 1;
                 self.stage = next;
                 Ok(Some(Item { offset, part }))
             }
-            Step::Wrong => {
+            PartStep::Wrong => {
                 let refusal = refusal_at(self.stage, self.offset);
                 self.refused = Some(refusal);
                 Err(refusal)
@@ -157,7 +157,7 @@ impl Reader {
         ensures none { IfNone result (self.new ≡ self.old) }
     {
         match (self.refused, self.stage, &self.begun) {
-            (None, Stage::Tree(level, came, branches), Begun::Line(_)) if branches > 0 => {
+            (None, Stage::Tree(level, came, branches), PartFront::Line(_)) if branches > 0 => {
                 let taken = whole_token(self.alloc, piece, tok)?;
                 let offset = self.offset;
                 self.offset = offset + taken as u64;

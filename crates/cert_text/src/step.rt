@@ -15,16 +15,16 @@ use std::alloc::Global;
 
 /// What came of the part that is being read. A part of one byte never comes in part.
 #[derive(Drop)]
-pub(crate) enum Begun {
+pub(crate) enum PartFront {
     Line(LineBytes),
     Cycle(Cycle),
 }
 
 /// What a byte makes of it.
 #[derive(Drop)]
-pub(crate) enum Step {
+pub(crate) enum PartStep {
     /// More of a part.
-    More(Begun),
+    More(PartFront),
 
     /// A whole part, and the stage behind it.
     Whole(Part, Stage),
@@ -33,15 +33,15 @@ pub(crate) enum Step {
     Wrong,
 }
 
-impl Begun {
+impl PartFront {
     /// How many bytes came.
     pub(crate) fn len(&self) -> u64
         requires { KnowsLength self.now }
         ensures { result ≡ length (begun_text self.now) }
     {
         match self {
-            Begun::Line(line) => line.as_slice().len() as u64,
-            Begun::Cycle(cycle) => cycle.len,
+            PartFront::Line(line) => line.as_slice().len() as u64,
+            PartFront::Cycle(cycle) => cycle.len,
         }
     }
 }
@@ -52,31 +52,31 @@ fn header_step(
     tp2: &[ObName],
     mut begun: LineBytes,
     byte: u8,
-) -> Step
+) -> PartStep
     requires sound { IsLineSound (Start tp1.now tp2.now) begun }
     ensures { PartStepsTo tp1.now tp2.now Stage.Header begun byte result }
 {
     begun.push(byte);
     match header_fit(alloc, tp1, Level::Tp1, &begun) {
-        Fit::Whole => return Step::Whole(Part::Header(Level::Tp1), Stage::Line(Level::Tp1, 0)),
-        Fit::Front => return Step::More(Begun::Line(begun)),
+        Fit::Whole => return PartStep::Whole(Part::Header(Level::Tp1), Stage::Line(Level::Tp1, 0)),
+        Fit::Front => return PartStep::More(PartFront::Line(begun)),
         Fit::Other => (),
     }
     match header_fit(alloc, tp2, Level::Tp2, &begun) {
-        Fit::Whole => Step::Whole(Part::Header(Level::Tp2), Stage::Line(Level::Tp2, 0)),
-        Fit::Front => Step::More(Begun::Line(begun)),
-        Fit::Other => Step::Wrong,
+        Fit::Whole => PartStep::Whole(Part::Header(Level::Tp2), Stage::Line(Level::Tp2, 0)),
+        Fit::Front => PartStep::More(PartFront::Line(begun)),
+        Fit::Other => PartStep::Wrong,
     }
 }
 
 // What the bytes are of a line, where only this part may stand.
-fn line_step(line: &LineBytes, came: LineBytes, part: Part, next: Stage) -> Step
+fn line_step(line: &LineBytes, came: LineBytes, part: Part, next: Stage) -> PartStep
     ensures { LineStepsTo line.now came part next result }
 {
     match line.fit(&came) {
-        Fit::Whole => Step::Whole(part, next),
-        Fit::Front => Step::More(Begun::Line(came)),
-        Fit::Other => Step::Wrong,
+        Fit::Whole => PartStep::Whole(part, next),
+        Fit::Front => PartStep::More(PartFront::Line(came)),
+        Fit::Other => PartStep::Wrong,
     }
 }
 
@@ -87,7 +87,7 @@ fn next_line_step(
     came: u32,
     mut begun: LineBytes,
     byte: u8,
-) -> Step
+) -> PartStep
     requires few { length names.now < 2 ^ 32 }
     requires sound { IsLineSound (Line came (drop came names.now)) begun }
     ensures { (tp1 tp2 : List ObName) → names_of tp1 tp2 level ≡ names.now
@@ -112,28 +112,28 @@ fn next_line_step(
 }
 
 // A byte behind a whole token of a tree, or behind the line before the tree.
-fn tree_step(alloc: Global, level: Level, came: u32, branches: u64, byte: u8) -> Step
+fn tree_step(alloc: Global, level: Level, came: u32, branches: u64, byte: u8) -> PartStep
     requires few { branches < 2 ^ 63 }
     ensures { (tp1 tp2 : List ObName) → PartStepsTo tp1 tp2 (Stage.Tree level came branches) [] byte result }
 {
     if branches == 0 {
         return match byte {
-            b'\n' => Step::Whole(Part::LineEnd, Stage::Line(level, came)),
-            _ => Step::Wrong,
+            b'\n' => PartStep::Whole(Part::LineEnd, Stage::Line(level, came)),
+            _ => PartStep::Wrong,
         };
     }
     match byte {
-        b'?' => Step::Whole(Part::Tok(Tok::Ask), Stage::Tree(level, came, branches + 1)),
-        b'.' => Step::Whole(
+        b'?' => PartStep::Whole(Part::Tok(Tok::Ask), Stage::Tree(level, came, branches + 1)),
+        b'.' => PartStep::Whole(
             Part::Tok(Tok::Holds),
             Stage::Tree(level, came, branches - 1),
         ),
-        b'x' => Step::More(Begun::Cycle(Cycle::new(alloc))),
-        _ => Step::Wrong,
+        b'x' => PartStep::More(PartFront::Cycle(Cycle::new(alloc))),
+        _ => PartStep::Wrong,
     }
 }
 
-fn cycle_step(cycle: Cycle, level: Level, came: u32, branches: u64, byte: u8) -> Step
+fn cycle_step(cycle: Cycle, level: Level, came: u32, branches: u64, byte: u8) -> PartStep
     requires sound { IsBegunCycle cycle }
     requires len { cycle.len < 2 ^ 63 }
     requires still_open { 0 < branches }
@@ -141,12 +141,12 @@ fn cycle_step(cycle: Cycle, level: Level, came: u32, branches: u64, byte: u8) ->
         (cycle_text cycle.picks cycle.number) byte result }
 {
     match cycle.step(byte) {
-        CycleStep::More(cycle) => Step::More(Begun::Cycle(cycle)),
-        CycleStep::Whole(picks) => Step::Whole(
+        CycleStep::More(cycle) => PartStep::More(PartFront::Cycle(cycle)),
+        CycleStep::Whole(picks) => PartStep::Whole(
             Part::Tok(Tok::Cycle(picks)),
             Stage::Tree(level, came, branches - 1),
         ),
-        CycleStep::Wrong => Step::Wrong,
+        CycleStep::Wrong => PartStep::Wrong,
     }
 }
 
@@ -156,9 +156,9 @@ pub(crate) fn part_step(
     tp1: &[ObName],
     tp2: &[ObName],
     stage: Stage,
-    begun: Begun,
+    begun: PartFront,
     byte: u8,
-) -> Step
+) -> PartStep
     requires few_tp1 { length tp1.now < 2 ^ 32 }
     requires few_tp2 { length tp2.now < 2 ^ 32 }
     requires branches { branches_of stage < 2 ^ 63 }
@@ -167,20 +167,20 @@ pub(crate) fn part_step(
     ensures { PartStepsTo tp1.now tp2.now stage (begun_text begun) byte result }
 {
     match (stage, begun) {
-        (Stage::Header, Begun::Line(line)) => header_step(alloc, tp1, tp2, line, byte),
-        (Stage::Line(level, came), Begun::Line(line)) => {
+        (Stage::Header, PartFront::Line(line)) => header_step(alloc, tp1, tp2, line, byte),
+        (Stage::Line(level, came), PartFront::Line(line)) => {
             let names = match level {
                 Level::Tp1 => tp1,
                 Level::Tp2 => tp2,
             };
             next_line_step(alloc, names, level, came, line, byte)
         }
-        (Stage::Tree(level, came, branches), Begun::Line(_)) => tree_step(
+        (Stage::Tree(level, came, branches), PartFront::Line(_)) => tree_step(
             alloc, level, came, branches, byte,
         ),
-        (Stage::Tree(level, came, branches), Begun::Cycle(cycle)) => cycle_step(
+        (Stage::Tree(level, came, branches), PartFront::Cycle(cycle)) => cycle_step(
             cycle, level, came, branches, byte,
         ),
-        _ => Step::Wrong,
+        _ => PartStep::Wrong,
     }
 }

@@ -10,7 +10,7 @@ use fn_rules::{Head, ObName, Rules};
 use ot_model::Kind;
 use ot_questions::Who;
 use ot_terms::{
-    Form, Goal, Place, Progress, SymOp, enabled_form, first_goals_stand_for_obligations,
+    Form, Goal, GoalProgress, Place, SymOp, enabled_form, first_goals_stand_for_obligations,
 };
 
 // The goal, where the two names stand for different integers.
@@ -105,13 +105,13 @@ fn first_choice<'a>(
 ) -> Result<&'a Goal<'a>, NoMemory>
     ensures { IfOk result (λ r. goal_tree r.now ≡ starting.first_choice ob a b third) }
 {
-    let plan = Progress {
+    let progress = GoalProgress {
         ob,
         ops: [a, b, third],
         got: [SymOp::Nop; 6],
         count: 0,
     };
-    Ok(Goal::choose(bump, 0, b, a, plan.placed(bump)?)?)
+    Ok(Goal::choose(bump, 0, b, a, progress.placed(bump)?)?)
 }
 
 fn start_pair<'a>(bump: &'a Bump, head: &Head, k: Kind, l: Kind) -> Result<&'a Goal<'a>, NoMemory>

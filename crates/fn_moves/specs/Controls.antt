@@ -6,7 +6,7 @@ use Rattle.ot_model.specs.declared.op.TheConstants.{KINDS}
 use Rattle.fn_rules.specs.Functions.{is_declared_pair}
 use Rattle.fn_rules.specs.Validity.{compares_chars}
 use Rattle.fn_moves.specs.declared.control.Control.{Control}
-use Rattle.fn_moves.specs.declared.control.Move.{Move}
+use Rattle.fn_moves.specs.declared.control.TokenMove.{TokenMove}
 use Rattle.fn_moves.specs.Kinds.{has_seen}
 
 -- the block may compare characters
@@ -30,5 +30,5 @@ abbrev pub depth_of : Control → ℕ
 depth_of c = c.outside + c.nots
 
 -- the move, where the test is true
-abbrev pub allowed : Bool → Move → Option Move
+abbrev pub allowed : Bool → TokenMove → Option TokenMove
 allowed test move = if test then Some move else None

@@ -6,25 +6,25 @@ use Rattle.fn_tokens.specs.declared.token.Token.TheVariants.{Known, Number, Comp
 use Rattle.fn_tokens.specs.declared.token.Token.TheVariants as tokens
 use Rattle.fn_tokens.specs.declared.token.Word.TheVariants as words
 use Rattle.fn_moves.specs.declared.control.Written.TheVariants as written
-use Rattle.fn_moves.specs.declared.control.Next.{Next}
-use Rattle.fn_moves.specs.declared.control.Next.TheVariants as nexts
+use Rattle.fn_moves.specs.declared.control.AfterLine.{AfterLine}
+use Rattle.fn_moves.specs.declared.control.AfterLine.TheVariants as nexts
 use Rattle.fn_moves.specs.declared.control.Want.{Want}
 use Rattle.fn_moves.specs.declared.control.Want.TheVariants as wants
-use Rattle.fn_moves.specs.declared.control.Move.{Move}
-use Rattle.fn_moves.specs.declared.control.Move.TheVariants as moves
+use Rattle.fn_moves.specs.declared.control.TokenMove.{TokenMove}
+use Rattle.fn_moves.specs.declared.control.TokenMove.TheVariants as moves
 use Rattle.fn_moves.specs.Meaning.{is_offset_number, is_same_sort, is_same_side}
 use Rattle.fn_moves.specs.Languages.{language_numbered}
 use Rattle.fn_moves.specs.Controls.{allowed}
 
 -- what comes behind the end of a line
-abbrev pub want_next : Next → Want
+abbrev pub want_next : AfterLine → Want
 want_next nexts.Text = wants.Text
 want_next nexts.Kinds = wants.Kinds
 want_next nexts.Line = wants.Line
 want_next nexts.File = wants.FileEnd
 
 -- what a token does there, none where it cannot go on
-abbrev pub at_fixed : Want → Token → Option Move
+abbrev pub at_fixed : Want → Token → Option TokenMove
 at_fixed wants.Otfn (Known words.Otfn) = Some (moves.Skip wants.Version)
 at_fixed wants.Version (Number n) = option_map (λ language. moves.SetLanguage language) (language_numbered n)
 at_fixed wants.Text (Known words.Text) = Some (moves.Skip wants.Mode)

@@ -6,15 +6,15 @@ use Rattle.fn_tokens.specs.declared.token.Placed.{Placed}
 use Rattle.fn_moves.specs.declared.control.Want.{Want}
 use Rattle.fn_moves.specs.declared.control.Want.TheVariants as wants
 use Rattle.fn_moves.specs.declared.control.Control.{Control}
-use Rattle.fn_moves.specs.declared.control.Move.{Move}
-use Rattle.fn_moves.specs.declared.control.Move.TheVariants as moves
+use Rattle.fn_moves.specs.declared.control.TokenMove.{TokenMove}
+use Rattle.fn_moves.specs.declared.control.TokenMove.TheVariants as moves
 use Rattle.fn_moves.specs.Controls.{depth_of}
 use Rattle.fn_moves.specs.FixedMoves.{at_fixed}
 use Rattle.fn_moves.specs.LineMoves.{at_next_kind, at_line, at_assumed, at_block_first, at_block_second}
 use Rattle.fn_moves.specs.GuardMoves.{at_operand, at_operator, at_offset, at_result}
 
 -- what a token does, none where it cannot go on
-abbrev pub move_for : Control → Placed → Want → Token → Option Move
+abbrev pub move_for : Control → Placed → Want → Token → Option TokenMove
 move_for c at wants.Otfn token = at_fixed wants.Otfn token
 move_for c at wants.Version token = at_fixed wants.Version token
 move_for c at wants.Text token = at_fixed wants.Text token
@@ -43,7 +43,7 @@ move_for c at wants.FileEnd token = at_fixed wants.FileEnd token
 move_for c at wants.Nothing token = at_fixed wants.Nothing token
 
 -- what the tests of a move have told
-abbrev pub HasRoom : Control → Move → Type 0
+abbrev pub HasRoom : Control → TokenMove → Type 0
 HasRoom c moves.BeginCase = c.cases < MAX_CASES
 HasRoom c moves.Open = depth_of c < MAX_NESTING
 HasRoom c moves.Negate = depth_of c < MAX_NESTING

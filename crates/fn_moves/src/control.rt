@@ -22,7 +22,7 @@ pub enum Written {
 
 /// What follows the end of a line.
 #[derive(Clone, Copy)]
-pub enum Next {
+pub enum AfterLine {
     Text,
     Kinds,
     Line,
@@ -51,7 +51,7 @@ pub enum Want {
     NextKind,
 
     /// The end of the line.
-    LineEnd(Next),
+    LineEnd(AfterLine),
 
     /// The first word of a line behind the kinds.
     Line,
@@ -185,7 +185,7 @@ pub struct Control {
 
 /// What a token does that can go on.
 #[derive(Clone, Copy)]
-pub enum Move {
+pub enum TokenMove {
     /// Nothing is kept of it.
     Skip(Want),
 

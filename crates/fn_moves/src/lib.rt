@@ -9,6 +9,6 @@ mod fault;
 mod language;
 mod moves;
 
-pub use control::{Control, Move, Next, Pairs, Region, Seconds, Want, Written};
+pub use control::{AfterLine, Control, Pairs, Region, Seconds, TokenMove, Want, Written};
 pub use fault::{FaultKind, TextFault};
 pub use language::Language;

@@ -10,27 +10,27 @@ ghost use Rattle.fn_moves.specs.LineMoves.{at_next_kind, at_line, at_assumed, at
 ghost use Rattle.fn_moves.specs.GuardMoves.{at_operand, at_operator, at_offset, at_result};
 ghost use Rattle.fn_moves.specs.Moves.{move_for};
 
-use crate::control::{Control, Move, Next, Want, Written};
+use crate::control::{AfterLine, Control, TokenMove, Want, Written};
 use crate::language::Language;
 use fn_rules::{Cmp, Head, MAX_ATOMS, MAX_CASES, MAX_NESTING, MAX_OFFSET, Side, Sort};
 use fn_tokens::{Placed, Token, Word};
 use ot_model::{KINDS, Kind};
 
 /// The move, where the test is true.
-fn allow(test: bool, move_: Move) -> Option<Move>
+fn allow(test: bool, move_: TokenMove) -> Option<TokenMove>
     ensures { result ≡ allowed test move_ }
 {
     if test { Some(move_) } else { None }
 }
 
-fn next_want(next: Next) -> Want
+fn next_want(next: AfterLine) -> Want
     ensures { result ≡ want_next next }
 {
     match next {
-        Next::Text => Want::Text,
-        Next::Kinds => Want::Kinds,
-        Next::Line => Want::Line,
-        Next::File => Want::FileEnd,
+        AfterLine::Text => Want::Text,
+        AfterLine::Kinds => Want::Kinds,
+        AfterLine::Line => Want::Line,
+        AfterLine::File => Want::FileEnd,
     }
 }
 
@@ -73,46 +73,46 @@ fn is_offset(number: u8) -> bool
 }
 
 /// What a token does where nothing but what is wanted matters.
-fn fixed(want: Want, token: Token) -> Option<Move>
+fn fixed(want: Want, token: Token) -> Option<TokenMove>
     ensures { result ≡ at_fixed want token }
 {
     match (want, token) {
-        (Want::Otfn, Token::Known(Word::Otfn)) => Some(Move::Skip(Want::Version)),
+        (Want::Otfn, Token::Known(Word::Otfn)) => Some(TokenMove::Skip(Want::Version)),
         (Want::Version, Token::Number(n)) => match Language::numbered(n) {
-            Some(language) => Some(Move::SetLanguage(language)),
+            Some(language) => Some(TokenMove::SetLanguage(language)),
             None => None,
         },
-        (Want::Text, Token::Known(Word::Text)) => Some(Move::Skip(Want::Mode)),
-        (Want::Mode, Token::Known(Word::Mode(mode))) => Some(Move::SetMode(mode)),
-        (Want::Kinds, Token::Known(Word::Kinds)) => Some(Move::Skip(Want::NextKind)),
+        (Want::Text, Token::Known(Word::Text)) => Some(TokenMove::Skip(Want::Mode)),
+        (Want::Mode, Token::Known(Word::Mode(mode))) => Some(TokenMove::SetMode(mode)),
+        (Want::Kinds, Token::Known(Word::Kinds)) => Some(TokenMove::Skip(Want::NextKind)),
         (Want::Differ, Token::Known(Word::Differ)) => {
-            Some(Move::Skip(Want::LineEnd(Next::Line)))
+            Some(TokenMove::Skip(Want::LineEnd(AfterLine::Line)))
         }
-        (Want::LineEnd(next), Token::LineEnd) => Some(Move::Skip(next_want(next))),
-        (Want::BlockEnd, Token::LineEnd) => Some(Move::Skip(Want::Line)),
+        (Want::LineEnd(next), Token::LineEnd) => Some(TokenMove::Skip(next_want(next))),
+        (Want::BlockEnd, Token::LineEnd) => Some(TokenMove::Skip(Want::Line)),
         (Want::Comparison(sort, left), Token::Comparison(cmp)) => {
-            Some(Move::Skip(Want::Right(sort, left, cmp)))
+            Some(TokenMove::Skip(Want::Right(sort, left, cmp)))
         }
         (Want::Right(sort, left, cmp), Token::Known(Word::Thing(other, right))) => allow(
             same_sort(sort, other) && !same_side(left, right),
-            Move::Compare(sort, left, cmp),
+            TokenMove::Compare(sort, left, cmp),
         ),
         (Want::Number(left, cmp, sign), Token::Number(n)) => {
-            allow(is_offset(n), Move::Shift(left, cmp, sign, n))
+            allow(is_offset(n), TokenMove::Shift(left, cmp, sign, n))
         }
         (Want::ResultPosition, Token::Known(Word::Thing(Sort::Pos, side))) => {
-            Some(Move::Skip(Want::ResultOffset(side)))
+            Some(TokenMove::Skip(Want::ResultOffset(side)))
         }
         (Want::ResultOffset(side), Token::Sign(sign)) => {
-            Some(Move::Skip(Want::ResultNumber(side, sign)))
+            Some(TokenMove::Skip(Want::ResultNumber(side, sign)))
         }
-        (Want::ResultOffset(side), Token::LineEnd) => Some(Move::EndCase(Written::At(side))),
+        (Want::ResultOffset(side), Token::LineEnd) => Some(TokenMove::EndCase(Written::At(side))),
         (Want::ResultNumber(side, sign), Token::Number(n)) => allow(
             is_offset(n),
-            Move::Skip(Want::ResultEnd(Written::Moved(side, sign, n))),
+            TokenMove::Skip(Want::ResultEnd(Written::Moved(side, sign, n))),
         ),
-        (Want::ResultEnd(written), Token::LineEnd) => Some(Move::EndCase(written)),
-        (Want::FileEnd, Token::FileEnd) => Some(Move::Skip(Want::Nothing)),
+        (Want::ResultEnd(written), Token::LineEnd) => Some(TokenMove::EndCase(written)),
+        (Want::FileEnd, Token::FileEnd) => Some(TokenMove::Skip(Want::Nothing)),
         _ => None,
     }
 }
@@ -156,65 +156,65 @@ impl Control {
         KINDS.iter().any(|first| self.lacks_with(*first))
     }
 
-    fn next_kind(&self, token: Token) -> Option<Move>
+    fn next_kind(&self, token: Token) -> Option<TokenMove>
         ensures { result ≡ at_next_kind self.now token }
     {
         match token {
             Token::Known(Word::Kind(kind)) => allow(
                 self.language.has_word(kind) && is_next(self.head, kind),
-                Move::Declare(kind),
+                TokenMove::Declare(kind),
             ),
-            Token::LineEnd => allow(is_for_some(self.head), Move::Skip(Want::Line)),
+            Token::LineEnd => allow(is_for_some(self.head), TokenMove::Skip(Want::Line)),
             _ => None,
         }
     }
 
-    fn line(&self, at: &Placed) -> Option<Move>
+    fn line(&self, at: &Placed) -> Option<TokenMove>
         ensures { result ≡ at_line self.now at.now at.now.token }
     {
         match at.token {
             Token::Known(Word::Assume) => allow(
                 !self.begun && !self.head.chars_differ,
-                Move::Skip(Want::Assumed),
+                TokenMove::Skip(Want::Assumed),
             ),
-            Token::Known(Word::Block) => Some(Move::BlockWord(at.line, at.column)),
+            Token::Known(Word::Block) => Some(TokenMove::BlockWord(at.line, at.column)),
             Token::Known(Word::Case) => {
-                allow(self.begun && self.cases < MAX_CASES, Move::BeginCase)
+                allow(self.begun && self.cases < MAX_CASES, TokenMove::BeginCase)
             }
-            Token::Known(Word::End) => allow(!self.lacks_block(), Move::End),
+            Token::Known(Word::End) => allow(!self.lacks_block(), TokenMove::End),
             _ => None,
         }
     }
 
-    fn assumed(&self, token: Token) -> Option<Move>
+    fn assumed(&self, token: Token) -> Option<TokenMove>
         ensures { result ≡ at_assumed self.now token }
     {
         match token {
-            Token::Known(Word::Sites) => allow(!self.head.sites_differ, Move::AssumeSites),
-            Token::Known(Word::Chars) => Some(Move::AssumeChars),
+            Token::Known(Word::Sites) => allow(!self.head.sites_differ, TokenMove::AssumeSites),
+            Token::Known(Word::Chars) => Some(TokenMove::AssumeChars),
             _ => None,
         }
     }
 
-    fn block_first(&self, token: Token) -> Option<Move>
+    fn block_first(&self, token: Token) -> Option<TokenMove>
         ensures { result ≡ at_block_first self.now token }
     {
         match token {
             Token::Known(Word::Kind(kind)) => allow(
                 self.head.declares(kind),
-                Move::Skip(Want::BlockSecond(kind)),
+                TokenMove::Skip(Want::BlockSecond(kind)),
             ),
             _ => None,
         }
     }
 
-    fn block_second(&self, first: Kind, token: Token) -> Option<Move>
+    fn block_second(&self, first: Kind, token: Token) -> Option<TokenMove>
         ensures { result ≡ at_block_second self.now first token }
     {
         match token {
             Token::Known(Word::Kind(kind)) => allow(
                 self.head.declares(kind) && !self.seen.has(first, kind),
-                Move::BeginBlock(first, kind),
+                TokenMove::BeginBlock(first, kind),
             ),
             _ => None,
         }
@@ -227,56 +227,56 @@ impl Control {
         self.outside.saturating_add(self.nots)
     }
 
-    fn operand(&self, token: Token) -> Option<Move>
+    fn operand(&self, token: Token) -> Option<TokenMove>
         ensures { result ≡ at_operand self.now token }
     {
         match token {
-            Token::Open => allow(self.depth() < MAX_NESTING, Move::Open),
-            Token::Known(Word::Not) => allow(self.depth() < MAX_NESTING, Move::Negate),
-            Token::Known(Word::True) => allow(self.atoms < MAX_ATOMS, Move::Always),
+            Token::Open => allow(self.depth() < MAX_NESTING, TokenMove::Open),
+            Token::Known(Word::Not) => allow(self.depth() < MAX_NESTING, TokenMove::Negate),
+            Token::Known(Word::True) => allow(self.atoms < MAX_ATOMS, TokenMove::Always),
             Token::Known(Word::Thing(sort, side)) => allow(
                 self.atoms < MAX_ATOMS && self.may_compare(sort),
-                Move::BeginAtom(sort, side),
+                TokenMove::BeginAtom(sort, side),
             ),
             _ => None,
         }
     }
 
-    fn operator(&self, token: Token) -> Option<Move>
+    fn operator(&self, token: Token) -> Option<TokenMove>
         ensures { result ≡ at_operator self.now token }
     {
         match token {
-            Token::Known(Word::And) => Some(Move::And),
-            Token::Known(Word::Or) => Some(Move::Or),
-            Token::Close => allow(0 < self.outside, Move::Close),
-            Token::Colon => allow(self.outside == 0, Move::Colon),
+            Token::Known(Word::And) => Some(TokenMove::And),
+            Token::Known(Word::Or) => Some(TokenMove::Or),
+            Token::Close => allow(0 < self.outside, TokenMove::Close),
+            Token::Colon => allow(self.outside == 0, TokenMove::Colon),
             _ => None,
         }
     }
 
-    fn offset(&self, left: Side, cmp: Cmp, token: Token) -> Option<Move>
+    fn offset(&self, left: Side, cmp: Cmp, token: Token) -> Option<TokenMove>
         ensures { result ≡ at_offset self.now left cmp token }
     {
         match token {
-            Token::Sign(sign) => Some(Move::Skip(Want::Number(left, cmp, sign))),
+            Token::Sign(sign) => Some(TokenMove::Skip(Want::Number(left, cmp, sign))),
             _ => self.operator(token),
         }
     }
 
-    fn outcome(&self, token: Token) -> Option<Move>
+    fn outcome(&self, token: Token) -> Option<TokenMove>
         ensures { result ≡ at_result self.now token }
     {
         match token {
-            Token::Known(Word::Nop) => Some(Move::Skip(Want::ResultEnd(Written::Nop))),
+            Token::Known(Word::Nop) => Some(TokenMove::Skip(Want::ResultEnd(Written::Nop))),
             Token::Known(Word::Kind(kind)) => {
-                allow(self.first.same(kind), Move::Skip(Want::ResultPosition))
+                allow(self.first.same(kind), TokenMove::Skip(Want::ResultPosition))
             }
             _ => None,
         }
     }
 
     /// What a token does, None where it cannot go on.
-    pub fn move_for(&self, at: &Placed) -> Option<Move>
+    pub fn move_for(&self, at: &Placed) -> Option<TokenMove>
         ensures { result ≡ move_for self.now at.now self.now.want at.now.token }
     {
         let token = at.token;

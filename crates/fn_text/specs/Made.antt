@@ -5,28 +5,28 @@ use Rattle.fn_rules.specs.Functions.{GuardedCase, case_of}
 use Rattle.fn_rules.specs.Building.{PairCases, block_of}
 use Rattle.fn_text.specs.declared.stop.TextError.{TextError}
 use Rattle.fn_text.specs.declared.stop.TextError.TheVariants as errors
-use Rattle.fn_text.specs.declared.reader.Level.{Level}
+use Rattle.fn_text.specs.declared.reader.Nesting.{Nesting}
 use Rattle.fn_text.specs.declared.reader.Outer.{Outer}
 use Rattle.fn_text.specs.declared.reader.Outer.TheVariants as rust
-use Rattle.fn_text.specs.declared.reader.Reader.{Reader}
+use Rattle.fn_text.specs.declared.reader.FunctionReader.{FunctionReader}
 use Rattle.fn_moves.specs.declared.fault.TextFault.{TextFault}
 use Rattle.fn_moves.specs.Meaning.{Formulas}
 use Rattle.fn_text.specs.Reader.{State}
 use Rattle.fn_text.specs.Reader as plain
 
-abbrev pub level_of : Level → plain.Level Formulas
-level_of level = record {
-  outside = level.outside;
-  nots = level.nots;
-  any = option_map formula_of level.any;
-  all = option_map formula_of level.all;
+abbrev pub nesting_of : Nesting → plain.Nesting Formulas
+nesting_of nesting = record {
+  outside = nesting.outside;
+  nots = nesting.nots;
+  any = option_map formula_of nesting.any;
+  all = option_map formula_of nesting.all;
 }
 
-abbrev pub outer_of : Outer → List (plain.Level Formulas)
+abbrev pub outer_of : Outer → List (plain.Nesting Formulas)
 outer_of rust.Top = []
-outer_of (rust.Around' level p outer) = level_of level ∷ outer_of outer
+outer_of (rust.Around' nesting p outer) = nesting_of nesting ∷ outer_of outer
 
-abbrev pub state_of : Reader → State Formulas GuardedCase PairCases
+abbrev pub state_of : FunctionReader → State Formulas GuardedCase PairCases
 state_of reader = record {
   control = reader.control;
   any = option_map formula_of reader.any;

@@ -12,14 +12,14 @@ use Rattle.fn_rules.specs.declared.guard.Tightness.{Tightness}
 use Rattle.fn_rules.specs.declared.guard.Tightness.TheVariants.{Loose, Joined, Tight}
 use Rattle.fn_rules.specs.declared.function.Head.{Head}
 use Rattle.fn_tokens.specs.declared.token.Placed.{Placed}
-use Rattle.fn_moves.specs.declared.control.Next.TheVariants as nexts
+use Rattle.fn_moves.specs.declared.control.AfterLine.TheVariants as nexts
 use Rattle.fn_moves.specs.declared.control.Want.{Want}
 use Rattle.fn_moves.specs.declared.control.Want.TheVariants as wants
 use Rattle.fn_moves.specs.declared.control.Seconds.{Seconds}
 use Rattle.fn_moves.specs.declared.control.Pairs.{Pairs}
 use Rattle.fn_moves.specs.declared.control.Control.{Control}
-use Rattle.fn_moves.specs.declared.control.Move.{Move}
-use Rattle.fn_moves.specs.declared.control.Move.TheVariants as moves
+use Rattle.fn_moves.specs.declared.control.TokenMove.{TokenMove}
+use Rattle.fn_moves.specs.declared.control.TokenMove.TheVariants as moves
 use Rattle.fn_moves.specs.declared.language.Language.TheVariants as languages
 use Rattle.fn_moves.specs.declared.fault.TextFault.{TextFault}
 use Rattle.fn_moves.specs.declared.fault.FaultKind.TheVariants as faults
@@ -30,7 +30,7 @@ use Rattle.fn_moves.specs.Faults.{fault_of}
 
 -- what was read in parentheses that are still open: what stands before the last `or`, what stands behind
 -- that and before the last `and`, and how many `not` stand behind that; and what stands around them
-pub record Level (V : Tightness → Type 0) : Type 0 where
+pub record Nesting (V : Tightness → Type 0) : Type 0 where
   pub outside : ℕ
   pub nots : ℕ
   pub any : Option (V Loose)
@@ -42,7 +42,7 @@ pub record State (V : Tightness → Type 0) (K B : Type 0) : Type 0 where
   pub any : Option (V Loose)
   pub all : Option (V Joined)
   pub last : V Tight
-  pub outer : List (Level V)
+  pub outer : List (Nesting V)
   pub guard : V Loose
   pub cases : List K
   pub done : List B
@@ -85,21 +85,21 @@ want_behind Site left cmp = wants.Operator
 want_behind Char left cmp = wants.Operator
 
 -- what stands around the innermost parentheses goes on
-abbrev pub left_for : {V : Tightness → Type 0} {K B : Type 0} → State V K B → Level V → List (Level V) → State V K B
-left_for s level levels = record s {
-  control = record s.control { want = wants.Operator; outside = level.outside; nots = level.nots };
-  any = level.any;
-  all = level.all;
-  outer = levels;
+abbrev pub left_for : {V : Tightness → Type 0} {K B : Type 0} → State V K B → Nesting V → List (Nesting V) → State V K B
+left_for s nesting nestings = record s {
+  control = record s.control { want = wants.Operator; outside = nesting.outside; nots = nesting.nots };
+  any = nesting.any;
+  all = nesting.all;
+  outer = nestings;
 }
 
 -- parentheses are closed: what stands around them goes on
-abbrev pub closed : {V : Tightness → Type 0} {K B : Type 0} → Maker V K B → State V K B → List (Level V) → State V K B
+abbrev pub closed : {V : Tightness → Type 0} {K B : Type 0} → Maker V K B → State V K B → List (Nesting V) → State V K B
 closed m s [] = record s { control = with_want s.control wants.Operator }
-closed m s (level ∷ levels) = left_for (record s { last = m.round (disjunction m s) }) level levels
+closed m s (nesting ∷ nestings) = left_for (record s { last = m.round (disjunction m s) }) nesting nestings
 
--- what a token makes of the control; where parentheses are closed, what stands around them is told by their level
-abbrev pub control_behind : Control → Move → Control
+-- what a token makes of the control; where parentheses are closed, what stands around them is told by their nesting
+abbrev pub control_behind : Control → TokenMove → Control
 control_behind c (moves.Skip want) = with_want c want
 control_behind c (moves.SetLanguage language) = record c { want = wants.LineEnd nexts.Text; language = language }
 control_behind c (moves.SetMode mode) = record c {
@@ -127,11 +127,11 @@ control_behind c (moves.EndCase result) = with_want c wants.Line
 control_behind c moves.End = record c { want = wants.LineEnd nexts.File; begun = false }
 
 -- what a token does of which only the control keeps something
-abbrev pub told : {V : Tightness → Type 0} {K B : Type 0} → State V K B → Move → State V K B
+abbrev pub told : {V : Tightness → Type 0} {K B : Type 0} → State V K B → TokenMove → State V K B
 told s move = record s { control = control_behind s.control move }
 
 -- what a token does
-abbrev pub moved : {V : Tightness → Type 0} {K B : Type 0} → Maker V K B → State V K B → Move → State V K B
+abbrev pub moved : {V : Tightness → Type 0} {K B : Type 0} → Maker V K B → State V K B → TokenMove → State V K B
 moved m s (moves.Skip want) = told s (moves.Skip want)
 moved m s (moves.SetLanguage language) = told s (moves.SetLanguage language)
 moved m s (moves.SetMode mode) = told s (moves.SetMode mode)
@@ -164,8 +164,8 @@ moved m s (moves.EndCase result) = record (told s (moves.EndCase result)) {
 moved m s moves.End = record (told s moves.End) { cases = []; done = blocks_of m s }
 
 -- the state after a token, or its fault
-abbrev pub after_move : {V : Tightness → Type 0} {K B : Type 0} → Maker V K B → State V K B → Placed → Option Move →
-    Result (State V K B) TextFault
+abbrev pub after_move : {V : Tightness → Type 0} {K B : Type 0} → Maker V K B → State V K B → Placed
+    → Option TokenMove → Result (State V K B) TextFault
 after_move m s at None = Err (fault_of s.control at)
 after_move m s at (Some move) = Ok (moved m s move)
 

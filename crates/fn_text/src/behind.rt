@@ -5,7 +5,7 @@ ghost use Rattle.fn_moves.specs.Kinds.{with_kind};
 ghost use Rattle.fn_moves.specs.Moves.{HasRoom};
 ghost use Rattle.fn_text.specs.Reader.{with_want, want_behind, control_behind};
 
-use fn_moves::{Control, Move, Next, Want};
+use fn_moves::{AfterLine, Control, TokenMove, Want};
 use fn_rules::{Cmp, Head, Side, Sort};
 use ot_model::Kind;
 
@@ -66,7 +66,7 @@ fn with_head(control: Control, want: Want, head: Head) -> Control
 
 // The control in a block whose kinds were read.
 fn in_block(control: Control, first: Kind, second: Kind) -> Control
-    ensures { result ≡ control_behind control (Move.BeginBlock first second) }
+    ensures { result ≡ control_behind control (TokenMove.BeginBlock first second) }
 {
     Control {
         want: Want::BlockEnd,
@@ -81,8 +81,8 @@ fn in_block(control: Control, first: Kind, second: Kind) -> Control
 
 // The control at the guard of one more case.
 fn in_case(control: Control) -> Control
-    requires { HasRoom control Move.BeginCase }
-    ensures { result ≡ control_behind control Move.BeginCase }
+    requires { HasRoom control TokenMove.BeginCase }
+    ensures { result ≡ control_behind control TokenMove.BeginCase }
 {
     Control {
         want: Want::Operand,
@@ -94,8 +94,8 @@ fn in_case(control: Control) -> Control
 
 // The control in one more pair of parentheses.
 fn opened(control: Control) -> Control
-    requires { HasRoom control Move.Open }
-    ensures { result ≡ control_behind control Move.Open }
+    requires { HasRoom control TokenMove.Open }
+    ensures { result ≡ control_behind control TokenMove.Open }
 {
     Control {
         want: Want::Operand,
@@ -107,8 +107,8 @@ fn opened(control: Control) -> Control
 
 // The control behind one more `not`.
 fn negated(control: Control) -> Control
-    requires { HasRoom control Move.Negate }
-    ensures { result ≡ control_behind control Move.Negate }
+    requires { HasRoom control TokenMove.Negate }
+    ensures { result ≡ control_behind control TokenMove.Negate }
 {
     Control {
         want: Want::Operand,
@@ -119,7 +119,7 @@ fn negated(control: Control) -> Control
 
 // The control behind the first token of one more atom.
 fn with_atom(control: Control, want: Want) -> Control
-    requires { HasRoom control Move.Always }
+    requires { HasRoom control TokenMove.Always }
     ensures { result ≡ record control { want = want; atoms = control.atoms + 1 } }
 {
     Control {
@@ -141,47 +141,51 @@ fn behind_operand(control: Control, want: Want) -> Control
 }
 
 /// The control behind a token that does this.
-pub(crate) fn behind(control: Control, move_: Move) -> Control
+pub(crate) fn behind(control: Control, move_: TokenMove) -> Control
     requires { HasRoom control move_ }
     ensures { result ≡ control_behind control move_ }
 {
     match move_ {
-        Move::Skip(want) => wanting(control, want),
-        Move::SetLanguage(language) => Control {
+        TokenMove::Skip(want) => wanting(control, want),
+        TokenMove::SetLanguage(language) => Control {
             language,
-            ..wanting(control, Want::LineEnd(Next::Text))
+            ..wanting(control, Want::LineEnd(AfterLine::Text))
         },
-        Move::SetMode(mode) => with_head(
+        TokenMove::SetMode(mode) => with_head(
             control,
-            Want::LineEnd(Next::Kinds),
+            Want::LineEnd(AfterLine::Kinds),
             Head {
                 mode,
                 ..control.head
             },
         ),
-        Move::Declare(kind) => with_head(control, Want::NextKind, with_kind(control.head, kind)),
-        Move::AssumeSites => with_head(control, Want::Differ, with_sites(control.head)),
-        Move::AssumeChars => with_head(control, Want::Differ, with_chars(control.head)),
-        Move::BlockWord(line, column) => Control {
+        TokenMove::Declare(kind) => with_head(
+            control,
+            Want::NextKind,
+            with_kind(control.head, kind),
+        ),
+        TokenMove::AssumeSites => with_head(control, Want::Differ, with_sites(control.head)),
+        TokenMove::AssumeChars => with_head(control, Want::Differ, with_chars(control.head)),
+        TokenMove::BlockWord(line, column) => Control {
             line,
             column,
             ..wanting(control, Want::BlockFirst)
         },
-        Move::BeginBlock(first, second) => in_block(control, first, second),
-        Move::BeginCase => in_case(control),
-        Move::Open => opened(control),
-        Move::Negate => negated(control),
-        Move::Always => with_atom(control, Want::Operator),
-        Move::BeginAtom(sort, left) => with_atom(control, Want::Comparison(sort, left)),
-        Move::Compare(sort, left, cmp) => wanting(control, behind_atom(sort, left, cmp)),
-        Move::Shift(..) => wanting(control, Want::Operator),
-        Move::And | Move::Or => behind_operand(control, Want::Operand),
-        Move::Close => wanting(control, Want::Operator),
-        Move::Colon => behind_operand(control, Want::Result),
-        Move::EndCase(_) => wanting(control, Want::Line),
-        Move::End => Control {
+        TokenMove::BeginBlock(first, second) => in_block(control, first, second),
+        TokenMove::BeginCase => in_case(control),
+        TokenMove::Open => opened(control),
+        TokenMove::Negate => negated(control),
+        TokenMove::Always => with_atom(control, Want::Operator),
+        TokenMove::BeginAtom(sort, left) => with_atom(control, Want::Comparison(sort, left)),
+        TokenMove::Compare(sort, left, cmp) => wanting(control, behind_atom(sort, left, cmp)),
+        TokenMove::Shift(..) => wanting(control, Want::Operator),
+        TokenMove::And | TokenMove::Or => behind_operand(control, Want::Operand),
+        TokenMove::Close => wanting(control, Want::Operator),
+        TokenMove::Colon => behind_operand(control, Want::Result),
+        TokenMove::EndCase(_) => wanting(control, Want::Line),
+        TokenMove::End => Control {
             begun: false,
-            ..wanting(control, Want::LineEnd(Next::File))
+            ..wanting(control, Want::LineEnd(AfterLine::File))
         },
     }
 }

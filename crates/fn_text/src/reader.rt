@@ -10,12 +10,12 @@ ghost use Rattle.fn_text.specs.Reader.{moved, turn, ended};
 ghost use Rattle.fn_text.specs.Reader.{read_from, first_state};
 ghost use Rattle.fn_moves.specs.Controls.{depth_of};
 ghost use Rattle.fn_moves.specs.Moves.{HasRoom};
-ghost use Rattle.fn_text.specs.Made.{state_of, level_of, outer_of, Gives};
+ghost use Rattle.fn_text.specs.Made.{state_of, nesting_of, outer_of, Gives};
 
 use crate::NoMemory;
 use crate::behind::behind;
 use crate::stop::TextError;
-use fn_moves::{Control, FaultKind, Move, TextFault, Want, Written};
+use fn_moves::{Control, FaultKind, TextFault, TokenMove, Want, Written};
 use fn_rules::{Atom, Block, Case, Cmp, Guard, Head, Res, Side, Sort};
 use fn_tokens::{Placed, Sign};
 use ot_model::Kind;
@@ -24,7 +24,7 @@ use std::mem;
 
 /// What was read in parentheses that are still open.
 #[derive(Drop)]
-pub(crate) struct Level {
+pub(crate) struct Nesting {
     outside: u64,
     nots: u64,
     any: Option<Guard>,
@@ -35,12 +35,12 @@ pub(crate) struct Level {
 #[derive(Drop)]
 pub(crate) enum Outer {
     Top,
-    Around(Level, Box<Outer>),
+    Around(Nesting, Box<Outer>),
 }
 
 /// What was read.
 #[derive(Drop)]
-pub(crate) struct Reader {
+pub(crate) struct FunctionReader {
     control: Control,
 
     /// What stands before the last `or` of the innermost parentheses.
@@ -115,7 +115,7 @@ fn res(written: Written) -> Res
     }
 }
 
-impl Reader {
+impl FunctionReader {
     /// The conjunction that ends with the last operand, which is taken out.
     fn take_conjunction(&mut self, alloc: Global) -> Result<Guard, NoMemory>
         ensures value { IfOk result (λ g. formula_of g ≡ conjunction to_formulas (state_of self.old)) }
@@ -139,10 +139,10 @@ impl Reader {
         chosen(alloc, any, conjunction)
     }
 
-    fn new(alloc: Global) -> Reader
+    fn new(alloc: Global) -> FunctionReader
         ensures { state_of result ≡ first_state to_formulas }
     {
-        Reader {
+        FunctionReader {
             control: Control::FIRST,
             any: None,
             all: None,
@@ -155,7 +155,7 @@ impl Reader {
     }
 
     /// Only the control keeps something of the token.
-    fn tell(&mut self, move_: Move)
+    fn tell(&mut self, move_: TokenMove)
         requires { HasRoom self.old.control move_ }
         ensures { state_of self.new ≡ told (state_of self.old) move_ }
     {
@@ -180,39 +180,39 @@ impl Reader {
 
     fn begin_block(&mut self, alloc: Global, first: Kind, second: Kind) -> Result<(), NoMemory>
         ensures { OnOk result (state_of self.new ≡ moved to_formulas (state_of self.old)
-            (Move.BeginBlock first second)) }
+            (TokenMove.BeginBlock first second)) }
     {
         self.close_block(alloc)?;
-        self.tell(Move::BeginBlock(first, second));
+        self.tell(TokenMove::BeginBlock(first, second));
         Ok(())
     }
 
     fn open(&mut self, alloc: Global) -> Result<(), NoMemory>
         requires { depth_of self.old.control < 32 }
-        ensures { OnOk result (state_of self.new ≡ moved to_formulas (state_of self.old) Move.Open) }
+        ensures { OnOk result (state_of self.new ≡ moved to_formulas (state_of self.old) TokenMove.Open) }
     {
-        let level = Level {
+        let nesting = Nesting {
             outside: self.control.outside,
             nots: self.control.nots,
             any: self.any.take(),
             all: self.all.take(),
         };
         let outer = mem::replace(&mut self.outer, Outer::Top);
-        self.outer = Outer::Around(level, Box::new(alloc, outer)?);
-        self.tell(Move::Open);
+        self.outer = Outer::Around(nesting, Box::new(alloc, outer)?);
+        self.tell(TokenMove::Open);
         Ok(())
     }
 
     fn always(&mut self)
         requires { self.old.control.atoms < 16 }
-        ensures { state_of self.new ≡ moved to_formulas (state_of self.old) Move.Always }
+        ensures { state_of self.new ≡ moved to_formulas (state_of self.old) TokenMove.Always }
     {
         self.last = Guard::True;
-        self.tell(Move::Always);
+        self.tell(TokenMove::Always);
     }
 
     fn compare(&mut self, sort: Sort, left: Side, cmp: Cmp)
-        ensures { state_of self.new ≡ moved to_formulas (state_of self.old) (Move.Compare sort left cmp) }
+        ensures { state_of self.new ≡ moved to_formulas (state_of self.old) (TokenMove.Compare sort left cmp) }
     {
         self.last = Guard::Atom(Atom {
             sort,
@@ -220,11 +220,11 @@ impl Reader {
             cmp,
             k: 0,
         });
-        self.tell(Move::Compare(sort, left, cmp));
+        self.tell(TokenMove::Compare(sort, left, cmp));
     }
 
     fn shift(&mut self, left: Side, cmp: Cmp, sign: Sign, number: u8)
-        ensures { state_of self.new ≡ moved to_formulas (state_of self.old) (Move.Shift left cmp sign number) }
+        ensures { state_of self.new ≡ moved to_formulas (state_of self.old) (TokenMove.Shift left cmp sign number) }
     {
         self.last = Guard::Atom(Atom {
             sort: Sort::Pos,
@@ -232,37 +232,37 @@ impl Reader {
             cmp,
             k: offset(sign, number),
         });
-        self.tell(Move::Shift(left, cmp, sign, number));
+        self.tell(TokenMove::Shift(left, cmp, sign, number));
     }
 
     fn and(&mut self, alloc: Global) -> Result<(), NoMemory>
-        ensures { OnOk result (state_of self.new ≡ moved to_formulas (state_of self.old) Move.And) }
+        ensures { OnOk result (state_of self.new ≡ moved to_formulas (state_of self.old) TokenMove.And) }
     {
         let conjunction = self.take_conjunction(alloc)?;
         self.all = Some(conjunction);
-        self.tell(Move::And);
+        self.tell(TokenMove::And);
         Ok(())
     }
 
     fn or(&mut self, alloc: Global) -> Result<(), NoMemory>
-        ensures { OnOk result (state_of self.new ≡ moved to_formulas (state_of self.old) Move.Or) }
+        ensures { OnOk result (state_of self.new ≡ moved to_formulas (state_of self.old) TokenMove.Or) }
     {
         let disjunction = self.take_disjunction(alloc)?;
         self.any = Some(disjunction);
-        self.tell(Move::Or);
+        self.tell(TokenMove::Or);
         Ok(())
     }
 
     /// What stands around the parentheses that are closed goes on.
-    fn leave(&mut self, level: Level, outer: Outer)
-        ensures { state_of self.new ≡ left_for (state_of self.old) (level_of level) (outer_of outer) }
+    fn leave(&mut self, nesting: Nesting, outer: Outer)
+        ensures { state_of self.new ≡ left_for (state_of self.old) (nesting_of nesting) (outer_of outer) }
     {
-        let Level {
+        let Nesting {
             outside,
             nots,
             any,
             all,
-        } = level;
+        } = nesting;
         self.any = any;
         self.all = all;
         self.outer = outer;
@@ -275,75 +275,75 @@ impl Reader {
     }
 
     fn close(&mut self, alloc: Global) -> Result<(), NoMemory>
-        ensures { OnOk result (state_of self.new ≡ moved to_formulas (state_of self.old) Move.Close) }
+        ensures { OnOk result (state_of self.new ≡ moved to_formulas (state_of self.old) TokenMove.Close) }
     {
         match mem::replace(&mut self.outer, Outer::Top) {
-            Outer::Top => self.tell(Move::Close),
-            Outer::Around(level, outer) => {
+            Outer::Top => self.tell(TokenMove::Close),
+            Outer::Around(nesting, outer) => {
                 let disjunction = self.take_disjunction(alloc)?;
                 self.last = disjunction;
-                self.leave(level, Box::into_inner(outer));
+                self.leave(nesting, Box::into_inner(outer));
             }
         }
         Ok(())
     }
 
     fn colon(&mut self, alloc: Global) -> Result<(), NoMemory>
-        ensures { OnOk result (state_of self.new ≡ moved to_formulas (state_of self.old) Move.Colon) }
+        ensures { OnOk result (state_of self.new ≡ moved to_formulas (state_of self.old) TokenMove.Colon) }
     {
         let guard = self.take_disjunction(alloc)?;
         self.guard = guard;
-        self.tell(Move::Colon);
+        self.tell(TokenMove::Colon);
         Ok(())
     }
 
     fn end_case(&mut self, written: Written) -> Result<(), NoMemory>
-        ensures { OnOk result (state_of self.new ≡ moved to_formulas (state_of self.old) (Move.EndCase written)) }
+        ensures { OnOk result (state_of self.new ≡ moved to_formulas (state_of self.old) (TokenMove.EndCase written)) }
     {
         let guard = mem::replace(&mut self.guard, Guard::True);
         self.cases.push(Case {
             guard,
             res: res(written),
         })?;
-        self.tell(Move::EndCase(written));
+        self.tell(TokenMove::EndCase(written));
         Ok(())
     }
 
     fn end(&mut self, alloc: Global) -> Result<(), NoMemory>
-        ensures { OnOk result (state_of self.new ≡ moved to_formulas (state_of self.old) Move.End) }
+        ensures { OnOk result (state_of self.new ≡ moved to_formulas (state_of self.old) TokenMove.End) }
     {
         self.close_block(alloc)?;
-        self.tell(Move::End);
+        self.tell(TokenMove::End);
         Ok(())
     }
 
     /// Does what a token does that can go on.
-    fn apply(&mut self, alloc: Global, move_: Move) -> Result<(), NoMemory>
+    fn apply(&mut self, alloc: Global, move_: TokenMove) -> Result<(), NoMemory>
         requires { HasRoom self.old.control move_ }
         ensures { OnOk result (state_of self.new ≡ moved to_formulas (state_of self.old) move_) }
     {
         match move_ {
-            Move::BeginBlock(first, second) => return self.begin_block(alloc, first, second),
-            Move::Open => return self.open(alloc),
-            Move::Always => self.always(),
-            Move::Compare(sort, left, cmp) => self.compare(sort, left, cmp),
-            Move::Shift(left, cmp, sign, number) => self.shift(left, cmp, sign, number),
-            Move::And => return self.and(alloc),
-            Move::Or => return self.or(alloc),
-            Move::Close => return self.close(alloc),
-            Move::Colon => return self.colon(alloc),
-            Move::EndCase(written) => return self.end_case(written),
-            Move::End => return self.end(alloc),
-            Move::Skip(_)
-            | Move::SetLanguage(_)
-            | Move::SetMode(_)
-            | Move::Declare(_)
-            | Move::AssumeSites
-            | Move::AssumeChars
-            | Move::BlockWord(..)
-            | Move::BeginCase
-            | Move::Negate
-            | Move::BeginAtom(..) => self.tell(move_),
+            TokenMove::BeginBlock(first, second) => return self.begin_block(alloc, first, second),
+            TokenMove::Open => return self.open(alloc),
+            TokenMove::Always => self.always(),
+            TokenMove::Compare(sort, left, cmp) => self.compare(sort, left, cmp),
+            TokenMove::Shift(left, cmp, sign, number) => self.shift(left, cmp, sign, number),
+            TokenMove::And => return self.and(alloc),
+            TokenMove::Or => return self.or(alloc),
+            TokenMove::Close => return self.close(alloc),
+            TokenMove::Colon => return self.colon(alloc),
+            TokenMove::EndCase(written) => return self.end_case(written),
+            TokenMove::End => return self.end(alloc),
+            TokenMove::Skip(_)
+            | TokenMove::SetLanguage(_)
+            | TokenMove::SetMode(_)
+            | TokenMove::Declare(_)
+            | TokenMove::AssumeSites
+            | TokenMove::AssumeChars
+            | TokenMove::BlockWord(..)
+            | TokenMove::BeginCase
+            | TokenMove::Negate
+            | TokenMove::BeginAtom(..) => self.tell(move_),
         }
         Ok(())
     }
@@ -362,7 +362,7 @@ impl Reader {
     fn ended(self) -> Result<(Head, Vec<Block>), TextError>
         ensures { Gives (λ x. (x.0, map block_of x.1.items)) result (ended (state_of self) self.control.want) }
     {
-        let Reader { control, done, .. } = self;
+        let FunctionReader { control, done, .. } = self;
         match control.want {
             Want::Nothing => Ok((control.head, done)),
             _ => Err(TextError::Fault(TextFault {
@@ -379,7 +379,7 @@ pub(crate) fn read_tokens(alloc: Global, tokens: &[Placed]) -> Result<(Head, Vec
     ensures { Gives (λ x. (x.0, map block_of x.1.items)) result
         (read_from to_formulas (first_state to_formulas) tokens.now) }
 {
-    let mut reader = Reader::new(alloc);
+    let mut reader = FunctionReader::new(alloc);
     for at in tokens {
         reader.turn(alloc, at)?;
     }

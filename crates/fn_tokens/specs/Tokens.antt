@@ -10,7 +10,7 @@ use Rattle.fn_tokens.specs.declared.token.Token.TheVariants.{Byte, Number, Compa
 use Rattle.fn_tokens.specs.declared.token.Token.TheVariants.{LineEnd, FileEnd}
 use Rattle.fn_tokens.specs.declared.token.Placed.{Placed}
 use Rattle.fn_tokens.specs.declared.lexer.Cursor.{Cursor}
-use Rattle.fn_tokens.specs.declared.lexer.Front.{Front}
+use Rattle.fn_tokens.specs.declared.lexer.FrontToken.{FrontToken}
 use Rattle.fn_tokens.specs.declared.lexer.Run.{Run}
 use Rattle.fn_tokens.specs.declared.lexer.Run.TheVariants as runs
 use Rattle.fn_tokens.specs.Words.{word_token}
@@ -54,20 +54,20 @@ is_in runs.Word byte = is_letter byte || is_digit byte
 is_in runs.Number byte = is_digit byte
 is_in runs.Comment byte = not (is_line_end byte)
 
-abbrev pub front_word : ℕ → List ℕ → ℕ → Front
+abbrev pub front_word : ℕ → List ℕ → ℕ → FrontToken
 front_word byte rest more = record { token = word_token (byte ∷ take more rest); more = more }
 
-abbrev pub front_number : ℕ → List ℕ → ℕ → Front
+abbrev pub front_number : ℕ → List ℕ → ℕ → FrontToken
 front_number byte rest more =
     record { token = Number (number_from 0 (byte ∷ take more rest)); more = more }
 
-abbrev pub front_less : List ℕ → Front
+abbrev pub front_less : List ℕ → FrontToken
 front_less rest =
     if begins_with_equals rest then record { token = Comparison Le; more = 1 } else record
     { token = Comparison Lt; more = 0 }
 
 -- the longest token at a byte that is no blank, no line's end and no number sign
-unfoldable pub front_of : ℕ → List ℕ → Front
+unfoldable pub front_of : ℕ → List ℕ → FrontToken
 front_of byte rest =
     if is_letter byte then front_word byte rest (prefix_len (is_in runs.Word) rest) else
     (if is_digit byte then front_number byte rest (prefix_len (is_in runs.Number) rest) else

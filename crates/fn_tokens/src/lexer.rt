@@ -41,7 +41,7 @@ pub(crate) enum Run {
 
 /// A token, and how many bytes it has behind its first.
 #[derive(Clone, Copy)]
-pub(crate) struct Front {
+pub(crate) struct FrontToken {
     token: Token,
     more: usize,
 }
@@ -172,15 +172,15 @@ fn sign_of(byte: u8) -> Token
 }
 
 /// The sign at a `<`, from what is behind it.
-fn less_of(rest: &[u8]) -> Front
+fn less_of(rest: &[u8]) -> FrontToken
     ensures { result ≡ front_less rest.now }
 {
     match rest {
-        [b'=', ..] => Front {
+        [b'=', ..] => FrontToken {
             token: Token::Comparison(Cmp::Le),
             more: 1,
         },
-        _ => Front {
+        _ => FrontToken {
             token: Token::Comparison(Cmp::Lt),
             more: 0,
         },
@@ -189,31 +189,31 @@ fn less_of(rest: &[u8]) -> Front
 
 /// The word at a letter.
 #[tactic(auto, using(crate::proofs::Lexing::take_first))]
-fn word_front(bytes: &[u8]) -> Front
+fn word_front(bytes: &[u8]) -> FrontToken
     requires { 0 < length bytes.now }
     ensures { result ≡ front_word (slice_index bytes.now 0) (drop 1 bytes.now)
         (prefix_len (is_in Run.Word) (drop 1 bytes.now)) }
 {
     let more = Run::Word.len(&bytes[1..]);
     let token = word_of(&bytes[..more + 1]);
-    Front { token, more }
+    FrontToken { token, more }
 }
 
 /// The number at a digit.
 #[tactic(auto, using(crate::proofs::Lexing::take_first))]
-fn number_front(bytes: &[u8]) -> Front
+fn number_front(bytes: &[u8]) -> FrontToken
     requires { 0 < length bytes.now }
     ensures { result ≡ front_number (slice_index bytes.now 0) (drop 1 bytes.now)
         (prefix_len (is_in Run.Number) (drop 1 bytes.now)) }
 {
     let more = Run::Number.len(&bytes[1..]);
     let token = number_of(&bytes[..more + 1]);
-    Front { token, more }
+    FrontToken { token, more }
 }
 
 /// The longest token at the front of bytes whose first one is neither a blank, a line's end nor `#`.
 #[tactic(auto, unfolding(crate::specs::Tokens::front_of))]
-fn longest(bytes: &[u8]) -> Front
+fn longest(bytes: &[u8]) -> FrontToken
     requires { 0 < length bytes.now }
     ensures { result ≡ front_of (slice_index bytes.now 0) (drop 1 bytes.now) }
 {
@@ -225,7 +225,7 @@ fn longest(bytes: &[u8]) -> Front
     } else if byte == b'<' {
         less_of(&bytes[1..])
     } else {
-        Front {
+        FrontToken {
             token: sign_of(byte),
             more: 0,
         }

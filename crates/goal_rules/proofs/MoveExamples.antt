@@ -7,7 +7,7 @@ use Rattle.ot_questions.specs.declared.place.SymOp.{SymOp}
 use Rattle.ot_questions.specs.declared.place.SymOp.TheVariants.{Ins, Del, Nop}
 use Rattle.ot_questions.specs.declared.why.Why.TheVariants.{Undefined, OutOfRange, Lengths, Operations}
 use Rattle.ot_questions.specs.Places.{place, zero_place, length_and, index_and}
-use Rattle.ot_terms.specs.declared.goal.Progress.{Progress}
+use Rattle.ot_terms.specs.declared.goal.GoalProgress.{GoalProgress}
 use Rattle.ot_terms.specs.Forms.{True, Le, Lt, Eq, And}
 use Rattle.ot_terms.specs.Documents.{Base, Put}
 use Rattle.ot_terms.specs.Cells.{At}
@@ -25,7 +25,7 @@ abbrev moved : SymOp
 moved = Ins (place 6 (pos 1)) 8 7
 
 -- a pair of insertions, with so many of these results
-abbrev insertions : ℕ → List SymOp → Progress
+abbrev insertions : ℕ → List SymOp → GoalProgress
 insertions n got = record { ob = Pair kinds.Ins kinds.Ins; ops = first ∷ second ∷ Nop ∷ []; got = got; count = n }
 
 abbrev none_there : List SymOp
@@ -92,7 +92,7 @@ second_result = refl
 abbrev deletion : ℕ → SymOp
 deletion x = Del (place x (pos 0)) (x + 1)
 
-abbrev two_deletions : Progress
+abbrev two_deletions : GoalProgress
 two_deletions = record {
   ob = Pair kinds.Del kinds.Del;
   ops = deletion 3 ∷ deletion 6 ∷ Nop ∷ [];
@@ -111,7 +111,7 @@ unfolding rewritten
 different_lengths = refl
 
 -- three deletions, with so many of these results
-abbrev three_deletions : ℕ → List SymOp → Progress
+abbrev three_deletions : ℕ → List SymOp → GoalProgress
 three_deletions n got = record {
   ob = Triple kinds.Del kinds.Del kinds.Del;
   ops = deletion 3 ∷ deletion 6 ∷ deletion 9 ∷ [];

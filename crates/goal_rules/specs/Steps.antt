@@ -19,8 +19,8 @@ abbrev pub front_tree : Front → GoalTree
 front_tree rust.Holds = goals.Holds
 front_tree (rust.Fails why) = goals.Fails why
 front_tree (rust.If g on_yes on_no) = goals.If (form_tree g) (goal_tree on_yes.now) (goal_tree on_no.now)
-front_tree (rust.Choose case a b plan) = goals.Choose case a b plan.now
-front_tree (rust.Deliver o plan) = goals.Deliver o plan.now
+front_tree (rust.Choose case a b progress) = goals.Choose case a b progress.now
+front_tree (rust.Deliver o progress) = goals.Deliver o progress.now
 front_tree (rust.Same left right) = goals.Same (cell_tree left) (cell_tree right)
 
 -- the offset that is lowered by one is small
@@ -46,6 +46,6 @@ abbrev pub IsReady : Function → GoalTree → Type 0
 IsReady f goals.Holds = Unit {0}
 IsReady f (goals.Fails why) = Unit {0}
 IsReady f (goals.If g on_yes on_no) = IsLowered g
-IsReady f (goals.Choose case a b plan) = IsChoosable f case a b
-IsReady f (goals.Deliver o plan) = plan.count < 6
+IsReady f (goals.Choose case a b progress) = IsChoosable f case a b
+IsReady f (goals.Deliver o progress) = progress.count < 6
 IsReady f (goals.Same left right) = IsReadable left × IsReadable right

@@ -16,7 +16,7 @@ use Rattle.ot_questions.specs.declared.why.Why.TheVariants.{Undefined}
 use Rattle.ot_questions.specs.Places.{place, plus, sym_kind, sym_result}
 use Rattle.ot_questions.specs.Reading.{cells_cause, is_same_flag}
 use Rattle.std.specs.Ordering.{int_eq}
-use Rattle.ot_terms.specs.declared.goal.Progress.{Progress}
+use Rattle.ot_terms.specs.declared.goal.GoalProgress.{GoalProgress}
 use Rattle.ot_terms.specs.Forms.{FormTree, True, Le, Lt, Eq, And, Or, Not}
 use Rattle.ot_terms.specs.Cells as cells
 use Rattle.ot_terms.specs.Cells.{CellTree}
@@ -40,37 +40,37 @@ rewrite_if (Or g h) on_yes on_no = Some (If g on_yes (If h on_yes on_no))
 rewrite_if (Not g) on_yes on_no = Some (If g on_no on_yes)
 
 -- the cases that are left, of the case number on
-abbrev pub choose_case : List GuardedCase → ℕ → SymOp → SymOp → Progress → GoalTree
-choose_case [] case a b plan = Fails Undefined
-choose_case (c ∷ cs) case a b plan =
-    If (guard_form c.guard a b) (Deliver (sym_result c.res a b) plan) (Choose (suc case) a b plan)
+abbrev pub choose_case : List GuardedCase → ℕ → SymOp → SymOp → GoalProgress → GoalTree
+choose_case [] case a b progress = Fails Undefined
+choose_case (c ∷ cs) case a b progress =
+    If (guard_form c.guard a b) (Deliver (sym_result c.res a b) progress) (Choose (suc case) a b progress)
 
 -- by the kinds of the two operations, which nop has not
-abbrev pub choose_by_kinds : Function → ℕ → SymOp → SymOp → Option Kind → Option Kind → Progress → GoalTree
-choose_by_kinds f case a b None l plan = Deliver ops.Nop plan
-choose_by_kinds f case a b (Some k) None plan = Deliver a plan
-choose_by_kinds f case a b (Some k) (Some l) plan = choose_case (drop case (f.cases k l)) case a b plan
+abbrev pub choose_by_kinds : Function → ℕ → SymOp → SymOp → Option Kind → Option Kind → GoalProgress → GoalTree
+choose_by_kinds f case a b None l progress = Deliver ops.Nop progress
+choose_by_kinds f case a b (Some k) None progress = Deliver a progress
+choose_by_kinds f case a b (Some k) (Some l) progress = choose_case (drop case (f.cases k l)) case a b progress
 
-abbrev pub rewrite_choose : Function → ℕ → SymOp → SymOp → Progress → GoalTree
-rewrite_choose f case a b plan = choose_by_kinds f case a b (sym_kind a) (sym_kind b) plan
+abbrev pub rewrite_choose : Function → ℕ → SymOp → SymOp → GoalProgress → GoalTree
+rewrite_choose f case a b progress = choose_by_kinds f case a b (sym_kind a) (sym_kind b) progress
 
 -- the progress with one more result
-abbrev pub with_result : Progress → SymOp → Progress
-with_result plan r = record {
-  ob = plan.ob;
-  ops = plan.ops;
-  got = slice_set plan.got plan.count r;
-  count = suc plan.count;
+abbrev pub with_result : GoalProgress → SymOp → GoalProgress
+with_result progress r = record {
+  ob = progress.ob;
+  ops = progress.ops;
+  got = slice_set progress.got progress.count r;
+  count = suc progress.count;
 }
 
 -- the next transformation, or the end of the obligation
-abbrev pub go_on : Function → Progress → Option (SymOp × SymOp) → GoalTree
-go_on f plan (Some pair) = Choose 0 pair.0 pair.1 plan
-go_on f plan None = end_goal f.head.mode plan.ob plan.ops (results_of plan)
+abbrev pub go_on : Function → GoalProgress → Option (SymOp × SymOp) → GoalTree
+go_on f progress (Some pair) = Choose 0 pair.0 pair.1 progress
+go_on f progress None = end_goal f.head.mode progress.ob progress.ops (results_of progress)
 
-abbrev pub rewrite_deliver : Function → SymOp → Progress → GoalTree
-rewrite_deliver f r plan = go_on f (with_result plan r)
-    (next_operands plan.ob plan.ops (results_of (with_result plan r)))
+abbrev pub rewrite_deliver : Function → SymOp → GoalProgress → GoalTree
+rewrite_deliver f r progress = go_on f (with_result progress r)
+    (next_operands progress.ob progress.ops (results_of (with_result progress r)))
 
 -- two characters are the same: one base cell's, or those of two names
 abbrev pub same_source : Source → Source → Why → GoalTree
@@ -117,6 +117,6 @@ unfoldable pub rewritten : Function → GoalTree → Option GoalTree
 rewritten f Holds = None
 rewritten f (Fails why) = None
 rewritten f (If g on_yes on_no) = rewrite_if g on_yes on_no
-rewritten f (Choose case a b plan) = Some (rewrite_choose f case a b plan)
-rewritten f (Deliver r plan) = Some (rewrite_deliver f r plan)
+rewritten f (Choose case a b progress) = Some (rewrite_choose f case a b progress)
+rewritten f (Deliver r progress) = Some (rewrite_deliver f r progress)
 rewritten f (Same left right) = rewrite_same left right

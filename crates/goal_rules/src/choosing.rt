@@ -12,7 +12,7 @@ use crate::front::Front;
 use ask_core::NoMemory;
 use bumpalo::Bump;
 use fn_rules::{Case, Rules};
-use ot_terms::{Goal, Progress, SymOp, Why, place_form};
+use ot_terms::{Goal, GoalProgress, SymOp, Why, place_form};
 
 // The first of the cases that are left, of the case number on.
 #[inline]
@@ -22,20 +22,20 @@ fn choose_case<'a>(
     case: u32,
     a: SymOp,
     b: SymOp,
-    plan: &'a Progress,
+    progress: &'a GoalProgress,
 ) -> Result<Front<'a>, NoMemory>
     requires a_near { IsNearOp 99 a }
     requires b_near { IsNearOp 99 b }
     requires cases_near { AllByRecursion IsNearCase (map case_of cases.now) }
     requires few { case ≤ 64 }
-    ensures { IfOk result (λ r. front_tree r ≡ table.choose_case (map case_of cases.now) case a b plan.now) }
+    ensures { IfOk result (λ r. front_tree r ≡ table.choose_case (map case_of cases.now) case a b progress.now) }
 {
     match cases {
         [] => Ok(Front::Fails(Why::Undefined)),
         [first, ..] => Ok(Front::If {
             form: *place_form(bump, &first.guard, a, b)?,
-            yes: Goal::deliver(bump, a.result(first.res, b), plan)?,
-            no: Goal::choose(bump, case + 1, a, b, plan)?,
+            yes: Goal::deliver(bump, a.result(first.res, b), progress)?,
+            no: Goal::choose(bump, case + 1, a, b, progress)?,
         }),
     }
 }
@@ -48,20 +48,23 @@ pub(crate) fn choose<'a>(
     case: u32,
     a: SymOp,
     b: SymOp,
-    plan: &'a Progress,
+    progress: &'a GoalProgress,
 ) -> Result<Front<'a>, NoMemory>
     requires { IsChoosable (function_of rules.now) case a b }
-    ensures { IfOk result (λ r. front_tree r ≡ table.rewrite_choose (function_of rules.now) case a b plan.now) }
+    ensures { IfOk result (λ r. front_tree r ≡ table.rewrite_choose (function_of rules.now) case a b progress.now) }
 {
     let Some(first) = a.kind() else {
         return Ok(Front::Deliver {
             op: SymOp::Nop,
-            plan,
+            plan: progress,
         });
     };
     let Some(second) = b.kind() else {
-        return Ok(Front::Deliver { op: a, plan });
+        return Ok(Front::Deliver {
+            op: a,
+            plan: progress,
+        });
     };
     let cases = rules.cases(first, second);
-    Ok(choose_case(bump, &cases[case as usize..], case, a, b, plan)?)
+    Ok(choose_case(bump, &cases[case as usize..], case, a, b, progress)?)
 }

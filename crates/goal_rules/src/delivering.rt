@@ -13,7 +13,7 @@ use ask_core::NoMemory;
 use bumpalo::Bump;
 use fn_rules::{ObName, Rules};
 use ot_model::Mode;
-use ot_terms::{Progress, SymOp};
+use ot_terms::{GoalProgress, SymOp};
 
 #[inline]
 fn next_of_pair(a: SymOp, b: SymOp, got: &[SymOp]) -> Option<(SymOp, SymOp)>
@@ -85,13 +85,13 @@ fn end_goal<'a>(
 
 // The progress with one more result.
 #[inline]
-fn with_result(plan: &Progress, op: SymOp) -> Progress
-    requires { plan.now.count < 6 }
-    ensures { result ≡ table.with_result plan.now op }
+fn with_result(progress: &GoalProgress, op: SymOp) -> GoalProgress
+    requires { progress.now.count < 6 }
+    ensures { result ≡ table.with_result progress.now op }
 {
-    let mut next = *plan;
-    next.got[plan.count as usize] = op;
-    next.count = plan.count + 1;
+    let mut next = *progress;
+    next.got[progress.count as usize] = op;
+    next.count = progress.count + 1;
     next
 }
 
@@ -101,12 +101,12 @@ pub(crate) fn deliver<'a>(
     bump: &'a Bump,
     rules: &Rules,
     op: SymOp,
-    plan: &'a Progress,
+    progress: &'a GoalProgress,
 ) -> Result<Front<'a>, NoMemory>
-    requires { plan.now.count < 6 }
-    ensures { IfOk result (λ r. front_tree r ≡ table.rewrite_deliver (function_of rules.now) op plan.now) }
+    requires { progress.now.count < 6 }
+    ensures { IfOk result (λ r. front_tree r ≡ table.rewrite_deliver (function_of rules.now) op progress.now) }
 {
-    let next = with_result(plan, op);
+    let next = with_result(progress, op);
     let got = &next.got[..next.count as usize];
     match next_operands(next.ob, &next.ops, got) {
         Some((a, b)) => Ok(Front::Choose {

@@ -5,7 +5,7 @@ ghost use Rattle.goal_rules.specs.Steps.{front_tree};
 
 use ask_core::NoMemory;
 use bumpalo::Bump;
-use ot_terms::{CellT, Form, Goal, Progress, SymOp, Why};
+use ot_terms::{CellT, Form, Goal, GoalProgress, SymOp, Why};
 
 /// A goal whose first parts are values: what is rewritten next is not in an arena.
 #[derive(Clone, Copy)]
@@ -25,13 +25,13 @@ pub enum Front<'a> {
         case: u32,
         a: SymOp,
         b: SymOp,
-        plan: &'a Progress,
+        plan: &'a GoalProgress,
     },
 
     /// The operation is the next result.
     Deliver {
         op: SymOp,
-        plan: &'a Progress,
+        plan: &'a GoalProgress,
     },
 
     /// The two cells are the same for every document that both ways may come from.

@@ -5,7 +5,7 @@ use Rattle.fn_rules.specs.Functions.{Function}
 use Rattle.ot_questions.specs.declared.place.SymOp.{SymOp}
 use Rattle.ot_terms.specs.declared.form.Form.{Form}
 use Rattle.ot_terms.specs.declared.goal.Goal.{Goal}
-use Rattle.ot_terms.specs.declared.goal.Progress.{Progress}
+use Rattle.ot_terms.specs.declared.goal.GoalProgress.{GoalProgress}
 use Rattle.ot_terms.specs.Belonging.{IsGoalOf}
 use Rattle.ot_terms.specs.Forms.{form_tree}
 use Rattle.ot_terms.specs.Goals.{GoalTree, If, Deliver, goal_tree}
@@ -39,7 +39,7 @@ module _ (f : Function) (old : GoalTree) (front : Front) (alike : StandsAlike f 
         (alike_laid f (form_tree g) (goal_tree y.now) (goal_tree n.now) p q hy hn))
 
   -- a result is delivered at the front
-  module _ (o : SymOp) (plan : Bor Progress) (is : front ≡ rust.Deliver o plan) where
+  module _ (o : SymOp) (plan : Bor GoalProgress) (is : front ≡ rust.Deliver o plan) where
     pub result_alike : StandsAlike f old (Deliver o plan.now)
     result_alike = subst (λ t. StandsAlike f old (front_tree t)) is alike
 

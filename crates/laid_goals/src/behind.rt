@@ -6,7 +6,7 @@ ghost use Rattle.ot_terms.specs.Goals.{goal_tree, Deliver};
 ghost use Rattle.laid_goals.specs.Sharing.{StandsAlike, IsKept};
 
 use crate::kept::Behind;
-use ot_terms::{Goal, Progress, SymOp};
+use ot_terms::{Goal, GoalProgress, SymOp};
 
 fn are_same(left: &[SymOp], right: &[SymOp]) -> bool
     ensures { IsTrue result → left.now ≡ right.now }
@@ -29,7 +29,7 @@ fn are_same(left: &[SymOp], right: &[SymOp]) -> bool
 }
 
 /// Whether the transformations of two obligations have come equally far, by equal results.
-pub fn is_same_progress(left: &Progress, right: &Progress) -> bool
+pub fn is_same_progress(left: &GoalProgress, right: &GoalProgress) -> bool
     ensures { IsTrue result → left.now ≡ right.now }
 {
     if left.count != right.count || left.ob != right.ob {
@@ -41,24 +41,28 @@ pub fn is_same_progress(left: &Progress, right: &Progress) -> bool
     are_same(&left.ops, &right.ops)
 }
 
-fn is_for(known: &Behind<'_>, op: SymOp, plan: &Progress) -> bool
+fn is_for(known: &Behind<'_>, op: SymOp, progress: &GoalProgress) -> bool
     ensures op { IsTrue result → op ≡ known.now.op }
-    ensures plan { IsTrue result → plan.now ≡ known.now.plan.now }
+    ensures progress { IsTrue result → progress.now ≡ known.now.plan.now }
 {
     if op != known.op {
         return false;
     }
-    is_same_progress(plan, known.plan)
+    is_same_progress(progress, known.plan)
 }
 
 /// What is left behind the result, if it is known.
-pub(crate) fn found<'a>(known: &[Behind<'a>], op: SymOp, plan: &Progress) -> Option<&'a Goal<'a>>
+pub(crate) fn found<'a>(
+    known: &[Behind<'a>],
+    op: SymOp,
+    progress: &GoalProgress,
+) -> Option<&'a Goal<'a>>
     ensures { (f : Function) → All (IsKept f) known.now
-        → IfSome result (λ g. StandsAlike f (Deliver op plan.now) (goal_tree g.now)) }
+        → IfSome result (λ g. StandsAlike f (Deliver op progress.now) (goal_tree g.now)) }
 {
     for at in 0..known.len() {
         let one = &known[at];
-        if is_for(one, op, plan) {
+        if is_for(one, op, progress) {
             return Some(one.goal);
         }
     }

@@ -1,10 +1,10 @@
 //! What is kept of goals that were laid out.
-use ot_terms::{Goal, Progress, SymOp};
+use ot_terms::{Goal, GoalProgress, SymOp};
 
 /// What is left where a result is delivered.
 #[derive(Clone, Copy)]
 pub struct Behind<'a> {
     pub op: SymOp,
-    pub plan: &'a Progress,
+    pub plan: &'a GoalProgress,
     pub goal: &'a Goal<'a>,
 }

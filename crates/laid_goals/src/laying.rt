@@ -19,7 +19,7 @@ use bumpalo::Bump;
 use fn_rules::Rules;
 use goal_rules::Front;
 use ot_rewrite::{front_of, step};
-use ot_terms::{Form, Goal, Place, Progress, SymOp};
+use ot_terms::{Form, Goal, GoalProgress, Place, SymOp};
 
 /// How many bytes an arena may have where more is laid out.
 const ROOM: usize = 2_097_152;
@@ -104,16 +104,16 @@ fn next_of<'a>(
     bump: &'a Bump,
     rules: &Rules,
     op: SymOp,
-    plan: &'a Progress,
+    progress: &'a GoalProgress,
 ) -> Result<Option<&'a Goal<'a>>, NoMemory>
-    requires { (ob : ObName) × IsGoalOf (function_of rules.now) ob (Deliver op plan.now) }
-    ensures { IfOk result (λ r. IfSome r (λ next. IsStep (function_of rules.now) (Deliver op plan.now)
+    requires { (ob : ObName) × IsGoalOf (function_of rules.now) ob (Deliver op progress.now) }
+    ensures { IfOk result (λ r. IfSome r (λ next. IsStep (function_of rules.now) (Deliver op progress.now)
         (goal_tree next.now))) }
 {
     if bump.allocated_bytes() > ROOM {
         return Ok(None);
     }
-    let delivered = Goal::deliver(bump, op, plan)?;
+    let delivered = Goal::deliver(bump, op, progress)?;
     Ok(step(bump, rules, delivered)?)
 }
 

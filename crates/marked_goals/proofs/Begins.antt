@@ -16,7 +16,7 @@ use Rattle.ot_questions.specs.declared.place.Place.{Place}
 use Rattle.ot_questions.specs.declared.place.SymOp.{SymOp}
 use Rattle.ot_questions.specs.declared.place.SymOp.TheVariants.{Nop}
 use Rattle.ot_questions.specs.declared.why.Why.{Why}
-use Rattle.ot_terms.specs.declared.goal.Progress.{Progress}
+use Rattle.ot_terms.specs.declared.goal.GoalProgress.{GoalProgress}
 use Rattle.ot_terms.specs.Belonging.{IsGoalOf, HasParts, IsProgressOf, AreMade, next_operands}
 use Rattle.ot_terms.specs.Forms as forms
 use Rattle.ot_terms.specs.Goals.{GoalTree, Holds, Fails, If, Choose, Deliver, Same}
@@ -61,13 +61,13 @@ next_there (Triple k l m) os got made h =
     of_three (x ∷ y ∷ z ∷ u ∷ v ∷ []) h = refl
     of_three (x ∷ y ∷ z ∷ u ∷ v ∷ w ∷ got) h = absurd (omega arith)
 
-count_with : (plan : Progress) (r : SymOp) → plan.count ≤ length plan.got → length (results_of plan ++ r ∷ []) ≡ 1 + plan.count
+count_with : (plan : GoalProgress) (r : SymOp) → plan.count ≤ length plan.got → length (results_of plan ++ r ∷ []) ≡ 1 + plan.count
 count_with plan r h =
     let there : length (results_of plan) ≡ plan.count = length-take-le plan.count plan.got h in
     let more : length (results_of plan ++ r ∷ []) ≡ length (results_of plan) + 1 = length-append (results_of plan) (r ∷ []) in
     omega arith
 
-room_for : (ob : ObName) (plan : Progress) → IsProgressOf ob plan → plan.count ≤ length plan.got
+room_for : (ob : ObName) (plan : GoalProgress) → IsProgressOf ob plan → plan.count ≤ length plan.got
 room_for (Pair k l) plan h = let room : length plan.got ≡ 6 = h.room in let awaited : plan.count < 2 = h.awaited in omega arith
 room_for (Triple k l m) plan h = let room : length plan.got ≡ 6 = h.room in let awaited : plan.count < 6 = h.awaited in omega arith
 
@@ -109,7 +109,7 @@ module _ (f : Function) where
 
   -- where a result is delivered, the plan has the start at the goal's front, if one is there
   start_of-result :
-      (ob : ObName) (o : SymOp) (plan : Progress) → HasParts f ob (Deliver o plan)
+      (ob : ObName) (o : SymOp) (plan : GoalProgress) → HasParts f ob (Deliver o plan)
       → start_of (marked_goal f (Deliver o plan)) ≡ front_start (Deliver o plan)
   unfolding marked_goal
   start_of-result ob o plan h =

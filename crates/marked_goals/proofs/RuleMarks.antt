@@ -21,7 +21,7 @@ use Rattle.ot_questions.specs.declared.why.Why.TheVariants.{Lengths}
 use Rattle.ot_questions.specs.Places.{plus, sym_kind, sym_at, sym_result, growth}
 use Rattle.ot_questions.specs.Questions.{ask_le, ask_lt, ask_eq}
 use Rattle.ot_questions.specs.Reading.{cells_cause, is_same_flag}
-use Rattle.ot_terms.specs.declared.goal.Progress.{Progress}
+use Rattle.ot_terms.specs.declared.goal.GoalProgress.{GoalProgress}
 use Rattle.ot_terms.specs.Belonging.{IsGoalOf, IsProgressOf, next_operands}
 use Rattle.ot_terms.specs.Cells as cells
 use Rattle.ot_terms.specs.Cells.{CellTree}
@@ -55,7 +55,7 @@ taken_set (y ∷ ys) zero x h = refl
 taken_set (y ∷ ys) (suc n) x h = ap (λ t. y ∷ t) (taken_set ys n x (omega arith))
 
 -- there is room for one more result
-within_room : (ob : ObName) (plan : Progress) → IsProgressOf ob plan → plan.count < length plan.got
+within_room : (ob : ObName) (plan : GoalProgress) → IsProgressOf ob plan → plan.count < length plan.got
 within_room (Pair k l) plan h = let room : length plan.got ≡ 6 = h.room in let awaited : plan.count < 2 = h.awaited in omega arith
 within_room (Triple k l m) plan h = let room : length plan.got ≡ 6 = h.room in let awaited : plan.count < 6 = h.awaited in omega arith
 
@@ -216,7 +216,7 @@ module _ (f : Function) where
   if_marks (forms.Not a) y n h e = named (If a n y) h _ e refl
 
   -- the next case, with those after it
-  module _ (case : ℕ) (a b : SymOp) (plan : Progress) where
+  module _ (case : ℕ) (a b : SymOp) (plan : GoalProgress) where
     later_marks :
         (k l : Kind) (c : GuardedCase) (cs : List GuardedCase) → sym_kind a ≡ Some k → sym_kind b ≡ Some l
         → drop case (f.cases k l) ≡ c ∷ cs
@@ -242,7 +242,7 @@ module _ (f : Function) where
     choice_marks (Some k) (Some l) ka kb = case_marks k l (drop case (f.cases k l)) ka kb refl
 
   -- one more result
-  module _ (ob : ObName) (r : SymOp) (plan : Progress)
+  module _ (ob : ObName) (r : SymOp) (plan : GoalProgress)
       (asked : ask_goal f (rewrite_deliver f r plan) ≡ ask_goal f (Deliver r plan))
       (belongs : IsGoalOf f ob (rewrite_deliver f r plan)) (same_ob : plan.ob ≡ ob)
       (room : plan.count < length plan.got) where

@@ -10,7 +10,7 @@ use Rattle.proof_trees.specs.Startless.{IsMarkedBy-startless}
 use Rattle.ot_questions.specs.declared.place.Place.{Place}
 use Rattle.ot_questions.specs.declared.place.SymOp.{SymOp}
 use Rattle.ot_questions.specs.Places.{plus, sym_kind, sym_result}
-use Rattle.ot_terms.specs.declared.goal.Progress.{Progress}
+use Rattle.ot_terms.specs.declared.goal.GoalProgress.{GoalProgress}
 use Rattle.ot_terms.specs.Belonging.{IsGoalOf, HasParts, IsChoiceOf, next_operands}
 use Rattle.ot_terms.specs.Forms as forms
 use Rattle.ot_terms.specs.Forms.{FormTree}
@@ -93,14 +93,14 @@ module _ (f : Function) where
       (λ r. marked_after most f ob os (got ++ r ∷ [])) refl (λ r. unmarked-after f most ob os (got ++ r ∷ []))
       (λ r. after-kept most ob os (got ++ r ∷ []))
 
-  with-kept : (plan : Progress) (r : SymOp) → AreLawful (marked_with f plan r)
+  with-kept : (plan : GoalProgress) (r : SymOp) → AreLawful (marked_with f plan r)
   with-kept plan r = after-kept (transforms_of plan.ob - (1 + plan.count)) plan.ob plan.ops (results_of plan ++ r ∷ [])
 
-  choice-kept : (case : ℕ) (a b : SymOp) (plan : Progress) → AreLawful (marked_transform f case a b (marked_with f plan))
+  choice-kept : (case : ℕ) (a b : SymOp) (plan : GoalProgress) → AreLawful (marked_transform f case a b (marked_with f plan))
   choice-kept case a b plan = transform-kept a b (marked_with f plan) (with-kept plan) case
 
   begun-kept :
-      (ob : ObName) (case : ℕ) (a b : SymOp) (plan : Progress) → IsChoiceOf f ob case a b plan
+      (ob : ObName) (case : ℕ) (a b : SymOp) (plan : GoalProgress) → IsChoiceOf f ob case a b plan
       → AreLawful (begun case plan (marked_transform f case a b (marked_with f plan)))
   begun-kept ob zero a b plan h =
       with_start-kept (start_after plan None) (marked_transform f 0 a b (marked_with f plan))

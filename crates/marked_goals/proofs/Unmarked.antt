@@ -14,7 +14,7 @@ use Rattle.ot_questions.specs.declared.why.Why.{Why}
 use Rattle.ot_questions.specs.Obligation.{ask_converge, ask_behind, ask_commute, plan_of}
 use Rattle.ot_questions.specs.Places.{plus, sym_kind, sym_result}
 use Rattle.ot_questions.specs.Questions.{ask_le, ask_lt, ask_eq, ask_guard, ask_first_result, ask_result_by_kinds, ask_transform, or_undefined}
-use Rattle.ot_terms.specs.declared.goal.Progress.{Progress}
+use Rattle.ot_terms.specs.declared.goal.GoalProgress.{GoalProgress}
 use Rattle.ot_terms.specs.Belonging.{next_operands}
 use Rattle.ot_terms.specs.Forms as forms
 use Rattle.ot_terms.specs.Forms.{FormTree}
@@ -135,16 +135,16 @@ module _ (f : Function) where
       unmarked-next (record { ob = ob; ops = os; got = got }) (next_operands ob os got)
       (λ r. marked_after most f ob os (got ++ r ∷ [])) refl (λ r. unmarked-after most ob os (got ++ r ∷ []))
 
-  unmarked-with : (plan : Progress) (r : SymOp) → unmarked (marked_with f plan r) ≡ ask_with f plan r
+  unmarked-with : (plan : GoalProgress) (r : SymOp) → unmarked (marked_with f plan r) ≡ ask_with f plan r
   unmarked-with plan r =
       unmarked-after (transforms_of plan.ob - (1 + plan.count)) plan.ob plan.ops (results_of plan ++ r ∷ [])
 
-  unmarked-begun : (case : ℕ) (plan : Progress) (p : Marked) → unmarked (begun case plan p) ≡ unmarked p
+  unmarked-begun : (case : ℕ) (plan : GoalProgress) (p : Marked) → unmarked (begun case plan p) ≡ unmarked p
   unmarked-begun zero plan p = unmarked-with_start _ p
   unmarked-begun (suc case) plan p = refl
 
   pub unmarked-choice :
-      (case : ℕ) (a b : SymOp) (plan : Progress)
+      (case : ℕ) (a b : SymOp) (plan : GoalProgress)
       → unmarked (marked_transform f case a b (marked_with f plan)) ≡ ask_transform (from_case case f) a b (ask_with f plan)
   unmarked-choice case a b plan = unmarked-transform a b (marked_with f plan) (ask_with f plan) (unmarked-with plan) f case
 

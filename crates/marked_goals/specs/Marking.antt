@@ -12,7 +12,7 @@ use Rattle.ot_questions.specs.declared.place.SymOp.TheVariants.{Nop}
 use Rattle.ot_questions.specs.declared.why.Why.{Why}
 use Rattle.ot_questions.specs.declared.why.Why.TheVariants.{Undefined}
 use Rattle.ot_questions.specs.Places.{plus, sym_kind, sym_result}
-use Rattle.ot_terms.specs.declared.goal.Progress.{Progress}
+use Rattle.ot_terms.specs.declared.goal.GoalProgress.{GoalProgress}
 use Rattle.ot_terms.specs.Belonging.{next_operands}
 use Rattle.ot_terms.specs.Forms as forms
 use Rattle.ot_terms.specs.Forms.{FormTree}
@@ -79,22 +79,24 @@ marked_after (suc most) f ob ops got =
     (λ r. marked_after most f ob ops (got ++ r ∷ []))
 
 -- what is left with one more result
-abbrev pub marked_with : Function → Progress → SymOp → Marked
-marked_with f plan r =
-    marked_after (transforms_of plan.ob - (1 + plan.count)) f plan.ob plan.ops (results_of plan ++ r ∷ [])
+abbrev pub marked_with : Function → GoalProgress → SymOp → Marked
+marked_with f progress r =
+    marked_after (transforms_of progress.ob - (1 + progress.count)) f progress.ob progress.ops
+    (results_of progress ++ r ∷ [])
 
 -- a transformation begins with its first case
-abbrev pub begun : ℕ → Progress → Marked → Marked
-begun zero plan p = with_start (Some (start_after plan None)) p
-begun (suc case) plan p = p
+abbrev pub begun : ℕ → GoalProgress → Marked → Marked
+begun zero progress p = with_start (Some (start_after progress None)) p
+begun (suc case) progress p = p
 
 -- the plan that a goal stands for, with its starts
 unfoldable pub marked_goal : Function → GoalTree → Marked
 marked_goal f goals.Holds = Holds None
 marked_goal f (goals.Fails why) = Fails None why
 marked_goal f (goals.If g on_yes on_no) = marked_form g (marked_goal f on_yes) (marked_goal f on_no)
-marked_goal f (goals.Choose case a b plan) = begun case plan (marked_transform f case a b (marked_with f plan))
-marked_goal f (goals.Deliver o plan) = marked_with f plan o
+marked_goal f (goals.Choose case a b progress) =
+    begun case progress (marked_transform f case a b (marked_with f progress))
+marked_goal f (goals.Deliver o progress) = marked_with f progress o
 marked_goal f (goals.Same left right) = startless (ask_goal f (goals.Same left right))
 
 -- the plan of an obligation, with its starts

@@ -16,9 +16,9 @@ abbrev pub is_begun : GoalTree → Bool
 is_begun Holds = false
 is_begun (Fails why) = false
 is_begun (If g on_yes on_no) = false
-is_begun (Choose zero a b plan) = true
-is_begun (Choose (suc case) a b plan) = false
-is_begun (Deliver o plan) = nat_lt (1 + plan.count) (transforms_of plan.ob)
+is_begun (Choose zero a b progress) = true
+is_begun (Choose (suc case) a b progress) = false
+is_begun (Deliver o progress) = nat_lt (1 + progress.count) (transforms_of progress.ob)
 is_begun (Same left right) = false
 
 -- the start that is at the front of the goal, if a transformation begins there
@@ -26,10 +26,10 @@ abbrev pub front_start : GoalTree → Option Start
 front_start Holds = None
 front_start (Fails why) = None
 front_start (If g on_yes on_no) = None
-front_start (Choose zero a b plan) = Some (start_after plan None)
-front_start (Choose (suc case) a b plan) = None
-front_start (Deliver o plan) = if nat_lt (1 + plan.count) (transforms_of plan.ob) then Some (start_after plan (Some o))
-    else None
+front_start (Choose zero a b progress) = Some (start_after progress None)
+front_start (Choose (suc case) a b progress) = None
+front_start (Deliver o progress) =
+    if nat_lt (1 + progress.count) (transforms_of progress.ob) then Some (start_after progress (Some o)) else None
 front_start (Same left right) = None
 
 -- at the front of the goal a transformation begins, or a question or an end stands

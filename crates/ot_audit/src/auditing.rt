@@ -4,7 +4,7 @@ ghost use Rattle.std.specs.List.{AllByRecursion};
 ghost use Rattle.fn_rules.specs.Functions.{cases_of, is_declared_of, is_declared_pair};
 ghost use Rattle.fn_rules.specs.Rules.{function_of};
 ghost use Rattle.ot_audit.specs.declared.audits.BlockAudit.{BlockAudit as AuditedBlock};
-ghost use Rattle.ot_audit.specs.declared.auditing.Stop.TheVariants as stops;
+ghost use Rattle.ot_audit.specs.declared.auditing.AuditStop.TheVariants as stops;
 ghost use Rattle.ot_audit.specs.Answers.{IsReachedAs};
 ghost use Rattle.ot_audit.specs.Audits.{AreAudits, AreCases, found_of, HasLong, IsAuditedAs, IsBlockAudit, IsLong};
 ghost use Rattle.ot_audit.specs.Goals.{IsTargetOf};
@@ -21,7 +21,7 @@ use std::alloc::Global;
 
 // Why an audit stops.
 #[derive(Clone, Copy, Debug)]
-enum Stop {
+enum AuditStop {
     /// A target has more questions than the budget allows.
     Spent,
 
@@ -29,13 +29,13 @@ enum Stop {
     NoMemory,
 }
 
-impl From<NoMemory> for Stop {
-    ghost use Rattle.ot_audit.specs.declared.auditing.Stop.TheVariants as stops;
+impl From<NoMemory> for AuditStop {
+    ghost use Rattle.ot_audit.specs.declared.auditing.AuditStop.TheVariants as stops;
 
     ghost from_gives = { λ _ e. e ≡ stops.NoMemory };
 
-    fn from(_: NoMemory) -> Stop {
-        Stop::NoMemory
+    fn from(_: NoMemory) -> AuditStop {
+        AuditStop::NoMemory
     }
 }
 
@@ -57,7 +57,7 @@ fn audit_target(
     second: Kind,
     target: Target,
     budget: u64,
-) -> Result<Option<(Op, Op)>, Stop>
+) -> Result<Option<(Op, Op)>, AuditStop>
     requires declared { IsTrue (is_declared_pair (function_of rules.now).head first second) }
     requires target { IsTargetOf (length (cases_of (function_of rules.now) first second)) target }
     ensures ok { IfOk result (λ x. IsReachedAs (function_of rules.now) first second target budget (found_of x)) }
@@ -66,7 +66,7 @@ fn audit_target(
     match reach(alloc, rules, first, second, target, budget)? {
         Found::Never => Ok(None),
         Found::Pair(a, b) => Ok(Some((a, b))),
-        Found::Spent => Err(Stop::Spent),
+        Found::Spent => Err(AuditStop::Spent),
     }
 }
 
@@ -77,7 +77,7 @@ fn audit_cases(
     first: Kind,
     second: Kind,
     budget: u64,
-) -> Result<List<Option<(Op, Op)>>, Stop>
+) -> Result<List<Option<(Op, Op)>>, AuditStop>
     requires declared { IsTrue (is_declared_pair (function_of rules.now).head first second) }
     ensures count { IfOk result (λ xs. length xs ≡ length (cases_of (function_of rules.now) first second)) }
     ensures cases { IfOk result (λ xs. AreCases (function_of rules.now) first second budget 0 xs) }
@@ -99,7 +99,7 @@ fn audit_block(
     first: Kind,
     second: Kind,
     budget: u64,
-) -> Result<BlockAudit, Stop>
+) -> Result<BlockAudit, AuditStop>
     requires declared { IsTrue (is_declared_pair (function_of rules.now).head first second) }
     ensures ok { IfOk result (λ x. IsBlockAudit (function_of rules.now) budget (first, second) x) }
     ensures spent { IsErrOf result stops.Spent → IsLong (function_of rules.now) budget (first, second) }
@@ -121,7 +121,7 @@ fn audit_blocks(
     names: &[(Kind, Kind)],
     budget: u64,
     audits: &mut List<BlockAudit>,
-) -> Result<(), Stop>
+) -> Result<(), AuditStop>
     requires declared { AllByRecursion (λ name. is_declared_of (function_of rules.now).head name ≡ true) names.now }
     ensures ok { OnOk result ((xs : List AuditedBlock) × (audits.new ≡ audits.old ++ xs)
         × AreAudits (function_of rules.now) budget names.now xs) }
@@ -147,7 +147,7 @@ pub fn audit_all(alloc: Global, rules: &Rules, budget: u64) -> Result<Audit, NoM
     let mut audits = List::new(alloc);
     match audit_blocks(alloc, rules, &names, budget, &mut audits) {
         Ok(()) => Ok(Audit::Blocks(audits)),
-        Err(Stop::Spent) => Ok(Audit::Spent),
-        Err(Stop::NoMemory) => Err(NoMemory),
+        Err(AuditStop::Spent) => Ok(Audit::Spent),
+        Err(AuditStop::NoMemory) => Err(NoMemory),
     }
 }

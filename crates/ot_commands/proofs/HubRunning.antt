@@ -8,7 +8,7 @@ use Rattle.ot_hub.specs.declared.answer.Moved.{Moved}
 use Rattle.ot_hub.specs.declared.answer.Moved.TheVariants as moved
 use Rattle.ot_hub.specs.declared.client.Client.{Client}
 use Rattle.ot_hub.specs.declared.placed.Entry.{Entry}
-use Rattle.ot_hub.specs.declared.placed.Placed.{Placed}
+use Rattle.ot_hub.specs.declared.placed.PlacedOp.{PlacedOp}
 use Rattle.ot_hub.specs.declared.server.Server.{Server}
 use Rattle.ot_hub.specs.Clients.{sent}
 use Rattle.ot_hub.specs.Steps.{Step, Nothing, Stuck, To, step_map, server_step, client_step}
@@ -37,7 +37,7 @@ whole_keeps hub whole keeps Nothing = tt
 whole_keeps hub whole keeps Stuck = tt
 whole_keeps hub whole keeps (To x) = keeps x
 
-up_keeps : (hub : HubData) (c : ℕ) (messages : List Placed) → StepKeeps hub (up_with hub c messages)
+up_keeps : (hub : HubData) (c : ℕ) (messages : List PlacedOp) → StepKeeps hub (up_with hub c messages)
 up_keeps hub c [] = tt
 up_keeps hub c (message ∷ others) =
     whole_keeps hub (λ (s : Server). record hub { server = s; clients = slice_set hub.clients (c - 1) (sent (client_of hub c)) })

@@ -12,10 +12,10 @@ use Rattle.fn_rules.specs.Formulas.{Always}
 use Rattle.fn_rules.specs.Functions.{Function}
 use Rattle.diff_graph.specs.Solutions.{valuation_of}
 use Rattle.ot_questions.specs.declared.why.Why.TheVariants.{Cells, OutOfRange}
-use Rattle.ot_counter.specs.declared.counter.Side.TheVariants as sides
+use Rattle.ot_counter.specs.declared.counter.WayResult.TheVariants as ways
 use Rattle.ot_values.specs.Values.{ops_at}
 use Rattle.ot_counter.specs.Documents.{document_at}
-use Rattle.ot_counter.specs.Sides.{left_at, right_at}
+use Rattle.ot_counter.specs.Ways.{left_at, right_at}
 
 -- updates and deletions that stay as and where they are, in plain text
 abbrev staying : Function
@@ -37,14 +37,14 @@ last_ops = refl
 last_doc : document_at last (Cells (Some (pos 0)) None) ≡ live_cell 120 ∷ []
 last_doc = refl
 
-last_left : left_at staying last (live_cell 120 ∷ []) two_updates ≡ sides.Doc (live_cell 98 ∷ [])
+last_left : left_at staying last (live_cell 120 ∷ []) two_updates ≡ ways.Doc (live_cell 98 ∷ [])
 last_left = refl
 
-last_right : right_at staying last (live_cell 120 ∷ []) two_updates ≡ sides.Doc (live_cell 99 ∷ [])
+last_right : right_at staying last (live_cell 120 ∷ []) two_updates ≡ ways.Doc (live_cell 99 ∷ [])
 last_right = refl
 
 -- two deletions of it: the second finds no cell
-twice_left : left_at staying last (document_at last OutOfRange) (Pair kinds.Del kinds.Del) ≡ sides.OutOfRange
+twice_left : left_at staying last (document_at last OutOfRange) (Pair kinds.Del kinds.Del) ≡ ways.OutOfRange
 twice_left = refl
 
 -- three cells, of which the one at the index is read and the one behind it is to be dead

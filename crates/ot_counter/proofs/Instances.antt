@@ -18,7 +18,7 @@ use Rattle.fn_rules.specs.Functions.{Function, is_declared, IsForKind}
 use Rattle.fn_rules.specs.Obligations.{is_obligation}
 use Rattle.ot_questions.specs.declared.why.Why.{Why}
 use Rattle.ot_questions.specs.Instances.{form_behind}
-use Rattle.ot_counter.specs.Sides.{document_way, operation_side}
+use Rattle.ot_counter.specs.Ways.{document_way, operation_result}
 use Rattle.fn_rules.specs.Properties.{AreConcurrent}
 use Rattle.ot_model.specs.Effect.{IsEnabled}
 use Rattle.fn_rules.specs.declared.function.Level.TheVariants.{Tp1, Tp2}
@@ -73,10 +73,10 @@ document_way-there f d e a b x y p q r =
 
 pub form_behind-there :
     (f : Function) (a b c x y z : Op) → a ≡ x → b ≡ y → c ≡ z
-    → operation_side (form_behind f a b c) ≡ operation_side (form_behind f x y z)
+    → operation_result (form_behind f a b c) ≡ operation_result (form_behind f x y z)
 form_behind-there f a b c x y z p q r =
-    ap (λ o. operation_side (form_behind f o b c)) p
-    ∙ (ap (λ o. operation_side (form_behind f x o c)) q ∙ ap (λ o. operation_side (form_behind f x y o)) r)
+    ap (λ o. operation_result (form_behind f o b c)) p
+    ∙ (ap (λ o. operation_result (form_behind f x o c)) q ∙ ap (λ o. operation_result (form_behind f x y o)) r)
 
 pub two_there : (a b x y : Op) → a ≡ x → b ≡ y → (a ∷ b ∷ []) ≡ (x ∷ y ∷ [])
 two_there a b x y p q = ap (λ o. o ∷ b ∷ []) p ∙ ap (λ o. x ∷ o ∷ []) q

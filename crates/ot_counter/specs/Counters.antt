@@ -15,7 +15,7 @@ use Rattle.ot_questions.specs.Instances.{PairFails, TripleFails}
 use Rattle.ot_counter.specs.declared.counter.Counter.{Counter}
 use Rattle.ot_values.specs.Values.{floors_of, ops_at}
 use Rattle.ot_counter.specs.Documents.{document_at}
-use Rattle.ot_counter.specs.Sides.{left_at, right_at}
+use Rattle.ot_counter.specs.Ways.{left_at, right_at}
 
 -- a pair is of TP1, a triple of TP2
 abbrev pub level_of : ObName → Level

@@ -1,5 +1,5 @@
 pub mod Documents
-pub mod Sides
+pub mod Ways
 pub mod Counters
 pub use Rattle.ot_model.specs.Cells
 pub use Rattle.ot_model.specs.Effect

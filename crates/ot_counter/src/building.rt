@@ -19,7 +19,7 @@ use crate::NoMemory;
 use crate::counter::Counter;
 use crate::document::document_at;
 use crate::laws::failing_ends_have_counterexamples;
-use crate::sides::{document_way, operation_way};
+use crate::ways::{document_way, operation_way};
 use ask_core::answers_lead_to_ends;
 use diff_graph::Lit;
 use fn_rules::{Level, ObName, Rules, rules_are_valid};

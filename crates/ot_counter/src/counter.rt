@@ -7,7 +7,7 @@ use plain_list::List;
 /// What the interpreter gives on one of the two ways: the first thing that goes wrong there, or what is
 /// compared at the end.
 #[derive(Debug, Drop)]
-pub enum Side {
+pub enum WayResult {
     /// The final document, of two operations.
     Doc(Doc),
 
@@ -37,8 +37,8 @@ pub struct Counter {
     pub why: Why,
 
     /// What the first operation and then the second give; of three, the form of the third behind them.
-    pub left: Side,
+    pub left: WayResult,
 
     /// The same with the first two exchanged.
-    pub right: Side,
+    pub right: WayResult,
 }

@@ -12,9 +12,9 @@ mod building;
 mod counter;
 mod document;
 mod laws;
-mod sides;
+mod ways;
 
 pub use building::build;
-pub use counter::{Counter, Side};
+pub use counter::{Counter, WayResult};
 pub use laws::failing_ends_have_counterexamples;
 pub use std::alloc::AllocError as NoMemory;

@@ -26,8 +26,8 @@ use Rattle.ot_prove.specs.Outcomes.{IsDecided, asked_along}
 use Rattle.ot_questions.specs.declared.why.Why.{Why}
 use Rattle.ot_questions.specs.Obligation.{plan_of}
 use Rattle.ot_sections.specs.Certificates.{AreAnswers}
-use Rattle.ot_decide.specs.declared.verdict.Search.{Search}
-use Rattle.ot_decide.specs.declared.verdict.Search.TheVariants as search
+use Rattle.ot_decide.specs.declared.verdict.SearchVerdict.{SearchVerdict}
+use Rattle.ot_decide.specs.declared.verdict.SearchVerdict.TheVariants as search
 use Rattle.ot_decide.specs.declared.verdict.Verdict.TheVariants as verdict
 use Rattle.ot_decide.specs.Verdicts.{ObQuestions, AreAsked, IsDecidedAs, failing_in}
 use Rattle.ot_decide.specs.Proving.{AreProved, Settles, AreSettled}
@@ -118,7 +118,7 @@ module _ (head : Head) (plan : ObName → Plan Why) where
 
     -- each outcome of the search of those behind it is one of all
     behind_settles :
-        (later : List (ObQuestions Why)) (before middle after : List ℕ) (s : Search)
+        (later : List (ObQuestions Why)) (before middle after : List ℕ) (s : SearchVerdict)
         → middle ≡ before ++ section_text ob tree
         → Settles head plan obs (budget - asked) later middle after s
         → Settles head plan (ob ∷ obs) budget (behind later) before after s
@@ -137,7 +137,7 @@ module _ (head : Head) (plan : ObName → Plan Why) where
 
     -- an obligation that holds, its tree written, and those behind it by what is left of the budget
     pub settled_behind :
-        (before middle after : List ℕ) (s : Search) → middle ≡ before ++ section_text ob tree
+        (before middle after : List ℕ) (s : SearchVerdict) → middle ≡ before ++ section_text ob tree
         → AreSettled head plan obs (budget - asked) middle after s → AreSettled head plan (ob ∷ obs) budget before after s
     settled_behind before middle after s wrote (later, asked_later, settles) =
         (behind later, behind_asked later asked_later, behind_settles later before middle after s wrote settles)

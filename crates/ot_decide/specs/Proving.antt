@@ -7,8 +7,8 @@ use Rattle.ask_core.specs.Trees.{AnswerTree}
 use Rattle.cert_text.specs.Certificates.{sections_text}
 use Rattle.ot_questions.specs.declared.why.Why.{Why}
 use Rattle.ot_sections.specs.Certificates.{AreAnswers}
-use Rattle.ot_decide.specs.declared.verdict.Search.{Search}
-use Rattle.ot_decide.specs.declared.verdict.Search.TheVariants.{AllHold, Fails, Spent}
+use Rattle.ot_decide.specs.declared.verdict.SearchVerdict.{SearchVerdict}
+use Rattle.ot_decide.specs.declared.verdict.SearchVerdict.TheVariants.{AllHold, Fails, Spent}
 use Rattle.ot_decide.specs.Verdicts.{ObQuestions, AreAsked, count_in, failing_in, AskTheQuestions, IsRefutation}
 
 -- all obligations hold, and their trees, with exactly these questions, were written behind the bytes before: at most 74
@@ -26,13 +26,13 @@ pub record AreProved (plan : ObName → Plan Why) (obs : List ObName) (budget : 
 -- what the search of obligations comes to, by these question lists of theirs: all hold, or the first that fails, or
 -- there are more questions than the budget allows
 abbrev pub Settles :
-    Head → (ObName → Plan Why) → List ObName → ℕ → List (ObQuestions Why) → List ℕ → List ℕ → Search → Type 0
+    Head → (ObName → Plan Why) → List ObName → ℕ → List (ObQuestions Why) → List ℕ → List ℕ → SearchVerdict → Type 0
 Settles head plan obs budget lists before after AllHold = AreProved plan obs budget lists before after
 Settles head plan obs budget lists before after (Fails ob answers why) =
     (count_in lists ≤ budget) × IsRefutation head plan lists ob answers.items why
 Settles head plan obs budget lists before after Spent = budget < count_in lists
 
 -- the same by the question lists of the obligations
-abbrev pub AreSettled : Head → (ObName → Plan Why) → List ObName → ℕ → List ℕ → List ℕ → Search → Type 0
+abbrev pub AreSettled : Head → (ObName → Plan Why) → List ObName → ℕ → List ℕ → List ℕ → SearchVerdict → Type 0
 AreSettled head plan obs budget before after search =
     (lists : List (ObQuestions Why)) × AreAsked plan obs lists × Settles head plan obs budget lists before after search

@@ -15,7 +15,7 @@ pub use ask_core::NoMemory;
 pub use bound::atoms_bound_the_budget;
 pub use proving::prove_all;
 pub use searching::search_all;
-pub use verdict::{Search, Verdict};
+pub use verdict::{SearchVerdict, Verdict};
 pub use verdicts::{
     certificates_have_few_leaves, failing_triples_show_tp1, obligations_have_one_question_list,
     proofs_are_certificates,

@@ -4,7 +4,7 @@ ghost use Rattle.fn_rules.specs.Rules.{function_of};
 ghost use Rattle.ot_decide.specs.Verdicts.{IsDecidedAs, IsWithin};
 
 use crate::searching::search_all;
-use crate::verdict::{Search, Verdict};
+use crate::verdict::{SearchVerdict, Verdict};
 use ask_core::NoMemory;
 use cert_text::{write_end, write_header};
 use fn_rules::{Level, Rules, obligations, obligations_are_those_of_the_kinds};
@@ -32,11 +32,11 @@ pub fn prove_all(
     let mut bytes = Vec::new(alloc);
     write_header(&names, level, &mut bytes)?;
     match search_all(alloc, rules, None, &names, budget, &mut bytes)? {
-        Search::AllHold => {
+        SearchVerdict::AllHold => {
             write_end(&mut bytes)?;
             Ok(Verdict::Yes(bytes))
         }
-        Search::Fails { ob, answers, why } => Ok(Verdict::No { ob, answers, why }),
-        Search::Spent => Ok(Verdict::Spent),
+        SearchVerdict::Fails { ob, answers, why } => Ok(Verdict::No { ob, answers, why }),
+        SearchVerdict::Spent => Ok(Verdict::Spent),
     }
 }

@@ -13,7 +13,7 @@ ghost use Rattle.ot_decide.specs.Below.{IsBound};
 ghost use Rattle.ot_decide.specs.Proving.{AreSettled};
 
 use crate::below::shorter_plans_keep_limits;
-use crate::verdict::Search;
+use crate::verdict::SearchVerdict;
 use crate::verdicts::obligations_have_one_question_list;
 use ask_core::{Asker, NoMemory, Premised};
 use bumpalo::Bump;
@@ -110,7 +110,7 @@ pub fn search_all(
     names: &[ObName],
     budget: u64,
     bytes: &mut Vec<u8>,
-) -> Result<Search, NoMemory>
+) -> Result<SearchVerdict, NoMemory>
     requires listed { list_all (is_obligation (function_of rules.now).head) names.now ≡ true }
     requires bounded { IsBound below }
     ensures settled { IfOk result (AreSettled (function_of rules.now).head (plan_below (function_of rules.now) below)
@@ -120,18 +120,18 @@ pub fn search_all(
     obligations_have_one_question_list();
     rules_are_valid(rules);
     let Some((ob, others)) = names.split_first() else {
-        return Ok(Search::AllHold);
+        return Ok(SearchVerdict::AllHold);
     };
     match search_ob(alloc, rules, below, *ob, budget)? {
         Outcome::Yes { tree, asked } => {
             write_ob(*ob, &tree, bytes)?;
             search_all(alloc, rules, below, others, budget - asked, bytes)
         }
-        Outcome::No { answers, why } => Ok(Search::Fails {
+        Outcome::No { answers, why } => Ok(SearchVerdict::Fails {
             ob: *ob,
             answers,
             why,
         }),
-        Outcome::Spent => Ok(Search::Spent),
+        Outcome::Spent => Ok(SearchVerdict::Spent),
     }
 }

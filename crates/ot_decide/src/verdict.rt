@@ -5,7 +5,7 @@ use ot_questions::Why;
 
 /// What the search of a list of obligations comes to.
 #[derive(Debug, Drop)]
-pub enum Search {
+pub enum SearchVerdict {
     /// All hold.
     AllHold,
 

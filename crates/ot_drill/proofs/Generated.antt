@@ -4,7 +4,7 @@ use Rattle.ot_model.specs.declared.op.Mode.TheVariants.{Tomb}
 use Rattle.fn_rules.specs.Building.{has_own_blocks, is_buildable}
 use Rattle.fn_rules.specs.Validity.{is_valid}
 use Rattle.fn_rules.specs.Shipped.{by_sites}
-use Rattle.ot_drill.specs.Counts.{are_fine, none_made}
+use Rattle.ot_drill.specs.FineEvents.{are_fine, none_made}
 use Rattle.ot_drill.specs.Events.{drill_events}
 use Rattle.ot_drill.specs.Workload.{drill_blocks, drill_function}
 use Rattle.std.proofs.lemmas.Bool.{and_parts}

@@ -8,14 +8,14 @@ use Rattle.ot_session.specs.declared.answer.Took.{Took}
 use Rattle.ot_session.specs.declared.answer.Took.TheVariants.{Done, Held, Repeat}
 use Rattle.ot_session.specs.Views.{View}
 use Rattle.ot_drill.specs.declared.tally.Tally.{Tally}
-use Rattle.ot_drill.specs.Counts.{CanBeDone, Counts, IsDrillFunction, Stands, are_fine, counts_behind, is_fine, none_made}
+use Rattle.ot_drill.specs.FineEvents.{CanBeDone, MadeCounts, IsDrillFunction, Stands, are_fine, counts_behind, is_fine, none_made}
 use Rattle.ot_drill.specs.Playing.{ArePlayed, IsPlayed, nothing_done, with_answer}
 use Rattle.ot_drill.specs.Playing.ArePlayed.{start, then}
 use Rattle.ot_drill.proofs.Standing.{can_be_done, function_behind, stands_behind}
 
 -- so many of the events were done, and the others are not refused
 pub record InPlay (begun v : View) (tally : Tally) (events : List Event) (i : ℕ) : Type 0 where
-  pub counts : Counts
+  pub counts : MadeCounts
   pub stands : Stands v counts
   pub fine : are_fine counts (drop i events) ≡ true
   pub function : v.function ≡ begun.function

@@ -1,4 +1,4 @@
 pub mod Workload
 pub mod Events
 pub mod Playing
-pub mod Counts
+pub mod FineEvents

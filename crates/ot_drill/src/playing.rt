@@ -3,7 +3,7 @@ ghost use Rattle.std.specs.Prelude.{◌≡◌, ◌≤◌, ◌<◌, ◌+◌, ◌^
 ghost use Rattle.case_json.specs.declared.script.Event.TheVariants as events;
 ghost use Rattle.fn_rules.specs.Rules.{function_of};
 ghost use Rattle.ot_session.specs.Views.{view_of, HasMade};
-ghost use Rattle.ot_drill.specs.Counts.{CanBeDone, HasFewForms, IsDrillFunction, Stands, are_fine, none_made};
+ghost use Rattle.ot_drill.specs.FineEvents.{CanBeDone, HasFewForms, IsDrillFunction, Stands, are_fine, none_made};
 ghost use Rattle.ot_drill.specs.Playing.{ArePlayed, CountsFewForms, HasPlayed, IsPlayed};
 ghost use Rattle.ot_drill.specs.Workload.{drill_function};
 

@@ -8,13 +8,13 @@ use Rattle.fn_rules.specs.Transformation.{IsAllowed}
 use Rattle.fn_rules.specs.Conditions.{IsIntegrable}
 use Rattle.fn_rules.specs.Properties.{ConvergesAt}
 use Rattle.fn_rules.specs.Forms.{KeepsForms, ConvergesOnForms}
-use Rattle.ot_hub.specs.declared.placed.Placed.{Placed}
+use Rattle.ot_hub.specs.declared.placed.PlacedOp.{PlacedOp}
 use Rattle.ot_hub.specs.Carry.{crossed, behind}
 use Rattle.ot_hub.specs.Chains.{document_after_all, IsChain, IsAllowedWith, CarriesAcross}
 
 module _ (f : Function) (keeps : KeepsForms f) (converging : ConvergesOnForms f) where
   -- a form is allowed with whatever its operation was allowed with
-  IsAllowedWith-form : (o form : Op) → ((other : Op) → IsAllowed f o other → IsAllowed f form other) → (list : List Placed)
+  IsAllowedWith-form : (o form : Op) → ((other : Op) → IsAllowed f o other → IsAllowed f form other) → (list : List PlacedOp)
       → IsAllowedWith f o list → IsAllowedWith f form list
   IsAllowedWith-form o form kept [] allowed = tt
   IsAllowedWith-form o form kept (b ∷ bs) allowed = (kept b.op allowed.0, IsAllowedWith-form o form kept bs allowed.1)
@@ -35,7 +35,7 @@ module _ (f : Function) (keeps : KeepsForms f) (converging : ConvergesOnForms f)
   }
 
   -- one more before the list
-  CarriesAcross-more : (d : List Cell) (o : Op) (b : Placed) (bs : List Placed) → IsIntegrable f (length d) b.op → (converges : ConvergesAt f d o b.op)
+  CarriesAcross-more : (d : List Cell) (o : Op) (b : PlacedOp) (bs : List PlacedOp) → IsIntegrable f (length d) b.op → (converges : ConvergesAt f d o b.op)
       → CarriesAcross f (document_after f.head.mode b.op d) converges.a_after_b bs → CarriesAcross f d o (b ∷ bs)
   CarriesAcross-more d o b bs integrable converges rest = record {
     carried = behind (record b { op = converges.b_after_a } ∷ []) rest.carried;
@@ -53,7 +53,7 @@ module _ (f : Function) (keeps : KeepsForms f) (converging : ConvergesOnForms f)
   }
 
   -- the diamond of the first property, one of the list after the other
-  pub CarriesAcross-tp1 : (d : List Cell) (o : Op) (list : List Placed) → IsIntegrable f (length d) o → IsChain f d list → IsAllowedWith f o list
+  pub CarriesAcross-tp1 : (d : List Cell) (o : Op) (list : List PlacedOp) → IsIntegrable f (length d) o → IsChain f d list → IsAllowedWith f o list
       → CarriesAcross f d o list
   CarriesAcross-tp1 d o [] integrable chain allowed = record {
     carried = record { op = o; list = [] };

@@ -9,26 +9,26 @@ use Rattle.ot_model.specs.declared.op.Op.{Op}
 use Rattle.ot_model.specs.declared.op.Op.TheVariants.{Ins}
 use Rattle.fn_rules.specs.Functions.{Function}
 use Rattle.ot_hub.specs.declared.carry.Crossed.{Crossed}
-use Rattle.ot_hub.specs.declared.placed.Placed.{Placed}
+use Rattle.ot_hub.specs.declared.placed.PlacedOp.{PlacedOp}
 use Rattle.ot_hub.specs.Carry.{crossed, Carried, behind, carry, from_place, carried_op}
 use Rattle.std.specs.List.{AllByRecursion}
 use Rattle.fn_rules.specs.Transformation.{transform_of}
 
 -- what stands for one of a list where there is none
-abbrev pub no_one : Placed
+abbrev pub no_one : PlacedOp
 no_one = record { place = 0; op = Ins (pos 0) 0 0 }
 
 -- what is carried first changes nothing of what the operation becomes
-pub carried_op-behind : (before : List Placed) (carried : Option Carried) → carried_op (option_map (behind before) carried) ≡ carried_op carried
+pub carried_op-behind : (before : List PlacedOp) (carried : Option Carried) → carried_op (option_map (behind before) carried) ≡ carried_op carried
 carried_op-behind before None = refl
 carried_op-behind before (Some carried) = refl
 
 -- others before those that are before a list
-pub behind-behind : (before more : List Placed) (carried : Option Carried)
+pub behind-behind : (before more : List PlacedOp) (carried : Option Carried)
     → option_map (behind before) (option_map (behind more) carried) ≡ option_map (behind (before ++ more)) carried
 behind-behind before more None = refl
 behind-behind before more (Some carried) =
-    ap (λ (list : List Placed). Some (record { op = carried.op; list = list })) (sym (append_assoc before more carried.list))
+    ap (λ (list : List PlacedOp). Some (record { op = carried.op; list = list })) (sym (append_assoc before more carried.list))
 
 -- nothing before a list
 pub behind-nothing : (carried : Option Carried) → option_map (behind []) carried ≡ carried
@@ -42,11 +42,11 @@ from_true place at from = le-leb place at from
 pub from_false : (place at : ℕ) → at < place → nat_le place at ≡ false
 from_false place at before = false_from_ne_true (nat_le place at) (λ from. absurd (omega (arith, before, leb-true place at from)))
 
-module _ (f : Function) (list : List Placed) (place i : ℕ) (inside : i < length list) where
-  abbrev here : Placed
+module _ (f : Function) (list : List PlacedOp) (place i : ℕ) (inside : i < length list) where
+  abbrev here : PlacedOp
   here = get_or list i no_one
 
-  abbrev rest : ℕ → List Placed
+  abbrev rest : ℕ → List PlacedOp
   rest n = from_place place (drop n list)
 
   -- one that is to be dropped
@@ -66,11 +66,11 @@ module _ (f : Function) (list : List Placed) (place i : ℕ) (inside : i < lengt
   carry-stuck o kept is = rw (rest-kept kept, is) refl
 
 -- one more at the end of what an operation was carried over
-abbrev pub carried_on : Function → Placed → Carried → Option Carried
+abbrev pub carried_on : Function → PlacedOp → Carried → Option Carried
 carried_on f b carried = option_map (λ both. record { op = both.own; list = carried.list ++ record b { op = both.other } ∷ [] }) (crossed f carried.op b.op)
 
 -- carrying an operation over a list with one more at its end is carrying it over the list, and then over that one
-pub carry-push : (f : Function) (o : Op) (bs : List Placed) (b : Placed) → carry f o (bs ++ b ∷ []) ≡ option_and_then (carried_on f b) (carry f o bs)
+pub carry-push : (f : Function) (o : Op) (bs : List PlacedOp) (b : PlacedOp) → carry f o (bs ++ b ∷ []) ≡ option_and_then (carried_on f b) (carry f o bs)
 carry-push f o [] b = by (crossed f o b.op)
   where
     by : (x : Option Crossed)
@@ -80,7 +80,7 @@ carry-push f o [] b = by (crossed f o b.op)
     by (Some both) = refl
 carry-push f o (a ∷ bs) b = by (crossed f o a.op) (λ p. carry-push f p bs b)
   where
-    moved : (first : List Placed) (c : Option Carried)
+    moved : (first : List PlacedOp) (c : Option Carried)
         → option_map (behind first) (option_and_then (carried_on f b) c) ≡ option_and_then (carried_on f b) (option_map (behind first) c)
     moved first None = refl
     moved first (Some c) = at (crossed f c.op b.op)
@@ -89,7 +89,7 @@ carry-push f o (a ∷ bs) b = by (crossed f o a.op) (λ p. carry-push f p bs b)
             → option_map (behind first) (option_map (λ both. record { op = both.own; list = c.list ++ record b { op = both.other } ∷ [] }) x)
             ≡ option_map (λ both. record { op = both.own; list = (first ++ c.list) ++ record b { op = both.other } ∷ [] }) x
         at None = refl
-        at (Some both) = ap (λ (list : List Placed). Some (record { op = both.own; list = list }))
+        at (Some both) = ap (λ (list : List PlacedOp). Some (record { op = both.own; list = list }))
             (sym (append_assoc first c.list (record b { op = both.other } ∷ [])))
 
     by : (x : Option Crossed) → ((p : Op) → carry f p (bs ++ b ∷ []) ≡ option_and_then (carried_on f b) (carry f p bs))
@@ -125,7 +125,7 @@ crossed-exchanged f a b both is =
     rw (parts.other, parts.own) refl
 
 -- what an operation became that was carried over a list, by the first of the list and the others
-pub record CarriesOn (f : Function) (o : Op) (b : Placed) (bs : List Placed) (k : Carried) : Type 0 where
+pub record CarriesOn (f : Function) (o : Op) (b : PlacedOp) (bs : List PlacedOp) (k : Carried) : Type 0 where
   pub both : Crossed
   pub is : crossed f o b.op ≡ Some both
   pub rest : Carried
@@ -133,7 +133,7 @@ pub record CarriesOn (f : Function) (o : Op) (b : Placed) (bs : List Placed) (k 
   pub k_is : record { op = rest.op; list = record b { op = both.other } ∷ rest.list } ≡ k
 
 -- what is carried over a list crosses its first operation, and then goes on over the others
-pub carries_on : (f : Function) (o : Op) (b : Placed) (bs : List Placed) (k : Carried) → carry f o (b ∷ bs) ≡ Some k → CarriesOn f o b bs k
+pub carries_on : (f : Function) (o : Op) (b : PlacedOp) (bs : List PlacedOp) (k : Carried) → carry f o (b ∷ bs) ≡ Some k → CarriesOn f o b bs k
 carries_on f o b bs k is = by (crossed f o b.op) refl is
   where
     further : (both : Crossed) → crossed f o b.op ≡ Some both → (c : Option Carried) → carry f both.own bs ≡ c
@@ -154,7 +154,7 @@ pub carried_over_nothing : (f : Function) (o : Op) (k : Carried) → carry f o [
 carried_over_nothing f o k is = cc
 
 -- one more at the end, where the two cross
-pub carry-one_more : (f : Function) (o : Op) (bs : List Placed) (b : Placed) (k : Carried) (both : Crossed) → carry f o bs ≡ Some k
+pub carry-one_more : (f : Function) (o : Op) (bs : List PlacedOp) (b : PlacedOp) (k : Carried) (both : Crossed) → carry f o bs ≡ Some k
     → crossed f k.op b.op ≡ Some both
     → carry f o (bs ++ b ∷ []) ≡ Some (record { op = both.own; list = k.list ++ record b { op = both.other } ∷ [] })
 carry-one_more f o bs b k both is crosses =
@@ -163,14 +163,14 @@ carry-one_more f o bs b k both is crosses =
 
 -- what every form keeps of its operation is kept where operations are carried
 module _ (f : Function) (P : Op → Type 0) (keep : (a b form : Op) → transform_of f a b ≡ Some form → P a → P form) where
-  pub op-kept : (o : Op) (bs : List Placed) (k : Carried) → carry f o bs ≡ Some k → P o → P k.op
+  pub op-kept : (o : Op) (bs : List PlacedOp) (k : Carried) → carry f o bs ≡ Some k → P o → P k.op
   op-kept o [] k is holds = subst (λ (c : Carried). P c.op) (carried_over_nothing f o k is) holds
   op-kept o (b ∷ bs) k is holds =
       let on : CarriesOn f o b bs k = carries_on f o b bs k is in
       subst (λ (c : Carried). P c.op) on.k_is
       (op-kept on.both.own bs on.rest on.rest_is (keep o b.op on.both.own (crossed_both f o b.op on.both on.is).own holds))
 
-  pub list-kept : (o : Op) (bs : List Placed) (k : Carried) → carry f o bs ≡ Some k → AllByRecursion (λ b. P b.op) bs → AllByRecursion (λ b. P b.op) k.list
+  pub list-kept : (o : Op) (bs : List PlacedOp) (k : Carried) → carry f o bs ≡ Some k → AllByRecursion (λ b. P b.op) bs → AllByRecursion (λ b. P b.op) k.list
   list-kept o [] k is all = subst (λ (c : Carried). AllByRecursion (λ b. P b.op) c.list) (carried_over_nothing f o k is) tt
   list-kept o (b ∷ bs) k is all =
       let on : CarriesOn f o b bs k = carries_on f o b bs k is in

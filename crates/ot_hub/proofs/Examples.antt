@@ -7,7 +7,7 @@ use Rattle.ot_model.specs.declared.op.Op.{Op}
 use Rattle.ot_model.specs.declared.op.Op.TheVariants.{Ins, Del}
 use Rattle.ot_model.specs.Cells.{live_cell}
 use Rattle.fn_rules.specs.Shipped.{sites}
-use Rattle.ot_hub.specs.declared.placed.Placed.{Placed}
+use Rattle.ot_hub.specs.declared.placed.PlacedOp.{PlacedOp}
 use Rattle.ot_hub.specs.Chains.{document_after_all}
 use Rattle.ot_hub.specs.Meeting.{Ups, Downs}
 use Rattle.ot_hub.specs.Steps.{Step, Nothing, Stuck, To, ahead_of}
@@ -78,10 +78,10 @@ abbrev waiting : HubData
 waiting = after (begun sites (y ∷ []) 3) (Edit 1 (Ins (pos 1) 97 1) ∷ Edit 2 (Del (pos 0) 2) ∷ Edit 3 (Ins (pos 0) 99 3) ∷ Up 1 ∷ Up 2 ∷ [])
 
 -- what the third message becomes at the server, and what its client will take
-abbrev third : Placed
+abbrev third : PlacedOp
 third = record { place = 0; op = Ins (pos 0) 99 3 }
 
-abbrev to_take : List Placed
+abbrev to_take : List PlacedOp
 to_take = record { place = 0; op = Ins (pos 2) 97 1 } ∷ record { place = 1; op = Del (pos 1) 2 } ∷ []
 
 up_way : Ups sites (client_of waiting 3).messages (ahead_of waiting.server 3) (third ∷ []) to_take

@@ -5,7 +5,7 @@ use Rattle.std.proofs.lemmas.List.{take_all}
 use Rattle.std.proofs.Math.Logic.{∥∥₁_elim}
 use Rattle.ot_model.specs.declared.cell.Cell.{Cell}
 use Rattle.ot_hub.specs.declared.placed.Entry.{Entry}
-use Rattle.ot_hub.specs.declared.placed.Placed.{Placed}
+use Rattle.ot_hub.specs.declared.placed.PlacedOp.{PlacedOp}
 use Rattle.ot_hub.specs.Chains.{document_after_all}
 use Rattle.ot_hub.specs.InStep.{operations, AreInStep}
 use Rattle.ot_hub.specs.Theorem.{FollowsLog}
@@ -25,7 +25,7 @@ module _ (hub : HubData) where
     clients = λ c there. (s.each c there).doc;
     one_document = λ c there received nothing.
         (s.each c there).doc
-        ∙ ap (λ (l : List Placed). document_after_all hub.function.head.mode l
+        ∙ ap (λ (l : List PlacedOp). document_after_all hub.function.head.mode l
         (document_after_all hub.function.head.mode (operations (take (client_of hub c).received hub.server.log)) hub.first)) nothing
         ∙ ap (λ (l : List Entry). document_after_all hub.function.head.mode (operations l) hub.first)
         (take_all (client_of hub c).received hub.server.log (omega (arith, received)))

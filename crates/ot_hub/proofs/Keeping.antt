@@ -19,7 +19,7 @@ use Rattle.ot_model.specs.declared.op.Kind.{Kind}
 use Rattle.fn_rules.specs.Conditions.{IsWithin}
 use Rattle.ot_hub.specs.declared.client.Client.{Client}
 use Rattle.ot_hub.specs.declared.limits.TheConstants.{MAX_EDITS}
-use Rattle.ot_hub.specs.declared.placed.Placed.{Placed}
+use Rattle.ot_hub.specs.declared.placed.PlacedOp.{PlacedOp}
 use Rattle.ot_hub.specs.declared.placed.Entry.{Entry}
 use Rattle.ot_hub.specs.declared.server.Server.{Server}
 use Rattle.ot_hub.specs.Clients.{nobody, client_at, sent, CanEdit, CanTake}
@@ -79,7 +79,7 @@ module _ (f : Function) (count : ℕ) (s : Server) (all : List Client) (kept : I
       moved = omega (arith, kept.moved, sum-set (λ client. length client.messages) (edited mode o one), longer);
     }
       where
-        made_here : Placed
+        made_here : PlacedOp
         made_here = record { place = one.received; op = o }
 
         longer : length (one.messages ++ made_here ∷ []) ≡ length one.messages + 1
@@ -126,10 +126,10 @@ module _ (f : Function) (has : KeepsNear f) (grows : Grows) (mode : Mode) (c : �
   abbrev entries : ℕ
   entries = length s.log
 
-  abbrev list : List Placed
+  abbrev list : List PlacedOp
   list = from_place place (ahead_of s c)
 
-  abbrev item : Placed
+  abbrev item : PlacedOp
   item = record { place = entries; op = carried.op }
 
   there : ahead_of s c ≡ get_or s.ahead (c - 1) []

@@ -9,7 +9,7 @@ use Rattle.fn_rules.specs.Transformation.{transform_of}
 use Rattle.fn_rules.specs.Conditions.{IsIntegrable, IsFormOf}
 use Rattle.fn_rules.specs.Forms.{KeepsForms, ConvergesOnForms}
 use Rattle.ot_hub.specs.declared.client.Client.{Client}
-use Rattle.ot_hub.specs.declared.placed.Placed.{Placed}
+use Rattle.ot_hub.specs.declared.placed.PlacedOp.{PlacedOp}
 use Rattle.ot_hub.specs.declared.server.Server.{Server}
 use Rattle.ot_hub.specs.Carry.{Carried, carry}
 use Rattle.ot_hub.specs.Chains.{document_after_all, CarriesAcross}
@@ -27,7 +27,7 @@ module _ (f : Function) (keeps : KeepsForms f) (converging : ConvergesOnForms f)
   mode = f.head.mode
 
   -- the client makes an operation
-  module _ (server : Server) (c : ℕ) (client : Client) (ahead : List Placed) (s : IsClientInStep f first server c client ahead)
+  module _ (server : Server) (c : ℕ) (client : Client) (ahead : List PlacedOp) (s : IsClientInStep f first server c client ahead)
       (o : Op) (integrable : IsIntegrable f (length client.doc) o) (of : IsOf c o) where
     across : CarriesAcross f client.doc o s.taken
     across = CarriesAcross-tp1 f keeps converging client.doc o s.taken integrable s.taken_chain
@@ -49,7 +49,7 @@ module _ (f : Function) (keeps : KeepsForms f) (converging : ConvergesOnForms f)
       kept = k.list;
       taken = k.list;
       ups = ups-more_messages f o client.received client.messages ahead s.forms s.kept k s.ups
-          (subst (λ (l : List Placed). carry f o l ≡ Some k) (sym s.kept_is) across.is);
+          (subst (λ (l : List PlacedOp). carry f o l ≡ Some k) (sym s.kept_is) across.is);
       downs = downs;
       kept_is = from_place-same client.received k.list
           (downs-places f c client.received (edited mode o client).pending (drop client.received server.log) (s.forms ++ item client.received k.op ∷ []) k.list

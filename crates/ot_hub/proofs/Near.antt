@@ -11,7 +11,7 @@ use Rattle.fn_rules.specs.Conditions.{IsWithin}
 use Rattle.fn_rules.specs.Forms.{KeepsForms}
 use Rattle.ot_hub.specs.declared.carry.Crossed.{Crossed}
 use Rattle.ot_hub.specs.Carry.{Carried, behind, carry, crossed}
-use Rattle.ot_hub.specs.declared.placed.Placed.{Placed}
+use Rattle.ot_hub.specs.declared.placed.PlacedOp.{PlacedOp}
 use Rattle.ot_hub.specs.Usable.{IsUsable, AreUsable, farthest}
 use Rattle.ot_hub.proofs.Carrying.{no_one}
 
@@ -28,7 +28,7 @@ Wider = (m n : ℕ) (o : Op) → m ≤ n → IsWithin m o → IsWithin n o
 pub IsUsable-wider : Wider → (f : Function) (m n : ℕ) (o : Op) → m ≤ n → IsUsable f m o → IsUsable f n o
 IsUsable-wider wider f m n o more usable = record { declared = usable.declared; near = wider m n o more usable.near }
 
-pub AreUsable-wider : Wider → (f : Function) (m n : ℕ) (list : List Placed) → m ≤ n → AreUsable f m list → AreUsable f n list
+pub AreUsable-wider : Wider → (f : Function) (m n : ℕ) (list : List PlacedOp) → m ≤ n → AreUsable f m list → AreUsable f n list
 AreUsable-wider wider f m n list more =
     All-weaker (λ b. IsUsable f m b.op) (λ b. IsUsable f n b.op) (λ b. IsUsable-wider wider f m n b.op more) list
 
@@ -73,7 +73,7 @@ module _ (f : Function) (has : KeepsNear f) where
           (record { own = IsUsable-form m a b p as_a as_b some; other = IsUsable-form m b a q as_b as_a some_q })
 
   -- the operation before and after the next one of the list
-  module _ (list : List Placed) (m i : ℕ) (o : Op) (inside : i < length list) (usable : IsUsable f (m + 99 * i) o) (all : AreUsable f m list) where
+  module _ (list : List PlacedOp) (m i : ℕ) (o : Op) (inside : i < length list) (usable : IsUsable f (m + 99 * i) o) (all : AreUsable f m list) where
     abbrev here : Op
     here = (get_or list i no_one).op
 
@@ -101,7 +101,7 @@ pub record IsCarriedNear (f : Function) (m n : ℕ) (carried : Carried) : Type 0
   pub length : length carried.list ≡ n
 
 -- each of a list moves what is carried by at most 99
-pub carry-near : (f : Function) → KeepsNear f → (m : ℕ) (o : Op) (list : List Placed) (carried : Carried) → IsUsable f m o → AreUsable f m list
+pub carry-near : (f : Function) → KeepsNear f → (m : ℕ) (o : Op) (list : List PlacedOp) (carried : Carried) → IsUsable f m o → AreUsable f m list
     → carry f o list ≡ Some carried → IsCarriedNear f (m + 99 * length list) (length list) carried
 carry-near f has m o [] carried usable all is =
     let same : record { op = o; list = [] } ≡ carried = cc in

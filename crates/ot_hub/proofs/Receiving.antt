@@ -13,7 +13,7 @@ use Rattle.fn_rules.specs.Transformation.{transform_of}
 use Rattle.fn_rules.specs.Conditions.{IsFormOf}
 use Rattle.fn_rules.specs.Forms.{KeepsForms, ConvergesOnForms}
 use Rattle.ot_hub.specs.declared.client.Client.{Client}
-use Rattle.ot_hub.specs.declared.placed.Placed.{Placed}
+use Rattle.ot_hub.specs.declared.placed.PlacedOp.{PlacedOp}
 use Rattle.ot_hub.specs.declared.placed.Entry.{Entry}
 use Rattle.ot_hub.specs.declared.server.Server.{Server}
 use Rattle.ot_hub.specs.Carry.{Carried, from_place}
@@ -33,7 +33,7 @@ module _ (f : Function) (keeps : KeepsForms f) (converging : ConvergesOnForms f)
   mode = f.head.mode
 
   -- the client takes the next entry of the log
-  module _ (server : Server) (in_step : IsServerInStep f first server) (c : ℕ) (client : Client) (ahead : List Placed)
+  module _ (server : Server) (in_step : IsServerInStep f first server) (c : ℕ) (client : Client) (ahead : List PlacedOp)
       (s : IsClientInStep f first server c client ahead) (entry : Entry) (next : slice_get server.log client.received ≡ Some entry) where
     abbrev r : ℕ
     r = client.received
@@ -57,7 +57,7 @@ module _ (f : Function) (keeps : KeepsForms f) (converging : ConvergesOnForms f)
     made : AllByRecursion (λ message. message.place ≤ r + 1) client.messages
     made = all-weaker (λ message. message.place ≤ r) (λ message. message.place ≤ r + 1) (λ message within. omega (arith, within)) client.messages s.made
 
-    kept_later : (list : List Placed) → AllByRecursion (λ b. r + 1 ≤ b.place) list → from_place (r + 1) s.taken ≡ from_place (r + 1) list
+    kept_later : (list : List PlacedOp) → AllByRecursion (λ b. r + 1 ≤ b.place) list → from_place (r + 1) s.taken ≡ from_place (r + 1) list
         → from_place (r + 1) s.kept ≡ list
     kept_later list places same =
         from_place-later r (r + 1) s.kept (omega arith) ∙ ap (from_place (r + 1)) s.kept_is ∙ same ∙ from_place-same (r + 1) list places
@@ -76,13 +76,13 @@ module _ (f : Function) (keeps : KeepsForms f) (converging : ConvergesOnForms f)
           kept = s.kept;
           taken = s.taken;
           ups = s.ups;
-          downs = subst (λ (l : List Placed). Downs f c (r + 1) l later s.forms s.taken) (sym younger_is) mine.rest;
+          downs = subst (λ (l : List PlacedOp). Downs f c (r + 1) l later s.forms s.taken) (sym younger_is) mine.rest;
           kept_is = kept_later s.taken (downs-places f c (r + 1) mine.younger later s.forms s.taken mine.rest) refl;
           received = omega (arith, inside);
           made = made;
-          doc = s.doc ∙ ap (λ (l : List Placed). document_after_all mode l before) mine.pending_is
+          doc = s.doc ∙ ap (λ (l : List PlacedOp). document_after_all mode l before) mine.pending_is
               ∙ ap (document_after_all mode mine.younger) base
-              ∙ ap (λ (l : List Placed). document_after_all mode l (document_after_all mode (operations (take (r + 1) server.log)) first)) (sym younger_is);
+              ∙ ap (λ (l : List PlacedOp). document_after_all mode l (document_after_all mode (operations (take (r + 1) server.log)) first)) (sym younger_is);
           pending = subst (IsChain f (document_after_all mode (operations (take (r + 1) server.log)) first)) (sym younger_is)
               (subst (λ (d : List Cell). IsChain f d mine.younger) base chain.1);
           forms_chain = s.forms_chain;
@@ -132,7 +132,7 @@ module _ (f : Function) (keeps : KeepsForms f) (converging : ConvergesOnForms f)
             (subst (λ (x : Carried). IsChain f (document_after mode entry.op before) x.list) one beside.list);
         forms_chain = s.forms_chain;
         taken_chain = chain.1;
-        one_document = ap (λ (l : List Placed). document_after_all mode l client.doc) (sym theirs.taken_is) ∙ s.one_document;
+        one_document = ap (λ (l : List PlacedOp). document_after_all mode l client.doc) (sym theirs.taken_is) ∙ s.one_document;
         own = list-kept f (IsOf c) (of-kept f keeps any_chars is_form c) entry.op client.pending theirs.carried theirs.is s.own;
         own_forms = s.own_forms;
         others = (subst (AllByRecursion (λ b. IsOfOthers c b.op)) theirs.taken_is s.others).1;

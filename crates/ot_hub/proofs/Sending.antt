@@ -12,7 +12,7 @@ use Rattle.fn_rules.specs.Transformation.{transform_of}
 use Rattle.fn_rules.specs.Conditions.{IsIntegrable, IsFormOf}
 use Rattle.fn_rules.specs.Forms.{KeepsForms, ConvergesOnForms}
 use Rattle.ot_hub.specs.declared.client.Client.{Client}
-use Rattle.ot_hub.specs.declared.placed.Placed.{Placed}
+use Rattle.ot_hub.specs.declared.placed.PlacedOp.{PlacedOp}
 use Rattle.ot_hub.specs.declared.placed.Entry.{Entry}
 use Rattle.ot_hub.specs.declared.server.Server.{Server}
 use Rattle.ot_hub.specs.Carry.{Carried}
@@ -49,13 +49,13 @@ module _ (f : Function) (keeps : KeepsForms f) (converging : ConvergesOnForms f)
           (subst (λ (d : List Cell). IsIntegrable f (length d) k.op) in_step.doc integrable));
       own = own-push server.log logged in_step.own of;
       doc = ap (document_after mode k.op) in_step.doc ∙ sym (document_after_all-push mode (operations server.log) (item 0 k.op) first)
-          ∙ ap (λ (l : List Placed). document_after_all mode l first) (sym pushed);
+          ∙ ap (λ (l : List PlacedOp). document_after_all mode l first) (sym pushed);
     }
       where
         pushed : operations (server.log ++ logged ∷ []) ≡ operations server.log ++ item 0 k.op ∷ []
         pushed = map-append (λ (entry : Entry). item 0 entry.op) server.log (logged ∷ [])
 
-    module _ (d : ℕ) (client : Client) (ahead : List Placed) (s : IsClientInStep f first server d client ahead) where
+    module _ (d : ℕ) (client : Client) (ahead : List PlacedOp) (s : IsClientInStep f first server d client ahead) where
       abbrev r : ℕ
       r = client.received
 
@@ -83,7 +83,7 @@ module _ (f : Function) (keeps : KeepsForms f) (converging : ConvergesOnForms f)
         across = CarriesAcross-tp1 f keeps converging server.doc k.op s.forms integrable s.forms_chain
             (allowed_with_own f keeps any_chars is_form d k.op s.forms is_others s.own_forms)
 
-        abbrev next : Placed
+        abbrev next : PlacedOp
         next = item entries across.carried.op
 
         -- the entry comes after what the server keeps for the client, and crosses what it sends
@@ -98,7 +98,7 @@ module _ (f : Function) (keeps : KeepsForms f) (converging : ConvergesOnForms f)
           downs = subst (λ (l : List Entry). Downs f d r client.pending l across.carried.list (s.taken ++ next ∷ [])) (sym more_dropped)
               (downs-more_others f d logged entries r client.pending (drop r server.log) s.forms s.taken across.carried other across.is
               (omega (arith, s.received, length-drop r server.log)) s.downs);
-          kept_is = from_place-push r s.kept next s.received ∙ ap (λ (l : List Placed). l ++ next ∷ []) s.kept_is;
+          kept_is = from_place-push r s.kept next s.received ∙ ap (λ (l : List PlacedOp). l ++ next ∷ []) s.kept_is;
           received = within;
           made = s.made;
           doc = doc;
@@ -115,10 +115,10 @@ module _ (f : Function) (keeps : KeepsForms f) (converging : ConvergesOnForms f)
         }
 
       -- where it was its own
-      module _ (own : c ≡ d) (oldest : Placed) (younger : List Placed) (messages_is : client.messages ≡ oldest ∷ younger)
+      module _ (own : c ≡ d) (oldest : PlacedOp) (younger : List PlacedOp) (messages_is : client.messages ≡ oldest ∷ younger)
           (up : FirstUp f oldest younger ahead s.forms s.kept) (same : up.first.carried ≡ k) where
         form_op : up.form.op ≡ k.op
-        form_op = ap (λ (b : Placed). b.op) up.first.form_is ∙ ap (λ (x : Carried). x.op) same
+        form_op = ap (λ (b : PlacedOp). b.op) up.first.form_is ∙ ap (λ (x : Carried). x.op) same
 
         chain : IsChain f server.doc (up.form ∷ up.forms)
         chain = subst (IsChain f server.doc) up.is s.forms_chain
@@ -135,11 +135,11 @@ module _ (f : Function) (keeps : KeepsForms f) (converging : ConvergesOnForms f)
           forms = up.forms;
           kept = s.kept;
           taken = s.taken;
-          ups = subst (λ (l : List Placed). Ups f l k.list up.forms s.kept) (sym younger_is)
+          ups = subst (λ (l : List PlacedOp). Ups f l k.list up.forms s.kept) (sym younger_is)
               (subst (λ (x : Carried). Ups f younger x.list up.forms s.kept) same up.first.rest);
           downs = subst (λ (l : List Entry). Downs f d r client.pending l up.forms s.taken) (sym more_dropped)
               (downs-more_own f d logged r client.pending (drop r server.log) up.form up.forms s.taken own form_op
-              (subst (λ (l : List Placed). Downs f d r client.pending (drop r server.log) l s.taken) up.is s.downs));
+              (subst (λ (l : List PlacedOp). Downs f d r client.pending (drop r server.log) l s.taken) up.is s.downs));
           kept_is = s.kept_is;
           received = within;
           made = subst (AllByRecursion (λ message. message.place ≤ r)) (sym younger_is)
@@ -148,7 +148,7 @@ module _ (f : Function) (keeps : KeepsForms f) (converging : ConvergesOnForms f)
           pending = pending;
           forms_chain = subst (λ (x : List Cell). IsChain f x up.forms) after chain.1;
           taken_chain = s.taken_chain;
-          one_document = s.one_document ∙ ap (λ (l : List Placed). document_after_all mode l server.doc) up.is
+          one_document = s.one_document ∙ ap (λ (l : List PlacedOp). document_after_all mode l server.doc) up.is
               ∙ ap (document_after_all mode up.forms) after;
           own = s.own;
           own_forms = (subst (AllByRecursion (λ b. IsOf d b.op)) up.is s.own_forms).1;
@@ -156,14 +156,14 @@ module _ (f : Function) (keeps : KeepsForms f) (converging : ConvergesOnForms f)
         }
 
   -- the step of the server leads on
-  module _ (server : Server) (c : ℕ) (client : Client) (s : IsClientInStep f first server c client (ahead_of server c)) (oldest : Placed)
-      (younger : List Placed)
+  module _ (server : Server) (c : ℕ) (client : Client) (s : IsClientInStep f first server c client (ahead_of server c)) (oldest : PlacedOp)
+      (younger : List PlacedOp)
       (up : FirstUp f oldest younger (ahead_of server c) s.forms s.kept) where
     abbrev became : Carried
     became = up.first.carried
 
     form_is : up.form.op ≡ became.op
-    form_is = ap (λ (b : Placed). b.op) up.first.form_is
+    form_is = ap (λ (b : PlacedOp). b.op) up.first.form_is
 
     pub up-integrable : IsIntegrable f (length server.doc) became.op
     up-integrable = subst (IsIntegrable f (length server.doc)) form_is (subst (IsChain f server.doc) up.is s.forms_chain).0

@@ -10,7 +10,7 @@ use Rattle.fn_rules.specs.Functions.{Function}
 use Rattle.ot_hub.specs.declared.answer.Move.{Move}
 use Rattle.ot_hub.specs.declared.answer.Move.TheVariants as moves
 use Rattle.ot_hub.specs.declared.client.Client.{Client}
-use Rattle.ot_hub.specs.declared.placed.Placed.{Placed}
+use Rattle.ot_hub.specs.declared.placed.PlacedOp.{PlacedOp}
 use Rattle.ot_hub.specs.declared.placed.Entry.{Entry}
 use Rattle.ot_hub.specs.Carry.{Carried, carry, from_place, carried_op, carried_list}
 use Rattle.ot_hub.specs.Steps.{Step, Nothing, Stuck, To, step_map, IsTo, HasStepped, goes_on, client_after, confirmed, client_step}
@@ -18,7 +18,7 @@ use Rattle.ot_hub.specs.Views.{HubData, closed, IsClient, HasMoved, client_of, u
 use Rattle.ot_hub.proofs.Carrying.{from_true}
 
 -- what was carried, by its two parts
-pub carried_parts : (carried : Option Carried) (o : Op) (list : List Placed) → Some o ≡ carried_op carried → carried_list carried ≡ Some list
+pub carried_parts : (carried : Option Carried) (o : Op) (list : List PlacedOp) → Some o ≡ carried_op carried → carried_list carried ≡ Some list
     → carried ≡ Some (record { op = o; list = list })
 carried_parts None o list is_op is_list = cc
 carried_parts (Some carried) o list is_op is_list =
@@ -27,7 +27,7 @@ carried_parts (Some carried) o list is_op is_list =
     rw (same_op, ← same_list) refl
 
 -- where it is enabled, the step leads on
-pub goes_on-done : {X : Type 0} (carried : Option Carried) (o : Op) (list : List Placed) (cells : ℕ) (go : Carried → X)
+pub goes_on-done : {X : Type 0} (carried : Option Carried) (o : Op) (list : List PlacedOp) (cells : ℕ) (go : Carried → X)
     → Some o ≡ carried_op carried → carried_list carried ≡ Some list → is_enabled o cells ≡ true
     → goes_on carried cells go ≡ To (go (record { op = o; list = list }))
 goes_on-done carried o list cells go is_op is_list enabled = rw (carried_parts carried o list is_op is_list, enabled) refl
@@ -50,7 +50,7 @@ goes_on-leads None o cells go is enabled = cc
 goes_on-leads (Some carried) o cells go is enabled = let same : o ≡ carried.op = cc in rw (← same, enabled) tt
 
 -- all of a list are from place 0 on
-from_place-all : (list : List Placed) → from_place 0 list ≡ list
+from_place-all : (list : List PlacedOp) → from_place 0 list ≡ list
 from_place-all [] = refl
 from_place-all (b ∷ bs) = rw (from_true 0 b.place (omega arith)) (ap (λ rest. b ∷ rest) (from_place-all bs))
 
@@ -81,12 +81,12 @@ HasStepped-at xs i d new step (Err moves.NoMemory) stepped =
     (IsTo-map (slice_set xs i) step stepped.0, ap (slice_set xs i) stepped.1 ∙ set-get_or xs i d)
 
 -- the oldest message
-pub up_with-first : (hub : HubData) (c : ℕ) (list : List Placed) (message : Placed) → Some message ≡ slice_get list 0
+pub up_with-first : (hub : HubData) (c : ℕ) (list : List PlacedOp) (message : PlacedOp) → Some message ≡ slice_get list 0
     → up_with hub c list ≡ up_with hub c (message ∷ [])
 up_with-first hub c [] message is = cc
 up_with-first hub c (first ∷ others) message is = let same : message ≡ first = cc in rw same refl
 
-pub some_first : (list : List Placed) (message : Placed) → Some message ≡ slice_get list 0 → 0 < length list
+pub some_first : (list : List PlacedOp) (message : PlacedOp) → Some message ≡ slice_get list 0 → 0 < length list
 some_first [] message is = cc
 some_first (first ∷ others) message is = omega arith
 

@@ -15,7 +15,7 @@ use Rattle.fn_rules.specs.Forms.{KeepsForms, ConvergesOnForms}
 use Rattle.ot_hub.specs.declared.answer.Move.{Move}
 use Rattle.ot_hub.specs.declared.answer.Move.TheVariants as moves
 use Rattle.ot_hub.specs.declared.client.Client.{Client}
-use Rattle.ot_hub.specs.declared.placed.Placed.{Placed}
+use Rattle.ot_hub.specs.declared.placed.PlacedOp.{PlacedOp}
 use Rattle.ot_hub.specs.declared.placed.Entry.{Entry}
 use Rattle.ot_hub.specs.declared.server.Server.{Server}
 use Rattle.ot_hub.specs.Carry.{Carried}
@@ -137,28 +137,28 @@ module _ (f : Function) (keeps : KeepsForms f) (converging : ConvergesOnForms f)
       record { to = leads.to; is = leads.is; holds = AreInStep-set leads.to leads.holds }
 
   -- the server takes its oldest message
-  module _ (message : Placed) (first_is : Some message ≡ slice_get client.messages 0) (sides : length server.ahead ≡ length all) where
+  module _ (message : PlacedOp) (first_is : Some message ≡ slice_get client.messages 0) (sides : length server.ahead ≡ length all) where
     abbrev mine : IsClientInStep f first server c client (ahead_of server c)
     mine = s.each c there
 
-    abbrev younger : List Placed
+    abbrev younger : List PlacedOp
     younger = drop 1 client.messages
 
-    messages_are : (list : List Placed) → Some message ≡ slice_get list 0 → list ≡ message ∷ drop 1 list
+    messages_are : (list : List PlacedOp) → Some message ≡ slice_get list 0 → list ≡ message ∷ drop 1 list
     messages_are [] is = cc
-    messages_are (b ∷ bs) is = let same : message ≡ b = cc in ap (λ (x : Placed). x ∷ bs) (sym same)
+    messages_are (b ∷ bs) is = let same : message ≡ b = cc in ap (λ (x : PlacedOp). x ∷ bs) (sym same)
 
     messages_is : client.messages ≡ message ∷ younger
     messages_is = messages_are client.messages first_is
 
     up : FirstUp f message younger (ahead_of server c) mine.forms mine.kept
     up = first_up f message younger (ahead_of server c) mine.forms mine.kept
-        (subst (λ (l : List Placed). Ups f l (ahead_of server c) mine.forms mine.kept) messages_is mine.ups)
+        (subst (λ (l : List PlacedOp). Ups f l (ahead_of server c) mine.forms mine.kept) messages_is mine.ups)
 
     abbrev became : Carried
     became = up.first.carried
 
-    abbrev told : List (List Placed)
+    abbrev told : List (List PlacedOp)
     told = map (λ list. list ++ item (length server.log) became.op ∷ []) server.ahead
 
     abbrev new : Server
@@ -179,7 +179,7 @@ module _ (f : Function) (keeps : KeepsForms f) (converging : ConvergesOnForms f)
         let within : d - 1 < length server.ahead = omega (arith, sides, here.low, here.high) in
         ahead_of-get_or new d ∙ get_or-set_other told (c - 1) (d - 1) became.list [] apart
         ∙ get_or-map (λ list. list ++ item (length server.log) became.op ∷ []) server.ahead (d - 1) [] [] within
-        ∙ ap (λ (l : List Placed). l ++ item (length server.log) became.op ∷ []) (sym (ahead_of-get_or server d))
+        ∙ ap (λ (l : List PlacedOp). l ++ item (length server.log) became.op ∷ []) (sym (ahead_of-get_or server d))
 
     integrable : IsIntegrable f (length server.doc) became.op
     integrable = up-integrable f keeps converging any_chars is_form first server c client mine message younger up

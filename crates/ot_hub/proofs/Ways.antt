@@ -15,7 +15,7 @@ use Rattle.fn_rules.specs.Functions.{Function}
 use Rattle.fn_rules.specs.Transformation.{transform_of, Differ, IsAllowed}
 use Rattle.fn_rules.specs.Conditions.{IsIntegrable, IsFormOf}
 use Rattle.fn_rules.specs.Forms.{KeepsForms}
-use Rattle.ot_hub.specs.declared.placed.Placed.{Placed}
+use Rattle.ot_hub.specs.declared.placed.PlacedOp.{PlacedOp}
 use Rattle.ot_hub.specs.declared.placed.Entry.{Entry}
 use Rattle.ot_hub.specs.Chains.{document_after_all, IsChain, IsAllowedWith}
 use Rattle.ot_hub.specs.InStep.{IsOf, IsOfOthers, operations}
@@ -23,12 +23,12 @@ use Rattle.ot_hub.specs.Meeting.{BecomesForm, Ups}
 use Rattle.ot_hub.specs.Steps.{Step, To}
 
 -- the document after a list and one more
-pub document_after_all-push : (mode : Mode) (xs : List Placed) (b : Placed) (d : List Cell)
+pub document_after_all-push : (mode : Mode) (xs : List PlacedOp) (b : PlacedOp) (d : List Cell)
     → document_after_all mode (xs ++ b ∷ []) d ≡ document_after mode b.op (document_after_all mode xs d)
 document_after_all-push mode [] b d = refl
 document_after_all-push mode (x ∷ xs) b d = document_after_all-push mode xs b (document_after mode x.op d)
 
-pub IsChain-push : (f : Function) (d : List Cell) (xs : List Placed) (b : Placed) → IsChain f d xs
+pub IsChain-push : (f : Function) (d : List Cell) (xs : List PlacedOp) (b : PlacedOp) → IsChain f d xs
     → IsIntegrable f (length (document_after_all f.head.mode xs d)) b.op → IsChain f d (xs ++ b ∷ [])
 IsChain-push f d [] b chain next = (next, tt)
 IsChain-push f d (x ∷ xs) b chain next = (chain.0, IsChain-push f (document_after f.head.mode x.op d) xs b chain.1 next)
@@ -79,13 +79,13 @@ pub record LeadsTo {X : Type 0} (P : X → Type 0) (step : Step X) : Type 0 wher
   pub holds : P to
 
 -- what the oldest message becomes, and the younger ones after it
-pub record FirstUp (f : Function) (message : Placed) (messages ahead all kept : List Placed) : Type 0 where
-  pub form : Placed
-  pub forms : List Placed
+pub record FirstUp (f : Function) (message : PlacedOp) (messages ahead all kept : List PlacedOp) : Type 0 where
+  pub form : PlacedOp
+  pub forms : List PlacedOp
   pub is : all ≡ form ∷ forms
   pub first : BecomesForm f message ahead form (λ behind. Ups f messages behind forms kept)
 
-pub first_up : (f : Function) (message : Placed) (messages ahead forms kept : List Placed) → Ups f (message ∷ messages) ahead forms kept
+pub first_up : (f : Function) (message : PlacedOp) (messages ahead forms kept : List PlacedOp) → Ups f (message ∷ messages) ahead forms kept
     → FirstUp f message messages ahead forms kept
 first_up f message messages ahead [] kept ups = absurd ups
 first_up f message messages ahead (form ∷ forms) kept ups = record { form = form; forms = forms; is = refl; first = ups }
@@ -121,11 +121,11 @@ module _ (f : Function) (keeps : KeepsForms f) (any_chars : f.head.chars_differ 
   }
 
   -- an operation of a client with those of others, and one of others with those of the client
-  pub allowed_with_others : (c : ℕ) (o : Op) (list : List Placed) → IsOf c o → AllByRecursion (λ b. IsOfOthers c b.op) list → IsAllowedWith f o list
+  pub allowed_with_others : (c : ℕ) (o : Op) (list : List PlacedOp) → IsOf c o → AllByRecursion (λ b. IsOfOthers c b.op) list → IsAllowedWith f o list
   allowed_with_others c o [] of all = tt
   allowed_with_others c o (b ∷ list) of all = (allowed c o b.op of all.0, allowed_with_others c o list of all.1)
 
-  pub allowed_with_own : (c : ℕ) (o : Op) (list : List Placed) → IsOfOthers c o → AllByRecursion (λ b. IsOf c b.op) list → IsAllowedWith f o list
+  pub allowed_with_own : (c : ℕ) (o : Op) (list : List PlacedOp) → IsOfOthers c o → AllByRecursion (λ b. IsOf c b.op) list → IsAllowedWith f o list
   allowed_with_own c o [] others all = tt
   allowed_with_own c o (b ∷ list) others all =
       (keeps.allowed_back b.op o (allowed c b.op o all.0 others), allowed_with_own c o list others all.1)

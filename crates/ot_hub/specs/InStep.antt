@@ -6,7 +6,7 @@ use Rattle.ot_model.specs.declared.op.Op.{Op}
 use Rattle.ot_model.specs.Operations.{site_of}
 use Rattle.fn_rules.specs.Functions.{Function}
 use Rattle.ot_hub.specs.declared.client.Client.{Client}
-use Rattle.ot_hub.specs.declared.placed.Placed.{Placed}
+use Rattle.ot_hub.specs.declared.placed.PlacedOp.{PlacedOp}
 use Rattle.ot_hub.specs.declared.placed.Entry.{Entry}
 use Rattle.ot_hub.specs.declared.server.Server.{Server}
 use Rattle.ot_hub.specs.Carry.{from_place}
@@ -24,7 +24,7 @@ abbrev pub IsOfOthers : ℕ → Op → Type 0
 IsOfOthers c o = site_of o ≢ Some c
 
 -- the operations of entries; where each stands in the log is not told
-abbrev pub operations : List Entry → List Placed
+abbrev pub operations : List Entry → List PlacedOp
 operations entries = map (λ entry. record { place = 0; op = entry.op }) entries
 
 -- the log leads from the first document to the server's, each entry as its client's
@@ -36,10 +36,10 @@ pub record IsServerInStep (f : Function) (first : List Cell) (server : Server) :
 -- a client's document is the first one after what it received and then what is pending; what it will take leads on from
 -- there, the forms of its messages lead on from the server's document, and both lead to one document
 pub record IsClientInStep (f : Function) (first : List Cell) (server : Server) (c : ℕ) (client : Client)
-    (ahead : List Placed) : Type 0 where
-  pub forms : List Placed
-  pub kept : List Placed
-  pub taken : List Placed
+    (ahead : List PlacedOp) : Type 0 where
+  pub forms : List PlacedOp
+  pub kept : List PlacedOp
+  pub taken : List PlacedOp
   pub ups : Ups f client.messages ahead forms kept
   pub downs : Downs f c client.received client.pending (drop client.received server.log) forms taken
   pub kept_is : from_place client.received kept ≡ taken

@@ -8,7 +8,7 @@ use Rattle.fn_rules.specs.Functions.{Function}
 use Rattle.ot_hub.specs.declared.answer.Move.{Move}
 use Rattle.ot_hub.specs.declared.answer.Move.TheVariants as moves
 use Rattle.ot_hub.specs.declared.client.Client.{Client}
-use Rattle.ot_hub.specs.declared.placed.Placed.{Placed}
+use Rattle.ot_hub.specs.declared.placed.PlacedOp.{PlacedOp}
 use Rattle.ot_hub.specs.declared.placed.Entry.{Entry}
 use Rattle.ot_hub.specs.declared.server.Server.{Server}
 use Rattle.ot_hub.specs.Carry.{Carried, carry, from_place}
@@ -31,7 +31,7 @@ goes_on None cells go = Stuck
 goes_on (Some carried) cells go = if is_enabled carried.op cells then To (go carried) else Stuck
 
 -- the entries by which the server transforms what a client sends
-abbrev pub ahead_of : Server → ℕ → List Placed
+abbrev pub ahead_of : Server → ℕ → List PlacedOp
 ahead_of server c = unwrap_or (slice_get server.ahead (c - 1)) []
 
 -- the server after what a client's message became: it is executed, stands at the end of the log, and goes to each other
@@ -45,7 +45,7 @@ server_after mode c carried server = record {
 }
 
 -- the server takes a message: it is carried over the entries that the client had not received when it made it
-abbrev pub server_step : Function → ℕ → Placed → Server → Step Server
+abbrev pub server_step : Function → ℕ → PlacedOp → Server → Step Server
 server_step f c message server =
     goes_on (carry f message.op (from_place message.place (ahead_of server c))) (length server.doc)
     (λ carried. server_after f.head.mode c carried server)

@@ -6,7 +6,7 @@ use Rattle.ot_model.specs.declared.op.Op.{Op}
 use Rattle.ot_model.specs.Operations.{kind_of}
 use Rattle.fn_rules.specs.Functions.{Function, IsForKind}
 use Rattle.fn_rules.specs.Conditions.{IsWithin}
-use Rattle.ot_hub.specs.declared.placed.Placed.{Placed}
+use Rattle.ot_hub.specs.declared.placed.PlacedOp.{PlacedOp}
 use Rattle.ot_hub.specs.declared.limits.TheConstants.{MAX_EDITS}
 
 -- nop, or of a kind that the function is for, at most so far from 0
@@ -14,7 +14,7 @@ pub record IsUsable (f : Function) (m : ℕ) (o : Op) : Type 0 where
   pub declared : IsForKind f.head (kind_of o)
   pub near : IsWithin m o
 
-abbrev pub AreUsable : Function → ℕ → List Placed → Type 0
+abbrev pub AreUsable : Function → ℕ → List PlacedOp → Type 0
 AreUsable f m list = All (λ b. IsUsable f m b.op) list
 
 -- how far an operation may be from 0 that is still to be carried over so many others: each moves it by at most 99
@@ -22,7 +22,7 @@ abbrev pub farthest : ℕ → ℕ
 farthest count = 1099511627776 - 99 * count
 
 -- an operation that can be carried over a list
-pub record CanBeCarried (f : Function) (o : Op) (others : List Placed) : Type 0 where
+pub record CanBeCarried (f : Function) (o : Op) (others : List PlacedOp) : Type 0 where
   pub few : length others ≤ MAX_EDITS
   pub op : IsUsable f (farthest (length others)) o
   pub list : AreUsable f (farthest (length others)) others

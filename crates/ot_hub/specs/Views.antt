@@ -19,7 +19,7 @@ use Rattle.ot_hub.specs.declared.client.Client.{Client}
 use Rattle.ot_hub.specs.declared.hub.Hub.{Hub}
 use Rattle.ot_hub.specs.declared.limits.TheConstants.{MAX_EDITS}
 use Rattle.ot_hub.specs.declared.placed.Entry.{Entry}
-use Rattle.ot_hub.specs.declared.placed.Placed.{Placed}
+use Rattle.ot_hub.specs.declared.placed.PlacedOp.{PlacedOp}
 use Rattle.ot_hub.specs.declared.server.Server.{Server}
 pub use Rattle.ot_hub.specs.Clients.{IsClient}
 use Rattle.ot_hub.specs.Clients.{client_at, sent}
@@ -96,7 +96,7 @@ HasEdited old new c o (Err edits.Full) = PassesAll old c o × (all_edits old ≡
 HasEdited old new c o (Err edits.NoMemory) = PassesAll old c o × (all_edits old ≢ MAX_EDITS) × (new ≡ closed old)
 
 -- the server takes the oldest message of a client, if there is one
-abbrev pub up_with : HubData → ℕ → List Placed → Step HubData
+abbrev pub up_with : HubData → ℕ → List PlacedOp → Step HubData
 up_with hub c [] = Nothing
 up_with hub c (message ∷ others) =
     step_map (λ server. record hub {

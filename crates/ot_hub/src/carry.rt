@@ -4,7 +4,7 @@ ghost use Rattle.fn_rules.specs.Rules.{function_of};
 ghost use Rattle.ot_hub.specs.Carry.{crossed, carry, from_place, carried_op, carried_list};
 ghost use Rattle.ot_hub.specs.Usable.{IsUsable, CanBeCarried, farthest};
 
-use crate::placed::Placed;
+use crate::placed::PlacedOp;
 use fn_rules::{
     Rules, enabled_operations_are_near, functions_keep_forms, rules_are_valid, transform,
     transform_stays_near,
@@ -33,7 +33,7 @@ fn cross(rules: &Rules, own: &Op, other: &Op) -> Option<Crossed>
 }
 
 /// What an operation becomes that is carried over those of the list from a place on. None where it can't be.
-pub(crate) fn carried(rules: &Rules, op: Op, list: &[Placed], place: u32) -> Option<Op>
+pub(crate) fn carried(rules: &Rules, op: Op, list: &[PlacedOp], place: u32) -> Option<Op>
     requires { CanBeCarried (function_of rules.now) op list.now }
     ensures { result ≡ carried_op (carry (function_of rules.now) op (from_place place list.now)) }
 {
@@ -55,9 +55,9 @@ pub(crate) fn carry_list(
     alloc: Global,
     rules: &Rules,
     op: Op,
-    list: &[Placed],
+    list: &[PlacedOp],
     place: u32,
-) -> Result<List<Placed>, NoMemory>
+) -> Result<List<PlacedOp>, NoMemory>
     requires usable { CanBeCarried (function_of rules.now) op list.now }
     requires carried { IsSome (carry (function_of rules.now) op (from_place place list.now)) }
     ensures { IfOk result (λ new. carried_list (carry (function_of rules.now) op (from_place place list.now))
@@ -74,7 +74,7 @@ pub(crate) fn carry_list(
             let Some(both) = cross(rules, &form, &other.op) else {
                 unreachable!()
             };
-            new.push(Placed {
+            new.push(PlacedOp {
                 place: other.place,
                 op: both.other,
             })?;

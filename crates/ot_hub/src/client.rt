@@ -10,7 +10,7 @@ ghost use Rattle.ot_hub.specs.declared.limits.TheConstants.{MAX_CLIENTS};
 
 use crate::answer::Move;
 use crate::carry::{carried, carry_list};
-use crate::placed::{Entry, Placed, execute, pushed};
+use crate::placed::{Entry, PlacedOp, execute, pushed};
 use fn_rules::Rules;
 use ot_model::{Doc, NoMemory, Op, enabled};
 use plain_list::List;
@@ -22,13 +22,13 @@ use std::alloc::Global;
 pub(crate) struct Client {
     pub edits: u32,
     pub received: u32,
-    pub pending: List<Placed>,
-    pub messages: List<Placed>,
+    pub pending: List<PlacedOp>,
+    pub messages: List<PlacedOp>,
     pub doc: Doc,
 }
 
 /// Drops the first of a list, where there is one.
-pub(crate) fn drop_first(list: &mut List<Placed>)
+pub(crate) fn drop_first(list: &mut List<PlacedOp>)
     ensures { list.new ≡ drop 1 list.old }
 {
     if !list.is_empty() {
@@ -44,7 +44,7 @@ impl Client {
         ensures ok { OnOk result (self.new ≡ edited (function_of rules.now).head.mode op self.old) }
         ensures err { OnErr result (self.new ≡ self.old) }
     {
-        let made = Placed {
+        let made = PlacedOp {
             place: self.received,
             op,
         };

@@ -12,7 +12,7 @@ use plain_list::List;
 /// An operation with a place of the log, counted from 0: for an entry that the server keeps for a client,
 /// its own place; for what a client made, the place of the first entry that it had not received then.
 #[derive(Clone, Copy)]
-pub(crate) struct Placed {
+pub(crate) struct PlacedOp {
     pub place: u32,
     pub op: Op,
 }
@@ -47,7 +47,7 @@ pub(crate) fn execute(rules: &Rules, op: Op, doc: &mut Doc) -> Result<(), NoMemo
 }
 
 /// The first of a list, if there is one.
-pub(crate) fn first_of(list: &List<Placed>) -> Option<Placed>
+pub(crate) fn first_of(list: &List<PlacedOp>) -> Option<PlacedOp>
     ensures { result ≡ slice_get list.now 0 }
 {
     list.as_slice().first().copied()

@@ -6,7 +6,7 @@ ghost use Rattle.ot_hub.specs.declared.limits.TheConstants.{MAX_EDITS};
 
 use crate::answer::Move;
 use crate::carry::{carried, carry_list};
-use crate::placed::{Entry, Placed, execute, pushed};
+use crate::placed::{Entry, PlacedOp, execute, pushed};
 use fn_rules::{Rules, enabled_operations_are_near};
 use ot_model::{Doc, NoMemory, enabled};
 use plain_list::List;
@@ -18,11 +18,15 @@ use std::alloc::Global;
 pub(crate) struct Server {
     pub log: List<Entry>,
     pub doc: Doc,
-    pub ahead: List<List<Placed>>,
+    pub ahead: List<List<PlacedOp>>,
 }
 
 /// The lists, each with an item more at its end.
-fn told(alloc: Global, lists: &[List<Placed>], item: Placed) -> Result<List<List<Placed>>, NoMemory>
+fn told(
+    alloc: Global,
+    lists: &[List<PlacedOp>],
+    item: PlacedOp,
+) -> Result<List<List<PlacedOp>>, NoMemory>
     ensures { IfOk result (λ longer. longer ≡ map (λ list. list ++ item ∷ []) lists.now) }
 {
     let mut longer = List::new(alloc);
@@ -57,7 +61,7 @@ impl Server {
         alloc: Global,
         rules: &Rules,
         client: u32,
-        message: &Placed,
+        message: &PlacedOp,
     ) -> Result<(), Move>
         requires kept { IsServerKept (function_of rules.now) self.old }
         requires few { length self.old.log < MAX_EDITS }
@@ -77,7 +81,7 @@ impl Server {
         }
         let own = carry_list(alloc, rules, message.op, ahead, message.place)?;
         let place = self.log.len() as u32;
-        let mut lists = told(alloc, self.ahead.as_slice(), Placed { place, op: form })?;
+        let mut lists = told(alloc, self.ahead.as_slice(), PlacedOp { place, op: form })?;
         lists.set(client as usize - 1, own);
         let log = pushed(&self.log, Entry { client, op: form })?;
         execute(rules, form, &mut self.doc)?;

@@ -10,8 +10,8 @@ use Rattle.fn_rules.specs.Validity.{is_valid}
 use Rattle.cert_text.specs.declared.item.Item.{Item}
 use Rattle.cert_text.specs.declared.item.Part.{Part}
 use Rattle.cert_text.specs.declared.item.Part.TheVariants as part
-use Rattle.cert_text.specs.Places.{Place, Start, part_text, place_after}
-use Rattle.cert_text.specs.Reading.{Progress, Reading}
+use Rattle.cert_text.specs.Places.{PartPlace, Start, part_text, place_after}
+use Rattle.cert_text.specs.Reading.{ReaderState, Reading}
 use Rattle.ot_outside.specs.declared.feed.Feed.{Ghosts}
 use Rattle.ot_questions.specs.declared.why.Why.{Why}
 use Rattle.ot_questions.specs.Obligation.{plan_of}
@@ -31,11 +31,11 @@ line_of_level f Tp1 = refl
 line_of_level f Tp2 = refl
 
 -- a reader of certificates of the function, before the header
-abbrev pub reader_of : Function → Progress
+abbrev pub reader_of : Function → ReaderState
 reader_of f = Reading (Start (obligations_of f.head Tp1) (obligations_of f.head Tp2)) 0 []
 
 pub at_start :
-    (f : Function) (head : Head) (tp1 tp2 : List ObName) (r : Progress) → r ≡ Reading (Start tp1 tp2) 0 [] → tp1 ≡ obligations_of head Tp1
+    (f : Function) (head : Head) (tp1 tp2 : List ObName) (r : ReaderState) → r ≡ Reading (Start tp1 tp2) 0 [] → tp1 ≡ obligations_of head Tp1
     → tp2 ≡ obligations_of head Tp2 → head ≡ f.head → r ≡ reader_of f
 at_start f head tp1 tp2 r is one two same =
     is ∙ ap (λ (l : List ObName). Reading (Start l tp2) 0 []) (one ∙ ap (λ (h : Head). obligations_of h Tp1) same)
@@ -76,7 +76,7 @@ module _ {F : Type 0} (feeds : Ghosts F) (f : Function) (feed new : F) where
       (header : Came feeds (fed (reader_of f) feed) first (record { offset = 0; part = part.Header level })) where
     pub first_line : IsLineWith (obligations_of f.head level) (place_of first.reader)
     first_line =
-        subst (λ (p : Place). IsLineWith (obligations_of f.head level) p) (sym (ap place_of header.part.behind)) (line_of_level f level)
+        subst (λ (p : PartPlace). IsLineWith (obligations_of f.head level) p) (sym (ap place_of header.part.behind)) (line_of_level f level)
 
     -- what is judged behind the header is judged of it too
     pub behind_header :
@@ -86,7 +86,7 @@ module _ {F : Type 0} (feeds : Ghosts F) (f : Function) (feed new : F) where
         let there = judged all have in
         let here : FitThen (plan_of f) end (point_behind (start_of f) (part.Header level) []) there.0 there.2.0 =
         subst (λ (p : Point Why). FitThen (plan_of f) end p there.0 there.2.0)
-        (ap (λ (r : Progress). point_of (stand (fed r first.feed) [])) header.part.behind) there.2.1 in (
+        (ap (λ (r : ReaderState). point_of (stand (fed r first.feed) [])) header.part.behind) there.2.1 in (
           part_text (place_of (reader_of f)) (part.Header level) ++ there.0,
           header.bytes all there.0 there.1,
           (there.2.0, (header.part.stands, (there.0, [], refl, refl, here))),

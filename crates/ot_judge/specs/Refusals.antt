@@ -6,7 +6,7 @@ use Rattle.fn_rules.specs.Functions.{Function}
 use Rattle.fn_rules.specs.Obligations.{obligations_of}
 use Rattle.cert_text.specs.declared.item.Part.{Part}
 use Rattle.cert_text.specs.declared.item.Part.TheVariants.{Header}
-use Rattle.cert_text.specs.Places.{Place, Start, Line, Tree, Finish}
+use Rattle.cert_text.specs.Places.{PartPlace, Start, Line, Tree, Finish}
 use Rattle.ot_questions.specs.declared.why.Why.{Why}
 use Rattle.ot_questions.specs.Obligation.{plan_of}
 use Rattle.ot_sections.specs.declared.refusal.Refusal.{Refusal}
@@ -16,7 +16,7 @@ use Rattle.ot_sections.specs.Certificates.{IsCertificate}
 use Rattle.ot_sections.specs.Parts.{Point, FitThen, IsJudged}
 
 -- the place before the header
-abbrev pub IsStart : Place → Type 0
+abbrev pub IsStart : PartPlace → Type 0
 IsStart (Start tp1 tp2) = Unit {0}
 IsStart (Line came names) = ⊥
 IsStart (Tree came names branches) = ⊥

@@ -32,7 +32,7 @@ use Rattle.ot_questions.specs.Names.{length_name, zero_name}
 use Rattle.ot_questions.specs.Obligation.{plan_below, plan_of}
 use Rattle.ot_sections.specs.declared.premise.TheConstants.{MAX_BOUND}
 use Rattle.ot_sections.specs.Certificates.{AreAnswers}
-use Rattle.ot_decide.specs.declared.verdict.Search.TheVariants as search
+use Rattle.ot_decide.specs.declared.verdict.SearchVerdict.TheVariants as search
 use Rattle.ot_decide.specs.Proving.{AreSettled}
 use Rattle.ot_decide.specs.Verdicts.{AreAsked, FailingOb, ObQuestions, failing_in}
 use Rattle.ot_least.specs.declared.ending.Ending.{Ending}

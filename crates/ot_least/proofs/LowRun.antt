@@ -5,7 +5,7 @@ use Rattle.fn_rules.specs.declared.function.Level.{Level}
 use Rattle.fn_rules.specs.declared.function.ObName.{ObName}
 use Rattle.fn_rules.specs.Functions.{Function}
 use Rattle.cert_text.specs.Places.{Line}
-use Rattle.cert_text.specs.Reading.{Progress, Reading}
+use Rattle.cert_text.specs.Reading.{ReaderState, Reading}
 use Rattle.ot_outside.specs.declared.feed.Feed.{Ghosts}
 use Rattle.ot_questions.specs.declared.why.Why.{Why}
 use Rattle.ot_questions.specs.Obligation.{plan_below}
@@ -38,7 +38,7 @@ module _ {F : Type 0} (feeds : Ghosts F) (f : Function) (feed new : F) where
   -- behind a first line that was read
   module _ (level : Level) (bound : ℕ) (bounded : bound ≤ MAX_BOUND) (first : F)
       (header : (all : Whole) (rest : List ℕ) → Yields feeds first all rest → Yields feeds feed all (low_header_text level bound ++ rest))
-      (reader : Progress) (at : point_of {W = Why} (stand (fed reader first) []) ≡ behind_header f level bound) where
+      (reader : ReaderState) (at : point_of {W = Why} (stand (fed reader first) []) ≡ behind_header f level bound) where
     -- a low certificate is its first line, and what is judged after it
     pub judged_behind :
         (end : Result (Unit {0}) JudgeError) → IsJudgedBehind feeds (plan_below f (Some bound)) (stand (fed reader first) []) new end
@@ -69,7 +69,7 @@ module _ {F : Type 0} (feeds : Ghosts F) (f : Function) (feed new : F) where
 
 -- the point of a reader that begins behind the first line
 pub point_is :
-    {F : Type 0} (f : Function) (head : Head) (level : Level) (bound before : ℕ) (names : List ObName) (reader : Progress) (feed : F)
+    {F : Type 0} (f : Function) (head : Head) (level : Level) (bound before : ℕ) (names : List ObName) (reader : ReaderState) (feed : F)
     → reader ≡ Reading (Line 0 names) before [] → names ≡ parts_of head level → head ≡ f.head
     → before ≡ length (low_header_text level bound) → point_of {W = Why} (stand (fed reader feed) []) ≡ behind_header f level bound
 point_is f head level bound before names reader feed is listed same counted =
@@ -77,7 +77,7 @@ point_is f head level bound before names reader feed is listed same counted =
     let whole : reader ≡ Reading (Line 0 (parts_of f.head level)) (length (low_header_text level bound)) [] =
     is ∙ ap (λ (l : List ObName). Reading (Line 0 l) before []) all
     ∙ ap (λ (n : ℕ). Reading (Line 0 (parts_of f.head level)) n []) counted in
-    ap (λ (r : Progress). point_of {W = Why} (stand (fed r feed) [])) whole
+    ap (λ (r : ReaderState). point_of {W = Why} (stand (fed r feed) [])) whole
 
 -- some bytes that a feed may give have the judgement, and no other answer is that of bytes that are told
 module _ {F : Type 0} (left : F → Option (List ℕ)) (bound : F → ℕ) (gave hand : F → List ℕ) where

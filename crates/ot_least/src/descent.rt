@@ -16,7 +16,7 @@ use crate::short::Short;
 use ask_core::{NoMemory, fitting_trees_hold};
 use cert_text::write_end;
 use fn_rules::{Level, Rules, rules_are_valid};
-use ot_decide::{Search, Verdict, failing_triples_show_tp1, prove_all, search_all};
+use ot_decide::{SearchVerdict, Verdict, failing_triples_show_tp1, prove_all, search_all};
 use ot_questions::{Why, triple_plans_mean_tp2};
 use ot_sections::MAX_BOUND;
 use std::alloc::Global;
@@ -41,7 +41,7 @@ fn descend(alloc: Global, rules: &Rules, budget: u64, end: Ending) -> Result<Sho
     let mut cert = Vec::new(alloc);
     write_low_header(level, end.cells, &mut cert)?;
     match search_all(alloc, rules, Some(end.cells), &names, budget, &mut cert)? {
-        Search::AllHold => {
+        SearchVerdict::AllHold => {
             write_end(&mut cert)?;
             let Ending {
                 ob,
@@ -57,11 +57,11 @@ fn descend(alloc: Global, rules: &Rules, budget: u64, end: Ending) -> Result<Sho
                 cert,
             })
         }
-        Search::Fails { ob, answers, why } => {
+        SearchVerdict::Fails { ob, answers, why } => {
             let next = shorter_ending(alloc, rules, end.cells, ob, answers, why)?;
             descend(alloc, rules, budget, next)
         }
-        Search::Spent => Ok(Short::Spent),
+        SearchVerdict::Spent => Ok(Short::Spent),
     }
 }
 

@@ -13,7 +13,7 @@ use Rattle.ot_questions.specs.declared.place.SymOp.{SymOp}
 use Rattle.ot_questions.specs.declared.place.SymOp.TheVariants as ops
 use Rattle.ot_questions.specs.Names.{name_count}
 use Rattle.ot_questions.specs.Places.{sym_kind}
-use Rattle.ot_terms.specs.declared.goal.Progress.{Progress}
+use Rattle.ot_terms.specs.declared.goal.GoalProgress.{GoalProgress}
 use Rattle.ot_terms.specs.Belonging.{AreMade, AreResults, HasNames, HasParts, HasPlaces, IsCellOf, IsChoiceOf, IsDocOf}
 use Rattle.ot_terms.specs.Belonging.{IsMade, IsMoved, IsNextResult, IsProgressOf, next_operands, reach_of}
 use Rattle.ot_terms.specs.Cells as cells
@@ -128,12 +128,14 @@ AreResults-prop ob os before [] = hlevel props
 AreResults-prop ob os before (r ∷ got) =
     hlevel (IsNextResult-prop ob os before r, AreResults-prop ob os (before ++ r ∷ []) got)
 
-IsProgressOf-prop : (ob : ObName) (plan : Progress) → IsProp (IsProgressOf ob plan)
-IsProgressOf-prop ob plan = hlevel (AreMade-prop ob plan.ops, AreResults-prop ob plan.ops [] (results_of plan), props)
+IsProgressOf-prop : (ob : ObName) (progress : GoalProgress) → IsProp (IsProgressOf ob progress)
+IsProgressOf-prop ob progress =
+    hlevel (AreMade-prop ob progress.ops, AreResults-prop ob progress.ops [] (results_of progress), props)
 
 IsChoiceOf-prop :
-    (f : Function) (ob : ObName) (case : ℕ) (a b : SymOp) (plan : Progress) → IsProp (IsChoiceOf f ob case a b plan)
-IsChoiceOf-prop f ob case a b plan = hlevel (IsProgressOf-prop ob plan, props)
+    (f : Function) (ob : ObName) (case : ℕ) (a b : SymOp) (progress : GoalProgress)
+    → IsProp (IsChoiceOf f ob case a b progress)
+IsChoiceOf-prop f ob case a b progress = hlevel (IsProgressOf-prop ob progress, props)
 
 -- the parts of a goal
 HasParts-prop : (f : Function) (ob : ObName) (g : GoalTree) → IsProp (HasParts f ob g)
@@ -141,9 +143,9 @@ HasParts-prop f ob Holds = hlevel props
 HasParts-prop f ob (Fails why) = hlevel props
 HasParts-prop f ob (If g on_yes on_no) =
     hlevel (HasPlaces-prop (name_count ob) g, HasParts-prop f ob on_yes, HasParts-prop f ob on_no)
-HasParts-prop f ob (Choose case a b plan) = IsChoiceOf-prop f ob case a b plan
-HasParts-prop f ob (Deliver o plan) =
-    hlevel (IsProgressOf-prop ob plan, IsNextResult-prop ob plan.ops (results_of plan) o)
+HasParts-prop f ob (Choose case a b progress) = IsChoiceOf-prop f ob case a b progress
+HasParts-prop f ob (Deliver o progress) =
+    hlevel (IsProgressOf-prop ob progress, IsNextResult-prop ob progress.ops (results_of progress) o)
 HasParts-prop f ob (Same left right) =
     hlevel (IsCellOf-prop f.head.mode (name_count ob) left, IsCellOf-prop f.head.mode (name_count ob) right)
 

@@ -14,7 +14,7 @@ use Rattle.ask_core.specs.Questions.{Questions, QuestionList, no_questions}
 use Rattle.ask_core.specs.Paths.{OpenPlace, AreOwn, branches_at, after_question, first_answers}
 use Rattle.ot_prove.specs.Outcomes.{asked_along, Decides}
 use Rattle.ot_prove.specs.declared.outcome.Outcome.{Outcome}
-use Rattle.ot_prove.specs.declared.search.Search.{Search}
+use Rattle.ot_prove.specs.declared.search.PlanSearch.{PlanSearch}
 use Rattle.ot_prove.specs.declared.split.Room.{Room}
 use Rattle.ot_prove.specs.declared.split.Room.TheVariants.{Both, OnlyYes, OnlyNo}
 use Rattle.ot_prove.specs.Sides.{Rows, AreJudged, JudgesSides, cycles_of}
@@ -107,11 +107,11 @@ abbrev pub known_by : Bool → List (Option (List ℕ)) → List (Option (List �
 known_by true cycles = None ∷ cycles
 known_by false cycles = cycles
 
-abbrev pub known_of : {N : Type 0} → Search N → List (Option (List ℕ))
+abbrev pub known_of : {N : Type 0} → PlanSearch N → List (Option (List ℕ))
 known_of s = known_by s.possible s.cycles
 
 -- the same of a search, whose last table is that of the first place that some integers meet
-abbrev pub IsUnderWay : {N W : Type 0} → (N → Type 0) → (N → Plan W) → Plan W → ℕ → Search N → Type 0
+abbrev pub IsUnderWay : {N W : Type 0} → (N → Type 0) → (N → Plan W) → Plan W → ℕ → PlanSearch N → Type 0
 IsUnderWay is_own plan root budget s =
     IsSearching is_own plan root budget s.path (known_of s) (reverse s.tables.items) s.tree s.asked
 
@@ -127,7 +127,7 @@ GoesOn OnlyNo numbers places cycles tree new_places new_cycles new_tree =
     (new_places ≡ drop 1 places) × (new_cycles ≡ cycles) × (new_tree ≡ tree ++ token.Cycle numbers ∷ [])
 
 -- the literal is asked at the first place, and its sides are judged
-abbrev pub HasAsked : {N : Type 0} → Lit → N → N → Search N → Search N → Type 0
+abbrev pub HasAsked : {N : Type 0} → Lit → N → N → PlanSearch N → PlanSearch N → Type 0
 HasAsked l on_yes on_no before after =
     (room : Room) × (numbers : List ℕ)
     × JudgesSides l (length (first_answers before.path)) before.cycles (reverse before.tables.items)
@@ -136,7 +136,7 @@ HasAsked l on_yes on_no before after =
     after.path after.cycles after.tree
 
 -- the first place had a cycle and is closed with it, or some integers meet its answers
-abbrev pub HasClosed : {N : Type 0} → Search N → Search N → Bool → Type 0
+abbrev pub HasClosed : {N : Type 0} → PlanSearch N → PlanSearch N → Bool → Type 0
 HasClosed before after true =
     (picks : List ℕ) × (known_of before ≡ Some picks ∷ known_of after) × (after.path ≡ drop 1 before.path)
     × (after.tables.items ≡ before.tables.items) × (after.tree ≡ before.tree ++ token.Cycle picks ∷ [])
@@ -150,12 +150,13 @@ abbrev pub AgreesWithLists : {W : Type 0} → Plan W → ℕ → Outcome W → T
 AgreesWithLists {W = W} p budget o = (q : Questions W) → QuestionList p [] q → Decides p budget q o
 
 -- a step leaves a search under way, or the outcome
-abbrev pub IsUnderWayOr : {N W : Type 0} → (N → Type 0) → (N → Plan W) → Plan W → ℕ → Search N → Option (Outcome W)
+abbrev pub IsUnderWayOr : {N W : Type 0} → (N → Type 0) → (N → Plan W) → Plan W → ℕ → PlanSearch N → Option (Outcome W)
     → Type 0
 IsUnderWayOr is_own plan root budget s r =
     MatchOption r (IsUnderWay is_own plan root budget s) (λ o. AgreesWithLists root budget o)
 
 -- where it leaves a search, the plans that are open weigh less than before
-abbrev pub WeighsLess : {N W : Type 0} → (N → Plan W) → (N → Plan W) → Search N → Search N → Option (Outcome W) → Type 0
+abbrev pub WeighsLess : {N W : Type 0} → (N → Plan W) → (N → Plan W) → PlanSearch N → PlanSearch N
+    → Option (Outcome W) → Type 0
 WeighsLess old new before after r =
     MatchOption r (weight_of (branches_at new after.path) < weight_of (branches_at old before.path)) (λ _. Unit {0})

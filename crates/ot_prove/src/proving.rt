@@ -7,7 +7,7 @@ ghost use Rattle.ot_prove.specs.Outcomes.{IsDecided};
 use crate::NoMemory;
 use crate::laws::{plans_have_one_question_list, question_lists_are_possible};
 use crate::outcome::Outcome;
-use crate::search::{Search, step};
+use crate::search::{PlanSearch, step};
 use ask_core::Asker;
 use std::alloc::Global;
 
@@ -31,7 +31,7 @@ pub fn prove<A: Asker>(
     plans_have_one_question_list::<A::Why>();
     question_lists_are_possible::<A::Why>();
     let first = asker.start()?;
-    let mut search = Search::begin(alloc, first)?;
+    let mut search = PlanSearch::begin(alloc, first)?;
     'places: while search.path.is_open() {
         if let Some(outcome) = step(alloc, asker, &mut search, budget)? {
             return Ok(outcome);

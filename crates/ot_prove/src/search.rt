@@ -25,7 +25,7 @@ use std::alloc::Global;
 /// places that some integers meet have a table each, the last one that of the first of them. `numbers` is where a
 /// cycle is read from a table.
 #[derive(Drop)]
-pub struct Search<N: Copy> {
+pub struct PlanSearch<N: Copy> {
     pub path: Path<N>,
     pub possible: bool,
     pub cycles: Cycles,
@@ -35,9 +35,9 @@ pub struct Search<N: Copy> {
     pub numbers: Vec<u32>,
 }
 
-impl<N: Copy> Search<N> {
+impl<N: Copy> PlanSearch<N> {
     /// A search with one open place, to which no answers lead.
-    pub fn begin(alloc: Global, first: N) -> Result<Search<N>, NoMemory>
+    pub fn begin(alloc: Global, first: N) -> Result<PlanSearch<N>, NoMemory>
         ensures path { IfOk result (λ s. s.path ≡ record { node = first; answers = [] } ∷ []) }
         ensures cycles { IfOk result (λ s. (s.possible ≡ true) × (s.cycles ≡ [])) }
         ensures tables { IfOk result (λ s. (length s.tables.items ≡ 1)
@@ -46,7 +46,7 @@ impl<N: Copy> Search<N> {
     {
         let mut tables = Vec::new(alloc);
         tables.push(Bounds::new())?;
-        Ok(Search {
+        Ok(PlanSearch {
             path: Path::new(alloc, first),
             possible: true,
             cycles: Cycles::new(alloc),
@@ -132,7 +132,7 @@ impl<N: Copy> Search<N> {
 fn take_turn<A: Asker>(
     alloc: Global,
     asker: &mut A,
-    search: &mut Search<A::Node>,
+    search: &mut PlanSearch<A::Node>,
     budget: u64,
 ) -> Result<Option<Outcome<A::Why>>, NoMemory>
     requires names { A.name_count asker.old ≤ MAX_NAMES }
@@ -173,7 +173,7 @@ fn take_turn<A: Asker>(
 pub fn step<A: Asker>(
     alloc: Global,
     asker: &mut A,
-    search: &mut Search<A::Node>,
+    search: &mut PlanSearch<A::Node>,
     budget: u64,
 ) -> Result<Option<Outcome<A::Why>>, NoMemory>
     requires names { A.name_count asker.old ≤ MAX_NAMES }

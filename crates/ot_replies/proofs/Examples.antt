@@ -6,7 +6,7 @@ use Rattle.ot_model.specs.Cells.{live_cell}
 use Rattle.ot_model.specs.declared.op.Op.TheVariants.{Ins, Del}
 use Rattle.fn_rules.specs.declared.function.Level.TheVariants.{Tp2}
 use Rattle.ot_questions.specs.declared.why.Why.TheVariants.{Operations}
-use Rattle.ot_counter.specs.declared.counter.Side.TheVariants.{Op}
+use Rattle.ot_counter.specs.declared.counter.WayResult.TheVariants.{Op}
 use Rattle.ot_replies.specs.CounterTexts.{counter_text, line_of}
 use Rattle.ot_replies.specs.HubTexts.{hub_text}
 

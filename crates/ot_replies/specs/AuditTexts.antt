@@ -12,8 +12,8 @@ use Rattle.ot_audit.specs.declared.audits.Audit.TheVariants as audits
 use Rattle.ot_audit.specs.declared.audits.BlockAudit.{BlockAudit}
 use Rattle.ot_audit.specs.declared.audits.Same.{Same}
 use Rattle.ot_audit.specs.declared.audits.Same.TheVariants as sames
-use Rattle.ot_counter.specs.Sides.{operation_side}
-use Rattle.ot_replies.specs.CounterTexts.{line_of, op_lines, op_text, side_text}
+use Rattle.ot_counter.specs.Ways.{operation_result}
+use Rattle.ot_replies.specs.CounterTexts.{line_of, op_lines, op_text, way_text}
 
 -- each case is taken somewhere, and nowhere is the block open
 abbrev pub is_total : BlockAudit → Bool
@@ -69,8 +69,8 @@ audit_text audits.Spent = spent_text
 abbrev pub difference_text : Kind → Kind → List Op → Option Op → Option Op → List ℕ
 difference_text k l ops left right =
     line_of (codes "differ " ++ name_text (Pair k l)) ++ op_lines 1 ops
-    ++ line_of (codes "left " ++ side_text (operation_side left))
-    ++ line_of (codes "right " ++ side_text (operation_side right))
+    ++ line_of (codes "left " ++ way_text (operation_result left))
+    ++ line_of (codes "right " ++ way_text (operation_result right))
 
 -- whether two functions agree, or where they do not
 abbrev pub same_text : Same → List ℕ

@@ -8,8 +8,8 @@ use Rattle.case_json.specs.DocText.{char_text}
 use Rattle.ot_questions.specs.declared.why.Why.{Why}
 use Rattle.ot_questions.specs.declared.why.Why.TheVariants as why
 use Rattle.ot_counter.specs.declared.counter.Counter.{Counter}
-use Rattle.ot_counter.specs.declared.counter.Side.{Side}
-use Rattle.ot_counter.specs.declared.counter.Side.TheVariants as sides
+use Rattle.ot_counter.specs.declared.counter.WayResult.{WayResult}
+use Rattle.ot_counter.specs.declared.counter.WayResult.TheVariants as ways
 use Rattle.ot_replies.specs.DocumentTexts.{document_text}
 
 -- how the property fails
@@ -30,11 +30,11 @@ op_text (ops.Upd at ch site) =
 op_text ops.Nop = codes "nop"
 
 -- what the interpreter gives on one way
-abbrev pub side_text : Side → List ℕ
-side_text sides.Undefined = codes "undefined"
-side_text sides.OutOfRange = codes "range"
-side_text (sides.Doc d) = document_text d
-side_text (sides.Op o) = op_text o
+abbrev pub way_text : WayResult → List ℕ
+way_text ways.Undefined = codes "undefined"
+way_text ways.OutOfRange = codes "range"
+way_text (ways.Doc d) = document_text d
+way_text (ways.Op o) = op_text o
 
 -- a line of this text
 abbrev pub line_of : List ℕ → List ℕ
@@ -50,4 +50,4 @@ abbrev pub counter_text : Counter → List ℕ
 counter_text c =
     line_of (codes "no " ++ level_text c.level ++ codes " " ++ why_word c.why)
     ++ line_of (codes "doc " ++ document_text c.doc)
-    ++ op_lines 1 c.ops ++ line_of (codes "left " ++ side_text c.left) ++ line_of (codes "right " ++ side_text c.right)
+    ++ op_lines 1 c.ops ++ line_of (codes "left " ++ way_text c.left) ++ line_of (codes "right " ++ way_text c.right)

@@ -2,11 +2,11 @@
 use Rattle.std.specs.Prelude.{ℕ, List, [], ◌∷◌, ◌++◌, codes, Option, Some, None}
 use Rattle.ot_model.specs.declared.cell.Cell.{Cell}
 use Rattle.ot_model.specs.declared.op.Op.{Op}
-use Rattle.ot_counter.specs.Sides.{operation_side}
+use Rattle.ot_counter.specs.Ways.{operation_result}
 use Rattle.ot_reverse.specs.declared.back.Back.{Back}
 use Rattle.ot_reverse.specs.declared.back.Back.TheVariants as backs
 use Rattle.ot_replies.specs.AuditTexts.{spent_text}
-use Rattle.ot_replies.specs.CounterTexts.{line_of, op_lines, side_text}
+use Rattle.ot_replies.specs.CounterTexts.{line_of, op_lines, way_text}
 use Rattle.ot_replies.specs.DocumentTexts.{document_text}
 
 -- whether all is taken back, or a question list is too long
@@ -26,8 +26,8 @@ abbrev pub loss_text : List Cell → List Op → Option Op → Option Op → Lis
 loss_text doc ops there back =
     line_of (codes "no reverse " ++ loss_word there back) ++ line_of (codes "doc " ++ document_text doc)
     ++ op_lines 1 ops
-    ++ line_of (codes "there " ++ side_text (operation_side there))
-    ++ line_of (codes "back " ++ side_text (operation_side back))
+    ++ line_of (codes "there " ++ way_text (operation_result there))
+    ++ line_of (codes "back " ++ way_text (operation_result back))
 
 -- whether all is taken back, or where it is not
 abbrev pub reversal_text : Back → List ℕ

@@ -16,7 +16,7 @@ use Rattle.ot_questions.specs.Names.{name_count}
 use Rattle.ot_questions.specs.Nears.{IsNearCase}
 use Rattle.ot_questions.specs.Places.{sym_kind, sym_result}
 use Rattle.ot_questions.specs.Questions.{ask_guard, ask_first_result, ask_result_by_kinds, or_undefined, ask_transform}
-use Rattle.ot_terms.specs.declared.goal.Progress.{Progress}
+use Rattle.ot_terms.specs.declared.goal.GoalProgress.{GoalProgress}
 use Rattle.ot_terms.specs.Goals.{Choose}
 use Rattle.ot_terms.specs.Placing.{guard_form}
 use Rattle.ot_terms.specs.Standing.{ask_goal, ask_with, from_case, results_of}
@@ -57,7 +57,7 @@ case_falls g w rest form before after e d h = omega arith
 
 -- what may come of the two operations of the next transformation may be the next result
 next_result :
-    (ob : ObName) (plan : Progress) (a b r : SymOp) → next_operands ob plan.ops (results_of plan) ≡ Some (a, b)
+    (ob : ObName) (plan : GoalProgress) (a b r : SymOp) → next_operands ob plan.ops (results_of plan) ≡ Some (a, b)
     → (r ≡ ops.Nop) ⊎ IsMoved (name_count ob) (reach_of ob (length (results_of plan))) a r
     → IsNextResult ob plan.ops (results_of plan) r
 next_result ob plan a b r next h =
@@ -81,7 +81,7 @@ module _ (f : Function) (a b : SymOp) (k l : Kind) (there : sym_kind a ≡ Some 
       ∙ ap (λ t. ask_result_by_kinds (from_case n f) a b (Some k) t (or_undefined go)) other
 
   asked_of_cases :
-      (cs : List GuardedCase) (n : ℕ) (plan : Progress) → drop n (f.cases k l) ≡ cs
+      (cs : List GuardedCase) (n : ℕ) (plan : GoalProgress) → drop n (f.cases k l) ≡ cs
       → ask_goal f (choose_case cs n a b plan) ≡ ask_first_result cs a b (or_undefined (ask_with f plan))
   unfolding ask_goal
   asked_of_cases [] n plan e = refl
@@ -93,7 +93,7 @@ module _ (f : Function) (a b : SymOp) (k l : Kind) (there : sym_kind a ≡ Some 
 
   -- the choice by the first case that is left is lighter than the goal
   lighter_of_cases :
-      (cs : List GuardedCase) (n : ℕ) (plan : Progress) → drop n (f.cases k l) ≡ cs
+      (cs : List GuardedCase) (n : ℕ) (plan : GoalProgress) → drop n (f.cases k l) ≡ cs
       → goal_weight f (choose_case cs n a b plan) < goal_weight f (Choose n a b plan)
   lighter_of_cases [] n plan e = omega arith
   lighter_of_cases (c ∷ cs) n plan e =
@@ -108,7 +108,7 @@ module _ (f : Function) (a b : SymOp) (k l : Kind) (there : sym_kind a ≡ Some 
   module _ (ob : ObName) (valid : IsTrue (is_valid f)) where
     -- the choice by the first case that is left has parts of the obligation
     parts_of_cases :
-        (cs : List GuardedCase) (n : ℕ) (plan : Progress) → drop n (f.cases k l) ≡ cs → IsTrue (is_obligation f.head ob)
+        (cs : List GuardedCase) (n : ℕ) (plan : GoalProgress) → drop n (f.cases k l) ≡ cs → IsTrue (is_obligation f.head ob)
         → IsChoiceOf f ob n a b plan → HasParts f ob (choose_case cs n a b plan)
     parts_of_cases [] n plan e d h = tt
     parts_of_cases (c ∷ cs) n plan e d h =
@@ -133,7 +133,7 @@ module _ (f : Function) (a b : SymOp) (k l : Kind) (there : sym_kind a ≡ Some 
           },
         )
 
-module _ (f : Function) (ob : ObName) (case : ℕ) (a b : SymOp) (plan : Progress) where
+module _ (f : Function) (ob : ObName) (case : ℕ) (a b : SymOp) (plan : GoalProgress) where
   -- the choice by the kinds of the two operations asks what the transformation asks
   asked_of_kinds :
       (ka kb : Option Kind) → sym_kind a ≡ ka → sym_kind b ≡ kb

@@ -19,7 +19,7 @@ use Rattle.ot_questions.specs.Names.{name_count}
 use Rattle.ot_questions.specs.Nears.{IsNear}
 use Rattle.ot_questions.specs.Places.{zero_place, length_and, index_and, sym_kind, sym_at, growth}
 use Rattle.ot_questions.proofs.Nears.{IsNear-zero, IsNear-plus}
-use Rattle.ot_terms.specs.declared.goal.Progress.{Progress}
+use Rattle.ot_terms.specs.declared.goal.GoalProgress.{GoalProgress}
 use Rattle.ot_terms.specs.Documents as documents
 use Rattle.ot_terms.specs.Documents.{DocTree}
 use Rattle.ot_terms.specs.Goals.{GoalTree, Fails, Deliver}
@@ -238,12 +238,12 @@ AreResults-more ob os before (x ∷ got) r h next = (
       (subst (λ t. IsNextResult ob os t r) (sym (append_assoc before (x ∷ []) got)) next),
 )
 
-within_room : (ob : ObName) (plan : Progress) → IsProgressOf ob plan → plan.count < length plan.got
+within_room : (ob : ObName) (plan : GoalProgress) → IsProgressOf ob plan → plan.count < length plan.got
 within_room (Pair k l) plan h = let room : length plan.got ≡ 6 = h.room in let awaited : plan.count < 2 = h.awaited in omega arith
 within_room (Triple k l m) plan h = let room : length plan.got ≡ 6 = h.room in let awaited : plan.count < 6 = h.awaited in omega arith
 
 -- a result of the obligation that the progress is of
-module _ (f : Function) (r : SymOp) (plan : Progress) (d : IsTrue (is_obligation f.head plan.ob)) where
+module _ (f : Function) (r : SymOp) (plan : GoalProgress) (d : IsTrue (is_obligation f.head plan.ob)) where
   results_more :
       IsProgressOf plan.ob plan → IsNextResult plan.ob plan.ops (results_of plan) r
       → AreResults plan.ob plan.ops [] (results_of (with_result plan r))
@@ -288,7 +288,7 @@ module _ (f : Function) (r : SymOp) (plan : Progress) (d : IsTrue (is_obligation
   }
 
 pub deliver_rule :
-    (f : Function) (ob : ObName) (r : SymOp) (plan : Progress) → IsTrue (is_obligation f.head ob) → HasParts f ob (Deliver r plan)
+    (f : Function) (ob : ObName) (r : SymOp) (plan : GoalProgress) → IsTrue (is_obligation f.head ob) → HasParts f ob (Deliver r plan)
     → IsRewriting f ob (Deliver r plan) (rewrite_deliver f r plan)
 deliver_rule f ob r plan d h =
     subst

@@ -9,7 +9,7 @@ use Rattle.ot_questions.specs.declared.place.SymOp.{SymOp}
 use Rattle.ot_questions.specs.declared.why.Why.{Why}
 use Rattle.ot_questions.specs.Questions.{ask_transform}
 use Rattle.ot_questions.specs.Obligation.{ask_converge, ask_behind, ask_commute}
-use Rattle.ot_terms.specs.declared.goal.Progress.{Progress}
+use Rattle.ot_terms.specs.declared.goal.GoalProgress.{GoalProgress}
 use Rattle.ot_terms.specs.Goals.{Deliver}
 use Rattle.ot_terms.specs.Standing.{ask_goal, ask_after, ask_pair_after, ask_second_way_after, ask_triple_after, results_of}
 use Rattle.ot_terms.specs.Belonging.{AreMade, next_operands}
@@ -24,7 +24,7 @@ taken_set (y ∷ ys) (suc n) x h = ap (λ t. y ∷ t) (taken_set ys n x (omega a
 
 -- one more result stands behind those that are there
 pub results_of-with_result :
-    (plan : Progress) (r : SymOp) → plan.count < length plan.got → results_of (with_result plan r) ≡ results_of plan ++ r ∷ []
+    (plan : GoalProgress) (r : SymOp) → plan.count < length plan.got → results_of (with_result plan r) ≡ results_of plan ++ r ∷ []
 results_of-with_result plan r h = taken_set plan.got plan.count r h
 
 -- a triple has three operations
@@ -38,7 +38,7 @@ module _ (f : Function) where
   ask_on ob os got None = ask_goal f (end_goal f.head.mode ob os got)
 
   go_on_asks :
-      (plan : Progress) (next : Option (SymOp × SymOp))
+      (plan : GoalProgress) (next : Option (SymOp × SymOp))
       → ask_goal f (go_on f plan next) ≡ ask_on plan.ob plan.ops (results_of plan) next
   unfolding ask_goal
   go_on_asks plan (Some pair) = refl
@@ -65,7 +65,7 @@ module _ (f : Function) where
   next_asks (Triple k l m) (a ∷ b ∷ c ∷ os) (x ∷ y ∷ left ∷ u ∷ v ∷ right ∷ got) made = one_form_asks f left right
 
   pub deliver_asks :
-      (r : SymOp) (plan : Progress) → AreMade plan.ob plan.ops → plan.count < length plan.got
+      (r : SymOp) (plan : GoalProgress) → AreMade plan.ob plan.ops → plan.count < length plan.got
       → ask_goal f (rewrite_deliver f r plan) ≡ ask_goal f (Deliver r plan)
   unfolding ask_goal
   deliver_asks r plan made h =

@@ -17,7 +17,7 @@ use Rattle.ot_questions.specs.declared.place.SymOp.{SymOp}
 use Rattle.ot_questions.specs.declared.place.SymOp.TheVariants.{Ins, Del, Upd, Nop}
 use Rattle.ot_questions.specs.declared.why.Why.TheVariants.{Lengths}
 use Rattle.ot_questions.specs.Places.{sym_kind, sym_at, growth}
-use Rattle.ot_terms.specs.declared.goal.Progress.{Progress}
+use Rattle.ot_terms.specs.declared.goal.GoalProgress.{GoalProgress}
 use Rattle.ot_terms.specs.Documents.{DocTree}
 use Rattle.ot_terms.specs.Goals.{GoalTree, Fails, Deliver}
 use Rattle.ot_terms.specs.Changes.{changed, doc_of}
@@ -66,7 +66,7 @@ next_within (Triple k l m) (a ∷ b ∷ c ∷ os) (x ∷ y ∷ z ∷ u ∷ v ∷
 next_within (Triple k l m) (a ∷ b ∷ c ∷ os) (x ∷ y ∷ z ∷ u ∷ v ∷ w ∷ got) pair e = absurd (cc)
 
 pub count_with_result :
-    (plan : Progress) (r : SymOp) → plan.count < length plan.got → length (results_of (with_result plan r)) ≡ suc plan.count
+    (plan : GoalProgress) (r : SymOp) → plan.count < length plan.got → length (results_of (with_result plan r)) ≡ suc plan.count
 count_with_result plan r h =
     let there : length (results_of plan) ≡ plan.count = length-take-le plan.count plan.got (omega arith) in
     let more : length (results_of plan ++ r ∷ []) ≡ length (results_of plan) + 1 = length-append (results_of plan) (r ∷ []) in
@@ -75,7 +75,7 @@ count_with_result plan r h =
     omega arith
 
 pub awaits_next :
-    (plan : Progress) (r : SymOp) (pair : SymOp × SymOp) → plan.count < length plan.got
+    (plan : GoalProgress) (r : SymOp) (pair : SymOp × SymOp) → plan.count < length plan.got
     → next_operands plan.ob plan.ops (results_of (with_result plan r)) ≡ Some pair → suc plan.count < transforms_of plan.ob
 awaits_next plan r pair h e =
     let within = next_within plan.ob plan.ops (results_of (with_result plan r)) pair e in
@@ -169,7 +169,7 @@ module _ (f : Function) where
 
   -- what comes after a result is lighter than its delivery
   go_on_falls :
-      (r : SymOp) (plan : Progress) (next : Option (SymOp × SymOp)) → plan.count < length plan.got
+      (r : SymOp) (plan : GoalProgress) (next : Option (SymOp × SymOp)) → plan.count < length plan.got
       → next_operands plan.ob plan.ops (results_of (with_result plan r)) ≡ next
       → goal_weight f (go_on f (with_result plan r) next) < goal_weight f (Deliver r plan)
   go_on_falls r plan (Some pair) h e =
@@ -181,7 +181,7 @@ module _ (f : Function) where
       (end_goal_weight f.head.mode plan.ob plan.ops (results_of (with_result plan r)))
 
   pub deliver_falls :
-      (r : SymOp) (plan : Progress) → plan.count < length plan.got
+      (r : SymOp) (plan : GoalProgress) → plan.count < length plan.got
       → goal_weight f (rewrite_deliver f r plan) < goal_weight f (Deliver r plan)
   deliver_falls r plan h =
       go_on_falls r plan (next_operands plan.ob plan.ops (results_of (with_result plan r))) h refl

@@ -18,6 +18,6 @@ abbrev pub is_at_front : GoalTree → Bool
 is_at_front Holds = true
 is_at_front (Fails why) = true
 is_at_front (If g on_yes on_no) = is_question g
-is_at_front (Choose case a b plan) = false
-is_at_front (Deliver r plan) = false
+is_at_front (Choose case a b progress) = false
+is_at_front (Deliver r progress) = false
 is_at_front (Same left right) = false

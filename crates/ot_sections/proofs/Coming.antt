@@ -10,8 +10,8 @@ use Rattle.cert_text.specs.declared.item.Item.{Item}
 use Rattle.cert_text.specs.declared.item.Part.{Part}
 use Rattle.cert_text.specs.declared.item.CertError.{CertError}
 use Rattle.cert_text.specs.declared.item.CertError.TheVariants as cert
-use Rattle.cert_text.specs.Places.{Place, Finish, Stands, part_text, place_after}
-use Rattle.cert_text.specs.Reading.{Progress, Reading, Refused, EndsThere, Gives, Reads, ReadsOn}
+use Rattle.cert_text.specs.Places.{PartPlace, Finish, Stands, part_text, place_after}
+use Rattle.cert_text.specs.Reading.{ReaderState, Reading, Refused, EndsThere, Gives, Reads, ReadsOn}
 use Rattle.cert_text.specs.Pieces.{EndsWithin, GivesOf, GoesOn}
 use Rattle.ot_sections.specs.declared.refusal.JudgeError.{JudgeError}
 use Rattle.ot_sections.specs.Parts.{end_of_spelling}
@@ -138,7 +138,7 @@ not_begun feeds was between =
     }
 
 -- what comes of a feed that was asked for a further byte comes of the feed before
-module _ {F : Type 0} (feeds : Ghosts F) (reader : Progress) (old asked : F) (same : IsAsked feeds old asked) where
+module _ {F : Type 0} (feeds : Ghosts F) (reader : ReaderState) (old asked : F) (same : IsAsked feeds old asked) where
   pub came_asked : (now : Fed F) (item : Item) → Came feeds (fed reader asked) now item → Came feeds (fed reader old) now item
   came_asked now item came =
       record {
@@ -156,7 +156,7 @@ module _ {F : Type 0} (feeds : Ghosts F) (reader : Progress) (old asked : F) (sa
 
 -- it goes on
 goes_on_by :
-    (old now : Progress) (place : Place) (offset byte : ℕ) → old ≡ Reading place offset (begun_of old)
+    (old now : ReaderState) (place : PartPlace) (offset byte : ℕ) → old ≡ Reading place offset (begun_of old)
     → Gives old byte (Ok None) now → now ≡ Reading place offset (begun_of old ++ byte ∷ [])
 goes_on_by (Reading p o begun) now place offset byte at gives =
     let same_place : p ≡ place = cc in let same_offset : o ≡ offset = cc in
@@ -165,7 +165,7 @@ goes_on_by (Refused e) now place offset byte at gives = absurd (cc)
 
 -- bytes within a part leave its place and offset, and are put behind those that came of it
 goes_on :
-    (old now : Progress) (place : Place) (offset : ℕ) (bytes : List ℕ) → old ≡ Reading place offset (begun_of old)
+    (old now : ReaderState) (place : PartPlace) (offset : ℕ) (bytes : List ℕ) → old ≡ Reading place offset (begun_of old)
     → GoesOn old bytes now → now ≡ Reading place offset (begun_of old ++ bytes)
 goes_on old now place offset [] at goes =
     goes ∙ at ∙ ap (λ (l : List ℕ). Reading place offset l) (sym (append-nil (begun_of old)))
@@ -179,13 +179,13 @@ goes_on old now place offset (byte ∷ bytes) at (between, gives, way, goes) =
 
 -- the part that a byte ends stands at its place and offset, and its text is the bytes that came
 part_given :
-    (old now : Progress) (place : Place) (offset byte : ℕ) (item : Item) → old ≡ Reading place offset (begun_of old)
+    (old now : ReaderState) (place : PartPlace) (offset byte : ℕ) (item : Item) → old ≡ Reading place offset (begun_of old)
     → Gives old byte (Ok (Some item)) now
     → (item.offset ≡ offset) × Stands place item.part × (begun_of old ++ byte ∷ [] ≡ part_text place item.part)
     × (now ≡ Reading (place_after place item.part) (offset + length (begun_of old) + 1) [])
 part_given (Reading p o begun) now place offset byte item at gives =
     let same_place : p ≡ place = cc in let same_offset : o ≡ offset = cc in
-    subst (λ (x : Place). (item.offset ≡ offset) × Stands x item.part × (begun ++ byte ∷ [] ≡ part_text x item.part)
+    subst (λ (x : PartPlace). (item.offset ≡ offset) × Stands x item.part × (begun ++ byte ∷ [] ≡ part_text x item.part)
     × (now ≡ Reading (place_after x item.part) (offset + length begun + 1) [])) same_place
     (subst (λ (n : ℕ). (item.offset ≡ n) × Stands p item.part × (begun ++ byte ∷ [] ≡ part_text p item.part)
     × (now ≡ Reading (place_after p item.part) (n + length begun + 1) [])) same_offset gives)
@@ -250,23 +250,23 @@ came_as feeds was now item p is came =
 
 -- the bytes that are still to come end there
 ends_there :
-    (old : Progress) (place : Place) (offset : ℕ) (bytes : List ℕ) (end : Result (Unit {0}) CertError)
+    (old : ReaderState) (place : PartPlace) (offset : ℕ) (bytes : List ℕ) (end : Result (Unit {0}) CertError)
     → old ≡ Reading place offset (begun_of old) → Reads old bytes [] end → EndsThere place offset (begun_of old ++ bytes) end
 ends_there (Reading p o begun) place offset bytes end at reads =
     let same_place : p ≡ place = cc in let same_offset : o ≡ offset = cc in
-    subst (λ (x : Place). EndsThere x offset (begun ++ bytes) end) same_place
+    subst (λ (x : PartPlace). EndsThere x offset (begun ++ bytes) end) same_place
     (subst (λ (n : ℕ). EndsThere p n (begun ++ bytes) end) same_offset reads)
 ends_there (Refused e) place offset bytes end at reads = absurd (cc)
 
 -- what a reader says of the bytes that are still to come where it refuses one of these
-abbrev pub RefusesBytes : Progress → List ℕ → CertError → Progress → Type 0
+abbrev pub RefusesBytes : ReaderState → List ℕ → CertError → ReaderState → Type 0
 RefusesBytes old bytes e now =
     (rest : List ℕ) (items : List Item) (end : Result (Unit {0}) CertError)
     → Reads old (bytes ++ rest) items end ↔ ReadsOn (Err e) now rest items end
 
 -- bytes do not end too early whatever follows them
 not_truncated :
-    (place : Place) (offset : ℕ) (begun bytes : List ℕ) (e : CertError) (end : JudgeError)
+    (place : PartPlace) (offset : ℕ) (begun bytes : List ℕ) (e : CertError) (end : JudgeError)
     → ((rest : List ℕ) → EndsThere place offset (begun ++ (bytes ++ rest)) (Err e)) → end ≡ end_of_spelling e
     → IsTruncated end → ⊥
 not_truncated place offset begun bytes (cert.BadToken n) end there named (at, is) = cc
@@ -283,13 +283,13 @@ not_truncated place offset begun bytes (cert.Truncated n) end there named trunca
     )
 
 -- at the end of the bytes
-abbrev pub Finishes : Progress → Result (Unit {0}) CertError → Type 0
+abbrev pub Finishes : ReaderState → Result (Unit {0}) CertError → Type 0
 Finishes old result =
     (items : List Item) (end : Result (Unit {0}) CertError) → Reads old [] items end ↔ ((items ≡ []) × (end ≡ result))
 
 module _ {F : Type 0} (feeds : Ghosts F) (was old : Fed F) (reads : ReadsAt feeds was old) where
   -- bytes of which the last one is refused
-  module _ (bytes : List ℕ) (e : CertError) (now : Progress) (refuses : RefusesBytes old.reader bytes e now) where
+  module _ (bytes : List ℕ) (e : CertError) (now : ReaderState) (refuses : RefusesBytes old.reader bytes e now) where
     refused_there :
         (rest : List ℕ) → EndsThere (place_of was.reader) (offset_of was.reader) (begun_of old.reader ++ (bytes ++ rest)) (Err e)
     refused_there rest =

@@ -9,7 +9,7 @@ use Rattle.cert_check.specs.Steps.{after}
 use Rattle.cert_text.specs.declared.item.Part.{Part}
 use Rattle.cert_text.specs.declared.item.Part.TheVariants as part
 use Rattle.cert_text.specs.Spelling.{IsSpellable, AreSpellable, token_text, tokens_text, ob_text, end_text}
-use Rattle.cert_text.specs.Places.{Place, Start, Line, Tree, Finish, Stands, part_text, place_after, open_after}
+use Rattle.cert_text.specs.Places.{PartPlace, Start, Line, Tree, Finish, Stands, part_text, place_after, open_after}
 use Rattle.ot_sections.specs.declared.refusal.JudgeError.{JudgeError}
 use Rattle.ot_sections.specs.Certificates.{AreAnswers}
 use Rattle.cert_text.specs.Certificates.{sections_text}
@@ -22,7 +22,7 @@ joined :
 joined line text more tail = simp append_assoc
 
 module _ {W : Type 0} (plan : ObName → Plan W) where
-  abbrev pub point_at : Place → ℕ → List (Branch W) → Point W
+  abbrev pub point_at : PartPlace → ℕ → List (Branch W) → Point W
   point_at place offset branches = record { place = place; offset = offset; branches = branches }
 
   -- a part that fits, and what is judged behind it
@@ -85,7 +85,7 @@ module _ {W : Type 0} (plan : ObName → Plan W) where
       ([], (refl, refl))
 
   -- what parts that fit up to the end show of the bytes from a place on
-  abbrev pub Shows : Place → List (Branch W) → List ℕ → Type 0
+  abbrev pub Shows : PartPlace → List (Branch W) → List ℕ → Type 0
   Shows (Start tp1 tp2) branches bytes = Unit {0}
   Shows (Line came obs) branches bytes =
       (trees : List AnswerTree) × AreAnswers plan obs trees × (bytes ≡ sections_text obs trees ++ end_text)
@@ -95,7 +95,7 @@ module _ {W : Type 0} (plan : ObName → Plan W) where
       × AreAnswers plan obs trees × (bytes ≡ tokens_text tokens ++ 10 ∷ (sections_text obs trees ++ end_text))
   Shows Finish branches bytes = bytes ≡ []
 
-  stopped : (place : Place) (branches : List (Branch W)) (bytes : List ℕ) → place ≡ Finish → bytes ≡ [] → Shows place branches bytes
+  stopped : (place : PartPlace) (branches : List (Branch W)) (bytes : List ℕ) → place ≡ Finish → bytes ≡ [] → Shows place branches bytes
   stopped (Start tp1 tp2) branches bytes at nothing = tt
   stopped (Line came obs) branches bytes at nothing = absurd (cc)
   stopped (Tree came obs waiting) branches bytes at nothing = absurd (cc)
@@ -154,7 +154,7 @@ module _ {W : Type 0} (plan : ObName → Plan W) where
 
   -- any part that fits, before what is shown of the bytes behind it
   shows_behind :
-      ByToken W → (place : Place) (p : Part) (offset : ℕ) (bytes rest : List ℕ) (branches next : List (Branch W))
+      ByToken W → (place : PartPlace) (p : Part) (offset : ℕ) (bytes rest : List ℕ) (branches next : List (Branch W))
       → Stands place p → bytes ≡ part_text place p ++ rest
       → branches_behind plan (point_at place offset branches) p ≡ Ok next
       → Shows (place_after place p) next rest → Shows place branches bytes
@@ -173,7 +173,7 @@ module _ {W : Type 0} (plan : ObName → Plan W) where
   shows_behind by_token Finish p offset bytes rest branches next stands is opens shows = absurd stands
 
   pub parts_show :
-      ByToken W → (parts : List Part) (place : Place) (offset : ℕ) (branches : List (Branch W)) (bytes : List ℕ)
+      ByToken W → (parts : List Part) (place : PartPlace) (offset : ℕ) (branches : List (Branch W)) (bytes : List ℕ)
       → FitThen plan (Ok tt) (point_at place offset branches) bytes parts → Shows place branches bytes
   parts_show by_token [] place offset branches bytes fits = stopped place branches bytes fits.0 fits.1
   parts_show by_token (p ∷ parts) place offset branches bytes fits =

@@ -10,8 +10,8 @@ use Rattle.cert_check.specs.Steps.{after}
 use Rattle.cert_check.specs.Judging.{IsCauseOf}
 use Rattle.cert_text.specs.declared.item.Item.{Item}
 use Rattle.cert_text.specs.declared.item.Part.TheVariants as part
-use Rattle.cert_text.specs.Places.{Place, Start, Line, Tree, Finish, part_text, place_after, open_after}
-use Rattle.cert_text.specs.Reading.{Progress, Reading}
+use Rattle.cert_text.specs.Places.{PartPlace, Start, Line, Tree, Finish, part_text, place_after, open_after}
+use Rattle.cert_text.specs.Reading.{ReaderState, Reading}
 use Rattle.ot_sections.specs.declared.refusal.JudgeError.{JudgeError}
 use Rattle.ot_sections.specs.Parts.{IsJudged, IsRefused, Point, branches_behind, end_of_token, point_behind}
 use Rattle.ot_outside.specs.declared.feed.Feed.{Ghosts}
@@ -37,7 +37,7 @@ module _ {F W : Type 0} (feeds : Ghosts F) (plan : ObName → Plan W) where
       → branches_behind plan (point_of (stand was branches)) item.part ≡ Ok next → Leads feeds plan (stand was branches) (stand now next)
   part_leads was now item branches next comes opens all rest may =
       let there : point_of (stand now next) ≡ point_behind (point_of (stand was branches)) item.part next =
-      ap (λ (r : Progress). point_of (stand (fed r now.feed) next)) comes.part.behind in (
+      ap (λ (r : ReaderState). point_of (stand (fed r now.feed) next)) comes.part.behind in (
         part_text (place_of was.reader) item.part ++ rest,
         comes.bytes all rest may,
         λ end judged.
@@ -105,7 +105,7 @@ module _ {F W : Type 0} (feeds : Ghosts F) (plan : ObName → Plan W) where
 
 -- the place behind a token of a tree
 token_place :
-    (place : Place) (t : Tok) (count : ℕ) → IsTreeOf count place
+    (place : PartPlace) (t : Tok) (count : ℕ) → IsTreeOf count place
     → IsTreeOf (open_after count t) (place_after place (part.Tok t))
     × (tree_with 0 (place_after place (part.Tok t)) ≡ tree_with 0 place)
 token_place (Tree came names branches) t count is = (ap (λ (n : ℕ). open_after n t) is, refl)
@@ -118,7 +118,7 @@ module _ {F : Type 0} (feeds : Ghosts F) (was now : Fed F) where
   pub between_parts : (item : Item) → Came feeds was now item → IsBetween now.reader
   between_parts item comes =
       comes.part.behind
-      ∙ ap (λ (r : Progress). Reading (place_of r) (offset_of r) []) (sym comes.part.behind)
+      ∙ ap (λ (r : ReaderState). Reading (place_of r) (offset_of r) []) (sym comes.part.behind)
 
   -- behind a token it is where the token leaves it, and in the same tree
   pub behind_token :
@@ -130,6 +130,6 @@ module _ {F : Type 0} (feeds : Ghosts F) (was now : Fed F) where
       let place = token_place (place_of was.reader) t (length branches) is in
       let here : place_of now.reader ≡ place_after (place_of was.reader) (part.Tok t) = ap place_of comes.part.behind in (
         subst (λ (n : ℕ). IsTreeOf n (place_of now.reader)) (sym (open_as_counted t branches next taken))
-            (subst (λ (p : Place). IsTreeOf (open_after (length branches) t) p) (sym here) place.0),
+            (subst (λ (p : PartPlace). IsTreeOf (open_after (length branches) t) p) (sym here) place.0),
         ap (tree_with 0) here ∙ place.1,
       )

@@ -4,7 +4,7 @@ use Rattle.std.specs.Prelude.{◌&&◌}
 use Rattle.std.proofs.Common.{◌≡◌, ℕ, zero, suc, ◌+◌, ◌<◌, Bool, true, false, List, [], ◌∷◌, length, drop, get_or, add-one, arith, refl, subst}
 use Rattle.std.proofs.Math.Seq.{drop-cons}
 use Rattle.fn_rules.specs.declared.function.ObName.{ObName}
-use Rattle.cert_text.specs.Places.{Place}
+use Rattle.cert_text.specs.Places.{PartPlace}
 use Rattle.ot_sections.specs.Sections.{IsLineWith}
 
 both_true : (a b : Bool) → (a && b) ≡ true → (a ≡ true) × (b ≡ true)
@@ -24,6 +24,6 @@ cons_at : (names : List ObName) (i : ℕ) (d : ObName) → i < length names → 
 cons_at names i d within = rw (add-one, drop-cons names i d)
 
 pub line_at :
-    (names : List ObName) (i : ℕ) (d : ObName) (place : Place) → i < length names → IsLineWith (drop i names) place
+    (names : List ObName) (i : ℕ) (d : ObName) (place : PartPlace) → i < length names → IsLineWith (drop i names) place
     → IsLineWith (get_or names i d ∷ drop (i + 1) names) place
 line_at names i d place within line = subst (λ (n : List ObName). IsLineWith n place) (cons_at names i d within) line

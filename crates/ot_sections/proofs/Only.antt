@@ -12,7 +12,7 @@ use Rattle.cert_text.specs.declared.item.Part.{Part}
 use Rattle.cert_text.specs.declared.item.Part.TheVariants as part
 use Rattle.cert_text.specs.declared.item.CertError.{CertError}
 use Rattle.cert_text.specs.declared.item.CertError.TheVariants as cert
-use Rattle.cert_text.specs.Places.{Place, Start, Line, Tree, Finish, Stands, part_text}
+use Rattle.cert_text.specs.Places.{PartPlace, Start, Line, Tree, Finish, Stands, part_text}
 use Rattle.cert_text.specs.Reading.{EndsThere, HasNoPart, IsFrontOfPart}
 use Rattle.ot_sections.specs.declared.refusal.JudgeError.{JudgeError}
 use Rattle.ot_sections.specs.Parts.{Point, branches_behind, end_of_spelling, end_of_token, point_behind, FitThen, StopsThere, IsRefusedToken}
@@ -21,7 +21,7 @@ use Rattle.ot_sections.proofs.Tokens.{same_ok}
 -- two parts that may stand at a place and begin the same bytes are one
 abbrev pub OnePart : Type 0
 OnePart =
-    (place : Place) (p q : Part) (rest more : List ℕ) → Stands place p → Stands place q
+    (place : PartPlace) (p q : Part) (rest more : List ℕ) → Stands place p → Stands place q
     → part_text place p ++ rest ≡ part_text place q ++ more → (p ≡ q) × (rest ≡ more)
 
 pub same_err : {A E : Type 0} (a b : E) → ◌≡◌ {A = Result A E} (Err a) (Err b) → a ≡ b
@@ -30,7 +30,7 @@ same_err a b e = cc
 same_token : (t u : Tok) → part.Tok t ≡ part.Tok u → t ≡ u
 same_token t u e = cc
 
-nothing_stands_behind : (place : Place) (p : Part) → place ≡ Finish → Stands place p → ⊥
+nothing_stands_behind : (place : PartPlace) (p : Part) → place ≡ Finish → Stands place p → ⊥
 nothing_stands_behind (Start tp1 tp2) p at stands = cc
 nothing_stands_behind (Line came names) p at stands = cc
 nothing_stands_behind (Tree came names waiting) p at stands = cc
@@ -38,11 +38,11 @@ nothing_stands_behind Finish p at stands = stands
 
 -- a part takes bytes
 abbrev pub TakesBytes : Type 0
-TakesBytes = (place : Place) (p : Part) → Stands place p → 0 < length (part_text place p)
+TakesBytes = (place : PartPlace) (p : Part) → Stands place p → 0 < length (part_text place p)
 
 module _ (one_part : OnePart) (takes_bytes : TakesBytes) where
   not_a_front :
-      (place : Place) (bytes rest : List ℕ) (p : Part) → Stands place p → bytes ≡ part_text place p ++ rest
+      (place : PartPlace) (bytes rest : List ℕ) (p : Part) → Stands place p → bytes ≡ part_text place p ++ rest
       → IsFrontOfPart place bytes → ⊥
   not_a_front place bytes rest p stands is (inl nothing) =
       omega (arith, takes_bytes place p stands, ap length (sym is ∙ nothing), length-append (part_text place p) rest)
@@ -54,7 +54,7 @@ module _ (one_part : OnePart) (takes_bytes : TakesBytes) where
 
   -- where a part begins the bytes they do not end there by their spelling
   part_goes_on :
-      (place : Place) (offset : ℕ) (bytes rest : List ℕ) (p : Part) (e : Result (Unit {0}) CertError)
+      (place : PartPlace) (offset : ℕ) (bytes rest : List ℕ) (p : Part) (e : Result (Unit {0}) CertError)
       → Stands place p → bytes ≡ part_text place p ++ rest → EndsThere place offset bytes e → ⊥
   part_goes_on place offset bytes rest p (Ok done) stands is end = nothing_stands_behind place p end.0 stands
   part_goes_on place offset bytes rest p (Err (cert.BadToken at)) stands is end = (end.3 p rest stands).1 is
@@ -62,13 +62,13 @@ module _ (one_part : OnePart) (takes_bytes : TakesBytes) where
       not_a_front place bytes rest p stands is end.2
   part_goes_on place offset bytes rest p (Err (cert.Trailing at)) stands is end = nothing_stands_behind place p end.1 stands
 
-  bad_is_no_front : (place : Place) (bytes : List ℕ) → 0 < length bytes → HasNoPart place bytes → IsFrontOfPart place bytes → ⊥
+  bad_is_no_front : (place : PartPlace) (bytes : List ℕ) → 0 < length bytes → HasNoPart place bytes → IsFrontOfPart place bytes → ⊥
   bad_is_no_front place bytes some none (inl nothing) = omega (arith, some, ap length nothing)
   bad_is_no_front place bytes some none (inr (q, more, stands, left, text)) = (none q more stands).0 text
 
   -- bytes end in one way by their spelling
   spelling_ends_once :
-      (place : Place) (offset : ℕ) (bytes : List ℕ) (a b : Result (Unit {0}) CertError)
+      (place : PartPlace) (offset : ℕ) (bytes : List ℕ) (a b : Result (Unit {0}) CertError)
       → EndsThere place offset bytes a → EndsThere place offset bytes b → a ≡ b
   spelling_ends_once place offset bytes (Ok x) (Ok y) a b = refl
   spelling_ends_once place offset bytes (Ok x) (Err (cert.BadToken at)) a b = absurd (b.1 a.0)

@@ -7,7 +7,7 @@ use Rattle.cert_text.specs.declared.item.Item.{Item}
 use Rattle.cert_text.specs.declared.item.Part.{Part}
 use Rattle.cert_text.specs.declared.item.Part.TheVariants as part
 use Rattle.cert_text.specs.Spelling.{end_text}
-use Rattle.cert_text.specs.Places.{Place, Start, Line, Tree, Finish, Stands, part_text, place_after}
+use Rattle.cert_text.specs.Places.{PartPlace, Start, Line, Tree, Finish, Stands, part_text, place_after}
 use Rattle.ot_sections.specs.declared.refusal.JudgeError.{JudgeError}
 use Rattle.ot_sections.specs.Parts.{IsJudged, branches_behind}
 use Rattle.ot_outside.specs.declared.feed.Feed.{Ghosts}
@@ -19,13 +19,13 @@ use Rattle.ot_sections.proofs.Fitting.{last_line_fits}
 use Rattle.ot_sections.proofs.Leading.{leads_on, misspelt_refused, part_leads, refused_through}
 
 -- in a tree, of an obligation behind which these are still to come
-abbrev pub IsTreeWith : List ObName → ℕ → Place → Type 0
+abbrev pub IsTreeWith : List ObName → ℕ → PartPlace → Type 0
 IsTreeWith obs count (Tree came names branches) = (names ≡ obs) × (branches ≡ count)
 IsTreeWith obs count (Start tp1 tp2) = ⊥
 IsTreeWith obs count (Line came names) = ⊥
 IsTreeWith obs count Finish = ⊥
 
-pub closed_tree : (obs : List ObName) (count : ℕ) (place : Place) → IsTreeWith obs count place → IsTreeWith obs 0 (tree_with 0 place)
+pub closed_tree : (obs : List ObName) (count : ℕ) (place : PartPlace) → IsTreeWith obs count place → IsTreeWith obs 0 (tree_with 0 place)
 closed_tree obs count (Tree came names branches) tree = (tree.0, refl)
 closed_tree obs count (Start tp1 tp2) tree = tree
 closed_tree obs count (Line came names) tree = tree
@@ -33,7 +33,7 @@ closed_tree obs count Finish tree = tree
 
 -- the line of an obligation opens its tree
 line_opens_tree :
-    (ob : ObName) (others : List ObName) (place : Place) (p : Part) → IsLineWith (ob ∷ others) place → Stands place p
+    (ob : ObName) (others : List ObName) (place : PartPlace) (p : Part) → IsLineWith (ob ∷ others) place → Stands place p
     → IsTreeWith others 1 (place_after place p)
 line_opens_tree ob others (Line came (name ∷ names)) (part.Ob n) line stands = let rest : names ≡ others = cc in (rest, refl)
 line_opens_tree ob others (Line came (name ∷ names)) p line stands = absurd stands
@@ -44,7 +44,7 @@ line_opens_tree ob others Finish p line stands = absurd line
 
 -- the newline behind a tree closes it
 newline_closes :
-    (others : List ObName) (place : Place) (p : Part) → IsTreeWith others 0 place → Stands place p
+    (others : List ObName) (place : PartPlace) (p : Part) → IsTreeWith others 0 place → Stands place p
     → IsLineWith others (place_after place p)
 newline_closes others (Tree came names branches) (part.Tok t) tree stands = absurd (omega (arith, tree.1, stands.0))
 newline_closes others (Tree came names branches) part.LineEnd tree stands = tree.0
@@ -55,7 +55,7 @@ newline_closes others Finish p tree stands = absurd tree
 
 module _ {W : Type 0} (plan : ObName → Plan W) where
   line_branches :
-      (ob : ObName) (others : List ObName) (place : Place) (offset : ℕ) (p : Part) → IsLineWith (ob ∷ others) place → Stands place p
+      (ob : ObName) (others : List ObName) (place : PartPlace) (offset : ℕ) (p : Part) → IsLineWith (ob ∷ others) place → Stands place p
       → branches_behind plan (record { place = place; offset = offset; branches = [] }) p ≡ Ok (opened (plan ob))
   line_branches ob others (Line came (name ∷ names)) offset (part.Ob n) line stands =
       let first : name ≡ ob = cc in ap (λ (x : ObName). Ok (opened (plan x))) first
@@ -66,7 +66,7 @@ module _ {W : Type 0} (plan : ObName → Plan W) where
   line_branches ob others Finish offset p line stands = absurd line
 
   newline_branches :
-      (others : List ObName) (place : Place) (offset : ℕ) (p : Part) → IsTreeWith others 0 place → Stands place p
+      (others : List ObName) (place : PartPlace) (offset : ℕ) (p : Part) → IsTreeWith others 0 place → Stands place p
       → branches_behind plan (record { place = place; offset = offset; branches = [] }) p ≡ Ok []
   newline_branches others (Tree came names branches) offset (part.Tok t) tree stands = absurd (omega (arith, tree.1, stands.0))
   newline_branches others (Tree came names branches) offset part.LineEnd tree stands = refl
@@ -85,7 +85,7 @@ module _ {W : Type 0} (plan : ObName → Plan W) where
     -- behind the line
     pub tree_begins : IsTreeWith others 1 (place_of first.reader)
     tree_begins =
-        subst (λ (p : Place). IsTreeWith others 1 p) (sym (ap place_of begun.came.part.behind))
+        subst (λ (p : PartPlace). IsTreeWith others 1 p) (sym (ap place_of begun.came.part.behind))
         (line_opens_tree ob others (place_of was.reader) line.part begun.at begun.came.part.stands)
 
     pub line_leads : Leads feeds plan (stand was []) (stand first (opened (plan ob)))
@@ -103,7 +103,7 @@ module _ {W : Type 0} (plan : ObName → Plan W) where
         (closed : place_of second.reader ≡ tree_with 0 (place_of first.reader)) where
       pub tree_ends : IsTreeWith others 0 (place_of second.reader)
       tree_ends =
-          subst (λ (p : Place). IsTreeWith others 0 p) (sym closed) (closed_tree others 1 (place_of first.reader) tree_begins)
+          subst (λ (p : PartPlace). IsTreeWith others 0 p) (sym closed) (closed_tree others 1 (place_of first.reader) tree_begins)
 
       pub tree_leads : Leads feeds plan (stand was []) (stand second [])
       tree_leads = leads_on feeds plan (stand was []) (stand first (opened (plan ob))) (stand second []) line_leads (judged plan)
@@ -115,7 +115,7 @@ module _ {W : Type 0} (plan : ObName → Plan W) where
       module _ (newline : Item) (now : Fed F) (ended : Came feeds second now newline) where
         pub section_behind : IsLineWith others (place_of now.reader)
         section_behind =
-            subst (λ (p : Place). IsLineWith others p) (sym (ap place_of ended.part.behind))
+            subst (λ (p : PartPlace). IsLineWith others p) (sym (ap place_of ended.part.behind))
             (newline_closes others (place_of second.reader) newline.part tree_ends ended.part.stands)
 
         pub section_leads : Leads feeds plan (stand was []) (stand now [])
@@ -125,7 +125,7 @@ module _ {W : Type 0} (plan : ObName → Plan W) where
             (newline_branches others (place_of second.reader) (offset_of second.reader) newline.part tree_ends ended.part.stands))
 
 -- the text of the last line
-end_is : (place : Place) (p : Part) → IsLineWith [] place → Stands place p → part_text place p ≡ end_text
+end_is : (place : PartPlace) (p : Part) → IsLineWith [] place → Stands place p → part_text place p ≡ end_text
 end_is (Line came []) part.End line stands = refl
 end_is (Line came []) p line stands = absurd stands
 end_is (Line came (name ∷ names)) p line stands = absurd (cc)
@@ -135,7 +135,7 @@ end_is Finish p line stands = absurd line
 
 -- the last line fits
 last_judged :
-    {W : Type 0} (plan : ObName → Plan W) (place : Place) (offset : ℕ) → IsLineWith [] place
+    {W : Type 0} (plan : ObName → Plan W) (place : PartPlace) (offset : ℕ) → IsLineWith [] place
     → IsJudged plan (Ok tt) (record { place = place; offset = offset; branches = [] }) end_text
 last_judged plan (Line came names) offset line =
     subst (λ (n : List ObName). IsJudged plan (Ok tt) (record { place = Line came n; offset = offset; branches = [] }) end_text)
@@ -145,7 +145,7 @@ last_judged plan (Tree came names branches) offset line = absurd line
 last_judged plan Finish offset line = absurd line
 
 end_branches :
-    {W : Type 0} (plan : ObName → Plan W) (place : Place) (offset : ℕ) (p : Part) → IsLineWith [] place → Stands place p
+    {W : Type 0} (plan : ObName → Plan W) (place : PartPlace) (offset : ℕ) (p : Part) → IsLineWith [] place → Stands place p
     → branches_behind plan (record { place = place; offset = offset; branches = [] }) p ≡ Ok []
 end_branches plan (Line came []) offset part.End line stands = refl
 end_branches plan (Line came []) offset p line stands = absurd stands

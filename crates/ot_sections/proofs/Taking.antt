@@ -14,9 +14,9 @@ use Rattle.cert_check.specs.Steps.{after}
 use Rattle.cert_text.specs.declared.item.Part.TheVariants as part
 use Rattle.cert_text.specs.Numbers.{AreShort, PICK_LIMIT, more_numbers_text, numbers_text}
 use Rattle.cert_text.specs.Spelling.{AreSpellable, IsSpellable, token_text, tokens_text}
-use Rattle.cert_text.specs.Places.{Place, Start, Line, Tree, Finish, open_after}
+use Rattle.cert_text.specs.Places.{PartPlace, Start, Line, Tree, Finish, open_after}
 use Rattle.cert_text.specs.Passing.{AreOpen, IsPassed, passed}
-use Rattle.cert_text.specs.Reading.{Progress, Reading, Refused, fed_to}
+use Rattle.cert_text.specs.Reading.{ReaderState, Reading, Refused, fed_to}
 use Rattle.ot_outside.specs.declared.feed.Feed.{Ghosts}
 use Rattle.ot_sections.specs.declared.refusal.JudgeError.{JudgeError}
 use Rattle.ot_sections.specs.Feeding.{Fed, fed}
@@ -160,7 +160,7 @@ module _ {W : Type 0} where
       )
 
   pub taken_passed :
-      (reader : Progress) (bytes : List ℕ) (old new : List (Branch W)) → IsBetween reader → IsTreeOf (length old) (place_of reader)
+      (reader : ReaderState) (bytes : List ℕ) (old new : List (Branch W)) → IsBetween reader → IsTreeOf (length old) (place_of reader)
       → AreTaken bytes old new → IsPassed reader bytes (length new)
   taken_passed (Reading (Tree came names branches) offset begun) bytes old new between tree (tokens, spellable, text, leave) = (
     (cc),
@@ -173,7 +173,7 @@ module _ {W : Type 0} where
 
 -- a reader that passed tokens is behind them in the same tree
 pub behind_passed :
-    (reader now : Progress) (len old new : ℕ) → IsBetween reader → IsTreeOf old (place_of reader) → now ≡ passed reader len new
+    (reader now : ReaderState) (len old new : ℕ) → IsBetween reader → IsTreeOf old (place_of reader) → now ≡ passed reader len new
     → now ≡ Reading (tree_with new (place_of reader)) (offset_of reader + len) []
 behind_passed (Reading (Tree came names branches) offset begun) now len old new between tree is =
     let none : begun ≡ [] = cc in is ∙ ap (λ (l : List ℕ). Reading (Tree came names new) (offset + len) l) none
@@ -182,7 +182,7 @@ behind_passed (Reading (Line came names) offset begun) now len old new between t
 behind_passed (Reading Finish offset begun) now len old new between tree is = absurd tree
 behind_passed (Refused e) now len old new between tree is = absurd tree
 
-pub tree_there : (place : Place) (old new : ℕ) → IsTreeOf old place → IsTreeOf new (tree_with new place)
+pub tree_there : (place : PartPlace) (old new : ℕ) → IsTreeOf old place → IsTreeOf new (tree_with new place)
     × (tree_with 0 (tree_with new place) ≡ tree_with 0 place)
 tree_there (Tree came names branches) old new is = (refl, refl)
 tree_there (Start tp1 tp2) old new is = absurd is
@@ -190,7 +190,7 @@ tree_there (Line came names) old new is = absurd is
 tree_there Finish old new is = absurd is
 
 module _ {W : Type 0} (plan : ObName → Plan W) (end : Result (Unit {0}) JudgeError) where
-  point_at : Place → ℕ → List (Branch W) → Point W
+  point_at : PartPlace → ℕ → List (Branch W) → Point W
   point_at place offset branches = record { place = place; offset = offset; branches = branches }
 
   -- what is judged behind tokens that are taken is judged of them and what is behind them
@@ -221,7 +221,7 @@ module _ {W : Type 0} (plan : ObName → Plan W) (end : Result (Unit {0}) JudgeE
 
   -- so it is at each place, since tokens are taken within a tree alone
   judged_at :
-      (place : Place) (offset : ℕ) (bytes rest : List ℕ) (old new : List (Branch W)) → IsTreeOf (length old) place
+      (place : PartPlace) (offset : ℕ) (bytes rest : List ℕ) (old new : List (Branch W)) → IsTreeOf (length old) place
       → AreTaken bytes old new
       → IsJudged plan end (record { place = tree_with (length new) place; offset = offset + length bytes; branches = new }) rest
       → IsJudged plan end (record { place = place; offset = offset; branches = old }) (bytes ++ rest)
@@ -245,7 +245,7 @@ module _ {F W : Type 0} (feeds : Ghosts F) (was now : Fed F) (bytes : List ℕ) 
     given_of feeds was.feed now.feed bytes took all rest may,
     λ end judged.
         judged_at plan end (place_of was.reader) (offset_of was.reader) bytes rest old new tree taken
-        (subst (λ (r : Progress). IsJudged plan end (point_of (stand (fed r now.feed) new)) rest) there judged),
+        (subst (λ (r : ReaderState). IsJudged plan end (point_of (stand (fed r now.feed) new)) rest) there judged),
   )
 
 module _ {F W : Type 0} (feeds : Ghosts F) (was now : Fed F) (old new : List (Branch W)) where
@@ -274,8 +274,8 @@ module _ {F W : Type 0} (feeds : Ghosts F) (was now : Fed F) (old new : List (Br
       let fed_was : fed_to was.reader ≡ offset_of was.reader + 0 = ap fed_to between in
       let fed_now : fed_to now.reader ≡ (offset_of was.reader + length (take count bytes)) + 0 = ap fed_to there in
       record {
-        between = there ∙ ap (λ (r : Progress). Reading (place_of r) (offset_of r) []) (sym there);
-        tree = subst (λ (p : Place). IsTreeOf (length new) p) (sym place) in_tree.0;
+        between = there ∙ ap (λ (r : ReaderState). Reading (place_of r) (offset_of r) []) (sym there);
+        tree = subst (λ (p : PartPlace). IsTreeOf (length new) p) (sym place) in_tree.0;
         same_tree = ap (tree_with 0) place ∙ in_tree.1;
         leads = leads_taken feeds was now (take count bytes) old new tree took taken there;
         leaves = record {

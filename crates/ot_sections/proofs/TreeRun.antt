@@ -9,7 +9,7 @@ use Rattle.cert_check.specs.declared.verdict.CheckError.{CheckError}
 use Rattle.cert_check.specs.Steps.{after}
 use Rattle.cert_check.specs.Judging.{IsCauseOf}
 use Rattle.cert_text.specs.declared.item.Part.TheVariants as part
-use Rattle.cert_text.specs.Places.{Place, Start, Line, Tree, Finish}
+use Rattle.cert_text.specs.Places.{PartPlace, Start, Line, Tree, Finish}
 use Rattle.ot_outside.specs.declared.feed.Feed.{Ghosts}
 use Rattle.ot_sections.specs.declared.refusal.JudgeError.{JudgeError}
 use Rattle.ot_sections.specs.Parts.{end_of_token}
@@ -35,7 +35,7 @@ none_open test (p ∷ places) closed opened =
     let one : 0 < length (p ∷ places) = omega arith in let e : test ≡ true = opened.1 one in absurd (cc)
 
 -- a place in a tree, by its open branches
-pub tree_is : (place : Place) (count : ℕ) → IsTreeOf count place → place ≡ tree_with count place
+pub tree_is : (place : PartPlace) (count : ℕ) → IsTreeOf count place → place ≡ tree_with count place
 tree_is (Tree came names branches) count is = ap (λ (n : ℕ). Tree came names n) is
 tree_is (Start tp1 tp2) count is = refl
 tree_is (Line came names) count is = refl

@@ -2,7 +2,7 @@
 use Rattle.std.specs.Prelude.{◌≡◌, ℕ, Bool, true, ◌+◌, ◌≤◌, List, [], ◌++◌, length, Option, Result, IfOk, IfErr}
 use Rattle.std.specs.Option.{ForSome, ForNone}
 use Rattle.std.specs.Io.KnownBytes.{IsAtEnd}
-use Rattle.cert_text.specs.Reading.{Progress, fed_to}
+use Rattle.cert_text.specs.Reading.{ReaderState, fed_to}
 use Rattle.ot_outside.specs.Faults.{Rose}
 use Rattle.ot_outside.specs.declared.feed.Feed.{Ghosts}
 use Rattle.ot_sections.specs.declared.refusal.Refusal.TheVariants as why
@@ -58,10 +58,10 @@ IsTruncated e = (offset : ℕ) × (e ≡ judge.Refused offset why.Truncated)
 
 -- a reader, and the feed whose bytes it is fed
 pub record Fed (F : Type 0) : Type 0 where
-  pub reader : Progress
+  pub reader : ReaderState
   pub feed : F
 
-abbrev pub fed : {F : Type 0} → Progress → F → Fed F
+abbrev pub fed : {F : Type 0} → ReaderState → F → Fed F
 fed reader feed = record { reader = reader; feed = feed }
 
 -- the bytes that came and those that may still come are few enough to be counted

@@ -12,7 +12,7 @@ use Rattle.cert_text.specs.declared.item.Part.{Part}
 use Rattle.cert_text.specs.declared.item.Part.TheVariants as part
 use Rattle.cert_text.specs.declared.item.CertError.{CertError}
 use Rattle.cert_text.specs.declared.item.CertError.TheVariants as cert
-use Rattle.cert_text.specs.Places.{Place, Line, Stands, part_text, place_after}
+use Rattle.cert_text.specs.Places.{PartPlace, Line, Stands, part_text, place_after}
 use Rattle.cert_text.specs.Reading.{EndsThere}
 use Rattle.ot_sections.specs.declared.refusal.Refusal.TheVariants as why
 use Rattle.ot_sections.specs.declared.refusal.JudgeError.{JudgeError}
@@ -20,12 +20,12 @@ use Rattle.ot_sections.specs.declared.refusal.JudgeError.TheVariants as judge
 
 -- a point of a certificate: the place behind the parts before it, how many bytes they have, and the open branches
 pub record Point (W : Type 0) : Type 0 where
-  pub place : Place
+  pub place : PartPlace
   pub offset : ℕ
   pub branches : List (Branch W)
 
 -- what an obligation's line opens: one branch, the plan of the obligation after no answers
-abbrev pub opened_at : {W : Type 0} → (ObName → Plan W) → Place → List (Branch W)
+abbrev pub opened_at : {W : Type 0} → (ObName → Plan W) → PartPlace → List (Branch W)
 opened_at plan (Line came (name ∷ names)) = record { plan = plan name; answers = [] } ∷ []
 opened_at plan place = []
 

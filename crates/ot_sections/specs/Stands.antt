@@ -5,39 +5,39 @@ use Rattle.ask_core.specs.Plans.{Plan}
 use Rattle.ask_core.specs.Trees.{Branch}
 use Rattle.cert_text.specs.declared.item.Item.{Item}
 use Rattle.cert_text.specs.declared.item.CertError.{CertError}
-use Rattle.cert_text.specs.Places.{Place, Start, Line, Tree, Finish, Stands, part_text, place_after}
-use Rattle.cert_text.specs.Reading.{Progress, Reading, Refused, EndsThere}
+use Rattle.cert_text.specs.Places.{PartPlace, Start, Line, Tree, Finish, Stands, part_text, place_after}
+use Rattle.cert_text.specs.Reading.{ReaderState, Reading, Refused, EndsThere}
 use Rattle.ot_outside.specs.declared.feed.Feed.{Ghosts}
 use Rattle.ot_sections.specs.declared.refusal.JudgeError.{JudgeError}
 use Rattle.ot_sections.specs.Feeding.{Fed, Has, Whole, Yields}
 use Rattle.ot_sections.specs.Parts.{IsJudged, IsRefused, Point, end_of_spelling}
 
 -- the place of a reader, how many bytes stand before the part that it reads, and what came of that part
-abbrev pub place_of : Progress → Place
+abbrev pub place_of : ReaderState → PartPlace
 place_of (Reading place offset begun) = place
 place_of (Refused refusal) = Finish
 
-abbrev pub offset_of : Progress → ℕ
+abbrev pub offset_of : ReaderState → ℕ
 offset_of (Reading place offset begun) = offset
 offset_of (Refused refusal) = 0
 
-abbrev pub begun_of : Progress → List ℕ
+abbrev pub begun_of : ReaderState → List ℕ
 begun_of (Reading place offset begun) = begun
 begun_of (Refused refusal) = []
 
 -- a reader between two parts
-abbrev pub IsBetween : Progress → Type 0
+abbrev pub IsBetween : ReaderState → Type 0
 IsBetween r = r ≡ Reading (place_of r) (offset_of r) []
 
 -- a place in a tree of which so many branches are open
-abbrev pub IsTreeOf : ℕ → Place → Type 0
+abbrev pub IsTreeOf : ℕ → PartPlace → Type 0
 IsTreeOf count (Tree came names branches) = branches ≡ count
 IsTreeOf count (Start tp1 tp2) = ⊥
 IsTreeOf count (Line came names) = ⊥
 IsTreeOf count Finish = ⊥
 
 -- the place in the same tree where so many branches are open
-abbrev pub tree_with : ℕ → Place → Place
+abbrev pub tree_with : ℕ → PartPlace → PartPlace
 tree_with count (Tree came names branches) = Tree came names count
 tree_with count (Start tp1 tp2) = Start tp1 tp2
 tree_with count (Line came names) = Line came names
@@ -60,7 +60,7 @@ abbrev pub point_of : {F W : Type 0} → Stand F W → Point W
 point_of s = record { place = place_of s.at.reader; offset = offset_of s.at.reader; branches = s.branches }
 
 -- a part comes of a reader between two parts: it stands there, and the reader is behind it
-pub record Comes (was : Progress) (item : Item) (now : Progress) : Type 0 where
+pub record Comes (was : ReaderState) (item : Item) (now : ReaderState) : Type 0 where
   pub offset : item.offset ≡ offset_of was
   pub stands : Stands (place_of was) item.part
   pub behind :

@@ -20,8 +20,8 @@ use Rattle.ot_session.specs.declared.limits.TheConstants.{MAX_MADE}
 use Rattle.ot_session.specs.declared.site.Site.{Site}
 use Rattle.ot_session.specs.declared.table.Key.{Key}
 use Rattle.ot_session.specs.Past.{is_marked}
-use Rattle.ot_session.specs.declared.form.Refusal.{Refusal}
-use Rattle.ot_session.specs.declared.form.Refusal.TheVariants.{NoForm, Spent}
+use Rattle.ot_session.specs.declared.form.FormError.{FormError}
+use Rattle.ot_session.specs.declared.form.FormError.TheVariants.{NoForm, Spent}
 use Rattle.ot_session.specs.Entries.{IsFormEntry, HasForms, IsTable, MaySeek, Seeks, HasSought}
 use Rattle.ot_session.specs.Seeking.{Obstacle, Missing, Exhausted, first_obstacle, IsSpent, uncounted, count_at, count_behind}
 use Rattle.ot_session.specs.Sites.{IsMarked, IsApart, CanTake, Executes}
@@ -185,7 +185,7 @@ IsTable-kept f past site total some can = record {
 }
 
 -- what seeking a form answers at a site, with the lists by another name
-HasSought-at : (f : Function) (past : Past) (seen first second : List ℕ) (n total others more : ℕ) (old new : List (Key × Op)) (r : Result Op Refusal)
+HasSought-at : (f : Function) (past : Past) (seen first second : List ℕ) (n total others more : ℕ) (old new : List (Key × Op)) (r : Result Op FormError)
     → first ≡ seen → second ≡ seen → total ≡ others + length (counted past seen) → ∥ HasForms f past seen (counted past seen) old ∥₁
     → ((names : List FormName) (m : ℕ) → ∥ HasForms f past first names old ∥₁ → total ≡ m + length names
     → HasSought f past first names m n second new more r)
@@ -212,35 +212,35 @@ module _ (f : Function) (past : Past) (site : Site) (n total more : ℕ) (table 
   count = omega (arith, some)
 
   -- what is answered wherever some were counted
-  abbrev Answers : Result Op Refusal → Type 0
+  abbrev Answers : Result Op FormError → Type 0
   Answers r = (names : List FormName) (m : ℕ) → ∥ HasForms f past first names site.table ∥₁ → total ≡ m + length names
       → HasSought f past first names m n second table more r
 
-  answer : (r : Result Op Refusal) → Answers r → HasSought f past seen (counted past seen) others n seen table more r
+  answer : (r : Result Op FormError) → Answers r → HasSought f past seen (counted past seen) others n seen table more r
   answer r = HasSought-at f past seen first second n total others more site.table table r first_is second_is count (∥∥₁_map can (λ k. k.forms.has))
 
   seeks : (p : Op) → Answers (Ok p) → Seeks f past seen (counted past seen) others n seen table more
   seeks p clause = answer (Ok p) clause
 
-  missing : (e : Refusal) → e ≡ NoForm → Answers (Err e)
+  missing : (e : FormError) → e ≡ NoForm → Answers (Err e)
       → first_obstacle f past total (counted past seen) (sought past n seen) ≡ Some (Missing more)
   missing e is clause = first_obstacle-total f past seen n others total (Some (Missing more)) count
-      (subst (λ (x : Refusal). HasSought f past seen (counted past seen) others n seen table more (Err x)) is (answer (Err e) clause))
+      (subst (λ (x : FormError). HasSought f past seen (counted past seen) others n seen table more (Err x)) is (answer (Err e) clause))
 
   free : (p : Op) → Answers (Ok p) → first_obstacle f past total (counted past seen) (sought past n seen) ≡ None
   free p clause = first_obstacle-total f past seen n others total None count (seeks p clause).free
 
-  pub IsSpent-sought : (e : Refusal) → e ≡ Spent → Answers (Err e) → IsSpent f past total seen n
+  pub IsSpent-sought : (e : FormError) → e ≡ Spent → Answers (Err e) → IsSpent f past total seen n
   IsSpent-sought e is clause = first_obstacle-total f past seen n others total (Some Exhausted) count
-      (subst (λ (x : Refusal). HasSought f past seen (counted past seen) others n seen table more (Err x)) is (answer (Err e) clause))
+      (subst (λ (x : FormError). HasSought f past seen (counted past seen) others n seen table more (Err x)) is (answer (Err e) clause))
 
   -- it is stuck where its form does not exist
-  pub IsStuck-missing : (e : Refusal) → e ≡ NoForm → Answers (Err e) → form f past n second ≡ None → IsStuck f past n (standing site total)
+  pub IsStuck-missing : (e : FormError) → e ≡ NoForm → Answers (Err e) → form f past n second ≡ None → IsStuck f past n (standing site total)
   IsStuck-missing e is clause none =
       let there : form f past n seen ≡ None = subst (λ (l : List ℕ). form f past n l ≡ None) second_is none in
       record { next = next; unspent = unspent-missing f past seen n total more (missing e is clause); document = rw there refl }
 
-  pub count_behind-missing : (e : Refusal) → e ≡ NoForm → Answers (Err e) → more ≡ count_behind f past total seen n
+  pub count_behind-missing : (e : FormError) → e ≡ NoForm → Answers (Err e) → more ≡ count_behind f past total seen n
   count_behind-missing e is clause = sym (ap (λ (found : Option Obstacle). count_at found total (uncounted past seen n)) (missing e is clause))
 
   module _ (p : Op) (clause : Answers (Ok p)) (form_is : form f past n second ≡ Some p) where

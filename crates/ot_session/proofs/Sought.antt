@@ -9,8 +9,8 @@ use Rattle.ot_causal.specs.Members.{without, IsSublist}
 use Rattle.ot_causal.specs.Past.{Past, IsOpening}
 use Rattle.ot_causal.specs.Counting.{FormName, name_of, is_among, sought, count_sought}
 use Rattle.ot_session.specs.declared.table.Key.{Key}
-use Rattle.ot_session.specs.declared.form.Refusal.{Refusal}
-use Rattle.ot_session.specs.declared.form.Refusal.TheVariants.{NoForm, Spent, NoMemory}
+use Rattle.ot_session.specs.declared.form.FormError.{FormError}
+use Rattle.ot_session.specs.declared.form.FormError.TheVariants.{NoForm, Spent, NoMemory}
 use Rattle.ot_session.specs.Seeking.{Obstacle, Missing, Exhausted, first_obstacle}
 use Rattle.ot_session.specs.Entries.{MaySeek, HasSought}
 use Rattle.ot_session.proofs.Seeking.{first_obstacle-stops, first_obstacle-goes_on}
@@ -73,7 +73,7 @@ module _ (f : Function) (past : Past) (seen : List ℕ) (o x : ℕ) (l : List �
       (first_obstacle-stops f past (others + length names) names (of_o ++ of_x) (name_of o l ∷ []) r
       (first_obstacle-stops f past (others + length names) names of_o of_x r is))
 
-  pub HasSought-own : (names : List FormName) (others : ℕ) (es fs : List (Key × Op)) (n : ℕ) (e : Refusal)
+  pub HasSought-own : (names : List FormName) (others : ℕ) (es fs : List (Key × Op)) (n : ℕ) (e : FormError)
       → HasSought f past seen names others o (without x l) es n (Err e) → HasSought f past seen names others o l fs n (Err e)
   HasSought-own names others es fs n NoForm is = stops_own names others (Missing n) is
   HasSought-own names others es fs n Spent is = stops_own names others Exhausted is
@@ -88,7 +88,7 @@ module _ (f : Function) (past : Past) (seen : List ℕ) (o x : ℕ) (l : List �
         (first_obstacle-stops f past (others + length names) names (of_o ++ of_x) (name_of o l ∷ []) r
         (first_obstacle-goes_on f past others names of_o of_x free ∙ is))
 
-    pub HasSought-by : (es fs : List (Key × Op)) (n : ℕ) (e : Refusal)
+    pub HasSought-by : (es fs : List (Key × Op)) (n : ℕ) (e : FormError)
         → HasSought f past seen (count_sought names of_o) others x (without x l) es n (Err e) → HasSought f past seen names others o l fs n (Err e)
     HasSought-by es fs n NoForm is = stops_by (Missing n) is
     HasSought-by es fs n Spent is = stops_by Exhausted is

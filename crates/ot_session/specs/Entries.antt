@@ -10,8 +10,8 @@ use Rattle.ot_causal.specs.Past.{Past, IsClosed, IsOrderly}
 use Rattle.ot_causal.specs.Forms.{form}
 use Rattle.ot_causal.specs.Counting.{FormName, name_of, is_among, sought, count_sought, AreCounted}
 use Rattle.ot_session.specs.declared.table.Key.{Key}
-use Rattle.ot_session.specs.declared.form.Refusal.{Refusal}
-use Rattle.ot_session.specs.declared.form.Refusal.TheVariants.{NoForm, Spent, NoMemory}
+use Rattle.ot_session.specs.declared.form.FormError.{FormError}
+use Rattle.ot_session.specs.declared.form.FormError.TheVariants.{NoForm, Spent, NoMemory}
 use Rattle.ot_session.specs.Past.{AreUsable}
 use Rattle.ot_session.specs.Lists.{clock, IsSought}
 use Rattle.ot_session.specs.Seeking.{Missing, Exhausted, first_obstacle}
@@ -71,7 +71,7 @@ pub record Seeks (f : Function) (past : Past) (seen : List ℕ) (names : List Fo
 
 -- a form was sought where some were counted at the site, and so many at the others, and this is the answer
 abbrev pub HasSought : Function → Past → List ℕ → List FormName → ℕ → ℕ → List ℕ → List (Key × Op) → ℕ
-    → Result Op Refusal → Type 0
+    → Result Op FormError → Type 0
 HasSought f past seen names others o l entries total (Ok p) = Seeks f past seen names others o l entries total
 HasSought f past seen names others o l entries total (Err NoForm) =
     first_obstacle f past (others + length names) names (sought past o l) ≡ Some (Missing total)

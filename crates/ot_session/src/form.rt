@@ -9,7 +9,7 @@ ghost use Rattle.ot_causal.specs.Counting.{FormName, from_site};
 ghost use Rattle.ot_session.specs.Past.{past_of};
 ghost use Rattle.ot_session.specs.Lists.{clock};
 ghost use Rattle.ot_session.specs.Entries.{HasForms, IsTable, MaySeek, HasSought};
-ghost use Rattle.ot_session.specs.declared.form.Refusal.TheVariants.{NoForm, Spent, NoMemory};
+ghost use Rattle.ot_session.specs.declared.form.FormError.TheVariants.{NoForm, Spent, NoMemory};
 
 use crate::limits::{MAX_FORMS, MAX_MADE, MAX_SITES};
 use crate::made::{Made, is_before, maker, operation};
@@ -26,7 +26,7 @@ use std::alloc::{AllocError, Global};
 
 /// Why there is no form.
 #[derive(Clone, Copy)]
-pub(crate) enum Refusal {
+pub(crate) enum FormError {
     /// A transformation has no result.
     NoForm,
 
@@ -37,11 +37,11 @@ pub(crate) enum Refusal {
     NoMemory,
 }
 
-impl From<AllocError> for Refusal {
+impl From<AllocError> for FormError {
     ghost from_gives = { λ _ e. e ≡ NoMemory };
 
-    fn from(_: AllocError) -> Refusal {
-        Refusal::NoMemory
+    fn from(_: AllocError) -> FormError {
+        FormError::NoMemory
     }
 }
 
@@ -65,7 +65,7 @@ pub(crate) fn form_behind(
     number: u32,
     list: &[u32],
     counts: [u32; MAX_SITES],
-) -> Result<Op, Refusal>
+) -> Result<Op, FormError>
     requires may { ∥ MaySeek (function_of seeking.rules.now) (past_of seeking.made.now) seeking.seen.now number list.now
         ∥₁ }
     requires counts { counts ≡ clock (past_of seeking.made.now) list.now }
@@ -110,20 +110,20 @@ pub(crate) fn form_behind(
     let by = form_behind(alloc, seeking, table, counted, other, &older, fewer)?;
     count_one(counted)?;
     let Some(form) = transform(seeking.rules, &own, &by) else {
-        return Err(Refusal::NoForm);
+        return Err(FormError::NoForm);
     };
     table.store(key, form)?;
     Ok(form)
 }
 
-fn count_one(counted: &mut u64) -> Result<(), Refusal>
+fn count_one(counted: &mut u64) -> Result<(), FormError>
     requires { counted.old ≤ MAX_FORMS }
     ensures ok { OnOk result (counted.new ≡ counted.old + 1) }
     ensures err { IfErr result (λ e. (e ≡ Spent) × (counted.old ≡ MAX_FORMS) × (counted.new ≡ counted.old)) }
     ensures within { counted.new ≤ MAX_FORMS }
 {
     if *counted == MAX_FORMS {
-        return Err(Refusal::Spent);
+        return Err(FormError::Spent);
     }
     *counted += 1;
     Ok(())

@@ -6,7 +6,7 @@ ghost use Rattle.fn_rules.specs.Rules.{function_of};
 ghost use Rattle.ot_causal.specs.Past.{IsNext};
 ghost use Rattle.ot_causal.specs.Counting.{counted};
 ghost use Rattle.ot_session.specs.declared.limits.TheConstants.{MAX_MADE, MAX_FORMS};
-ghost use Rattle.ot_session.specs.declared.form.Refusal.TheVariants.{NoForm, Spent};
+ghost use Rattle.ot_session.specs.declared.form.FormError.TheVariants.{NoForm, Spent};
 ghost use Rattle.ot_session.specs.Past.{is_marked, past_of};
 ghost use Rattle.ot_session.specs.Seeking.{IsSpent, count_behind};
 ghost use Rattle.ot_session.specs.Sites.{view_site, IsSameSite, IsSorted, CanTake};
@@ -14,7 +14,7 @@ ghost use Rattle.ot_session.specs.Taking.{standing, IsKnown, HasAllBefore, HasIn
 ghost use Rattle.ot_session.specs.Taking.{TakesAtPlace, IsDueByMarks, IsLeastByMarks};
 
 use crate::answer::{Take, Took};
-use crate::form::{Refusal, Seeking, counts_of, form_behind};
+use crate::form::{FormError, Seeking, counts_of, form_behind};
 use crate::limits::{MAX_FORMS, MAX_MADE};
 use crate::made::{Made, is_marked, knows_all};
 use crate::site::Site;
@@ -86,7 +86,7 @@ fn take_here(
     }
     match integrate_all(alloc, rules, made, site, total, number) {
         Ok(done) => Ok(Took::Done(done)),
-        Err(refusal) => Err(refusal),
+        Err(error) => Err(error),
     }
 }
 
@@ -121,9 +121,9 @@ fn integrate_all(
         done.push(one)?;
         match integrate(alloc, rules, made, site, total, one) {
             Ok(()) => (),
-            Err(Refusal::NoForm) => return Err(Take::Stuck(one)),
-            Err(Refusal::Spent) => return Err(Take::Spent),
-            Err(Refusal::NoMemory) => return Err(Take::NoMemory),
+            Err(FormError::NoForm) => return Err(Take::Stuck(one)),
+            Err(FormError::Spent) => return Err(Take::Spent),
+            Err(FormError::NoMemory) => return Err(Take::NoMemory),
         }
         next = least_due(made, site.integrated.as_slice(), site.held.as_slice());
     }
@@ -154,7 +154,7 @@ fn integrate(
     site: &mut Site,
     total: &mut u64,
     number: u32,
-) -> Result<(), Refusal>
+) -> Result<(), FormError>
     requires few { length made.now ≤ MAX_MADE }
     requires can { ∥ CanTake (function_of rules.now) (past_of made.now) site.old ∥₁ }
     requires next { IsNext (past_of made.now) (reverse site.old.seen.items) number }
@@ -195,14 +195,14 @@ fn integrate(
         counts,
     )?;
     if !enabled(&form, site.doc.len()) {
-        return Err(Refusal::NoForm);
+        return Err(FormError::NoForm);
     }
     match site.execute(rules.head().mode, number, &form) {
         Ok(()) => {
             site.held.set(number as usize, false);
             Ok(())
         }
-        Err(Apply::NoMemory) => Err(Refusal::NoMemory),
+        Err(Apply::NoMemory) => Err(FormError::NoMemory),
         Err(Apply::NotEnabled) => unreachable!(),
     }
 }

@@ -7,7 +7,7 @@ use crate::ended::{Ended, Searched};
 use crate::ending::{FailingEnd, failing_end};
 use crate::settled::MAX_BYTES;
 use ask_core::NoMemory;
-use proof_search::{Finder, Lemmas, Seeking, Sought, search};
+use proof_search::{Finder, Lemmas, SearchOutcome, SearchResult, search};
 use proof_writer::write_tree;
 use std::alloc::Global;
 
@@ -15,7 +15,7 @@ use std::alloc::Global;
 fn end_of<A: Finder>(
     alloc: Global,
     asker: &mut A,
-    outcome: Seeking,
+    outcome: SearchOutcome,
     lemmas: &Lemmas<A::Node>,
     questions: u64,
     bytes: &mut Vec<u8>,
@@ -24,17 +24,17 @@ fn end_of<A: Finder>(
     ensures { IfOk result (EndsBy (IsFailingEnd (A.root asker.old))) }
 {
     match outcome {
-        Seeking::Shown => {
+        SearchOutcome::Shown => {
             if write_tree(alloc, asker, lemmas, questions, MAX_BYTES, bytes)? {
                 return Ok(Ended::Shown);
             }
             Ok(Ended::Spent)
         }
-        Seeking::Failing(answers) => match failing_end(alloc, asker, &answers)? {
+        SearchOutcome::Failing(answers) => match failing_end(alloc, asker, &answers)? {
             Some(end) => Ok(Ended::Fails(end)),
             None => Ok(Ended::Spent),
         },
-        Seeking::Spent => Ok(Ended::Spent),
+        SearchOutcome::Spent => Ok(Ended::Spent),
     }
 }
 
@@ -48,7 +48,7 @@ pub(crate) fn search_plan<A: Finder>(
     ensures ended { IfOk result (λ r. EndsBy (IsFailingEnd (A.root asker.old)) r.ended) }
     ensures within { IfOk result (λ r. r.asked ≤ budget) }
 {
-    let Sought {
+    let SearchResult {
         outcome,
         lemmas,
         asked,

@@ -19,7 +19,7 @@ use Rattle.ot_questions.specs.Places.{place, index_and, sym_op}
 use Rattle.ot_questions.specs.Questions.{ask_le, ask_lt, ask_eq, ask_compared, ask_atom, ask_guard, ask_transform, ask_enabled}
 use Rattle.ot_questions.specs.Reading.{ask_cell, ask_same, ask_same_source}
 use Rattle.ot_terms.specs.Forms.{FormTree, form_holds}
-use Rattle.ot_terms.specs.declared.goal.Progress.{Progress}
+use Rattle.ot_terms.specs.declared.goal.GoalProgress.{GoalProgress}
 use Rattle.ot_terms.specs.Forms as forms
 use Rattle.ot_terms.specs.Documents as documents
 use Rattle.ot_terms.specs.Cells.{CellTree}
@@ -118,7 +118,7 @@ reading_falls : cell_weight (cells.If before (cells.At documents.Base (index_and
 reading_falls = lit≤ tt
 
 -- two deletions, with so many results
-abbrev two_deletions : ℕ → Progress
+abbrev two_deletions : ℕ → GoalProgress
 two_deletions n = record { ob = Pair kinds.Del kinds.Del; ops = []; got = []; count = n }
 
 -- the second transformation weighs less than the first result, and the comparison less than the second

@@ -9,7 +9,7 @@ use Rattle.ot_questions.specs.declared.place.SymOp.{SymOp}
 use Rattle.ot_questions.specs.declared.place.SymOp.TheVariants.{Nop}
 use Rattle.ot_questions.specs.Names.{name_count}
 use Rattle.ot_questions.proofs.Instances.{none_from_value, value_from_none}
-use Rattle.ot_terms.specs.declared.goal.Progress.{Progress}
+use Rattle.ot_terms.specs.declared.goal.GoalProgress.{GoalProgress}
 use Rattle.ot_terms.specs.Forms.{form_holds}
 use Rattle.ot_terms.specs.Goals as goals
 use Rattle.ot_terms.specs.Goals.{GoalTree}
@@ -35,7 +35,7 @@ module _ (f : Function) (v : ℕ → ℤ) where
       subst (λ x. HoldsAfter 6 f v (Triple k l m) x got ↔ (end_of (ask_after f (Triple k l m) x got) v ≡ None)) (sym made.3)
       (triple_after v f k l m made.0 made.1 made.2 [] got)
 
-  with_holds : (ob : ObName) (plan : Progress) (r : SymOp) → IsProgressOf ob plan → HoldsWith f v plan r ↔ (end_of (ask_with f plan r) v ≡ None)
+  with_holds : (ob : ObName) (plan : GoalProgress) (r : SymOp) → IsProgressOf ob plan → HoldsWith f v plan r ↔ (end_of (ask_with f plan r) v ≡ None)
   with_holds ob plan r h = after_holds plan.ob plan.ops (results_of plan ++ r ∷ []) (subst (λ o. AreMade o plan.ops) (sym h.same) h.made)
 
   -- a goal with the parts of an obligation is true exactly where its plan ends in `Holds`

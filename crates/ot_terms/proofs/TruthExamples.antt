@@ -10,7 +10,7 @@ use Rattle.ot_questions.specs.declared.place.SymOp.{SymOp}
 use Rattle.ot_questions.specs.declared.place.SymOp.TheVariants.{Ins, Del, Nop}
 use Rattle.ot_questions.specs.declared.why.Why.TheVariants.{Undefined}
 use Rattle.ot_questions.specs.Places.{place, zero_place, index_and, sym_op}
-use Rattle.ot_terms.specs.declared.goal.Progress.{Progress}
+use Rattle.ot_terms.specs.declared.goal.GoalProgress.{GoalProgress}
 use Rattle.ot_terms.specs.Forms as forms
 use Rattle.ot_terms.specs.Documents as documents
 use Rattle.ot_terms.specs.Cells as cells
@@ -50,7 +50,7 @@ stays_behind_nop : result_from sites apart 3 (sym_op kinds.Ins A) Nop ≡ Some (
 stays_behind_nop = refl
 
 -- two deletions, behind the result of the first transformation
-abbrev with_first : SymOp → Progress
+abbrev with_first : SymOp → GoalProgress
 with_first r = record {
   ob = Pair kinds.Del kinds.Del;
   ops = sym_op kinds.Del A ∷ sym_op kinds.Del B ∷ Nop ∷ [];
@@ -86,7 +86,7 @@ not_one_length : goal_holds sites apart (goals.Deliver (sym_op kinds.Del A) (wit
 not_one_length h = false≢true (sym (ap (λ n. int_eq n (negsuc 0)) h.lengths))
 
 -- of three insertions the last results of the two ways
-abbrev with_left : SymOp → Progress
+abbrev with_left : SymOp → GoalProgress
 with_left left = record {
   ob = Triple kinds.Ins kinds.Ins kinds.Ins;
   ops = sym_op kinds.Ins A ∷ sym_op kinds.Ins B ∷ sym_op kinds.Ins C ∷ [];

@@ -15,7 +15,7 @@ use Rattle.ot_questions.specs.declared.place.SymOp.TheVariants as ops
 use Rattle.ot_questions.specs.Names.{index_name, name_count}
 use Rattle.ot_questions.specs.Nears.{IsNear, IsNearOp, IsDeclaredOp}
 use Rattle.ot_questions.specs.Places.{sym_kind, sym_at, sym_site, sym_char}
-use Rattle.ot_terms.specs.declared.goal.Progress.{Progress}
+use Rattle.ot_terms.specs.declared.goal.GoalProgress.{GoalProgress}
 use Rattle.ot_terms.specs.Forms as forms
 use Rattle.ot_terms.specs.Forms.{FormTree}
 use Rattle.ot_terms.specs.Documents as documents
@@ -149,17 +149,17 @@ AreResults ob os before [] = Unit {0}
 AreResults ob os before (r ∷ got) = IsNextResult ob os before r × AreResults ob os (before ++ r ∷ []) got
 
 -- how far an obligation has come; the last result is still to come
-pub record IsProgressOf (ob : ObName) (plan : Progress) : Type 0 where
-  pub same : plan.ob ≡ ob
-  pub made : AreMade ob plan.ops
-  pub results : AreResults ob plan.ops [] (results_of plan)
-  pub awaited : plan.count < transforms_of ob
-  pub room : length plan.got ≡ 6
+pub record IsProgressOf (ob : ObName) (progress : GoalProgress) : Type 0 where
+  pub same : progress.ob ≡ ob
+  pub made : AreMade ob progress.ops
+  pub results : AreResults ob progress.ops [] (results_of progress)
+  pub awaited : progress.count < transforms_of ob
+  pub room : length progress.got ≡ 6
 
 -- the next transformation, from one of its cases on or behind the last one
-pub record IsChoiceOf (f : Function) (ob : ObName) (case : ℕ) (a b : SymOp) (plan : Progress) : Type 0 where
-  pub progress : IsProgressOf ob plan
-  pub next : next_operands ob plan.ops (results_of plan) ≡ Some (a, b)
+pub record IsChoiceOf (f : Function) (ob : ObName) (case : ℕ) (a b : SymOp) (so_far : GoalProgress) : Type 0 where
+  pub progress : IsProgressOf ob so_far
+  pub next : next_operands ob so_far.ops (results_of so_far) ≡ Some (a, b)
   pub a_declared : IsDeclaredOp f.head a
   pub b_declared : IsDeclaredOp f.head b
   pub a_near : IsNearOp 99 a
@@ -171,8 +171,9 @@ abbrev pub HasParts : Function → ObName → GoalTree → Type 0
 HasParts f ob goals.Holds = Unit {0}
 HasParts f ob (goals.Fails why) = Unit {0}
 HasParts f ob (goals.If g on_yes on_no) = HasPlaces (name_count ob) g × HasParts f ob on_yes × HasParts f ob on_no
-HasParts f ob (goals.Choose case a b plan) = IsChoiceOf f ob case a b plan
-HasParts f ob (goals.Deliver o plan) = IsProgressOf ob plan × IsNextResult ob plan.ops (results_of plan) o
+HasParts f ob (goals.Choose case a b progress) = IsChoiceOf f ob case a b progress
+HasParts f ob (goals.Deliver o progress) =
+    IsProgressOf ob progress × IsNextResult ob progress.ops (results_of progress) o
 HasParts f ob (goals.Same left right) = IsCellOf f.head.mode (name_count ob) left
     × IsCellOf f.head.mode (name_count ob) right
 

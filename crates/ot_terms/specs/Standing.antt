@@ -14,7 +14,7 @@ use Rattle.ot_questions.specs.Names.{zero_name}
 use Rattle.ot_questions.specs.Questions.{ask_le, ask_lt, ask_eq, ask_transform}
 use Rattle.ot_questions.specs.Reading.{put_cell, buried_cell, replaced_cell, ask_cell, ask_same}
 use Rattle.ot_questions.specs.Obligation.{ask_converge, ask_ways, ask_behind, ask_commute, ask_same_form}
-use Rattle.ot_terms.specs.declared.goal.Progress.{Progress}
+use Rattle.ot_terms.specs.declared.goal.GoalProgress.{GoalProgress}
 use Rattle.ot_terms.specs.Forms.{FormTree, True, Le, Lt, Eq, And, Or, Not}
 use Rattle.ot_terms.specs.Documents as documents
 use Rattle.ot_terms.specs.Documents.{DocTree}
@@ -91,19 +91,19 @@ ask_after f (Triple k l m) (a ∷ []) got = plans.Holds
 ask_after f (Triple k l m) [] got = plans.Holds
 
 -- the results that are there
-abbrev pub results_of : Progress → List SymOp
-results_of plan = take plan.count plan.got
+abbrev pub results_of : GoalProgress → List SymOp
+results_of progress = take progress.count progress.got
 
 -- what is left with one more result
-abbrev pub ask_with : Function → Progress → SymOp → Plan Why
-ask_with f plan r = ask_after f plan.ob plan.ops (results_of plan ++ r ∷ [])
+abbrev pub ask_with : Function → GoalProgress → SymOp → Plan Why
+ask_with f progress r = ask_after f progress.ob progress.ops (results_of progress ++ r ∷ [])
 
 -- what is left to be asked of a goal
 unfoldable pub ask_goal : Function → GoalTree → Plan Why
 ask_goal f goals.Holds = plans.Holds
 ask_goal f (goals.Fails why) = plans.Fails why
 ask_goal f (goals.If g on_yes on_no) = ask_form g (ask_goal f on_yes) (ask_goal f on_no)
-ask_goal f (goals.Choose case a b plan) = ask_transform (from_case case f) a b (ask_with f plan)
-ask_goal f (goals.Deliver o plan) = ask_with f plan o
+ask_goal f (goals.Choose case a b progress) = ask_transform (from_case case f) a b (ask_with f progress)
+ask_goal f (goals.Deliver o progress) = ask_with f progress o
 ask_goal f (goals.Same left right) =
     ask_read f.head.mode left (λ x. ask_read f.head.mode right (λ y. ask_same x y))

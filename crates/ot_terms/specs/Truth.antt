@@ -13,7 +13,7 @@ use Rattle.ot_questions.specs.declared.place.SymOp.TheVariants.{Nop}
 use Rattle.ot_questions.specs.Names.{zero_name, length_name}
 use Rattle.ot_questions.specs.Places.{length_and, index_and, integer_at, growth, sym_kind, sym_at, sym_result}
 use Rattle.ot_questions.specs.Meaning.{HasPair, HasTriple}
-use Rattle.ot_terms.specs.declared.goal.Progress.{Progress}
+use Rattle.ot_terms.specs.declared.goal.GoalProgress.{GoalProgress}
 use Rattle.ot_terms.specs.Forms.{FormTree, Lt, form_holds}
 use Rattle.ot_terms.specs.Changes.{doc_of}
 use Rattle.ot_terms.specs.Cells as cells
@@ -102,16 +102,17 @@ HoldsAfter (suc most) f v ob os got =
     (λ next. IsSomeAnd (result_from f v 0 next.0 next.1) (λ r. HoldsAfter most f v ob os (got ++ r ∷ [])))
 
 -- what is left with one more result
-abbrev pub HoldsWith : Function → (ℕ → ℤ) → Progress → SymOp → Type 0
-HoldsWith f v plan r = HoldsAfter (transforms_of plan.ob) f v plan.ob plan.ops (results_of plan ++ r ∷ [])
+abbrev pub HoldsWith : Function → (ℕ → ℤ) → GoalProgress → SymOp → Type 0
+HoldsWith f v progress r =
+    HoldsAfter (transforms_of progress.ob) f v progress.ob progress.ops (results_of progress ++ r ∷ [])
 
 -- the truth of a goal
 abbrev pub goal_holds : Function → (ℕ → ℤ) → GoalTree → Type 0
 goal_holds f v goals.Holds = Unit {0}
 goal_holds f v (goals.Fails why) = ⊥
 goal_holds f v (goals.If g on_yes on_no) = MatchBool (form_holds v g) (goal_holds f v on_yes) (goal_holds f v on_no)
-goal_holds f v (goals.Choose case a b plan) = IsSomeAnd (result_from f v case a b) (HoldsWith f v plan)
-goal_holds f v (goals.Deliver o plan) = HoldsWith f v plan o
+goal_holds f v (goals.Choose case a b progress) = IsSomeAnd (result_from f v case a b) (HoldsWith f v progress)
+goal_holds f v (goals.Deliver o progress) = HoldsWith f v progress o
 goal_holds f v (goals.Same left right) = AreSameCell v left right
 
 -- the goal is true at every valuation

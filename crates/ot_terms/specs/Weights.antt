@@ -11,7 +11,7 @@ use Rattle.fn_rules.specs.Formulas as guards
 use Rattle.fn_rules.specs.Formulas.{Formula}
 use Rattle.fn_rules.specs.Functions.{Function, GuardedCase}
 use Rattle.ot_questions.specs.Places.{sym_kind}
-use Rattle.ot_terms.specs.declared.goal.Progress.{Progress}
+use Rattle.ot_terms.specs.declared.goal.GoalProgress.{GoalProgress}
 use Rattle.ot_terms.specs.Forms as forms
 use Rattle.ot_terms.specs.Forms.{FormTree}
 use Rattle.ot_terms.specs.Documents as documents
@@ -75,8 +75,8 @@ abbrev pub end_weight : ℕ
 end_weight = 200
 
 -- what is left to be transformed once there is one more result, and then the end
-abbrev pub rest_weight : Function → Progress → ℕ
-rest_weight f plan = (transforms_of plan.ob - (1 + plan.count)) * (3 + function_weight f) + end_weight
+abbrev pub rest_weight : Function → GoalProgress → ℕ
+rest_weight f progress = (transforms_of progress.ob - (1 + progress.count)) * (3 + function_weight f) + end_weight
 
 abbrev pub cases_of_kinds : Function → Option Kind → Option Kind → List GuardedCase
 cases_of_kinds f None l = []
@@ -87,7 +87,7 @@ abbrev pub goal_weight : Function → GoalTree → ℕ
 goal_weight f goals.Holds = 1
 goal_weight f (goals.Fails why) = 1
 goal_weight f (goals.If g on_yes on_no) = form_weight g + max (goal_weight f on_yes) (goal_weight f on_no)
-goal_weight f (goals.Choose case a b plan) =
-    2 + cases_weight (drop case (cases_of_kinds f (sym_kind a) (sym_kind b))) + rest_weight f plan
-goal_weight f (goals.Deliver o plan) = 1 + rest_weight f plan
+goal_weight f (goals.Choose case a b progress) =
+    2 + cases_weight (drop case (cases_of_kinds f (sym_kind a) (sym_kind b))) + rest_weight f progress
+goal_weight f (goals.Deliver o progress) = 1 + rest_weight f progress
 goal_weight f (goals.Same left right) = 1 + 2 * (cell_weight left + cell_weight right)

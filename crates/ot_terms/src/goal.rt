@@ -14,7 +14,7 @@ use ot_questions::{SymOp, Why};
 
 /// How far the transformations of an obligation have come.
 #[derive(Clone, Copy)]
-pub struct Progress {
+pub struct GoalProgress {
     pub ob: ObName,
 
     /// The operations that the obligation is about. A pair has nop in the third place.
@@ -45,13 +45,13 @@ pub enum Goal<'a> {
         case: u32,
         a: SymOp,
         b: SymOp,
-        plan: &'a Progress,
+        plan: &'a GoalProgress,
     },
 
     /// The operation is the next result.
     Deliver {
         op: SymOp,
-        plan: &'a Progress,
+        plan: &'a GoalProgress,
     },
 
     /// The two cells are the same for every document that both ways may come from.
@@ -61,8 +61,8 @@ pub enum Goal<'a> {
     },
 }
 
-impl Progress {
-    pub fn placed<'a>(self, bump: &'a Bump) -> Result<&'a Progress, NoMemory>
+impl GoalProgress {
+    pub fn placed<'a>(self, bump: &'a Bump) -> Result<&'a GoalProgress, NoMemory>
         ensures { IfOk result (λ r. r.now ≡ self) }
     {
         Ok(bump.try_alloc(self)?)
@@ -99,17 +99,26 @@ impl<'a> Goal<'a> {
         case: u32,
         a: SymOp,
         b: SymOp,
-        plan: &'a Progress,
+        progress: &'a GoalProgress,
     ) -> Result<&'a Goal<'a>, NoMemory>
-        ensures { IfOk result (λ r. goal_tree r.now ≡ trees.Choose case a b plan.now) }
+        ensures { IfOk result (λ r. goal_tree r.now ≡ trees.Choose case a b progress.now) }
     {
-        Ok(bump.try_alloc(Goal::Choose { case, a, b, plan })?)
+        Ok(bump.try_alloc(Goal::Choose {
+            case,
+            a,
+            b,
+            plan: progress,
+        })?)
     }
 
-    pub fn deliver(bump: &'a Bump, op: SymOp, plan: &'a Progress) -> Result<&'a Goal<'a>, NoMemory>
-        ensures { IfOk result (λ r. goal_tree r.now ≡ trees.Deliver op plan.now) }
+    pub fn deliver(
+        bump: &'a Bump,
+        op: SymOp,
+        progress: &'a GoalProgress,
+    ) -> Result<&'a Goal<'a>, NoMemory>
+        ensures { IfOk result (λ r. goal_tree r.now ≡ trees.Deliver op progress.now) }
     {
-        Ok(bump.try_alloc(Goal::Deliver { op, plan })?)
+        Ok(bump.try_alloc(Goal::Deliver { op, plan: progress })?)
     }
 
     pub fn same(

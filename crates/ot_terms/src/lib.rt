@@ -21,7 +21,7 @@ pub use cell::CellT;
 pub use document::DocT;
 pub use enabled::enabled_form;
 pub use form::Form;
-pub use goal::{Goal, Progress};
+pub use goal::{Goal, GoalProgress};
 pub use laws::{
     cells_are_compared_over_all_documents, first_goals_stand_for_obligations,
     forms_are_asked_as_they_are_true, goals_are_true_as_their_plans,

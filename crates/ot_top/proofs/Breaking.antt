@@ -19,7 +19,7 @@ use Rattle.ot_values.specs.Values.{floors_of, ops_at}
 use Rattle.ot_counter.specs.declared.counter.Counter.{Counter}
 use Rattle.ot_counter.specs.Counters.{Breaks, BreaksBy, IsCounter, level_of}
 use Rattle.ot_counter.specs.Documents.{document_at}
-use Rattle.ot_counter.specs.Sides.{left_at, right_at}
+use Rattle.ot_counter.specs.Ways.{left_at, right_at}
 use Rattle.ot_top.specs.Shown.{AreBothWays, HasBefore, IsAskedAt}
 
 -- what is read off values is what the interpreter gives on both ways

@@ -24,16 +24,16 @@ pub record Answers (words : List (List ℕ)) (holds : List ℕ → Option (List 
   pub named : status ≤ NO_MEMORY
 
 -- a count before a run and behind it
-pub record Counts : Type 0 where
+pub record CountChange : Type 0 where
   pub before : ℕ
   pub now : ℕ
 
-abbrev pub counted : ℕ → ℕ → Counts
+abbrev pub counted : ℕ → ℕ → CountChange
 counted before now = record { before = before; now = now }
 
 -- what faults and want of memory tell, by the counts of faults of the shelf and of the sink, and by what the sink tells
 -- that was written `before` the run and is `now`
-pub record Faults (words : List (List ℕ)) (holds : List ℕ → Option (List ℕ)) (shelf sink : Counts)
+pub record Faults (words : List (List ℕ)) (holds : List ℕ → Option (List ℕ)) (shelf sink : CountChange)
     (before now : Option (List ℕ))
     (status : ℕ) : Type 0 where
   -- the shelf failed, and nothing was written

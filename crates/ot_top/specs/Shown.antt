@@ -19,9 +19,9 @@ use Rattle.ot_sections.specs.Certificates.{IsCertificate}
 use Rattle.ot_judge.specs.Refusals.{IsJudgement}
 use Rattle.ot_decide.specs.Verdicts.{ObQuestions, AreAsked, count_in, failing_in}
 use Rattle.ot_counter.specs.declared.counter.Counter.{Counter}
-use Rattle.ot_counter.specs.declared.counter.Side.{Side}
+use Rattle.ot_counter.specs.declared.counter.WayResult.{WayResult}
 use Rattle.ot_counter.specs.Counters.{Breaks, BreaksBy}
-use Rattle.ot_counter.specs.Sides.{document_way, operation_side}
+use Rattle.ot_counter.specs.Ways.{document_way, operation_result}
 use Rattle.ot_replies.specs.declared.reply.FileKind.TheVariants as files
 use Rattle.ot_replies.specs.declared.reply.Drilled.{Drilled}
 use Rattle.ot_replies.specs.declared.reply.Reply.TheVariants.{Spent}
@@ -71,12 +71,12 @@ IsAskedAt property level = Unit {0}
 
 -- the two sides are what the interpreter gives on the two ways: of two operations on a document the document behind
 -- both, and of three the form of the third behind the others
-abbrev pub AreBothWays : Function → Level → List Cell → List Op → Side → Side → Type 0
+abbrev pub AreBothWays : Function → Level → List Cell → List Op → WayResult → WayResult → Type 0
 AreBothWays f Tp1 d ops left right =
     (a b : Op) × (ops ≡ a ∷ b ∷ []) × (left ≡ document_way f d a b) × (right ≡ document_way f d b a)
 AreBothWays f Tp2 d ops left right =
     (a b c : Op) × (ops ≡ a ∷ b ∷ c ∷ [])
-    × (left ≡ operation_side (form_behind f a b c)) × (right ≡ operation_side (form_behind f b a c))
+    × (left ≡ operation_result (form_behind f a b c)) × (right ≡ operation_result (form_behind f b a c))
 
 -- what holds of a function that breaks a property: TP2 is looked at where TP1 holds
 abbrev pub HasBefore : Function → Level → Type 0

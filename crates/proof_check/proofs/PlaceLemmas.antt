@@ -11,8 +11,8 @@ use Rattle.diff_graph.specs.Literals.{answered_of}
 use Rattle.proof_check.specs.declared.places.At.{At}
 use Rattle.proof_check.specs.declared.places.At.TheVariants as at
 use Rattle.proof_check.specs.declared.places.Known.{Known}
-use Rattle.proof_check.specs.declared.places.Waiting.{Waiting}
-use Rattle.proof_check.specs.declared.places.Waiting.TheVariants as waiting
+use Rattle.proof_check.specs.declared.places.WaitingPlace.{WaitingPlace}
+use Rattle.proof_check.specs.declared.places.WaitingPlace.TheVariants as waiting
 use Rattle.proof_check.specs.Parts.{AreCycles, cycle_part, without_cycles}
 use Rattle.proof_check.specs.Places.{WantedAt, Tree, OpenProof, first_list, settled_at, closed, asked, begun, cited, cycles_at, literals_at, place_at, behind}
 use Rattle.proof_check.specs.Places.{IsNested, open_proof, IsOpenPath}
@@ -60,7 +60,7 @@ reverse-push xs x = reverse-append xs (x ∷ [])
 module _ {N : Type 0} where
   -- a higher limit is kept too
   pub IsNested-more :
-      (base low high : ℕ) (parts : List (Waiting N)) → low ≤ high → IsNested base low parts → IsNested base high parts
+      (base low high : ℕ) (parts : List (WaitingPlace N)) → low ≤ high → IsNested base low parts → IsNested base high parts
   IsNested-more base low high [] less nested = tt
   IsNested-more base low high (waiting.Place place depth answer ∷ parts) less nested =
       (nested.0, omega (arith, nested.1), nested.2)
@@ -69,7 +69,7 @@ module _ {N : Type 0} where
 
   -- parts that wait see the shared literals alone
   behind-same :
-      (base limit : ℕ) (u w : List Lit) (parts : List (Waiting N)) → ((k : ℕ) → k ≤ limit → take k u ≡ take k w)
+      (base limit : ℕ) (u w : List Lit) (parts : List (WaitingPlace N)) → ((k : ℕ) → k ≤ limit → take k u ≡ take k w)
       → IsNested base limit parts → behind base u parts ≡ behind base w parts
   behind-same base limit u w [] same nested = refl
   behind-same base limit u w (waiting.Place place depth answer ∷ parts) same nested =
@@ -105,7 +105,7 @@ module _ {N : Type 0} where
 
   -- one literal more
   pub longer_path :
-      (base : ℕ) (list u : List Lit) (l : Lit) (parts : List (Waiting N)) → IsOpenPath base list parts
+      (base : ℕ) (list u : List Lit) (l : Lit) (parts : List (WaitingPlace N)) → IsOpenPath base list parts
       → u ≡ list ++ l ∷ [] → IsOpenPath base u parts
   longer_path base list u l parts path longer =
       let more : length u ≡ length list + 1 = rw (longer, length-append) refl in
@@ -116,7 +116,7 @@ module _ {N : Type 0} where
 
   -- the innermost part that waits is taken out
   pub shorter_path :
-      (base : ℕ) (list : List Lit) (parts rest : List (Waiting N)) (place : At N) (depth : ℕ) (answer : Lit)
+      (base : ℕ) (list : List Lit) (parts rest : List (WaitingPlace N)) (place : At N) (depth : ℕ) (answer : Lit)
       → IsOpenPath base list parts → parts ≡ rest ++ waiting.Place place depth answer ∷ []
       → IsOpenPath base (take depth list) rest
   shorter_path base list parts rest place depth answer path same =
@@ -129,7 +129,7 @@ module _ {N : Type 0} where
 
   -- the path around a lemma has the list as it was when the lemma began
   pub outer_path :
-      (base : ℕ) (list : List Lit) (parts rest : List (Waiting N)) (n : N) (below count : ℕ)
+      (base : ℕ) (list : List Lit) (parts rest : List (WaitingPlace N)) (n : N) (below count : ℕ)
       → IsOpenPath base list parts → parts ≡ rest ++ waiting.Lemma n below count ∷ []
       → IsOpenPath below (take base list) rest
   outer_path base list parts rest n below count path same =
@@ -142,7 +142,7 @@ module _ {N : Type 0} where
 
   -- a lemma's literals more, and its place waits
   pub lemma_path :
-      (base : ℕ) (list u : List Lit) (ls : List Lit) (parts later : List (Waiting N)) (n : N) → IsOpenPath base list parts
+      (base : ℕ) (list u : List Lit) (ls : List Lit) (parts later : List (WaitingPlace N)) (n : N) → IsOpenPath base list parts
       → u ≡ list ++ ls → later ≡ parts ++ waiting.Lemma n base (length ls) ∷ [] → IsOpenPath (length list) u later
   lemma_path base list u ls parts later n path longer deeper =
       let more : length u ≡ length list + length ls = rw (longer, length-append) refl in
@@ -152,7 +152,7 @@ module _ {N : Type 0} where
       }
 
   pub appended_path :
-      (base : ℕ) (list u : List Lit) (ls : List Lit) (parts : List (Waiting N)) → IsOpenPath base list parts
+      (base : ℕ) (list u : List Lit) (ls : List Lit) (parts : List (WaitingPlace N)) → IsOpenPath base list parts
       → u ≡ list ++ ls → IsOpenPath base u parts
   appended_path base list u ls parts path longer =
       let more : length u ≡ length list + length ls = rw (longer, length-append) refl in
@@ -163,7 +163,7 @@ module _ {N : Type 0} where
 
   -- a lemma is begun: its tree is wanted after its own literals, and the place where it was begun waits
   pub begun_places :
-      (known : List (Known N)) (current : Option (At N)) (base : ℕ) (list u ls : List Lit) (parts later : List (Waiting N))
+      (known : List (Known N)) (current : Option (At N)) (base : ℕ) (list u ls : List Lit) (parts later : List (WaitingPlace N))
       (n : N) (p : OpenProof N)
       → open_proof known current base list parts ≡ p → 0 < length p.wanted → IsOpenPath base list parts
       → u ≡ list ++ ls → later ≡ parts ++ waiting.Lemma n base (length ls) ∷ []
@@ -180,7 +180,7 @@ module _ {N : Type 0} where
 
   -- a question puts the part for yes first and the part for no second
   pub asked_places :
-      (known : List (Known N)) (current : Option (At N)) (base : ℕ) (list u : List Lit) (parts later : List (Waiting N))
+      (known : List (Known N)) (current : Option (At N)) (base : ℕ) (list u : List Lit) (parts later : List (WaitingPlace N))
       (l : Lit) (on_yes on_no : N) (p : OpenProof N)
       → open_proof known current base list parts ≡ p → 0 < length p.wanted → IsOpenPath base list parts
       → u ≡ list ++ answered_of l true ∷ []
@@ -199,7 +199,7 @@ module _ {N : Type 0} where
 
   -- the innermost part that waits is next
   pub closed_places :
-      (known : List (Known N)) (current : Option (At N)) (base : ℕ) (list u : List Lit) (parts rest : List (Waiting N))
+      (known : List (Known N)) (current : Option (At N)) (base : ℕ) (list u : List Lit) (parts rest : List (WaitingPlace N))
       (place : At N) (depth : ℕ) (answer : Lit) (p : OpenProof N)
       → open_proof known current base list parts ≡ p → 0 < length p.wanted → IsOpenPath base list parts
       → parts ≡ rest ++ waiting.Place place depth answer ∷ [] → u ≡ take depth list ++ answer ∷ []
@@ -218,7 +218,7 @@ module _ {N : Type 0} where
 
   -- a lemma whose tree has ended is known, and its place is next
   pub learned_places :
-      (known later : List (Known N)) (current : Option (At N)) (base : ℕ) (list u : List Lit) (parts rest : List (Waiting N))
+      (known later : List (Known N)) (current : Option (At N)) (base : ℕ) (list u : List Lit) (parts rest : List (WaitingPlace N))
       (n : N) (below count : ℕ) (p : OpenProof N)
       → open_proof known current base list parts ≡ p → 0 < length p.wanted → IsOpenPath base list parts
       → parts ≡ rest ++ waiting.Lemma n below count ∷ [] → u ≡ take base list
@@ -234,14 +234,14 @@ module _ {N : Type 0} where
 
   -- parts that wait for cycles of the present list
   cycle_parts_nested :
-      (base limit : ℕ) (ls : List Lit) (parts : List (Waiting N)) → base ≤ limit → IsNested base limit parts
+      (base limit : ℕ) (ls : List Lit) (parts : List (WaitingPlace N)) → base ≤ limit → IsNested base limit parts
       → IsNested base limit (map (cycle_part limit) ls ++ parts)
   cycle_parts_nested base limit [] parts within nested = nested
   cycle_parts_nested base limit (l ∷ ls) parts within nested =
       (within, omega arith, cycle_parts_nested base limit ls parts within nested)
 
   cycle_parts_behind :
-      (base : ℕ) (list ls : List Lit) (parts : List (Waiting N))
+      (base : ℕ) (list ls : List Lit) (parts : List (WaitingPlace N))
       → behind base list (map (cycle_part (length list)) ls ++ parts) ≡ cycles_at (drop base list) ls ++ behind base list parts
   cycle_parts_behind base list [] parts = refl
   cycle_parts_behind base list (l ∷ ls) parts =
@@ -249,7 +249,7 @@ module _ {N : Type 0} where
       rw (whole, cycle_parts_behind base list ls parts) refl
 
   pub cycles_path :
-      (base : ℕ) (list ls : List Lit) (parts later : List (Waiting N)) → IsOpenPath base list parts
+      (base : ℕ) (list ls : List Lit) (parts later : List (WaitingPlace N)) → IsOpenPath base list parts
       → reverse later ≡ map (cycle_part (length list)) ls ++ reverse parts → IsOpenPath base list later
   cycles_path base list ls parts later path same =
       record {
@@ -259,7 +259,7 @@ module _ {N : Type 0} where
 
   -- what is wanted where cycles for literals wait behind the first place
   pub cycles_wait :
-      (known : List (Known N)) (current : Option (At N)) (base : ℕ) (list ls : List Lit) (parts later : List (Waiting N))
+      (known : List (Known N)) (current : Option (At N)) (base : ℕ) (list ls : List Lit) (parts later : List (WaitingPlace N))
       (p : OpenProof N)
       → open_proof known current base list parts ≡ p → 0 < length p.wanted
       → reverse later ≡ map (cycle_part (length list)) ls ++ reverse parts
@@ -272,7 +272,7 @@ module _ {N : Type 0} where
 
   -- the cycles of two lists wait behind one another
   pub cycles_joined :
-      (depth : ℕ) (ls es : List Lit) (parts between later : List (Waiting N))
+      (depth : ℕ) (ls es : List Lit) (parts between later : List (WaitingPlace N))
       → reverse later ≡ map (cycle_part depth) ls ++ reverse between
       → reverse between ≡ map (cycle_part depth) es ++ reverse parts
       → reverse later ≡ map (cycle_part depth) (ls ++ es) ++ reverse parts
@@ -281,21 +281,21 @@ module _ {N : Type 0} where
 
   -- how many parts wait then, and what waited before
   pub cycles_more :
-      (depth : ℕ) (ls : List Lit) (parts later : List (Waiting N))
+      (depth : ℕ) (ls : List Lit) (parts later : List (WaitingPlace N))
       → reverse later ≡ map (cycle_part depth) ls ++ reverse parts → length later ≡ length ls + length parts
   cycles_more depth ls parts later same =
-      sym (length-reverse later) ∙ ap (λ (x : List (Waiting N)). length x) same
+      sym (length-reverse later) ∙ ap (λ (x : List (WaitingPlace N)). length x) same
       ∙ rw (length-append, length-map, length-reverse) refl
 
   pub cycles_cut :
-      (depth : ℕ) (ls : List Lit) (parts later : List (Waiting N))
+      (depth : ℕ) (ls : List Lit) (parts later : List (WaitingPlace N))
       → reverse later ≡ map (cycle_part depth) ls ++ reverse parts → take (length parts) later ≡ parts
   cycles_cut depth ls parts later same =
       let whole : later ≡ parts ++ reverse (map (cycle_part depth) ls) =
-      sym (reverse-reverse later) ∙ ap (λ (x : List (Waiting N)). reverse x) same
+      sym (reverse-reverse later) ∙ ap (λ (x : List (WaitingPlace N)). reverse x) same
       ∙ reverse-append (map (cycle_part depth) ls) (reverse parts)
-      ∙ ap (λ (x : List (Waiting N)). x ++ reverse (map (cycle_part depth) ls)) (reverse-reverse parts) in
-      ap (λ (x : List (Waiting N)). take (length parts) x) whole
+      ∙ ap (λ (x : List (WaitingPlace N)). x ++ reverse (map (cycle_part depth) ls)) (reverse-reverse parts) in
+      ap (λ (x : List (WaitingPlace N)). take (length parts) x) whole
       ∙ take_at parts (reverse (map (cycle_part depth) ls)) (length parts) refl
 
   -- wanted cycles, and what is wanted behind them
@@ -307,7 +307,7 @@ module _ {N : Type 0} where
 
   -- cycles that wait innermost, one for each literal, are wanted next, and without them all is as before
   pub cycles_waiting :
-      (known : List (Known N)) (current : Option (At N)) (base : ℕ) (list ls : List Lit) (parts later : List (Waiting N))
+      (known : List (Known N)) (current : Option (At N)) (base : ℕ) (list ls : List Lit) (parts later : List (WaitingPlace N))
       (p : OpenProof N)
       → open_proof known current base list parts ≡ p → 0 < length p.wanted
       → reverse later ≡ map (cycle_part (length list)) ls ++ reverse parts
@@ -317,13 +317,13 @@ module _ {N : Type 0} where
       absurd (omega (arith, opened, ap (λ (x : OpenProof N). length x.wanted) shown))
   cycles_waiting known (Some place) base list ls parts later p shown opened same =
       let waits : behind base list (reverse later) ≡ cycles_at (drop base list) ls ++ behind base list (reverse parts) =
-      ap (λ (x : List (Waiting N)). behind base list x) same ∙ cycle_parts_behind base list ls (reverse parts) in
+      ap (λ (x : List (WaitingPlace N)). behind base list x) same ∙ cycle_parts_behind base list ls (reverse parts) in
       let cut = cycles_at_cut (drop base list) ls (behind base list (reverse parts)) in
       (rw waits cut.0, rw (waits, cut.1, ← shown) refl)
 
   -- parts that wait for cycles are forgotten
   cycles_dropped :
-      (base limit count : ℕ) (list : List Lit) (parts : List (Waiting N)) → AreCycles count (behind base list parts)
+      (base limit count : ℕ) (list : List Lit) (parts : List (WaitingPlace N)) → AreCycles count (behind base list parts)
       → IsNested base limit parts
       → (count ≤ length parts) × (behind base list (drop count parts) ≡ drop count (behind base list parts))
       × IsNested base limit (drop count parts)
@@ -337,7 +337,7 @@ module _ {N : Type 0} where
 
   -- innermost parts that wait for cycles may be forgotten: without them the path has the other places
   pub forgotten_places :
-      (known : List (Known N)) (current : Option (At N)) (base : ℕ) (list : List Lit) (parts : List (Waiting N)) (count : ℕ)
+      (known : List (Known N)) (current : Option (At N)) (base : ℕ) (list : List Lit) (parts : List (WaitingPlace N)) (count : ℕ)
       (p : OpenProof N)
       → open_proof known current base list parts ≡ p → AreCycles count (drop 1 p.wanted) → IsOpenPath base list parts
       → (count ≤ length parts)
@@ -357,7 +357,7 @@ module _ {N : Type 0} where
       by_place None zero none =
           let all : take (length parts - 0) parts ≡ parts =
           ap (λ (n : ℕ). take n parts) (omega arith) ∙ take-length parts in
-          (omega arith, refl, subst (λ (x : List (Waiting N)). IsOpenPath base list x) (sym all) path)
+          (omega arith, refl, subst (λ (x : List (WaitingPlace N)). IsOpenPath base list x) (sym all) path)
       by_place None (suc n) none = absurd none
       by_place (Some place) n first =
           let cut = cycles_dropped base (length list) n list (reverse parts) first path.nested in
@@ -367,13 +367,13 @@ module _ {N : Type 0} where
 
   -- the literals of a lemma that is known
   known_places :
-      (known : List (Known N)) (current : Option (At N)) (base : ℕ) (list : List Lit) (parts : List (Waiting N))
+      (known : List (Known N)) (current : Option (At N)) (base : ℕ) (list : List Lit) (parts : List (WaitingPlace N))
       → (open_proof known current base list parts).known ≡ known
   known_places known None base list parts = refl
   known_places known (Some place) base list parts = refl
 
   pub literals_known :
-      (known : List (Known N)) (current : Option (At N)) (base : ℕ) (list : List Lit) (parts : List (Waiting N))
+      (known : List (Known N)) (current : Option (At N)) (base : ℕ) (list : List Lit) (parts : List (WaitingPlace N))
       (p : OpenProof N) (number : ℕ) (k : Known N) → open_proof known current base list parts ≡ p
       → number < length p.known → k ≡ get_or known number k → k.literals ≡ literals_at p.known number
   literals_known known current base list parts p number k shown few read =

@@ -3,11 +3,11 @@ use Rattle.std.specs.Prelude.{ℕ, ⊤, List, [], ◌∷◌, ◌++◌, zero, suc
 use Rattle.diff_graph.specs.declared.lit.Lit.{Lit}
 use Rattle.diff_graph.specs.Literals.{negated}
 use Rattle.proof_check.specs.declared.places.At.TheVariants as at
-use Rattle.proof_check.specs.declared.places.Waiting.{Waiting}
-use Rattle.proof_check.specs.declared.places.Waiting.TheVariants as waiting
+use Rattle.proof_check.specs.declared.places.WaitingPlace.{WaitingPlace}
+use Rattle.proof_check.specs.declared.places.WaitingPlace.TheVariants as waiting
 use Rattle.proof_check.specs.Places.{WantedAt, Tree, Cycle, Learn, OpenProof}
 
-abbrev pub cycle_part : {N : Type 0} → ℕ → Lit → Waiting N
+abbrev pub cycle_part : {N : Type 0} → ℕ → Lit → WaitingPlace N
 cycle_part depth l = waiting.Place at.Cycle depth (negated l)
 
 -- so many places are wanted first, and each is that of a cycle

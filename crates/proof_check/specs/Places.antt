@@ -11,8 +11,8 @@ use Rattle.proof_trees.specs.Tokens as plan
 use Rattle.proof_check.specs.declared.places.At.{At}
 use Rattle.proof_check.specs.declared.places.At.TheVariants as at
 use Rattle.proof_check.specs.declared.places.Known.{Known}
-use Rattle.proof_check.specs.declared.places.Waiting.{Waiting}
-use Rattle.proof_check.specs.declared.places.Waiting.TheVariants as waiting
+use Rattle.proof_check.specs.declared.places.WaitingPlace.{WaitingPlace}
+use Rattle.proof_check.specs.declared.places.WaitingPlace.TheVariants as waiting
 use Rattle.proof_check.specs.Steps.{Standing}
 
 -- what is wanted at a place, by node
@@ -116,7 +116,7 @@ place_at at.Cycle w = Cycle w
 
 -- what waits, the innermost part first. A part shares the first literals of the list, of which the present ones begin
 -- at the base. Behind a lemma the list is the one that it was begun in
-abbrev pub behind : {N : Type 0} → ℕ → List Lit → List (Waiting N) → List (WantedAt N)
+abbrev pub behind : {N : Type 0} → ℕ → List Lit → List (WaitingPlace N) → List (WantedAt N)
 behind base list [] = []
 behind base list (waiting.Place place depth answer ∷ parts) =
     place_at place (drop base (take depth list) ++ answer ∷ []) ∷ behind base list parts
@@ -124,7 +124,7 @@ behind base list (waiting.Lemma n below count ∷ parts) =
     Learn n (take count (drop base list)) ∷ Tree n (drop below (take base list)) ∷ behind below list parts
 
 -- each part shares no more literals than the limit and than the one before it, and none before its base
-abbrev pub IsNested : {N : Type 0} → ℕ → ℕ → List (Waiting N) → Type 0
+abbrev pub IsNested : {N : Type 0} → ℕ → ℕ → List (WaitingPlace N) → Type 0
 IsNested base limit [] = ⊤
 IsNested base limit (waiting.Place place depth answer ∷ parts) = (base ≤ depth) × (depth ≤ limit)
     × IsNested base depth parts
@@ -132,11 +132,12 @@ IsNested base limit (waiting.Lemma n below count ∷ parts) = (below ≤ base) �
     × IsNested below base parts
 
 -- the open places of a path, the parts that wait being listed with the innermost one last
-abbrev pub open_proof : {N : Type 0} → List (Known N) → Option (At N) → ℕ → List Lit → List (Waiting N) → OpenProof N
+abbrev pub open_proof : {N : Type 0} → List (Known N) → Option (At N) → ℕ → List Lit → List (WaitingPlace N)
+    → OpenProof N
 open_proof known None base list parts = record { known = known; wanted = [] }
 open_proof known (Some place) base list parts =
     record { known = known; wanted = place_at place (drop base list) ∷ behind base list (reverse parts) }
 
-pub record IsOpenPath {N : Type 0} (base : ℕ) (list : List Lit) (parts : List (Waiting N)) : Type 0 where
+pub record IsOpenPath {N : Type 0} (base : ℕ) (list : List Lit) (parts : List (WaitingPlace N)) : Type 0 where
   pub within : base ≤ length list
   pub nested : IsNested base (length list) (reverse parts)

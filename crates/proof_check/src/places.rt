@@ -26,7 +26,7 @@ enum At<N> {
 /// the place of a node at which a lemma of the next `count` literals is being shown, and whose own list begins at
 /// `base`.
 #[derive(Clone, Copy)]
-enum Waiting<N> {
+enum WaitingPlace<N> {
     Place {
         at: At<N>,
         depth: usize,
@@ -54,7 +54,7 @@ pub struct Places<N: Copy> {
     current: Option<At<N>>,
     list: Vec<Lit>,
     base: usize,
-    waiting: Vec<Waiting<N>>,
+    waiting: Vec<WaitingPlace<N>>,
     known: Vec<Known<N>>,
 }
 
@@ -120,14 +120,14 @@ impl<N: Copy> Places<N> {
     {
         match innermost(&self.waiting) {
             None => self.current = None,
-            Some(Waiting::Place { at, depth, answer }) => {
+            Some(WaitingPlace::Place { at, depth, answer }) => {
                 self.list.reserve(1)?;
                 self.list.truncate(depth);
                 self.list.push_reserved(answer);
                 self.waiting.pop();
                 self.current = Some(at);
             }
-            Some(Waiting::Lemma { node, base, count }) => {
+            Some(WaitingPlace::Lemma { node, base, count }) => {
                 let literals = Vec::from_slice(
                     self.alloc,
                     &self.list[self.base..self.base + count],
@@ -155,7 +155,7 @@ impl<N: Copy> Places<N> {
         let depth = self.list.len();
         self.waiting.reserve(1)?;
         self.list.push(answered(lit, true))?;
-        self.waiting.push_reserved(Waiting::Place {
+        self.waiting.push_reserved(WaitingPlace::Place {
             at: At::Tree(no),
             depth,
             answer: answered(lit, false),
@@ -176,7 +176,7 @@ impl<N: Copy> Places<N> {
         let depth = self.list.len();
         self.waiting.reserve(1)?;
         append(&mut self.list, shown)?;
-        self.waiting.push_reserved(Waiting::Lemma {
+        self.waiting.push_reserved(WaitingPlace::Lemma {
             node,
             base: self.base,
             count: shown.len(),
@@ -236,7 +236,7 @@ impl<N: Copy> Places<N> {
 }
 
 // The innermost part that waits, if one does.
-fn innermost<N: Copy>(waiting: &[Waiting<N>]) -> Option<Waiting<N>>
+fn innermost<N: Copy>(waiting: &[WaitingPlace<N>]) -> Option<WaitingPlace<N>>
     ensures { MatchOption result (waiting.now ≡ [])
         (λ part. waiting.now ≡ take (length waiting.now - 1) waiting.now ++ part ∷ []) }
 {
@@ -253,7 +253,7 @@ fn append(list: &mut Vec<Lit>, literals: &[Lit]) -> Result<(), NoMemory>
 
 // Lets a cycle wait for each literal, the first one innermost. What was refused memory is as it was.
 fn wait_for_cycles<N: Copy>(
-    waiting: &mut Vec<Waiting<N>>,
+    waiting: &mut Vec<WaitingPlace<N>>,
     depth: usize,
     literals: &[Lit],
 ) -> Result<(), NoMemory>
@@ -264,7 +264,7 @@ fn wait_for_cycles<N: Copy>(
     waiting.reserve(literals.len())?;
     let mut left = literals.len();
     while left > 0 {
-        waiting.push_reserved(Waiting::Place {
+        waiting.push_reserved(WaitingPlace::Place {
             at: At::Cycle,
             depth,
             answer: negate(literals[left - 1]),
@@ -276,7 +276,7 @@ fn wait_for_cycles<N: Copy>(
 
 // Lets a cycle wait for each literal of a lemma and then for each condition. What was refused memory is as it was.
 fn wait_for_all<N: Copy>(
-    waiting: &mut Vec<Waiting<N>>,
+    waiting: &mut Vec<WaitingPlace<N>>,
     depth: usize,
     literals: &[Lit],
     conditions: &[Lit],

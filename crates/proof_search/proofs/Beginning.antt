@@ -6,9 +6,9 @@ use Rattle.std.proofs.lemmas.List.Elements.{All-nil}
 use Rattle.ask_core.specs.Plans.{Plan}
 use Rattle.proof_trees.specs.Starts.{MarkedPlan, unmarked}
 use Rattle.proof_trees.specs.Starters.{Starts, KeepsStarts, IsWhole}
-use Rattle.proof_search.specs.declared.levels.Level.{Level}
+use Rattle.proof_search.specs.declared.levels.LemmaLevel.{LemmaLevel}
 use Rattle.proof_search.specs.declared.lemmas.Lemma.{Lemma}
-use Rattle.proof_search.specs.declared.open.Waiting.{Waiting}
+use Rattle.proof_search.specs.declared.open.WaitingPart.{WaitingPart}
 use Rattle.proof_search.specs.declared.open.Search.{Search}
 use Rattle.proof_search.specs.Owning.{AreOwn, IsOwnSearch}
 
@@ -18,8 +18,8 @@ pub own_begun :
     → s.lemmas ≡ [] → is_own n → IsOwnSearch is_own s
 own_begun {N = N} is_own s n at levels waiting lemmas one = record {
   at = subst (λ (o : Option N). IfSome o is_own) (sym at) one;
-  waiting = subst (λ (parts : List (Waiting N)). All (λ w. is_own w.node) parts) (sym waiting) (All-nil (λ w. is_own w.node));
-  levels = subst (λ (held : List (Level N)). All (λ l. is_own l.node) held) (sym levels) (All-nil (λ l. is_own l.node));
+  waiting = subst (λ (parts : List (WaitingPart N)). All (λ w. is_own w.node) parts) (sym waiting) (All-nil (λ w. is_own w.node));
+  levels = subst (λ (held : List (LemmaLevel N)). All (λ l. is_own l.node) held) (sym levels) (All-nil (λ l. is_own l.node));
   lemmas = subst (λ (held : List (Lemma N)). AreOwn is_own held) (sym lemmas) (All-nil (λ l. is_own l.node));
 }
 

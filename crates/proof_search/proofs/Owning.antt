@@ -5,9 +5,9 @@ use Rattle.std.specs.List.{All}
 use Rattle.std.proofs.lemmas.List.Elements.{All-weaker, All-push, All-pop}
 use Rattle.proof_trees.specs.Starters.{Starts, KeepsStarts}
 use Rattle.proof_search.proofs.Keeping.{KeepsStarts-refl, KeepsStarts-trans}
-use Rattle.proof_search.specs.declared.levels.Level.{Level}
+use Rattle.proof_search.specs.declared.levels.LemmaLevel.{LemmaLevel}
 use Rattle.proof_search.specs.declared.lemmas.Lemma.{Lemma}
-use Rattle.proof_search.specs.declared.open.Waiting.{Waiting}
+use Rattle.proof_search.specs.declared.open.WaitingPart.{WaitingPart}
 use Rattle.proof_search.specs.declared.open.Search.{Search}
 use Rattle.proof_search.specs.Owning.{AreOwn, IsOwnSearch, KeepsNodes, KeepsPlaces, BeginsLevel, AddsItem, MayAddItem, HasAsked, TakesPart}
 use Rattle.proof_search.specs.Owning.{OpensPart, closed}
@@ -57,7 +57,7 @@ module _ {N : Type 0} (is_own : N → Type 0) (old new : Search N) (own : IsOwnS
   pub own_level : (n : N) → is_own n → BeginsLevel n old new → IsOwnSearch is_own new
   own_level n one begun = record {
     at = subst (λ (o : Option N). IfSome o is_own) (sym begun.at) own.at;
-    waiting = subst (λ (parts : List (Waiting N)). All (λ w. is_own w.node) parts) (sym begun.waiting) own.waiting;
+    waiting = subst (λ (parts : List (WaitingPart N)). All (λ w. is_own w.node) parts) (sym begun.waiting) own.waiting;
     levels =
         item_added (λ l. l.node) is_own n one old.levels.items new.levels.items begun.levels own.levels;
     lemmas = subst (λ (held : List (Lemma N)). AreOwn is_own held) (sym begun.lemmas) own.lemmas;
@@ -70,7 +70,7 @@ module _ {N : Type 0} (is_own : N → Type 0) (old new : Search N) (own : IsOwnS
         ⊎_elim (λ (e : new.at ≡ Some on_yes). subst (λ (o : Option N). IfSome o is_own) (sym e) own_yes)
         (λ (e : new.at ≡ Some on_no). subst (λ (o : Option N). IfSome o is_own) (sym e) own_no) asked.at;
     waiting = item_added (λ w. w.node) is_own on_no own_no old.waiting.items new.waiting.items asked.waiting own.waiting;
-    levels = subst (λ (held : List (Level N)). All (λ l. is_own l.node) held) (sym asked.levels) own.levels;
+    levels = subst (λ (held : List (LemmaLevel N)). All (λ l. is_own l.node) held) (sym asked.levels) own.levels;
     lemmas = subst (λ (held : List (Lemma N)). AreOwn is_own held) (sym asked.lemmas) own.lemmas;
   }
 
@@ -91,13 +91,13 @@ module _ {N : Type 0} (is_own : N → Type 0) (old new : Search N) (own : IsOwnS
       ⊎_elim
       (λ (e : (new.waiting.items ≡ old.waiting.items) × (new.at ≡ old.at)). (
         subst (λ (o : Option N). IfSome o is_own) (sym e.1) own.at,
-        subst (λ (parts : List (Waiting N)). All (λ w. is_own w.node) parts) (sym e.0) own.waiting,
+        subst (λ (parts : List (WaitingPart N)). All (λ w. is_own w.node) parts) (sym e.0) own.waiting,
       ))
       own_taken opens.taken in
       record {
         at = parts.0;
         waiting = parts.1;
-        levels = subst (λ (held : List (Level N)). All (λ l. is_own l.node) held) (sym opens.levels) own.levels;
+        levels = subst (λ (held : List (LemmaLevel N)). All (λ l. is_own l.node) held) (sym opens.levels) own.levels;
         lemmas = subst (λ (held : List (Lemma N)). AreOwn is_own held) (sym opens.lemmas) own.lemmas;
       }
 
@@ -112,7 +112,7 @@ module _ {N : Type 0} (is_own : N → Type 0) (old new : Search N) (own : IsOwnS
 
 -- where the innermost level is closed, its node is own, and so are those of the levels around it and of the lemmas
 -- with its own one
-module _ {N : Type 0} (is_own : N → Type 0) (old new : List (Level N)) (level : Level N) (all : All (λ l. is_own l.node) old)
+module _ {N : Type 0} (is_own : N → Type 0) (old new : List (LemmaLevel N)) (level : LemmaLevel N) (all : All (λ l. is_own l.node) old)
     (popped : old ≡ new ++ level ∷ []) where
   pub popped_is_own : is_own level.node × All (λ l. is_own l.node) new
   popped_is_own =

@@ -7,7 +7,7 @@ use Rattle.proof_trees.specs.Starters.{Starts}
 use Rattle.proof_search.specs.declared.blame.Mended.{Mended}
 use Rattle.proof_search.specs.declared.blame.Mended.TheVariants as mended
 use Rattle.proof_search.specs.declared.lemmas.Lemma.{Lemma}
-use Rattle.proof_search.specs.declared.open.Waiting.{Waiting}
+use Rattle.proof_search.specs.declared.open.WaitingPart.{WaitingPart}
 use Rattle.proof_search.specs.declared.open.Search.{Search}
 use Rattle.proof_search.specs.declared.service.ServingLemma.{ServingLemma}
 
@@ -74,7 +74,7 @@ pub record HasAsked {N : Type 0} (on_yes on_no : N) (old new : Search N) : Type 
 
 -- the innermost part that waits is taken, and is open now, or what was open before is so
 pub record TakesPart {N : Type 0} (old new : Search N) : Type 0 where
-  pub part : Waiting N
+  pub part : WaitingPart N
   pub parts : old.waiting.items ≡ new.waiting.items ++ part ∷ []
   pub at : (new.at ≡ Some part.node) ⊎ (new.at ≡ old.at)
 

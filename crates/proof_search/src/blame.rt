@@ -4,7 +4,7 @@ ghost use Rattle.proof_search.specs.Owning.{KeepsNodes, KeepsPlaces, IsWithin};
 
 use crate::NoMemory;
 use crate::excuse::Excuse;
-use crate::levels::{Level, assume_all};
+use crate::levels::{LemmaLevel, assume_all};
 use crate::open::Search;
 use diff_graph::Lit;
 
@@ -36,7 +36,7 @@ enum Mended {
 
 /// The innermost level around which literals shut out the end that the answers lead to, if there is one.
 fn innermost_excused<N: Copy>(
-    levels: &[Level<N>],
+    levels: &[LemmaLevel<N>],
     answers: &[Lit],
     excuse: &mut Excuse,
 ) -> Result<Option<usize>, NoMemory>
@@ -52,7 +52,7 @@ fn innermost_excused<N: Copy>(
 
 /// Shuts out the end that the answers lead to, from the first level on, for which this was found to be possible.
 fn mend<N: Copy>(
-    levels: &mut [Level<N>],
+    levels: &mut [LemmaLevel<N>],
     answers: &[Lit],
     excuse: &mut Excuse,
     first: usize,

@@ -3,7 +3,7 @@ ghost use Rattle.std.specs.Prelude.{◌<◌, length};
 
 use crate::NoMemory;
 use crate::facts::Facts;
-use crate::levels::{Level, answers_before, assumed, part};
+use crate::levels::{LemmaLevel, answers_before, assumed, part};
 use diff_graph::{Lit, MAX_LITERAL_OFFSET};
 use std::alloc::Global;
 
@@ -104,7 +104,7 @@ impl Excuse {
     /// answers from the beginning of that one to its own.
     pub fn is_unreachable<N: Copy>(
         &mut self,
-        levels: &[Level<N>],
+        levels: &[LemmaLevel<N>],
         number: usize,
         answers: &[Lit],
     ) -> Result<bool, NoMemory>
@@ -123,7 +123,7 @@ impl Excuse {
     /// Whether literals from around a level shut out the end that the answers lead to. Those that do are found then.
     pub fn find<N: Copy>(
         &mut self,
-        levels: &[Level<N>],
+        levels: &[LemmaLevel<N>],
         number: usize,
         answers: &[Lit],
     ) -> Result<bool, NoMemory>

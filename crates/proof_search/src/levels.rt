@@ -8,7 +8,7 @@ use diff_graph::Lit;
 /// A lemma that is being shown: its start's node, what it assumes so far, and how many parts waited and how many
 /// answers were given when it was begun.
 #[derive(Drop)]
-pub(crate) struct Level<N: Copy> {
+pub(crate) struct LemmaLevel<N: Copy> {
     pub node: N,
     pub literals: Vec<Lit>,
     pub waiting: usize,
@@ -37,7 +37,7 @@ fn assume(literals: &mut Vec<Lit>, lit: Lit) -> Result<(), NoMemory> {
 
 /// Assumes the literals at a level.
 pub(crate) fn assume_all<N: Copy>(
-    levels: &mut [Level<N>],
+    levels: &mut [LemmaLevel<N>],
     number: usize,
     literals: &[Lit],
 ) -> Result<(), NoMemory>
@@ -51,7 +51,7 @@ pub(crate) fn assume_all<N: Copy>(
 }
 
 /// What the innermost level assumes. Outside of all levels it is nothing.
-pub(crate) fn assumed<N: Copy>(levels: &[Level<N>]) -> &[Lit] {
+pub(crate) fn assumed<N: Copy>(levels: &[LemmaLevel<N>]) -> &[Lit] {
     match levels.last() {
         None => &[],
         Some(level) => level.literals.as_slice(),
@@ -59,7 +59,7 @@ pub(crate) fn assumed<N: Copy>(levels: &[Level<N>]) -> &[Lit] {
 }
 
 /// How many answers were given when the innermost level was begun.
-pub(crate) fn answers_before<N: Copy>(levels: &[Level<N>]) -> usize {
+pub(crate) fn answers_before<N: Copy>(levels: &[LemmaLevel<N>]) -> usize {
     match levels.last() {
         None => 0,
         Some(level) => level.answers,
@@ -67,7 +67,7 @@ pub(crate) fn answers_before<N: Copy>(levels: &[Level<N>]) -> usize {
 }
 
 /// How many parts waited when the innermost level was begun.
-pub(crate) fn waiting_before<N: Copy>(levels: &[Level<N>]) -> usize {
+pub(crate) fn waiting_before<N: Copy>(levels: &[LemmaLevel<N>]) -> usize {
     match levels.last() {
         None => 0,
         Some(level) => level.waiting,

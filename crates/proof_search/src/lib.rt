@@ -24,5 +24,5 @@ pub use ask_core::NoMemory;
 pub use facts::{Added, Facts, MAX_NAMES};
 pub use finder::Finder;
 pub use lemmas::{Lemma, Lemmas, NEWEST};
-pub use seeking::{Seeking, Sought, search};
+pub use seeking::{SearchOutcome, SearchResult, search};
 pub use service::{Any, Choice, ServingLemma, serving, serving_of};

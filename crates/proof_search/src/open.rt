@@ -6,14 +6,14 @@ use crate::NoMemory;
 use crate::excuse::Excuse;
 use crate::facts::Facts;
 use crate::lemmas::Lemmas;
-use crate::levels::{Level, assumed};
+use crate::levels::{LemmaLevel, assumed};
 use diff_graph::{Lit, negate};
 use std::alloc::Global;
 
 /// A part for no that waits: its node, how many answers it shares with the open place, its own answer after these, and
 /// what followed from all of them and from what the innermost level assumed when the question was asked.
 #[derive(Clone, Copy)]
-pub(crate) struct Waiting<N> {
+pub(crate) struct WaitingPart<N> {
     pub node: N,
     pub answers: usize,
     pub answer: Lit,
@@ -27,8 +27,8 @@ pub(crate) struct Waiting<N> {
 #[derive(Drop)]
 pub(crate) struct Search<N: Copy> {
     pub at: Option<N>,
-    pub levels: Vec<Level<N>>,
-    pub waiting: Vec<Waiting<N>>,
+    pub levels: Vec<LemmaLevel<N>>,
+    pub waiting: Vec<WaitingPart<N>>,
     pub answers: Vec<Lit>,
     pub facts: Facts,
     pub lemmas: Lemmas<N>,
@@ -65,7 +65,7 @@ impl<N: Copy> Search<N> {
         if !begins {
             return Ok(());
         }
-        self.levels.push(Level {
+        self.levels.push(LemmaLevel {
             node,
             literals: Vec::new(alloc),
             waiting: self.waiting.len(),
@@ -93,7 +93,7 @@ impl<N: Copy> Search<N> {
         let answer = negate(lit);
         let mut facts = self.facts;
         facts.try_add(answer, 0);
-        self.waiting.push(Waiting {
+        self.waiting.push(WaitingPart {
             node: no,
             answers: self.answers.len(),
             answer,

@@ -7,13 +7,13 @@ use crate::NoMemory;
 use crate::finder::Finder;
 use crate::lemmas::Lemmas;
 use crate::open::Search;
-use crate::turns::{Ending, step};
+use crate::turns::{SearchEnd, step};
 use diff_graph::Lit;
 use std::alloc::Global;
 
 /// What a search came to.
 #[derive(Drop)]
-pub enum Seeking {
+pub enum SearchOutcome {
     /// Each end of the plan that some integers lead to holds.
     Shown,
 
@@ -27,30 +27,30 @@ pub enum Seeking {
 
 /// What a search came to, the lemmas that it showed, and how many questions it asked.
 #[derive(Drop)]
-pub struct Sought<N: Copy> {
-    pub outcome: Seeking,
+pub struct SearchResult<N: Copy> {
+    pub outcome: SearchOutcome,
     pub lemmas: Lemmas<N>,
     pub asked: u64,
 }
 
 /// What a search that has ended came to, with these answers.
-fn outcome_of(ending: Ending, answers: Vec<Lit>) -> Seeking {
+fn outcome_of(ending: SearchEnd, answers: Vec<Lit>) -> SearchOutcome {
     match ending {
-        Ending::Shown => Seeking::Shown,
-        Ending::Failing => Seeking::Failing(answers),
-        Ending::Spent => Seeking::Spent,
+        SearchEnd::Shown => SearchOutcome::Shown,
+        SearchEnd::Failing => SearchOutcome::Failing(answers),
+        SearchEnd::Spent => SearchOutcome::Spent,
     }
 }
 
 /// What is left of a search that has ended.
-fn ended<N: Copy>(search: Search<N>, ending: Ending) -> Sought<N>
+fn ended<N: Copy>(search: Search<N>, ending: SearchEnd) -> SearchResult<N>
     ensures lemmas { result.lemmas ≡ search.lemmas }
     ensures asked { result.asked ≡ search.asked }
 {
     let asked = search.asked;
     let answers = search.answers;
     let lemmas = search.lemmas;
-    Sought {
+    SearchResult {
         outcome: outcome_of(ending, answers),
         lemmas,
         asked,
@@ -59,7 +59,11 @@ fn ended<N: Copy>(search: Search<N>, ending: Ending) -> Sought<N>
 
 /// Takes turns until the search ends.
 #[tactic(auto, using(crate::proofs::Owning::keeping))]
-fn seek<A: Finder>(alloc: Global, asker: &mut A, budget: u64) -> Result<Sought<A::Node>, NoMemory>
+fn seek<A: Finder>(
+    alloc: Global,
+    asker: &mut A,
+    budget: u64,
+) -> Result<SearchResult<A::Node>, NoMemory>
     ensures within { IfOk result (λ s. s.asked ≤ budget) }
     ensures own { IfOk result (λ s. AreOwn (A.is_own asker.new) s.lemmas) }
     ensures same { KeepsStarts (A.is_own asker.old) (A.is_own asker.new) (A.starts asker.old) (A.starts asker.new) }
@@ -74,7 +78,7 @@ fn seek<A: Finder>(alloc: Global, asker: &mut A, budget: u64) -> Result<Sought<A
             return Ok(ended(search, ending));
         }
     }
-    Ok(ended(search, Ending::Spent))
+    Ok(ended(search, SearchEnd::Spent))
 }
 
 /// Searches an asker's own plan for an end that fails, by at most `budget` questions, and keeps as lemmas what it
@@ -83,7 +87,7 @@ pub fn search<A: Finder>(
     alloc: Global,
     asker: &mut A,
     budget: u64,
-) -> Result<Sought<A::Node>, NoMemory>
+) -> Result<SearchResult<A::Node>, NoMemory>
     ensures within { IfOk result (λ s. s.asked ≤ budget) }
     ensures own { IfOk result (λ s. AreOwn (A.is_own asker.new) s.lemmas) }
 

@@ -16,7 +16,7 @@ use std::alloc::Global;
 
 /// How a search ended.
 #[derive(Clone, Copy)]
-pub(crate) enum Ending {
+pub(crate) enum SearchEnd {
     /// No place is left.
     Shown,
 
@@ -47,14 +47,14 @@ fn is_shown<A: Finder>(
 }
 
 /// Closes the open place, whose end fails, where a level shuts it out.
-fn fail<N: Copy>(search: &mut Search<N>) -> Result<Option<Ending>, NoMemory>
+fn fail<N: Copy>(search: &mut Search<N>) -> Result<Option<SearchEnd>, NoMemory>
     ensures { OnOk result (KeepsPlaces (closed search.old) search.new) }
 {
     search.at = None;
     match search.blame()? {
         Blamed::ShutOut => Ok(None),
-        Blamed::Real => Ok(Some(Ending::Failing)),
-        Blamed::Unexplained => Ok(Some(Ending::Spent)),
+        Blamed::Real => Ok(Some(SearchEnd::Failing)),
+        Blamed::Unexplained => Ok(Some(SearchEnd::Spent)),
     }
 }
 
@@ -66,7 +66,7 @@ fn arrive<A: Finder>(
     search: &mut Search<A::Node>,
     node: A::Node,
     budget: u64,
-) -> Result<Option<Ending>, NoMemory>
+) -> Result<Option<SearchEnd>, NoMemory>
     requires within { search.old.asked ≤ budget }
     requires own { IsOwnSearch (A.is_own asker.old) search.old }
     requires node { A.is_own asker.old node }
@@ -82,7 +82,7 @@ fn arrive<A: Finder>(
     match asker.follow(node)? {
         Turn::Ask { lit, yes, no } => {
             if search.asked == budget {
-                return Ok(Some(Ending::Spent));
+                return Ok(Some(SearchEnd::Spent));
             }
             search.begin_level(alloc, node, begins)?;
             search.ask(lit, yes, no)?;
@@ -113,7 +113,10 @@ fn go_on<N: Copy>(search: &mut Search<N>) -> Result<(), NoMemory>
 /// Goes on where the open place was closed: to the next part that waits within the innermost level, if some integers
 /// lead there. A level in which none waits has shown its lemma.
 #[tactic(auto, using(crate::proofs::Owning::keeping))]
-fn close<A: Finder>(asker: &mut A, search: &mut Search<A::Node>) -> Result<Option<Ending>, NoMemory>
+fn close<A: Finder>(
+    asker: &mut A,
+    search: &mut Search<A::Node>,
+) -> Result<Option<SearchEnd>, NoMemory>
     requires { IsOwnSearch (A.is_own asker.old) search.old }
     ensures asked { OnOk result (search.new.asked ≡ search.old.asked) }
     ensures own { OnOk result (IsOwnSearch (A.is_own asker.new) search.new) }
@@ -124,7 +127,7 @@ fn close<A: Finder>(asker: &mut A, search: &mut Search<A::Node>) -> Result<Optio
         return Ok(None);
     }
     match search.levels.pop() {
-        None => Ok(Some(Ending::Shown)),
+        None => Ok(Some(SearchEnd::Shown)),
         Some(level) => {
             let number = asker.number(level.node)?;
             search.answers.truncate(level.answers);
@@ -146,7 +149,7 @@ pub(crate) fn step<A: Finder>(
     asker: &mut A,
     search: &mut Search<A::Node>,
     budget: u64,
-) -> Result<Option<Ending>, NoMemory>
+) -> Result<Option<SearchEnd>, NoMemory>
     requires within { search.old.asked ≤ budget }
     requires own { IsOwnSearch (A.is_own asker.old) search.old }
     ensures within { OnOk result (search.new.asked ≤ budget) }

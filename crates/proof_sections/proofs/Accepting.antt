@@ -19,7 +19,7 @@ use Rattle.proof_check.specs.declared.verdict.ProofError.{ProofError}
 use Rattle.proof_check.specs.Steps.{Standing, settled, after, after_at_tree, after_at_cycle, after_citation, after_comparison, after_cycle, after_end}
 use Rattle.proof_check.specs.Steps.{after_lemma, after_question, IsTaken}
 use Rattle.proof_text.specs.Exact.{FindsExactly}
-use Rattle.proof_text.specs.Fronts.{Front, Found}
+use Rattle.proof_text.specs.Fronts.{Parsed, Found}
 use Rattle.proof_text.specs.Lines.{header_front, ob_front, line_end_front, end_front}
 use Rattle.proof_text.specs.Spelling.{IsSpellable, header_text, newline_text, token_text}
 use Rattle.proof_text.specs.Tokens.{token_front}
@@ -203,10 +203,10 @@ module _ {S W : Type 0} (exact : AreFound) (one_by_one : AreTakenOneByOne S W) (
       tokens_accepted (tokens_of t) (opened p) rest spelled tt (omega arith) (t, [], shows, sym (append-nil (tokens_of t)), refl)
 
   line_accepted :
-      (front : List ℕ → Front (Unit {0})) (text rest : List ℕ) → FindsExactly front (λ x. text) (λ x. Unit {0})
+      (front : List ℕ → Parsed (Unit {0})) (text rest : List ℕ) → FindsExactly front (λ x. text) (λ x. Unit {0})
       → line_judged total front (text ++ rest) ≡ Ok rest
   line_accepted front text rest found =
-      ap (λ (x : Front (Unit {0})). after_part total (text ++ rest) x (λ line more. Ok more))
+      ap (λ (x : Parsed (Unit {0})). after_part total (text ++ rest) x (λ line more. Ok more))
       ((found.found tt (text ++ rest) rest).1 (tt, refl))
 
   module _ (lines : LinesAreFound) where
@@ -258,7 +258,7 @@ pub proof_accepted :
 unfolding proof_judged
 proof_accepted exact one_by_one refused lines compare plan names bytes level (trees, shown, text) =
     ap
-    (λ (x : Front Level).
+    (λ (x : Parsed Level).
     after_part (length bytes) bytes x
     (λ l rest.
     and_then (sections_judged compare plan (names l) (length bytes) rest)

@@ -13,7 +13,7 @@ use Rattle.proof_trees.specs.Truth.{HoldsUnder}
 use Rattle.proof_check.specs.declared.verdict.ProofError.{ProofError}
 use Rattle.proof_check.specs.Judging.{AreCompleted}
 use Rattle.proof_check.specs.Steps.{Standing, after}
-use Rattle.proof_text.specs.Fronts.{Front, Found, Missing}
+use Rattle.proof_text.specs.Fronts.{Parsed, Found, Missing}
 use Rattle.proof_text.specs.Lines.{header_front, ob_front, line_end_front}
 use Rattle.proof_text.specs.Spelling.{IsSpellable}
 use Rattle.proof_text.specs.Tokens.{token_front}
@@ -76,7 +76,7 @@ module _ {S W : Type 0} (exact : AreFound) (one_by_one : AreTakenOneByOne S W) (
       (go_on : (next : Standing S W) (more : List ℕ) → tree_by most compare total next more ≡ Ok rest → IsCompleted next) where
     -- by what is found at the front: a token, or none
     by_front :
-        (front : Front ProofTok) → token_front left ≡ front
+        (front : Parsed ProofTok) → token_front left ≡ front
         → after_part total left front
         (λ tok more.
         after_token (total - length left) more (λ next. tree_by most compare total next more) (after compare tok at.known at.wanted))
@@ -109,7 +109,7 @@ module _ {S W : Type 0} (exact : AreFound) (one_by_one : AreTakenOneByOne S W) (
     first_of (Err e) next b ok = absurd (cc)
 
     found_of :
-        {A B : Type 0} (left : List ℕ) (front : Front A) (next : A → List ℕ → Result B ConfirmError) (b : B)
+        {A B : Type 0} (left : List ℕ) (front : Parsed A) (next : A → List ℕ → Result B ConfirmError) (b : B)
         → after_part total left front next ≡ Ok b → (a : A) × (rest : List ℕ) × (front ≡ Found a rest) × (next a rest ≡ Ok b)
     found_of left (Found a rest) next b ok = (a, rest, refl, ok)
     found_of left (Missing unread) next b ok = absurd (cc)

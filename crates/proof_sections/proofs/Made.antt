@@ -12,7 +12,7 @@ use Rattle.proof_check.specs.declared.verdict.ProofError.{ProofError}
 use Rattle.proof_check.specs.Judging.{AreCompleted}
 use Rattle.proof_check.specs.Steps.{Standing, after}
 use Rattle.proof_text.specs.Exact.{FindsExactly}
-use Rattle.proof_text.specs.Fronts.{Front, Found, Missing}
+use Rattle.proof_text.specs.Fronts.{Parsed, Found, Missing}
 use Rattle.proof_text.specs.Lines.{header_front, ob_front, line_end_front, end_front}
 use Rattle.proof_text.specs.Spelling.{IsSpellable, header_text, newline_text, token_text}
 use Rattle.proof_text.specs.Tokens.{token_front}
@@ -32,7 +32,7 @@ first_of (Ok a) next b ok = (a, refl, ok)
 first_of (Err e) next b ok = absurd (cc)
 
 found_of :
-    {A B : Type 0} (total : ℕ) (left : List ℕ) (front : Front A) (next : A → List ℕ → Result B ConfirmError) (b : B)
+    {A B : Type 0} (total : ℕ) (left : List ℕ) (front : Parsed A) (next : A → List ℕ → Result B ConfirmError) (b : B)
     → after_part total left front next ≡ Ok b → (a : A) × (rest : List ℕ) × (front ≡ Found a rest) × (next a rest ≡ Ok b)
 found_of total left (Found a rest) next b ok = (a, rest, refl, ok)
 found_of total left (Missing unread) next b ok = absurd (cc)
@@ -82,7 +82,7 @@ module _ {S W : Type 0} (exact : AreFound) (one_by_one : AreTakenOneByOne S W) (
       (go_on : (next : Standing S W) (more : List ℕ) → tree_by most compare total next more ≡ Ok rest → IsMadeUpTo rest next more) where
     -- by what is found at the front: a token, or none
     by_front :
-        (front : Front ProofTok) → token_front left ≡ front
+        (front : Parsed ProofTok) → token_front left ≡ front
         → after_part total left front
         (λ tok more.
         after_token (total - length left) more (λ next. tree_by most compare total next more) (after compare tok at.known at.wanted))
@@ -122,7 +122,7 @@ module _ {S W : Type 0} (exact : AreFound) (one_by_one : AreTakenOneByOne S W) (
 
   -- a line that is accepted stands there
   line_made :
-      (front : List ℕ → Front (Unit {0})) (text left rest : List ℕ) → FindsExactly front (λ x. text) (λ x. Unit {0})
+      (front : List ℕ → Parsed (Unit {0})) (text left rest : List ℕ) → FindsExactly front (λ x. text) (λ x. Unit {0})
       → line_judged total front left ≡ Ok rest → left ≡ text ++ rest
   line_made front text left rest found ok =
       let is = found_of total left (front left) (λ line more. Ok more) rest ok in

@@ -8,7 +8,7 @@ use Rattle.proof_check.specs.declared.verdict.ProofError.{ProofError}
 use Rattle.proof_check.specs.Steps.{Standing, after}
 use Rattle.proof_text.specs.declared.unread.Unread.TheVariants.{Misspelt, Cut}
 use Rattle.proof_text.specs.Exact.{FindsExactly}
-use Rattle.proof_text.specs.Fronts.{Front, Found, Missing}
+use Rattle.proof_text.specs.Fronts.{Parsed, Found, Missing}
 use Rattle.proof_text.specs.Lines.{header_front, ob_front, line_end_front, end_front}
 use Rattle.proof_text.specs.Tokens.{token_front}
 use Rattle.proof_sections.specs.declared.refusal.ProofRefusal.{ProofRefusal}
@@ -29,14 +29,14 @@ abbrev KeepsNone : {A : Type 0} → A → Result A ConfirmError → Type 0
 KeepsNone a other = Unit {0}
 
 -- what is found is found where more bytes follow, which come after what is left; and so is what is misspelt
-pub record StaysFound {A : Type 0} (front : List ℕ → Front A) : Type 0 where
+pub record StaysFound {A : Type 0} (front : List ℕ → Parsed A) : Type 0 where
   pub fewer : (a : A) (bytes rest : List ℕ) → front bytes ≡ Found a rest → length rest ≤ length bytes
   pub found : (a : A) (bytes rest more : List ℕ) → front bytes ≡ Found a rest → front (bytes ++ more) ≡ Found a (rest ++ more)
   pub misspelt : (bytes more : List ℕ) → front bytes ≡ Missing Misspelt → front (bytes ++ more) ≡ Missing Misspelt
 
 -- what is found exactly stays found where more bytes follow, and what is misspelt stays misspelt
 pub stays_found :
-    {A : Type 0} {front : List ℕ → Front A} {text : A → List ℕ} {Spelled : A → Type 0} → FindsExactly front text Spelled
+    {A : Type 0} {front : List ℕ → Parsed A} {text : A → List ℕ} {Spelled : A → Type 0} → FindsExactly front text Spelled
     → StaysFound front
 stays_found {A} {front} {text} {Spelled} exact =
     record { fewer = fewer; found = exact.found_longer; misspelt = exact.misspelt_longer }
@@ -82,25 +82,25 @@ module _ (more : List ℕ) (total longer : ℕ) (grown : longer ≡ total + leng
       λ early. ap (λ (x : Result (List ℕ) ConfirmError). and_then x later) (stands early)
   then_stands {B} Keeps (Err confirm.NoMemory) other next later stands go_on = tt
 
-  module _ {A : Type 0} {front : List ℕ → Front A} (stays : StaysFound front) where
+  module _ {A : Type 0} {front : List ℕ → Parsed A} (stays : StaysFound front) where
     -- a part, and what is judged after it
     part_stands :
         {B : Type 0} (Keeps : B → Result B ConfirmError → Type 0) (left : List ℕ) (next later : A → List ℕ → Result B ConfirmError)
         → length left ≤ total
         → ((a : A) (rest : List ℕ) → length rest ≤ total → Stands Keeps (next a rest) (later a (rest ++ more)))
-        → (found : Front A) → front left ≡ found
+        → (found : Parsed A) → front left ≡ found
         → Stands Keeps (after_part total left found next) (after_part longer (left ++ more) (front (left ++ more)) later)
     part_stands {B} Keeps left next later within go_on (Found a rest) is =
-        subst (λ (x : Front A). Stands Keeps (next a rest) (after_part longer (left ++ more) x later))
+        subst (λ (x : Parsed A). Stands Keeps (next a rest) (after_part longer (left ++ more) x later))
         (sym (stays.found a left rest more is)) (let fewer = stays.fewer a left rest is in go_on a rest (omega arith))
     part_stands {B} Keeps left next later within go_on (Missing Misspelt) is =
         λ early.
-        ap (λ (x : Front A). after_part longer (left ++ more) x later) (stays.misspelt left more is)
+        ap (λ (x : Parsed A). after_part longer (left ++ more) x later) (stays.misspelt left more is)
         ∙ ap (λ (n : ℕ). Err (confirm.Refused n why.Token)) (same_offset left within)
     part_stands {B} Keeps left next later within go_on (Missing Cut) is = λ early. absurd (early refl)
 
   line_stands :
-      (front : List ℕ → Front (Unit {0})) → StaysFound front → (left : List ℕ) → length left ≤ total
+      (front : List ℕ → Parsed (Unit {0})) → StaysFound front → (left : List ℕ) → length left ≤ total
       → Stands KeepsRest (line_judged total front left) (line_judged longer front (left ++ more))
   line_stands front stays left within =
       part_stands stays KeepsRest left (λ line rest. Ok rest) (λ line rest. Ok rest) within (λ line rest short. (short, refl))

@@ -17,7 +17,7 @@ use Rattle.proof_text.specs.declared.unread.Unread.{Unread}
 use Rattle.proof_text.specs.declared.unread.Unread.TheVariants.{Misspelt, Cut}
 use Rattle.proof_text.specs.Answers.{Answers}
 use Rattle.proof_text.specs.Exact.{FindsExactly}
-use Rattle.proof_text.specs.Fronts.{Front, Found, Missing}
+use Rattle.proof_text.specs.Fronts.{Parsed, Found, Missing}
 use Rattle.proof_text.specs.Spelling.{token_text, IsSpellable}
 use Rattle.proof_text.specs.Tokens.{token_front}
 use Rattle.proof_sections.specs.declared.refusal.ConfirmError.{ConfirmError}
@@ -66,7 +66,7 @@ module _ {S W : Type 0} (compare : Comparison S) (total : ℕ) where
         (k m : ℕ) (at : Standing S W) (b : ℕ) (left : List ℕ) → length (b ∷ left) ≤ suc k → length (b ∷ left) ≤ suc m
         → ((next : Standing S W) (rest : List ℕ) → length rest ≤ k → length rest ≤ m
         → tree_by k compare total next rest ≡ tree_by m compare total next rest)
-        → (front : Front ProofTok) → token_front (b ∷ left) ≡ front
+        → (front : Parsed ProofTok) → token_front (b ∷ left) ≡ front
         → tree_by (suc k) compare total at (b ∷ left) ≡ tree_by (suc m) compare total at (b ∷ left)
     unfolding tree_by
     same_front k m at b left short below later (Found tok rest) is =
@@ -193,12 +193,12 @@ module _ {S W : Type 0} (exact : AreFound) (compare : Comparison S) (bytes : Lis
 
 -- a line at a place of the bytes
 pub line_found :
-    (front : List ℕ → Front (Unit {0})) (bytes : List ℕ) (at next : ℕ) → Answers front bytes at tt (Ok next)
+    (front : List ℕ → Parsed (Unit {0})) (bytes : List ℕ) (at next : ℕ) → Answers front bytes at tt (Ok next)
     → Judges bytes (line_judged (length bytes) front (drop at bytes)) (Ok next)
 line_found front bytes at next (further, within, found) = (within, rw found refl)
 
 pub line_unread :
-    (front : List ℕ → Front (Unit {0})) (bytes : List ℕ) (at : ℕ) (unread : Unread) → at ≤ length bytes
+    (front : List ℕ → Parsed (Unit {0})) (bytes : List ℕ) (at : ℕ) (unread : Unread) → at ≤ length bytes
     → Answers front bytes at tt (Err unread)
     → Judges bytes (line_judged (length bytes) front (drop at bytes)) (Err (unread_at (length bytes) at unread))
 line_unread front bytes at unread within missing =

@@ -14,7 +14,7 @@ use Rattle.proof_check.specs.declared.verdict.ProofError.TheVariants as error
 use Rattle.proof_check.specs.Steps.{Standing, after}
 use Rattle.proof_text.specs.declared.unread.Unread.{Unread}
 use Rattle.proof_text.specs.declared.unread.Unread.TheVariants.{Misspelt, Cut}
-use Rattle.proof_text.specs.Fronts.{Front, Found, Missing}
+use Rattle.proof_text.specs.Fronts.{Parsed, Found, Missing}
 use Rattle.proof_text.specs.Lines.{header_front, ob_front, line_end_front, end_front}
 use Rattle.proof_text.specs.Tokens.{token_front}
 use Rattle.proof_sections.specs.declared.refusal.ProofRefusal.TheVariants as why
@@ -42,7 +42,7 @@ refused_at offset error.OtherStart = confirm.Refused offset why.OtherStart
 
 -- what is judged after a part, where it stands at the front of the bytes that are left of so many
 abbrev pub after_part :
-    {A B : Type 0} → ℕ → List ℕ → Front A → (A → List ℕ → Result B ConfirmError) → Result B ConfirmError
+    {A B : Type 0} → ℕ → List ℕ → Parsed A → (A → List ℕ → Result B ConfirmError) → Result B ConfirmError
 after_part total left (Found a rest) next = next a rest
 after_part total left (Missing unread) next = Err (unread_at total (total - length left) unread)
 
@@ -83,7 +83,7 @@ abbrev pub opened : {S W : Type 0} → MarkedPlan S W → Standing S W
 opened p = record { known = []; wanted = Tree p [] ∷ [] }
 
 -- a line that is looked for at the front of the bytes that are left, and the bytes after it
-abbrev pub line_judged : ℕ → (List ℕ → Front (Unit {0})) → List ℕ → Result (List ℕ) ConfirmError
+abbrev pub line_judged : ℕ → (List ℕ → Parsed (Unit {0})) → List ℕ → Result (List ℕ) ConfirmError
 line_judged total front left = after_part total left (front left) (λ line rest. Ok rest)
 
 -- what a proof has for one obligation: its line, a tree and a newline

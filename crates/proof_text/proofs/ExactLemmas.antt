@@ -2,13 +2,13 @@
 use Rattle.std.proofs.Common.{◌≡◌, ℕ, ◌<◌, List, [], ◌∷◌, ◌++◌, length, refl, sym, ap, ◌∙◌, arith, length-append}
 use Rattle.std.proofs.lemmas.List.{append-nil}
 use Rattle.proof_text.specs.declared.unread.Unread.TheVariants.{Misspelt, Cut}
-use Rattle.proof_text.specs.Fronts.{Front, Found, Missing}
+use Rattle.proof_text.specs.Fronts.{Parsed, Found, Missing}
 use Rattle.proof_text.specs.Exact.{BeginNone, EndWithin, FindsExactly}
 use Rattle.proof_text.proofs.Spells.{Spells, IsAnything, found_is_not_missing, found_stays, same_found}
 
 -- a front that spells values, behind which anything may stand, finds them exactly where they stand
 pub finds_exactly :
-    {A : Type 0} {front : List ℕ → Front A} {text : A → List ℕ} {Spelled : A → Type 0}
+    {A : Type 0} {front : List ℕ → Parsed A} {text : A → List ℕ} {Spelled : A → Type 0}
     → Spells front text Spelled IsAnything → FindsExactly front text Spelled
 finds_exactly {A} {front} {text} {Spelled} s =
     record {
@@ -45,7 +45,7 @@ finds_exactly {A} {front} {text} {Spelled} s =
         (sym (found_stays s b bytes rest more is) ∙ ap front (sym text_is) ∙ whole a spelled) in
         omega (arith, ap length same.1, length-append rest more)
 
-    is_cut : (bytes : List ℕ) (x : Front A) → front bytes ≡ x → EndWithin text Spelled bytes → front bytes ≡ Missing Cut
+    is_cut : (bytes : List ℕ) (x : Parsed A) → front bytes ≡ x → EndWithin text Spelled bytes → front bytes ≡ Missing Cut
     is_cut bytes (Found b rest) is h = absurd (no_found bytes h.1 rest h.0 b is h.2 h.4 h.3)
     is_cut bytes (Missing Cut) is h = is
     is_cut bytes (Missing Misspelt) is h =
@@ -57,7 +57,7 @@ finds_exactly {A} {front} {text} {Spelled} s =
       λ e. found_is_not_missing a more Misspelt (sym (s.written a more spelled tt) ∙ ap front (sym e) ∙ is),
     )
 
-    is_misspelt : (bytes : List ℕ) (x : Front A) → front bytes ≡ x → BeginNone text Spelled bytes → front bytes ≡ Missing Misspelt
+    is_misspelt : (bytes : List ℕ) (x : Parsed A) → front bytes ≡ x → BeginNone text Spelled bytes → front bytes ≡ Missing Misspelt
     is_misspelt bytes (Found b rest) is h = let r = s.read b bytes rest is in absurd ((h b rest r.0).1 r.2)
     is_misspelt bytes (Missing Cut) is h = let c = s.cut bytes is in absurd ((h c.0 c.1 c.2).0 c.3)
     is_misspelt bytes (Missing Misspelt) is h = is

@@ -5,7 +5,7 @@ use Rattle.std.specs.Prelude.{nat_eq}
 use Rattle.std.specs.Char.{is_ascii_digit}
 use Rattle.std.specs.Fmt.{decimal}
 use Rattle.proof_text.specs.declared.unread.Unread.TheVariants.{Misspelt, Cut}
-use Rattle.proof_text.specs.Fronts.{Front, Found, Missing, and_then, found_as, fixed_front}
+use Rattle.proof_text.specs.Fronts.{Parsed, Found, Missing, and_then, found_as, fixed_front}
 use Rattle.proof_text.specs.Numbers.{number_before, number_front}
 use Rattle.proof_text.proofs.Spells.{Spells, IsAnything, cut_is_not_misspelt, found_is_not_missing, pair_front, pairs_spelled, renamed_spelled, same_found}
 use Rattle.proof_text.proofs.Spells.{same_spelled}
@@ -94,12 +94,12 @@ number_before_spelled stop short none some few =
     (without_unit
     (renamed_spelled (λ (p : ℕ × Unit {0}). p.0) (λ n. (n, tt)) (λ p. refl) (λ n. refl) both))
   where
-    alone_next : (n : ℕ) (y : Front (Unit {0})) → found_as (λ (p : ℕ × Unit {0}). p.0) (found_as (λ u. (n, u)) y) ≡ found_as (λ u. n) y
+    alone_next : (n : ℕ) (y : Parsed (Unit {0})) → found_as (λ (p : ℕ × Unit {0}). p.0) (found_as (λ u. (n, u)) y) ≡ found_as (λ u. n) y
     alone_next n (Found u rest) = refl
     alone_next n (Missing why) = refl
 
     alone :
-        (x : Front ℕ) (g : List ℕ → Front (Unit {0}))
+        (x : Parsed ℕ) (g : List ℕ → Parsed (Unit {0}))
         → found_as (λ (p : ℕ × Unit {0}). p.0) (and_then x (λ n rest. found_as (λ u. (n, u)) (g rest)))
         ≡ and_then x (λ n rest. found_as (λ u. n) (g rest))
     alone (Found n rest) g = alone_next n (g rest)
@@ -107,7 +107,7 @@ number_before_spelled stop short none some few =
 
     -- the end byte adds no condition to the number's
     without_unit :
-        {f : List ℕ → Front ℕ} {t : ℕ → List ℕ} {S : ℕ → Type 0} {N : List ℕ → Type 0}
+        {f : List ℕ → Parsed ℕ} {t : ℕ → List ℕ} {S : ℕ → Type 0} {N : List ℕ → Type 0}
         → Spells f t (λ n. S n × Unit {0}) N → Spells f t S N
     without_unit {f} {t} {S} {N} s =
         record {

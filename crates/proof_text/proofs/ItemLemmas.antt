@@ -6,7 +6,7 @@ use Rattle.std.specs.List.{AllByRecursion}
 use Rattle.std.specs.Prelude.{nat_eq}
 use Rattle.proof_text.specs.declared.unread.Unread.{Unread}
 use Rattle.proof_text.specs.declared.unread.Unread.TheVariants.{Misspelt, Cut}
-use Rattle.proof_text.specs.Fronts.{Front, Found, Missing, after_item, and_then, found_as, items_front}
+use Rattle.proof_text.specs.Fronts.{Parsed, Found, Missing, after_item, and_then, found_as, items_front}
 use Rattle.proof_text.proofs.Spells.{Spells, IsAnything, and_then_found, and_then_missing, cut_is_not_misspelt, found_as_found, found_as_missing}
 use Rattle.proof_text.proofs.Spells.{found_is_not_missing, found_stays, same_found}
 use Rattle.proof_text.proofs.FixedLemmas.{other_byte, same_byte, same_byte_or_not}
@@ -22,31 +22,31 @@ items_text text between stop [] = stop ∷ []
 items_text text between stop (a ∷ more) = text a ++ closed_text text between stop more
 
 pub items_step :
-    {A : Type 0} (item : List ℕ → Front A) (between stop room : ℕ) (bytes : List ℕ)
+    {A : Type 0} (item : List ℕ → Parsed A) (between stop room : ℕ) (bytes : List ℕ)
     → items_front item between stop (suc room) bytes
     ≡ and_then (item bytes) (after_item between stop (items_front item between stop room))
 unfolding items_front
 items_step {A} item between stop room bytes = refl
 
 pub items_none :
-    {A : Type 0} (item : List ℕ → Front A) (between stop : ℕ) (bytes : List ℕ)
+    {A : Type 0} (item : List ℕ → Parsed A) (between stop : ℕ) (bytes : List ℕ)
     → items_front item between stop zero bytes ≡ Missing Misspelt
 unfolding items_front
 items_none {A} item between stop bytes = refl
 
 -- behind an item
 pub at_stop :
-    {A : Type 0} (between stop b : ℕ) (others : List ℕ → Front (List A)) (a : A) (rest : List ℕ) → nat_eq b stop ≡ true
+    {A : Type 0} (between stop b : ℕ) (others : List ℕ → Parsed (List A)) (a : A) (rest : List ℕ) → nat_eq b stop ≡ true
     → after_item between stop others a (b ∷ rest) ≡ Found (a ∷ []) rest
 at_stop {A} between stop b others a rest is = rw is refl
 
 pub at_between :
-    {A : Type 0} (between stop b : ℕ) (others : List ℕ → Front (List A)) (a : A) (rest : List ℕ) → nat_eq b stop ≡ false
+    {A : Type 0} (between stop b : ℕ) (others : List ℕ → Parsed (List A)) (a : A) (rest : List ℕ) → nat_eq b stop ≡ false
     → nat_eq b between ≡ true → after_item between stop others a (b ∷ rest) ≡ found_as (λ more. a ∷ more) (others rest)
 at_between {A} between stop b others a rest other is = rw (other, is) refl
 
 pub at_other :
-    {A : Type 0} (between stop b : ℕ) (others : List ℕ → Front (List A)) (a : A) (rest : List ℕ) → nat_eq b stop ≡ false
+    {A : Type 0} (between stop b : ℕ) (others : List ℕ → Parsed (List A)) (a : A) (rest : List ℕ) → nat_eq b stop ≡ false
     → nat_eq b between ≡ false → after_item between stop others a (b ∷ rest) ≡ Missing Misspelt
 at_other {A} between stop b others a rest other wrong = rw (other, wrong) refl
 
@@ -77,7 +77,7 @@ AreItems S room items = (1 ≤ length items) × (length items ≤ room) × AllBy
 
 -- a list is found exactly where its items stand, with a byte between two of them and one that ends them
 pub items_spelled :
-    {A : Type 0} {item : List ℕ → Front A} {text : A → List ℕ} {S : A → Type 0} {N : List ℕ → Type 0} (between stop : ℕ)
+    {A : Type 0} {item : List ℕ → Parsed A} {text : A → List ℕ} {S : A → Type 0} {N : List ℕ → Type 0} (between stop : ℕ)
     → Spells item text S N → ((rest : List ℕ) → N (between ∷ rest)) → ((rest : List ℕ) → N (stop ∷ rest))
     → nat_eq between stop ≡ false → (room : ℕ)
     → Spells (items_front item between stop room) (items_text text between stop) (AreItems S room) IsAnything
@@ -98,14 +98,14 @@ items_spelled {A} {item} {text} {S} {N} between stop s between_next stop_next di
     written (suc room) (a ∷ []) rest are =
         items_step item between stop room ((text a ++ stop ∷ []) ++ rest)
         ∙ ap (λ (l : List ℕ). and_then (item l) (after_item between stop (items_front item between stop room))) (append_assoc (text a) (stop ∷ []) rest)
-        ∙ ap (λ (x : Front A). and_then x (after_item between stop (items_front item between stop room)))
+        ∙ ap (λ (x : Parsed A). and_then x (after_item between stop (items_front item between stop room)))
         (s.written a (stop ∷ rest) are.2.0 (stop_next rest))
         ∙ at_stop between stop stop (items_front item between stop room) a rest (same_byte stop)
     written (suc room) (a ∷ b ∷ more) rest are =
         let behind : List ℕ = items_text text between stop (b ∷ more) in
         items_step item between stop room ((text a ++ between ∷ behind) ++ rest)
         ∙ ap (λ (l : List ℕ). and_then (item l) (after_item between stop (items_front item between stop room))) (append_assoc (text a) (between ∷ behind) rest)
-        ∙ ap (λ (x : Front A). and_then x (after_item between stop (items_front item between stop room)))
+        ∙ ap (λ (x : Parsed A). and_then x (after_item between stop (items_front item between stop room)))
         (s.written a (between ∷ (behind ++ rest)) are.2.0 (between_next (behind ++ rest)))
         ∙ at_between between stop between (items_front item between stop room) a (behind ++ rest) differ (same_byte between)
         ∙ ap (found_as (λ (l : List A). a ∷ l)) (written room (b ∷ more) rest (omega arith, omega (arith, are.1), are.2.1))
@@ -249,16 +249,16 @@ items_spelled {A} {item} {text} {S} {N} between stop s between_next stop_next di
         items_step item between stop room (bytes ++ more)
         ∙ ⊎_elim
         (λ (front : item bytes ≡ Missing Misspelt).
-        ap (λ (x : Front A). and_then x (after_item between stop (items_front item between stop room))) (s.misspelt bytes more front))
+        ap (λ (x : Parsed A). and_then x (after_item between stop (items_front item between stop room))) (s.misspelt bytes more front))
         (λ (h : (a : A) × (r : List ℕ) × (item bytes ≡ Found a r) × (after_item between stop (items_front item between stop room) a r ≡ Missing Misspelt)).
-        ap (λ (x : Front A). and_then x (after_item between stop (items_front item between stop room))) (found_stays s h.0 bytes h.1 more h.2)
+        ap (λ (x : Parsed A). and_then x (after_item between stop (items_front item between stop room))) (found_stays s h.0 bytes h.1 more h.2)
         ∙ misspelt_next room h.0 h.1 more (λ b e. misspelt room b more e) h.3)
         (and_then_missing (item bytes) (after_item between stop (items_front item between stop room)) Misspelt
         (sym (items_step item between stop room bytes) ∙ is))
 
 -- one item further, where some room is left
 room_step :
-    {A : Type 0} (item : List ℕ → Front A) (between stop room : ℕ) (bytes : List ℕ) → 0 < room
+    {A : Type 0} (item : List ℕ → Parsed A) (between stop room : ℕ) (bytes : List ℕ) → 0 < room
     → items_front item between stop room bytes
     ≡ and_then (item bytes) (after_item between stop (items_front item between stop (room - 1)))
 room_step {A} item between stop zero bytes some = absurd (omega arith)
@@ -268,31 +268,31 @@ room_step {A} item between stop (suc room) bytes some =
     ∙ ap (λ k. and_then (item bytes) (after_item between stop (items_front item between stop k))) less
 
 found_step :
-    {A : Type 0} (item : List ℕ → Front A) (between stop room : ℕ) (bytes rest : List ℕ) (a : A) → 0 < room
+    {A : Type 0} (item : List ℕ → Parsed A) (between stop room : ℕ) (bytes rest : List ℕ) (a : A) → 0 < room
     → item bytes ≡ Found a rest
     → items_front item between stop room bytes ≡ after_item between stop (items_front item between stop (room - 1)) a rest
 found_step {A} item between stop room bytes rest a some is =
     room_step item between stop room bytes some
-    ∙ ap (λ (x : Front A). and_then x (after_item between stop (items_front item between stop (room - 1)))) is
+    ∙ ap (λ (x : Parsed A). and_then x (after_item between stop (items_front item between stop (room - 1)))) is
 
 -- no item is found
 pub item_missing :
-    {A : Type 0} (item : List ℕ → Front A) (between stop room : ℕ) (bytes : List ℕ) (why : Unread) → 0 < room
+    {A : Type 0} (item : List ℕ → Parsed A) (between stop room : ℕ) (bytes : List ℕ) (why : Unread) → 0 < room
     → item bytes ≡ Missing why → items_front item between stop room bytes ≡ Missing why
 item_missing {A} item between stop room bytes why some is =
     room_step item between stop room bytes some
-    ∙ ap (λ (x : Front A). and_then x (after_item between stop (items_front item between stop (room - 1)))) is
+    ∙ ap (λ (x : Parsed A). and_then x (after_item between stop (items_front item between stop (room - 1)))) is
 
 -- nothing stands behind an item
 pub item_alone :
-    {A : Type 0} (item : List ℕ → Front A) (between stop room : ℕ) (bytes rest : List ℕ) (a : A) → 0 < room
+    {A : Type 0} (item : List ℕ → Parsed A) (between stop room : ℕ) (bytes rest : List ℕ) (a : A) → 0 < room
     → item bytes ≡ Found a rest → length rest ≡ 0 → items_front item between stop room bytes ≡ Missing Cut
 item_alone {A} item between stop room bytes [] a some is none = found_step item between stop room bytes [] a some is
 item_alone {A} item between stop room bytes (b ∷ rest) a some is none = absurd (omega arith)
 
 -- the last byte stands behind an item
 pub item_last :
-    {A : Type 0} (item : List ℕ → Front A) (between stop room b : ℕ) (bytes rest behind : List ℕ) (a : A) → 0 < room
+    {A : Type 0} (item : List ℕ → Parsed A) (between stop room b : ℕ) (bytes rest behind : List ℕ) (a : A) → 0 < room
     → item bytes ≡ Found a rest → rest ≡ b ∷ behind → b ≡ stop
     → items_front item between stop room bytes ≡ Found (a ∷ []) behind
 item_last {A} item between stop room b bytes rest behind a some is rest_is same =
@@ -302,7 +302,7 @@ item_last {A} item between stop room b bytes rest behind a some is rest_is same 
 
 -- a byte that may not stand behind an item does
 pub item_wrong :
-    {A : Type 0} (item : List ℕ → Front A) (between stop room b : ℕ) (bytes rest behind : List ℕ) (a : A) → 0 < room
+    {A : Type 0} (item : List ℕ → Parsed A) (between stop room b : ℕ) (bytes rest behind : List ℕ) (a : A) → 0 < room
     → item bytes ≡ Found a rest → rest ≡ b ∷ behind → b ≢ stop → b ≢ between
     → items_front item between stop room bytes ≡ Missing Misspelt
 item_wrong {A} item between stop room b bytes rest behind a some is rest_is no_stop no_between =
@@ -312,7 +312,7 @@ item_wrong {A} item between stop room b bytes rest behind a some is rest_is no_s
 
 -- the byte between items does
 pub item_more :
-    {A : Type 0} (item : List ℕ → Front A) (between stop room b : ℕ) (bytes rest behind : List ℕ) (a : A) → 0 < room
+    {A : Type 0} (item : List ℕ → Parsed A) (between stop room b : ℕ) (bytes rest behind : List ℕ) (a : A) → 0 < room
     → item bytes ≡ Found a rest → rest ≡ b ∷ behind → b ≢ stop → b ≡ between
     → items_front item between stop room bytes
     ≡ found_as (λ more. a ∷ more) (items_front item between stop (room - 1) behind)
@@ -323,7 +323,7 @@ item_more {A} item between stop room b bytes rest behind a some is rest_is no_st
 
 -- the same where no further item may come
 pub item_over :
-    {A : Type 0} (item : List ℕ → Front A) (between stop room b : ℕ) (bytes rest behind : List ℕ) (a : A) → room ≡ 1
+    {A : Type 0} (item : List ℕ → Parsed A) (between stop room b : ℕ) (bytes rest behind : List ℕ) (a : A) → room ≡ 1
     → item bytes ≡ Found a rest → rest ≡ b ∷ behind → b ≢ stop → b ≡ between
     → items_front item between stop room bytes ≡ Missing Misspelt
 item_over {A} item between stop room b bytes rest behind a one is rest_is no_stop same =
@@ -334,7 +334,7 @@ item_over {A} item between stop room b bytes rest behind a one is rest_is no_sto
 
 -- and what the other items come to
 pub item_more_found :
-    {A : Type 0} (item : List ℕ → Front A) (between stop room left b : ℕ) (bytes rest behind last : List ℕ) (a : A) (more : List A)
+    {A : Type 0} (item : List ℕ → Parsed A) (between stop room left b : ℕ) (bytes rest behind last : List ℕ) (a : A) (more : List A)
     → 0 < room → left ≡ room - 1 → item bytes ≡ Found a rest → rest ≡ b ∷ behind → b ≢ stop → b ≡ between
     → items_front item between stop left behind ≡ Found more last
     → items_front item between stop room bytes ≡ Found (a ∷ more) last
@@ -344,7 +344,7 @@ item_more_found {A} item between stop room left b bytes rest behind last a more 
     ∙ ap (found_as (λ (l : List A). a ∷ l)) found
 
 pub item_more_missing :
-    {A : Type 0} (item : List ℕ → Front A) (between stop room left b : ℕ) (bytes rest behind : List ℕ) (a : A) (why : Unread)
+    {A : Type 0} (item : List ℕ → Parsed A) (between stop room left b : ℕ) (bytes rest behind : List ℕ) (a : A) (why : Unread)
     → 0 < room → left ≡ room - 1 → item bytes ≡ Found a rest → rest ≡ b ∷ behind → b ≢ stop → b ≡ between
     → items_front item between stop left behind ≡ Missing why
     → items_front item between stop room bytes ≡ Missing why

@@ -3,7 +3,7 @@ use Rattle.std.proofs.Common.{◌≡◌, ◌⊎◌, inl, inr, ⊎_elim, ℕ, ◌
 use Rattle.fn_rules.specs.declared.function.Level.{Level}
 use Rattle.fn_rules.specs.declared.function.Level.TheVariants.{Tp1, Tp2}
 use Rattle.proof_text.specs.declared.unread.Unread.TheVariants.{Misspelt, Cut}
-use Rattle.proof_text.specs.Fronts.{Front, Found, Missing, either_front, found_as, fixed_front}
+use Rattle.proof_text.specs.Fronts.{Parsed, Found, Missing, either_front, found_as, fixed_front}
 use Rattle.proof_text.specs.Lines.{header_front}
 use Rattle.proof_text.specs.Spelling.{header_text}
 use Rattle.proof_text.proofs.Spells.{Spells, IsAnything, cut_is_not_misspelt, found_as_found, found_as_missing, found_is_not_missing}
@@ -11,27 +11,27 @@ use Rattle.proof_text.proofs.FixedLemmas.{fixed_cut, fixed_read, fixed_spelled}
 use Rattle.proof_text.proofs.Places.{found_behind}
 
 either_found :
-    {A : Type 0} (x y : Front A) (a : A) (rest : List ℕ) → either_front x y ≡ Found a rest
+    {A : Type 0} (x y : Parsed A) (a : A) (rest : List ℕ) → either_front x y ≡ Found a rest
     → (x ≡ Found a rest) ⊎ ((x ≡ Missing Misspelt) × (y ≡ Found a rest))
 either_found {A} (Found b r) y a rest is = inl is
 either_found {A} (Missing Misspelt) y a rest is = inr (refl, is)
 either_found {A} (Missing Cut) y a rest is = absurd (found_is_not_missing a rest Cut (sym is))
 
 either_cut :
-    {A : Type 0} (x y : Front A) → either_front x y ≡ Missing Cut
+    {A : Type 0} (x y : Parsed A) → either_front x y ≡ Missing Cut
     → (x ≡ Missing Cut) ⊎ ((x ≡ Missing Misspelt) × (y ≡ Missing Cut))
 either_cut {A} (Found b r) y is = absurd (found_is_not_missing b r Cut is)
 either_cut {A} (Missing Misspelt) y is = inr (refl, is)
 either_cut {A} (Missing Cut) y is = inl refl
 
 either_misspelt :
-    {A : Type 0} (x y : Front A) → either_front x y ≡ Missing Misspelt → (x ≡ Missing Misspelt) × (y ≡ Missing Misspelt)
+    {A : Type 0} (x y : Parsed A) → either_front x y ≡ Missing Misspelt → (x ≡ Missing Misspelt) × (y ≡ Missing Misspelt)
 either_misspelt {A} (Found b r) y is = absurd (found_is_not_missing b r Misspelt is)
 either_misspelt {A} (Missing Misspelt) y is = (refl, is)
 either_misspelt {A} (Missing Cut) y is = absurd (cut_is_not_misspelt (either_front (Missing Cut) y) refl is)
 
 -- the header of a level
-abbrev one_header : Level → List ℕ → Front Level
+abbrev one_header : Level → List ℕ → Parsed Level
 one_header level bytes = found_as (λ x. level) (fixed_front (header_text level) bytes)
 
 header_read : (level other : Level) (bytes rest : List ℕ) → one_header level bytes ≡ Found other rest → bytes ≡ header_text other ++ rest
@@ -81,7 +81,7 @@ headers_spelled =
     misspelt : (bytes more : List ℕ) → header_front bytes ≡ Missing Misspelt → header_front (bytes ++ more) ≡ Missing Misspelt
     misspelt bytes more is =
         let both = either_misspelt (one_header Tp1 bytes) (one_header Tp2 bytes) is in
-        ap (λ (x : Front Level). either_front x (one_header Tp2 (bytes ++ more))) (header_misspelt Tp1 bytes more both.0)
+        ap (λ (x : Parsed Level). either_front x (one_header Tp2 (bytes ++ more))) (header_misspelt Tp1 bytes more both.0)
         ∙ header_misspelt Tp2 bytes more both.1
 
 -- what stands behind a text at a place of some bytes

@@ -2,11 +2,11 @@
 use Rattle.std.proofs.Common.{◌≡◌, ◌⊎◌, inl, inr, ℕ, List, ◌++◌, refl, sym, ap, ◌∙◌, subst, append_assoc}
 use Rattle.proof_text.specs.declared.unread.Unread.{Unread}
 use Rattle.proof_text.specs.declared.unread.Unread.TheVariants.{Misspelt, Cut}
-use Rattle.proof_text.specs.Fronts.{Front, Found, Missing, and_then, found_as}
+use Rattle.proof_text.specs.Fronts.{Parsed, Found, Missing, and_then, found_as}
 
 -- the value is found exactly where its spelling stands and something that may stand behind it; where the bytes are cut
 -- they begin a spelling, and where they are misspelt so is what goes on with them
-pub record Spells {A : Type 0} (front : List ℕ → Front A) (text : A → List ℕ) (Spelled : A → Type 0) (Behind : List ℕ → Type 0) : Type 0 where
+pub record Spells {A : Type 0} (front : List ℕ → Parsed A) (text : A → List ℕ) (Spelled : A → Type 0) (Behind : List ℕ → Type 0) : Type 0 where
   pub written : (a : A) (rest : List ℕ) → Spelled a → Behind rest → front (text a ++ rest) ≡ Found a rest
   pub read : (a : A) (bytes rest : List ℕ) → front bytes ≡ Found a rest → Spelled a × Behind rest × (bytes ≡ text a ++ rest)
   pub behind : (rest more : List ℕ) → Behind rest → Behind (rest ++ more)
@@ -15,7 +15,7 @@ pub record Spells {A : Type 0} (front : List ℕ → Front A) (text : A → List
 
 -- what is found is found also where more follows
 pub found_stays :
-    {A : Type 0} {front : List ℕ → Front A} {text : A → List ℕ} {Spelled : A → Type 0} {Behind : List ℕ → Type 0}
+    {A : Type 0} {front : List ℕ → Parsed A} {text : A → List ℕ} {Spelled : A → Type 0} {Behind : List ℕ → Type 0}
     → Spells front text Spelled Behind → (a : A) (bytes rest more : List ℕ)
     → front bytes ≡ Found a rest → front (bytes ++ more) ≡ Found a (rest ++ more)
 found_stays {A} {front} {text} {Spelled} {Behind} s a bytes rest more is =
@@ -25,7 +25,7 @@ found_stays {A} {front} {text} {Spelled} {Behind} s a bytes rest more is =
 
 -- fronts that are equal spell the same
 pub same_spelled :
-    {A : Type 0} {front other : List ℕ → Front A} {text : A → List ℕ} {Spelled : A → Type 0} {Behind : List ℕ → Type 0}
+    {A : Type 0} {front other : List ℕ → Parsed A} {text : A → List ℕ} {Spelled : A → Type 0} {Behind : List ℕ → Type 0}
     → ((bytes : List ℕ) → front bytes ≡ other bytes) → Spells front text Spelled Behind → Spells other text Spelled Behind
 same_spelled {A} {front} {other} {text} {Spelled} {Behind} same s =
     record {
@@ -40,20 +40,20 @@ abbrev pub pair_with : {A B : Type 0} → A → B → A × B
 pair_with a b = (a, b)
 
 -- the second of a pair, behind the first
-abbrev pub paired_next : {A B : Type 0} → (List ℕ → Front B) → A → List ℕ → Front (A × B)
+abbrev pub paired_next : {A B : Type 0} → (List ℕ → Parsed B) → A → List ℕ → Parsed (A × B)
 paired_next second a rest = found_as (pair_with a) (second rest)
 
 -- a pair: one behind the other
-abbrev pub pair_front : {A B : Type 0} → (List ℕ → Front A) → (List ℕ → Front B) → List ℕ → Front (A × B)
+abbrev pub pair_front : {A B : Type 0} → (List ℕ → Parsed A) → (List ℕ → Parsed B) → List ℕ → Parsed (A × B)
 pair_front first second bytes = and_then (first bytes) (paired_next second)
 
 pub same_found : {A : Type 0} (a b : A) (r s : List ℕ) → Found a r ≡ Found b s → (a ≡ b) × (r ≡ s)
 same_found {A} a b r s is = (cc, cc)
 
-pub same_reason : {A : Type 0} (x : Front A) (why other : Unread) → x ≡ Missing why → x ≡ Missing other → why ≡ other
+pub same_reason : {A : Type 0} (x : Parsed A) (why other : Unread) → x ≡ Missing why → x ≡ Missing other → why ≡ other
 same_reason {A} x why other is are = cc
 
-pub cut_is_not_misspelt : {A : Type 0} (x : Front A) → x ≡ Missing Cut → x ≡ Missing Misspelt → ⊥
+pub cut_is_not_misspelt : {A : Type 0} (x : Parsed A) → x ≡ Missing Cut → x ≡ Missing Misspelt → ⊥
 cut_is_not_misspelt {A} x is are = cc
 
 pub found_is_not_missing : {A : Type 0} (a : A) (r : List ℕ) (why : Unread) → Found a r ≡ Missing why → ⊥
@@ -61,34 +61,34 @@ found_is_not_missing {A} a r why is = cc
 
 -- what was found as another value
 pub found_as_found :
-    {A B : Type 0} (h : A → B) (x : Front A) (b : B) (rest : List ℕ) → found_as h x ≡ Found b rest
+    {A B : Type 0} (h : A → B) (x : Parsed A) (b : B) (rest : List ℕ) → found_as h x ≡ Found b rest
     → (a : A) × (x ≡ Found a rest) × (h a ≡ b)
 found_as_found {A} {B} h (Found a r) b rest is =
     let e = same_found (h a) b r rest is in (a, ap (λ (l : List ℕ). Found a l) e.1, e.0)
 found_as_found {A} {B} h (Missing why) b rest is = absurd (found_is_not_missing b rest why (sym is))
 
 pub found_as_missing :
-    {A B : Type 0} (h : A → B) (x : Front A) (why : Unread) → found_as h x ≡ Missing why → x ≡ Missing why
+    {A B : Type 0} (h : A → B) (x : Parsed A) (why : Unread) → found_as h x ≡ Missing why → x ≡ Missing why
 found_as_missing {A} {B} h (Found a r) why is = absurd (found_is_not_missing (h a) r why is)
-found_as_missing {A} {B} h (Missing other) why is = (let x : Front B = Missing other in ap Missing (same_reason x other why refl is))
+found_as_missing {A} {B} h (Missing other) why is = (let x : Parsed B = Missing other in ap Missing (same_reason x other why refl is))
 
 -- what was found next
 pub and_then_found :
-    {A B : Type 0} (x : Front A) (next : A → List ℕ → Front B) (b : B) (rest : List ℕ) → and_then x next ≡ Found b rest
+    {A B : Type 0} (x : Parsed A) (next : A → List ℕ → Parsed B) (b : B) (rest : List ℕ) → and_then x next ≡ Found b rest
     → (a : A) × (between : List ℕ) × (x ≡ Found a between) × (next a between ≡ Found b rest)
 and_then_found {A} {B} (Found a r) next b rest is = (a, r, refl, is)
 and_then_found {A} {B} (Missing why) next b rest is = absurd (found_is_not_missing b rest why (sym is))
 
 -- nothing is found at the first, or then at the next
 pub and_then_missing :
-    {A B : Type 0} (x : Front A) (next : A → List ℕ → Front B) (why : Unread) → and_then x next ≡ Missing why
+    {A B : Type 0} (x : Parsed A) (next : A → List ℕ → Parsed B) (why : Unread) → and_then x next ≡ Missing why
     → (x ≡ Missing why) ⊎ ((a : A) × (between : List ℕ) × (x ≡ Found a between) × (next a between ≡ Missing why))
 and_then_missing {A} {B} (Found a r) next why is = inr (a, r, refl, is)
-and_then_missing {A} {B} (Missing other) next why is = inl ((let x : Front B = Missing other in ap Missing (same_reason x other why refl is)))
+and_then_missing {A} {B} (Missing other) next why is = inl ((let x : Parsed B = Missing other in ap Missing (same_reason x other why refl is)))
 
 -- one behind the other
 pub pairs_spelled :
-    {A B : Type 0} {f : List ℕ → Front A} {g : List ℕ → Front B} {t : A → List ℕ} {u : B → List ℕ}
+    {A B : Type 0} {f : List ℕ → Parsed A} {g : List ℕ → Parsed B} {t : A → List ℕ} {u : B → List ℕ}
     {S : A → Type 0} {R : B → Type 0} {N M : List ℕ → Type 0}
     → Spells f t S N → Spells g u R M → ((b : B) (rest : List ℕ) → R b → M rest → N (u b ++ rest)) → (b : B) → R b
     → Spells (pair_front f g) (λ p. t p.0 ++ u p.1) (λ p. S p.0 × R p.1) M
@@ -96,7 +96,7 @@ pairs_spelled {A} {B} {f} {g} {t} {u} {S} {R} {N} {M} first second between some 
     record {
       written = λ p rest both behind.
           ap (pair_front f g) (append_assoc (t p.0) (u p.1) rest)
-          ∙ ap (λ (x : Front A). and_then x (paired_next g))
+          ∙ ap (λ (x : Parsed A). and_then x (paired_next g))
           (first.written p.0 (u p.1 ++ rest) both.0 (between p.1 rest both.1 behind))
           ∙ ap (found_as (pair_with p.0)) (second.written p.1 rest both.1 behind);
       read = λ p bytes rest is. read_both p bytes rest is;
@@ -146,14 +146,14 @@ pairs_spelled {A} {B} {f} {g} {t} {u} {S} {R} {N} {M} first second between some 
         → (f bytes ≡ Missing Misspelt) ⊎ ((a : A) × (r : List ℕ) × (f bytes ≡ Found a r) × (paired_next g a r ≡ Missing Misspelt))
         → pair_front f g (bytes ++ more) ≡ Missing Misspelt
     misspelt_both bytes more (inl is) =
-        ap (λ (x : Front A). and_then x (paired_next g)) (first.misspelt bytes more is)
+        ap (λ (x : Parsed A). and_then x (paired_next g)) (first.misspelt bytes more is)
     misspelt_both bytes more (inr h) =
-        ap (λ (x : Front A). and_then x (paired_next g)) (found_stays first h.0 bytes h.1 more h.2)
+        ap (λ (x : Parsed A). and_then x (paired_next g)) (found_stays first h.0 bytes h.1 more h.2)
         ∙ ap (found_as (pair_with h.0)) (second.misspelt h.1 more (found_as_missing (pair_with h.0) (g h.1) Misspelt h.3))
 
 -- the same values under other names
 pub renamed_spelled :
-    {A B : Type 0} {f : List ℕ → Front A} {t : A → List ℕ} {S : A → Type 0} {N : List ℕ → Type 0} (to : A → B) (back : B → A)
+    {A B : Type 0} {f : List ℕ → Parsed A} {t : A → List ℕ} {S : A → Type 0} {N : List ℕ → Type 0} (to : A → B) (back : B → A)
     → ((a : A) → back (to a) ≡ a) → ((b : B) → to (back b) ≡ b) → Spells f t S N
     → Spells (λ bytes. found_as to (f bytes)) (λ b. t (back b)) (λ b. S (back b)) N
 renamed_spelled {A} {B} {f} {t} {S} {N} to back forth around s =

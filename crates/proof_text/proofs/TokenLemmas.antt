@@ -9,7 +9,7 @@ use Rattle.cert_text.specs.Numbers.{IsSpellableCycle, more_numbers_text, numbers
 use Rattle.proof_trees.specs.declared.token.ProofTok.{ProofTok}
 use Rattle.proof_trees.specs.declared.token.ProofTok.TheVariants as token
 use Rattle.proof_text.specs.declared.unread.Unread.TheVariants.{Misspelt, Cut}
-use Rattle.proof_text.specs.Fronts.{Front, Found, Missing, and_then, found_as}
+use Rattle.proof_text.specs.Fronts.{Parsed, Found, Missing, and_then, found_as}
 use Rattle.proof_text.specs.Numbers.{number_before, number_front, offset_front}
 use Rattle.proof_text.specs.Spelling.{IsShortLiteral, IsShortOffset, IsSpellable, literal_text, literals_text, more_literals_text, offset_text, token_text}
 use Rattle.proof_text.specs.Tokens.{literal_front, literals_front, numbers_front, some_literals_front, token_from, token_front}
@@ -23,7 +23,7 @@ use Rattle.proof_text.proofs.ItemLemmas.{AreItems, closed_text, items_spelled, i
 
 -- the same spellings, told in other words
 respelled :
-    {A : Type 0} {f : List ℕ → Front A} {t u : A → List ℕ} {S R : A → Type 0} {N : List ℕ → Type 0}
+    {A : Type 0} {f : List ℕ → Parsed A} {t u : A → List ℕ} {S R : A → Type 0} {N : List ℕ → Type 0}
     → ((a : A) → t a ≡ u a) → ((a : A) → S a → R a) → ((a : A) → R a → S a) → Spells f t S N → Spells f u R N
 respelled {A} {f} {t} {u} {S} {R} {N} same to back s =
     record {
@@ -67,18 +67,18 @@ literal_by_parts : (bytes : List ℕ) → found_as literal_of (pair_front (numbe
     ≡ literal_front bytes
 literal_by_parts bytes = names (number_before 44 10 bytes)
   where
-    offsets : (x y : ℕ) (o : Front ℤ) → found_as literal_of (found_as (pair_with x) (found_as (pair_with y) o))
+    offsets : (x y : ℕ) (o : Parsed ℤ) → found_as literal_of (found_as (pair_with x) (found_as (pair_with y) o))
         ≡ found_as (λ k. record { x = x; y = y; k = k }) o
     offsets x y (Found k rest) = refl
     offsets x y (Missing why) = refl
 
-    second : (x : ℕ) (n : Front ℕ) → found_as literal_of (found_as (pair_with x) (and_then n (λ y rest. found_as (pair_with y) (offset_front rest))))
+    second : (x : ℕ) (n : Parsed ℕ) → found_as literal_of (found_as (pair_with x) (and_then n (λ y rest. found_as (pair_with y) (offset_front rest))))
         ≡ and_then n (λ y more. found_as (λ k. record { x = x; y = y; k = k }) (offset_front more))
     second x (Found y rest) = offsets x y (offset_front rest)
     second x (Missing why) = refl
 
     names :
-        (n : Front ℕ)
+        (n : Parsed ℕ)
         → found_as literal_of (and_then n (λ x rest. found_as (pair_with x) (pair_front (number_before 44 10) offset_front rest)))
         ≡ and_then n (λ x rest. and_then (number_before 44 10 rest) (λ y more. found_as (λ k. record { x = x; y = y; k = k }) (offset_front more)))
     names (Found x rest) = second x (number_before 44 10 rest)

@@ -1,7 +1,7 @@
 -- What is found at the front of bytes, told by spellings alone.
 use Rattle.std.specs.Prelude.{◌≡◌, ◌↔◌, ℕ, ◌<◌, List, ◌++◌, length}
 use Rattle.proof_text.specs.declared.unread.Unread.TheVariants.{Misspelt, Cut}
-use Rattle.proof_text.specs.Fronts.{Front, Found, Missing}
+use Rattle.proof_text.specs.Fronts.{Parsed, Found, Missing}
 
 -- the bytes are a proper front of a spelling
 abbrev pub EndWithin : {A : Type 0} → (A → List ℕ) → (A → Type 0) → List ℕ → Type 0
@@ -14,7 +14,7 @@ BeginNone {A} text Spelled bytes =
 
 -- a value is found exactly where its spelling is in front, with what stands behind it; the bytes are cut exactly where
 -- they end within a spelling; and misspelt exactly where none begins so
-pub record FindsExactly {A : Type 0} (front : List ℕ → Front A) (text : A → List ℕ) (Spelled : A → Type 0) : Type 0
+pub record FindsExactly {A : Type 0} (front : List ℕ → Parsed A) (text : A → List ℕ) (Spelled : A → Type 0) : Type 0
   where
     pub found : (a : A) (bytes rest : List ℕ) → (front bytes ≡ Found a rest) ↔ (Spelled a × (bytes ≡ text a ++ rest))
     pub cut : (bytes : List ℕ) → (front bytes ≡ Missing Cut) ↔ EndWithin text Spelled bytes

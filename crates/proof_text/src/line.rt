@@ -18,11 +18,11 @@ pub(crate) const LINE_ROOM: usize = 15;
 
 /// Bytes of a line, in place, so that no call takes memory.
 #[derive(Drop)]
-pub(crate) struct LineBytes {
+pub(crate) struct ProofLine {
     bytes: SmallVec<u8, LINE_ROOM>,
 }
 
-impl Model for LineBytes {
+impl Model for ProofLine {
     ghost use Rattle.std.specs.Prelude.{◌≡◌, ◌≤◌, ℕ, List, length};
     ghost use Rattle.proof_text.specs.declared.line.TheConstants.{LINE_ROOM};
 
@@ -33,11 +33,11 @@ impl Model for LineBytes {
     ghost invariant = { λ l. (length l.bytes.items ≤ LINE_ROOM) × (l.bytes.capacity ≡ LINE_ROOM) };
 }
 
-impl LineBytes {
-    fn new(alloc: Global) -> LineBytes
+impl ProofLine {
+    fn new(alloc: Global) -> ProofLine
         ensures { result ≡ [] }
     {
-        LineBytes {
+        ProofLine {
             bytes: SmallVec::new(alloc),
         }
     }
@@ -78,10 +78,10 @@ fn kind_word(kind: Kind) -> &'static [u8]
 }
 
 /// The line before the tree of an obligation.
-pub(crate) fn ob_line(alloc: Global, name: ObName) -> LineBytes
+pub(crate) fn ob_line(alloc: Global, name: ObName) -> ProofLine
     ensures { result ≡ ob_text name }
 {
-    let mut line = LineBytes::new(alloc);
+    let mut line = ProofLine::new(alloc);
     line.extend(b"ob ");
     match name {
         ObName::Pair(k, l) => {

@@ -6,16 +6,16 @@ use Rattle.proof_search.specs.declared.lemmas.Lemma.{Lemma}
 use Rattle.proof_search.specs.Owning.{AreOwn}
 use Rattle.proof_trees.specs.Starts.{unmarked}
 use Rattle.proof_trees.specs.Starters.{Starts, KeepsStarts, IsWhole}
-use Rattle.proof_writer.specs.declared.place.Place.{Place}
-use Rattle.proof_writer.specs.declared.place.Waiting.{Waiting}
-use Rattle.proof_writer.specs.declared.place.Waiting.TheVariants.{Part, Cycle, Learn}
-use Rattle.proof_writer.specs.declared.walk.Walk.{Walk}
+use Rattle.proof_writer.specs.declared.place.TreePlace.{TreePlace}
+use Rattle.proof_writer.specs.declared.place.WriterTask.{WriterTask}
+use Rattle.proof_writer.specs.declared.place.WriterTask.TheVariants.{Part, Cycle, Learn}
+use Rattle.proof_writer.specs.declared.walk.PlanWalk.{PlanWalk}
 use Rattle.proof_writer.specs.Nodes.{IsPresent, Waits, HasNode, AreOwnNodes, HasNoOthers, HasOneMore, HasParts}
 
 module _ {N : Type 0} (n : N) where
   -- a node that waits among one more waits there, or is that of what came
   waits_before :
-      (parts : List (Waiting N)) (one : Waiting N) → Waits n (parts ++ one ∷ []) → Waits n parts ⊎ Waits n (one ∷ [])
+      (parts : List (WriterTask N)) (one : WriterTask N) → Waits n (parts ++ one ∷ []) → Waits n parts ⊎ Waits n (one ∷ [])
   waits_before [] one waits = inr waits
   waits_before (Part p ∷ parts) one (inl is) = inl (inl is)
   waits_before (Part p ∷ parts) one (inr waits) =
@@ -27,14 +27,14 @@ module _ {N : Type 0} (n : N) where
   waits_before (Learn place ∷ parts) one waits = waits_before parts one waits
 
   -- a node that waits still waits among more
-  waits_among : (parts more : List (Waiting N)) → Waits n parts → Waits n (parts ++ more)
+  waits_among : (parts more : List (WriterTask N)) → Waits n parts → Waits n (parts ++ more)
   waits_among [] more waits = absurd waits
   waits_among (Part p ∷ parts) more (inl is) = inl is
   waits_among (Part p ∷ parts) more (inr waits) = inr (waits_among parts more waits)
   waits_among (Cycle picks ∷ parts) more waits = waits_among parts more waits
   waits_among (Learn place ∷ parts) more waits = waits_among parts more waits
 
-  waits_last : (parts : List (Waiting N)) (p : Place N) → p.node ≡ n → Waits n (parts ++ Part p ∷ [])
+  waits_last : (parts : List (WriterTask N)) (p : TreePlace N) → p.node ≡ n → Waits n (parts ++ Part p ∷ [])
   waits_last [] p is = inl is
   waits_last (Part q ∷ parts) p is = inr (waits_last parts p is)
   waits_last (Cycle picks ∷ parts) p is = waits_last parts p is
@@ -42,64 +42,64 @@ module _ {N : Type 0} (n : N) where
 
   -- after a place, a cycle or a lemma was pushed
   pub waits_part :
-      (old new : List (Waiting N)) (p : Place N) → new ≡ old ++ Part p ∷ [] → Waits n new → (p.node ≡ n) ⊎ Waits n old
+      (old new : List (WriterTask N)) (p : TreePlace N) → new ≡ old ++ Part p ∷ [] → Waits n new → (p.node ≡ n) ⊎ Waits n old
   waits_part old new p is waits =
-      elim (waits_before old (Part p) (subst (λ (parts : List (Waiting N)). Waits n parts) is waits))
+      elim (waits_before old (Part p) (subst (λ (parts : List (WriterTask N)). Waits n parts) is waits))
       as (λ x. (p.node ≡ n) ⊎ Waits n old) [
         | inl before ↦ inr before
         | inr last ↦ elim last as (λ x. (p.node ≡ n) ⊎ Waits n old) [ inl here ↦ inl here | inr none ↦ absurd none ]
       ]
 
   pub waits_cycle :
-      (old new : List (Waiting N)) (picks : List ℕ) → new ≡ old ++ Cycle picks ∷ [] → Waits n new → Waits n old
+      (old new : List (WriterTask N)) (picks : List ℕ) → new ≡ old ++ Cycle picks ∷ [] → Waits n new → Waits n old
   waits_cycle old new picks is waits =
-      elim (waits_before old (Cycle picks) (subst (λ (parts : List (Waiting N)). Waits n parts) is waits))
+      elim (waits_before old (Cycle picks) (subst (λ (parts : List (WriterTask N)). Waits n parts) is waits))
       as (λ x. Waits n old) [ inl before ↦ before | inr none ↦ absurd none ]
 
   pub waits_learn :
-      (old new : List (Waiting N)) (place : ℕ) → new ≡ old ++ Learn place ∷ [] → Waits n new → Waits n old
+      (old new : List (WriterTask N)) (place : ℕ) → new ≡ old ++ Learn place ∷ [] → Waits n new → Waits n old
   waits_learn old new place is waits =
-      elim (waits_before old (Learn place) (subst (λ (parts : List (Waiting N)). Waits n parts) is waits))
+      elim (waits_before old (Learn place) (subst (λ (parts : List (WriterTask N)). Waits n parts) is waits))
       as (λ x. Waits n old) [ inl before ↦ before | inr none ↦ absurd none ]
 
 -- what is pushed on the same parts
 pub pushed_on :
-    {N : Type 0} (old between parts : List (Waiting N)) (one : Waiting N) → between ≡ old → parts ≡ between ++ one ∷ []
+    {N : Type 0} (old between parts : List (WriterTask N)) (one : WriterTask N) → between ≡ old → parts ≡ between ++ one ∷ []
     → parts ≡ old ++ one ∷ []
-pushed_on old between parts one same pushed = pushed ∙ ap (λ (items : List (Waiting _)). items ++ one ∷ []) same
+pushed_on old between parts one same pushed = pushed ∙ ap (λ (items : List (WriterTask _)). items ++ one ∷ []) same
 
-module _ {N : Type 0} (old : Walk N) where
+module _ {N : Type 0} (old : PlanWalk N) where
   -- what waited last is gone
   pub others_popped :
-      (parts : List (Waiting N)) (one : Waiting N) → old.waiting.items ≡ parts ++ one ∷ [] → (n : N)
+      (parts : List (WriterTask N)) (one : WriterTask N) → old.waiting.items ≡ parts ++ one ∷ [] → (n : N)
       → IsPresent n old.present ⊎ Waits n parts → HasNode n old
   others_popped parts one popped n (inl here) = inl here
   others_popped parts one popped n (inr waits) =
-      inr (subst (λ (items : List (Waiting N)). Waits n items) (sym popped) (waits_among n parts (one ∷ []) waits))
+      inr (subst (λ (items : List (WriterTask N)). Waits n items) (sym popped) (waits_among n parts (one ∷ []) waits))
 
   -- the place that waited last is the present one
   pub others_taken :
-      (parts : List (Waiting N)) (p : Place N) → old.waiting.items ≡ parts ++ Part p ∷ [] → (n : N)
+      (parts : List (WriterTask N)) (p : TreePlace N) → old.waiting.items ≡ parts ++ Part p ∷ [] → (n : N)
       → (p.node ≡ n) ⊎ Waits n parts → HasNode n old
   others_taken parts p popped n (inl here) =
-      inr (subst (λ (items : List (Waiting N)). Waits n items) (sym popped) (waits_last n parts p here))
+      inr (subst (λ (items : List (WriterTask N)). Waits n items) (sym popped) (waits_last n parts p here))
   others_taken parts p popped n (inr waits) =
-      inr (subst (λ (items : List (Waiting N)). Waits n items) (sym popped) (waits_among n parts (Part p ∷ []) waits))
+      inr (subst (λ (items : List (WriterTask N)). Waits n items) (sym popped) (waits_among n parts (Part p ∷ []) waits))
 
   -- the present place is closed
   pub others_closed :
-      (parts : List (Waiting N)) → parts ≡ old.waiting.items → (n : N) → ⊥ ⊎ Waits n parts → HasNode n old
+      (parts : List (WriterTask N)) → parts ≡ old.waiting.items → (n : N) → ⊥ ⊎ Waits n parts → HasNode n old
   others_closed parts same n (inl none) = absurd none
-  others_closed parts same n (inr waits) = inr (subst (λ (items : List (Waiting N)). Waits n items) same waits)
+  others_closed parts same n (inr waits) = inr (subst (λ (items : List (WriterTask N)). Waits n items) same waits)
 
   -- one part of a question is present
-  module _ (on_yes on_no node : N) (parts : List (Waiting N)) where
+  module _ (on_yes on_no node : N) (parts : List (WriterTask N)) where
     pub parts_of_no :
         node ≡ on_no → parts ≡ old.waiting.items → (n : N) → (node ≡ n) ⊎ Waits n parts
         → (on_yes ≡ n) ⊎ ((on_no ≡ n) ⊎ HasNode n old)
     parts_of_no is same n (inl here) = inr (inl (sym is ∙ here))
     parts_of_no is same n (inr waits) =
-        inr (inr (inr (subst (λ (items : List (Waiting N)). Waits n items) same waits)))
+        inr (inr (inr (subst (λ (items : List (WriterTask N)). Waits n items) same waits)))
 
     pub parts_of_yes :
         (picks : List ℕ) → node ≡ on_yes → parts ≡ old.waiting.items ++ Cycle picks ∷ [] → (n : N)
@@ -108,7 +108,7 @@ module _ {N : Type 0} (old : Walk N) where
     parts_of_yes picks is pushed n (inr waits) = inr (inr (inr (waits_cycle n old.waiting.items parts picks pushed waits)))
 
     pub parts_of_both :
-        (p : Place N) → node ≡ on_yes → p.node ≡ on_no → parts ≡ old.waiting.items ++ Part p ∷ [] → (n : N)
+        (p : TreePlace N) → node ≡ on_yes → p.node ≡ on_no → parts ≡ old.waiting.items ++ Part p ∷ [] → (n : N)
         → (node ≡ n) ⊎ Waits n parts → (on_yes ≡ n) ⊎ ((on_no ≡ n) ⊎ HasNode n old)
     parts_of_both p is is_no pushed n (inl here) = inl (sym is ∙ here)
     parts_of_both p is is_no pushed n (inr waits) =
@@ -120,7 +120,7 @@ module _ {N : Type 0} (old : Walk N) where
 
   -- a lemma is begun at a place, which waits
   pub begun_at :
-      (at : Place N) (between parts : List (Waiting N)) (lemma : ℕ) → between ≡ old.waiting.items ++ Part at ∷ []
+      (at : TreePlace N) (between parts : List (WriterTask N)) (lemma : ℕ) → between ≡ old.waiting.items ++ Part at ∷ []
       → parts ≡ between ++ Learn lemma ∷ [] → (n : N) → (at.node ≡ n) ⊎ Waits n parts → (at.node ≡ n) ⊎ HasNode n old
   begun_at at between parts lemma first last n (inl here) = inl here
   begun_at at between parts lemma first last n (inr waits) =
@@ -130,12 +130,12 @@ module _ {N : Type 0} (old : Walk N) where
         | inr before ↦ inr (inr before)
       ]
 
-module _ {N : Type 0} (old new : Walk N) where
+module _ {N : Type 0} (old new : PlanWalk N) where
   -- nothing changed
   pub others_kept :
       new.present ≡ old.present → new.waiting.items ≡ old.waiting.items → (n : N) → HasNode n new → HasNode n old
-  others_kept present waiting n (inl here) = inl (subst (λ (p : Option (Place N)). IsPresent n p) present here)
-  others_kept present waiting n (inr waits) = inr (subst (λ (parts : List (Waiting N)). Waits n parts) waiting waits)
+  others_kept present waiting n (inl here) = inl (subst (λ (p : Option (TreePlace N)). IsPresent n p) present here)
+  others_kept present waiting n (inr waits) = inr (subst (λ (parts : List (WriterTask N)). Waits n parts) waiting waits)
 
   module _ (is_own : N → Type 0) (own : AreOwnNodes is_own old) where
     pub own_others : HasNoOthers old new → AreOwnNodes is_own new
@@ -157,15 +157,15 @@ module _ {N : Type 0} (old new : Walk N) where
 -- the calls of an asker keep its nodes
 pub nodes_kept :
     {N S W : Type 0} {was_own is_own : N → Type 0} {old new : Starts N S W} → KeepsStarts was_own is_own old new
-    → (w : Walk N) → AreOwnNodes was_own w → AreOwnNodes is_own w
+    → (w : PlanWalk N) → AreOwnNodes was_own w → AreOwnNodes is_own w
 nodes_kept keeps w own = λ n has. (keeps.own n).0 (own n has)
 
 -- the present place's node is one of the asker's own
 pub present_own :
-    {N : Type 0} (is_own : N → Type 0) (w : Walk N) (p : Place N) → w.present ≡ Some p → AreOwnNodes is_own w
+    {N : Type 0} (is_own : N → Type 0) (w : PlanWalk N) (p : TreePlace N) → w.present ≡ Some p → AreOwnNodes is_own w
     → is_own p.node
 present_own is_own w p present own =
-    own p.node (inl (subst (λ (o : Option (Place _)). IsPresent p.node o) (sym present) refl))
+    own p.node (inl (subst (λ (o : Option (TreePlace _)). IsPresent p.node o) (sym present) refl))
 
 -- an asker's own plan is told by the one with its starts
 pub root_kept :

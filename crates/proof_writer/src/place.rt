@@ -4,7 +4,7 @@ use ask_core::Picks;
 /// A place of a plan at which a tree is to be written: its node, how many literals its list has, and whether a lemma
 /// was just begun here.
 #[derive(Clone, Copy)]
-pub struct Place<N> {
+pub struct TreePlace<N> {
     pub node: N,
     pub length: u32,
     pub begun: bool,
@@ -12,9 +12,9 @@ pub struct Place<N> {
 
 /// What waits behind the present place.
 #[derive(Drop)]
-pub enum Waiting<N: Copy> {
+pub enum WriterTask<N: Copy> {
     /// A place. Its facts stand with those of the other places that wait.
-    Part(Place<N>),
+    Part(TreePlace<N>),
 
     /// The cycle of a part that no integers lead to.
     Cycle(Picks),
@@ -25,7 +25,7 @@ pub enum Waiting<N: Copy> {
 
 /// What a step of the writer came to.
 #[derive(Clone, Copy, Debug, PartialEq, Eq)]
-pub enum Step {
+pub enum WriterStep {
     /// More is to be written.
     More,
 

@@ -4,9 +4,9 @@ ghost use Rattle.proof_trees.specs.declared.limits.TheConstants.{MAX_LITERALS};
 ghost use Rattle.proof_writer.specs.Nodes.{HasNode, HasNoOthers, HasOneMore, HasParts};
 ghost use Rattle.proof_writer.specs.Texts.{Extends};
 
-use crate::place::{Place, Step, Waiting};
+use crate::place::{TreePlace, WriterStep, WriterTask};
 use crate::token::{cycle_of, literals_of, put};
-use crate::written::{Numbers, Unbegun};
+use crate::written::{LemmaNumbers, Unbegun};
 use ask_core::NoMemory;
 use diff_graph::{Lit, negate};
 use proof_search::{Facts, Lemmas, ServingLemma};
@@ -16,29 +16,29 @@ use std::alloc::Global;
 /// A walk under way. The literals at the present place give `facts`, each under its place in the list there; those of
 /// the places that wait give `behind`, the next one's last. `cycle` is where the numbers of a cycle are put.
 #[derive(Drop)]
-pub struct Walk<N: Copy> {
-    pub present: Option<Place<N>>,
-    pub waiting: Vec<Waiting<N>>,
+pub struct PlanWalk<N: Copy> {
+    pub present: Option<TreePlace<N>>,
+    pub waiting: Vec<WriterTask<N>>,
     pub facts: Facts,
     pub behind: Vec<Facts>,
-    pub numbers: Numbers,
+    pub numbers: LemmaNumbers,
     pub unbegun: Unbegun,
     pub left: u64,
     pub cycle: Vec<u32>,
 }
 
-impl<N: Copy> Walk<N> {
+impl<N: Copy> PlanWalk<N> {
     /// A walk of at most so many questions from a node, with so many lemmas.
     pub fn begin(
         alloc: Global,
         first: N,
         lemmas: usize,
         questions: u64,
-    ) -> Result<Walk<N>, NoMemory>
+    ) -> Result<PlanWalk<N>, NoMemory>
         ensures { IfOk result (λ w. (n : N) → HasNode n w → first ≡ n) }
     {
-        Ok(Walk {
-            present: Some(Place {
+        Ok(PlanWalk {
+            present: Some(TreePlace {
                 node: first,
                 length: 0,
                 begun: false,
@@ -46,7 +46,7 @@ impl<N: Copy> Walk<N> {
             waiting: Vec::new(alloc),
             facts: Facts::new(),
             behind: Vec::new(alloc),
-            numbers: Numbers::new(alloc, lemmas)?,
+            numbers: LemmaNumbers::new(alloc, lemmas)?,
             unbegun: Unbegun::new(alloc, lemmas)?,
             left: questions,
             cycle: Vec::new(alloc),
@@ -54,39 +54,39 @@ impl<N: Copy> Walk<N> {
     }
 
     /// Goes on with what waits, where no place is present.
-    pub fn next(&mut self, out: &mut Vec<u8>) -> Result<Step, NoMemory>
+    pub fn next(&mut self, out: &mut Vec<u8>) -> Result<WriterStep, NoMemory>
         ensures front { Extends out.old.items out.new.items }
         ensures nodes { OnOk result (HasNoOthers self.old self.new) }
     {
         match self.waiting.pop() {
-            None => Ok(Step::Done),
-            Some(Waiting::Cycle(picks)) => {
+            None => Ok(WriterStep::Done),
+            Some(WriterTask::Cycle(picks)) => {
                 put(&ProofTok::Cycle(picks), out)?;
-                Ok(Step::More)
+                Ok(WriterStep::More)
             }
-            Some(Waiting::Learn(place)) => {
+            Some(WriterTask::Learn(place)) => {
                 self.numbers.end(place);
-                Ok(Step::More)
+                Ok(WriterStep::More)
             }
-            Some(Waiting::Part(place)) => {
+            Some(WriterTask::Part(place)) => {
                 let Some(facts) = self.behind.pop() else {
-                    return Ok(Step::Stuck);
+                    return Ok(WriterStep::Stuck);
                 };
                 self.facts = facts;
                 self.present = Some(place);
-                Ok(Step::More)
+                Ok(WriterStep::More)
             }
         }
     }
 
     /// Writes that the plan holds at the present place.
-    pub fn hold(&mut self, out: &mut Vec<u8>) -> Result<Step, NoMemory>
+    pub fn hold(&mut self, out: &mut Vec<u8>) -> Result<WriterStep, NoMemory>
         ensures front { Extends out.old.items out.new.items }
         ensures nodes { OnOk result (HasNoOthers self.old self.new) }
     {
         put(&ProofTok::Holds, out)?;
         self.present = None;
-        Ok(Step::More)
+        Ok(WriterStep::More)
     }
 
     /// Writes a question at the present place, whose list has so many literals.
@@ -98,12 +98,12 @@ impl<N: Copy> Walk<N> {
         yes: N,
         no: N,
         out: &mut Vec<u8>,
-    ) -> Result<Step, NoMemory>
+    ) -> Result<WriterStep, NoMemory>
         ensures front { Extends out.old.items out.new.items }
         ensures nodes { OnOk result (HasParts yes no self.old self.new) }
     {
         if self.left == 0 {
-            return Ok(Step::Stuck);
+            return Ok(WriterStep::Stuck);
         }
         self.left -= 1;
         put(&ProofTok::Ask, out)?;
@@ -115,21 +115,21 @@ impl<N: Copy> Walk<N> {
         if self.facts.write_why_excluded(&mut self.cycle, lit, number)? {
             put(&ProofTok::Cycle(cycle_of(alloc, &self.cycle)), out)?;
             self.present = Some(on_no);
-            return Ok(Step::More);
+            return Ok(WriterStep::More);
         }
         if self
             .facts
             .write_why_excluded(&mut self.cycle, negation, number)?
         {
             self.waiting
-                .push(Waiting::Cycle(cycle_of(alloc, &self.cycle)))?;
+                .push(WriterTask::Cycle(cycle_of(alloc, &self.cycle)))?;
             self.present = Some(on_yes);
-            return Ok(Step::More);
+            return Ok(WriterStep::More);
         }
         self.split(lit, number)?;
-        self.waiting.push(Waiting::Part(on_no))?;
+        self.waiting.push(WriterTask::Part(on_no))?;
         self.present = Some(on_yes);
-        Ok(Step::More)
+        Ok(WriterStep::More)
     }
 
     // The facts of both answers: those of yes are next, and those of no wait.
@@ -149,29 +149,29 @@ impl<N: Copy> Walk<N> {
         &mut self,
         lemmas: &Lemmas<N>,
         lemma: usize,
-        at: Place<N>,
+        at: TreePlace<N>,
         out: &mut Vec<u8>,
-    ) -> Result<Step, NoMemory>
+    ) -> Result<WriterStep, NoMemory>
         ensures front { Extends out.old.items out.new.items }
         ensures nodes { OnOk result (HasOneMore at.node self.old self.new) }
     {
         let Some(literals) = literals_at(lemmas, lemma) else {
-            return Ok(Step::Stuck);
+            return Ok(WriterStep::Stuck);
         };
         let facts = facts_of(literals.as_slice());
         let length = literals.as_slice().len() as u32;
         put(&ProofTok::Lemma(literals), out)?;
         self.unbegun.begin(lemma);
         self.behind.push(self.facts)?;
-        self.waiting.push(Waiting::Part(at))?;
-        self.waiting.push(Waiting::Learn(lemma))?;
+        self.waiting.push(WriterTask::Part(at))?;
+        self.waiting.push(WriterTask::Learn(lemma))?;
         self.facts = facts;
-        self.present = Some(Place {
+        self.present = Some(TreePlace {
             node: at.node,
             length,
             begun: true,
         });
-        Ok(Step::More)
+        Ok(WriterStep::More)
     }
 
     /// Cites a lemma that is written and serves at the present place, whose list has so many literals: a cycle for
@@ -183,25 +183,25 @@ impl<N: Copy> Walk<N> {
         found: &ServingLemma,
         length: u32,
         out: &mut Vec<u8>,
-    ) -> Result<Step, NoMemory>
+    ) -> Result<WriterStep, NoMemory>
         ensures front { Extends out.old.items out.new.items }
         ensures nodes { OnOk result (HasNoOthers self.old self.new) }
     {
         let Some(number) = self.numbers.number(found.place) else {
-            return Ok(Step::Stuck);
+            return Ok(WriterStep::Stuck);
         };
         let Some(lemma) = lemmas.get(found.place) else {
-            return Ok(Step::Stuck);
+            return Ok(WriterStep::Stuck);
         };
         put(&ProofTok::Cite(number), out)?;
         if !self.put_cycles(alloc, lemma.literals.as_slice(), length, out)? {
-            return Ok(Step::Stuck);
+            return Ok(WriterStep::Stuck);
         }
         if !self.put_cycles(alloc, found.conditions.as_slice(), length, out)? {
-            return Ok(Step::Stuck);
+            return Ok(WriterStep::Stuck);
         }
         self.present = None;
-        Ok(Step::More)
+        Ok(WriterStep::More)
     }
 
     // Writes for each literal the cycle that shows that it follows, where it does.
@@ -235,10 +235,10 @@ fn literals_at<N: Copy>(lemmas: &Lemmas<N>, place: usize) -> Option<Literals> {
 }
 
 // A part of a question, at a place whose list has so many literals.
-fn part<N: Copy>(node: N, number: u32) -> Place<N>
+fn part<N: Copy>(node: N, number: u32) -> TreePlace<N>
     ensures { result.node ≡ node }
 {
-    Place {
+    TreePlace {
         node,
         length: number.saturating_add(1),
         begun: false,

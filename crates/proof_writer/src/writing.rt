@@ -5,8 +5,8 @@ ghost use Rattle.proof_search.specs.Owning.{AreOwn};
 ghost use Rattle.proof_writer.specs.Nodes.{AreOwnNodes};
 ghost use Rattle.proof_writer.specs.Texts.{Extends};
 
-use crate::place::{Place, Step};
-use crate::walk::Walk;
+use crate::place::{TreePlace, WriterStep};
+use crate::walk::PlanWalk;
 use ask_core::{NoMemory, Turn};
 use proof_search::{Finder, Lemmas, serving, serving_of};
 use std::alloc::Global;
@@ -50,7 +50,7 @@ fn walk_through<A: Finder>(
     ensures same { KeepsStarts (A.is_own asker.old) (A.is_own asker.new) (A.starts asker.old) (A.starts asker.new) }
 {
     let first = asker.first()?;
-    let mut walk = Walk::begin(alloc, first, lemmas.len(), questions)?;
+    let mut walk = PlanWalk::begin(alloc, first, lemmas.len(), questions)?;
     'turns: for _ in 0..turns_of(questions, lemmas.len()) {
         if let Some(done) = turn(alloc, asker, lemmas, most, &mut walk, out)? {
             return Ok(done);
@@ -65,7 +65,7 @@ fn turn<A: Finder>(
     asker: &mut A,
     lemmas: &Lemmas<A::Node>,
     most: usize,
-    walk: &mut Walk<A::Node>,
+    walk: &mut PlanWalk<A::Node>,
     out: &mut Vec<u8>,
 ) -> Result<Option<bool>, NoMemory>
     requires lemmas { AreOwn (A.is_own asker.old) lemmas.now }
@@ -80,9 +80,9 @@ fn turn<A: Finder>(
         return Ok(Some(false));
     }
     Ok(match step {
-        Step::More => None,
-        Step::Done => Some(true),
-        Step::Stuck => Some(false),
+        WriterStep::More => None,
+        WriterStep::Done => Some(true),
+        WriterStep::Stuck => Some(false),
     })
 }
 
@@ -100,9 +100,9 @@ fn step<A: Finder>(
     alloc: Global,
     asker: &mut A,
     lemmas: &Lemmas<A::Node>,
-    walk: &mut Walk<A::Node>,
+    walk: &mut PlanWalk<A::Node>,
     out: &mut Vec<u8>,
-) -> Result<Step, NoMemory>
+) -> Result<WriterStep, NoMemory>
     requires lemmas { AreOwn (A.is_own asker.old) lemmas.now }
     requires nodes { AreOwnNodes (A.is_own asker.old) walk.old }
     ensures front { Extends out.old.items out.new.items }
@@ -122,10 +122,10 @@ fn step<A: Finder>(
 fn follow<A: Finder>(
     alloc: Global,
     asker: &mut A,
-    walk: &mut Walk<A::Node>,
-    place: Place<A::Node>,
+    walk: &mut PlanWalk<A::Node>,
+    place: TreePlace<A::Node>,
     out: &mut Vec<u8>,
-) -> Result<Step, NoMemory>
+) -> Result<WriterStep, NoMemory>
     requires here { A.is_own asker.old place.node }
     requires nodes { AreOwnNodes (A.is_own asker.old) walk.old }
     ensures front { Extends out.old.items out.new.items }
@@ -135,7 +135,7 @@ fn follow<A: Finder>(
     match asker.follow(place.node)? {
         Turn::Ask { lit, yes, no } => Ok(walk.ask(alloc, place.length, lit, yes, no, out)?),
         Turn::Holds => Ok(walk.hold(out)?),
-        Turn::Fails(_) => Ok(Step::Stuck),
+        Turn::Fails(_) => Ok(WriterStep::Stuck),
     }
 }
 
@@ -145,10 +145,10 @@ fn use_lemma<A: Finder>(
     alloc: Global,
     asker: &mut A,
     lemmas: &Lemmas<A::Node>,
-    walk: &mut Walk<A::Node>,
-    place: Place<A::Node>,
+    walk: &mut PlanWalk<A::Node>,
+    place: TreePlace<A::Node>,
     out: &mut Vec<u8>,
-) -> Result<Option<Step>, NoMemory>
+) -> Result<Option<WriterStep>, NoMemory>
     requires lemmas { AreOwn (A.is_own asker.old) lemmas.now }
     requires here { A.is_own asker.old place.node }
     requires nodes { AreOwnNodes (A.is_own asker.old) walk.old }
@@ -173,7 +173,7 @@ fn unbegun_at<A: Finder>(
     alloc: Global,
     asker: &mut A,
     lemmas: &Lemmas<A::Node>,
-    walk: &Walk<A::Node>,
+    walk: &PlanWalk<A::Node>,
     here: A::Node,
 ) -> Result<Option<usize>, NoMemory>
     requires lemmas { AreOwn (A.is_own asker.old) lemmas.now }

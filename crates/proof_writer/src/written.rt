@@ -5,19 +5,19 @@ use std::alloc::Global;
 
 /// The numbers by which lemmas are cited, by their places in the list: none until a lemma's tree has ended.
 #[derive(Drop)]
-pub struct Numbers {
+pub struct LemmaNumbers {
     numbers: Vec<Option<u32>>,
     count: u32,
 }
 
-impl Numbers {
+impl LemmaNumbers {
     /// Of so many lemmas, none of which is written.
-    pub fn new(alloc: Global, count: usize) -> Result<Numbers, NoMemory> {
+    pub fn new(alloc: Global, count: usize) -> Result<LemmaNumbers, NoMemory> {
         let mut numbers = Vec::new(alloc);
         for _ in 0..count {
             numbers.push(None)?;
         }
-        Ok(Numbers { numbers, count: 0 })
+        Ok(LemmaNumbers { numbers, count: 0 })
     }
 
     /// The number of a lemma that is written.
@@ -34,7 +34,7 @@ impl Numbers {
     }
 }
 
-impl Choice for Numbers {
+impl Choice for LemmaNumbers {
     fn takes(&self, place: usize) -> bool {
         self.number(place).is_some()
     }

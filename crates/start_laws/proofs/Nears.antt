@@ -12,7 +12,7 @@ use Rattle.ot_questions.specs.Nears.{IsNearOp}
 use Rattle.ot_questions.specs.Places.{sym_at}
 use Rattle.ot_questions.proofs.Listed.{each_appended}
 use Rattle.ot_questions.proofs.Nears.{IsNear-more, IsNear-zero}
-use Rattle.ot_terms.specs.declared.goal.Progress.{Progress}
+use Rattle.ot_terms.specs.declared.goal.GoalProgress.{GoalProgress}
 use Rattle.ot_terms.specs.Standing.{results_of}
 use Rattle.ot_terms.specs.Weights.{transforms_of}
 use Rattle.ot_terms.specs.Belonging.{IsMoved, IsNextResult, AreResults, IsProgressOf, next_operands, reach_of}
@@ -49,7 +49,7 @@ taken_few : {X : Type 0} (n : ℕ) (xs : List X) → length (take n xs) ≤ n
 taken_few n xs = omega (arith, length-take n xs)
 
 -- the results of a progress are few, and at small offsets
-pub progress_begun : (ob : ObName) (plan : Progress) → IsProgressOf ob plan → IsBegun plan None
+pub progress_begun : (ob : ObName) (plan : GoalProgress) → IsProgressOf ob plan → IsBegun plan None
 progress_begun ob plan h =
     let few = taken_few plan.count plan.got in
     let awaited = h.awaited in
@@ -64,7 +64,7 @@ progress_begun ob plan h =
 
 -- so are they with one more result
 pub result_begun :
-    (ob : ObName) (plan : Progress) (r : SymOp) → IsProgressOf ob plan → IsNextResult ob plan.ops (results_of plan) r
+    (ob : ObName) (plan : GoalProgress) (r : SymOp) → IsProgressOf ob plan → IsNextResult ob plan.ops (results_of plan) r
     → IsBegun plan (Some r)
 result_begun ob plan r h next =
     let before = progress_begun ob plan h in

@@ -3,7 +3,7 @@ use Rattle.std.specs.Prelude.{◌≡◌, ◌≤◌, Option, Some, None, List, []
 use Rattle.std.specs.List.{AllByRecursion}
 use Rattle.ot_questions.specs.declared.place.SymOp.{SymOp}
 use Rattle.ot_questions.specs.Nears.{IsNearOp}
-use Rattle.ot_terms.specs.declared.goal.Progress.{Progress}
+use Rattle.ot_terms.specs.declared.goal.GoalProgress.{GoalProgress}
 use Rattle.ot_terms.specs.Standing.{results_of}
 use Rattle.start_laws.specs.Starts.{Start}
 
@@ -13,12 +13,13 @@ results_with got None = got
 results_with got (Some last) = got ++ last ∷ []
 
 -- the start after the progress and the result that was delivered
-abbrev pub start_after : Progress → Option SymOp → Start
-start_after plan last = record { ob = plan.ob; ops = plan.ops; got = results_with (results_of plan) last }
+abbrev pub start_after : GoalProgress → Option SymOp → Start
+start_after progress last =
+    record { ob = progress.ob; ops = progress.ops; got = results_with (results_of progress) last }
 
 -- there are few results, at small offsets
-pub record IsBegun (plan : Progress) (last : Option SymOp) : Type 0 where
-  pub room : length plan.got ≡ 6
-  pub few : length (start_after plan last).got ≤ 6
-  pub count : plan.count ≤ 6
-  pub near : AllByRecursion (IsNearOp 1000) (start_after plan last).got
+pub record IsBegun (progress : GoalProgress) (last : Option SymOp) : Type 0 where
+  pub room : length progress.got ≡ 6
+  pub few : length (start_after progress last).got ≤ 6
+  pub count : progress.count ≤ 6
+  pub near : AllByRecursion (IsNearOp 1000) (start_after progress last).got

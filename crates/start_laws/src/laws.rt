@@ -4,7 +4,7 @@ ghost use Rattle.fn_rules.specs.declared.function.ObName.{ObName};
 ghost use Rattle.fn_rules.specs.Functions.{Function};
 ghost use Rattle.proof_trees.specs.Starts.{IsLawful};
 ghost use Rattle.ot_questions.specs.declared.place.SymOp.{SymOp};
-ghost use Rattle.ot_terms.specs.declared.goal.Progress.{Progress};
+ghost use Rattle.ot_terms.specs.declared.goal.GoalProgress.{GoalProgress};
 ghost use Rattle.ot_terms.specs.Standing.{results_of};
 ghost use Rattle.ot_terms.specs.Belonging.{IsProgressOf, IsNextResult};
 ghost use Rattle.start_laws.specs.Begun.{IsBegun};
@@ -21,7 +21,7 @@ pub fn starts_have_one_value()
 /// compared.
 #[tactic(auto, using(crate::proofs::Nears::progress_begun, crate::proofs::Nears::result_begun))]
 pub fn results_stay_near()
-    ensures first { (ob : ObName) (plan : Progress) → IsProgressOf ob plan → IsBegun plan None }
-    ensures delivered { (ob : ObName) (plan : Progress) (r : SymOp) → IsProgressOf ob plan
-        → IsNextResult ob plan.ops (results_of plan) r → IsBegun plan (Some r) }
+    ensures first { (ob : ObName) (progress : GoalProgress) → IsProgressOf ob progress → IsBegun progress None }
+    ensures delivered { (ob : ObName) (progress : GoalProgress) (r : SymOp) → IsProgressOf ob progress
+        → IsNextResult ob progress.ops (results_of progress) r → IsBegun progress (Some r) }
 {}

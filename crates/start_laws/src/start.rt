@@ -2,14 +2,14 @@
 ghost use Rattle.std.specs.Prelude.{◌≡◌};
 ghost use Rattle.start_laws.specs.Begun.{IsBegun, start_after};
 
-use ot_terms::{Progress, SymOp};
+use ot_terms::{GoalProgress, SymOp};
 use std::marker::Model;
 
 /// A start: how far the transformations of an obligation have come, and the result that was delivered after that, if
 /// one was.
 #[derive(Clone, Copy)]
 pub struct StartAt<'a> {
-    pub plan: &'a Progress,
+    pub plan: &'a GoalProgress,
 
     /// The result that comes after those of `plan`; none where the first transformation begins.
     pub last: Option<SymOp>,

@@ -11,13 +11,13 @@ use bumpalo::Bump;
 use diff_graph::Lit;
 use fn_rules::{ObName, Rules};
 use ot_model::Kind;
-use proof_search::{Lemmas, Seeking, Sought, search};
+use proof_search::{Lemmas, SearchOutcome, SearchResult, search};
 use std::alloc::Global;
 use std::test::Fail;
 
 /// What a search is to come to.
 #[derive(Clone, Copy)]
-enum Want<'a> {
+enum WantedOutcome<'a> {
     Spent,
 
     /// So many lemmas, of which the first has these literals.
@@ -35,13 +35,14 @@ fn has_lemmas<N: Copy>(lemmas: &Lemmas<N>, count: usize, literals: &[Lit]) -> bo
 }
 
 /// Whether a search that asks so many questions comes to what is wanted.
-fn comes_to<N: Copy>(sought: &Sought<N>, asked: u64, want: Want<'_>) -> bool {
+fn comes_to<N: Copy>(sought: &SearchResult<N>, asked: u64, want: WantedOutcome<'_>) -> bool {
     let came = match (&sought.outcome, want) {
-        (Seeking::Spent, Want::Spent) => true,
-        (Seeking::Shown, Want::Shown(count, literals)) => {
+        (SearchOutcome::Spent, WantedOutcome::Spent) => true,
+        (SearchOutcome::Shown, WantedOutcome::Shown(count, literals)) => {
             has_lemmas(&sought.lemmas, count, literals)
         }
-        (Seeking::Failing(answers), Want::Failing(wanted)) => answers.as_slice() == wanted,
+        (SearchOutcome::Failing(answers), WantedOutcome::Failing(wanted)) => answers.as_slice()
+            == wanted,
         _ => false,
     };
     came && sought.asked == asked
@@ -53,7 +54,7 @@ fn spends(
     rules: &Rules,
     ob: ObName,
     budget: u64,
-    want: Want<'_>,
+    want: WantedOutcome<'_>,
 ) -> Result<bool, NoMemory>
     requires { IsTrue (is_obligation (function_of rules.now).head ob) }
 {
@@ -71,8 +72,8 @@ fn each_start_of_a_triple_is_shown_once(rt: HostRuntime) -> Result<(), Fail> {
     let head = rules.head();
     assert!(rt; head.declares(Kind::Del));
     let ob = ObName::Triple(Kind::Del, Kind::Del, Kind::Del);
-    assert!(rt; spends(rt.alloc(), &rules, ob, 13, Want::Shown(6, &[]))?);
-    assert!(rt; spends(rt.alloc(), &rules, ob, 12, Want::Spent)?);
+    assert!(rt; spends(rt.alloc(), &rules, ob, 13, WantedOutcome::Shown(6, &[]))?);
+    assert!(rt; spends(rt.alloc(), &rules, ob, 12, WantedOutcome::Spent)?);
     Ok(())
 }
 
@@ -90,7 +91,7 @@ fn a_lemma_assumes_what_shuts_out_its_failing_ends(rt: HostRuntime) -> Result<()
         Lit { x: 6, y: 1, k: -1 },
         Lit { x: 0, y: 6, k: 0 },
     ];
-    assert!(rt; spends(rt.alloc(), &rules, ob, 49, Want::Shown(1, &places))?);
+    assert!(rt; spends(rt.alloc(), &rules, ob, 49, WantedOutcome::Shown(1, &places))?);
     Ok(())
 }
 
@@ -107,6 +108,6 @@ fn a_failing_end_has_the_answers_to_it(rt: HostRuntime) -> Result<(), Fail> {
         Lit { x: 0, y: 6, k: 0 },
         Lit { x: 6, y: 1, k: -1 },
     ];
-    assert!(rt; spends(rt.alloc(), &rules, ob, 5, Want::Failing(&answers))?);
+    assert!(rt; spends(rt.alloc(), &rules, ob, 5, WantedOutcome::Failing(&answers))?);
     Ok(())
 }

@@ -5,7 +5,7 @@ use ask_core::{Asker, NoMemory, Turn};
 use diff_graph::Lit;
 
 #[derive(Clone, Copy)]
-pub(crate) enum Stage {
+pub(crate) enum TwoNamesNode {
     First,
     Second,
     Kept,
@@ -22,11 +22,11 @@ pub(crate) struct TwoNames {
 impl Asker for TwoNames {
     ghost use Rattle.std.specs.Prelude.{refl};
     ghost use Rattle.std.proofs.Common.{lit≤};
-    ghost use Rattle.test_layers.specs.declared.two_names.Stage.TheVariants.{First, Second, Kept, Broken};
+    ghost use Rattle.test_layers.specs.declared.two_names.TwoNamesNode.TheVariants.{First, Second, Kept, Broken};
     ghost use Rattle.ask_core.specs.Plans.{Holds, Fails};
     ghost use Rattle.ask_core.specs.TwoNames.{second_plan, two_name_plan, IsFine-two_name_plan, IsFine-second_plan};
 
-    type Node = Stage;
+    type Node = TwoNamesNode;
 
     type Why = u8;
 
@@ -48,28 +48,28 @@ impl Asker for TwoNames {
         2
     }
 
-    fn start(&mut self) -> Result<Stage, NoMemory> {
-        Ok(Stage::First)
+    fn start(&mut self) -> Result<TwoNamesNode, NoMemory> {
+        Ok(TwoNamesNode::First)
     }
 
-    fn turn(&mut self, node: Stage) -> Result<Turn<Stage, u8>, NoMemory> {
+    fn turn(&mut self, node: TwoNamesNode) -> Result<Turn<TwoNamesNode, u8>, NoMemory> {
         Ok(match node {
-            Stage::First => Turn::Ask {
+            TwoNamesNode::First => Turn::Ask {
                 lit: Lit { x: 0, y: 1, k: 0 },
-                yes: Stage::Second,
-                no: Stage::Kept,
+                yes: TwoNamesNode::Second,
+                no: TwoNamesNode::Kept,
             },
-            Stage::Second => Turn::Ask {
+            TwoNamesNode::Second => Turn::Ask {
                 lit: Lit {
                     x: 1,
                     y: 0,
                     k: if self.strict { -1 } else { 0 },
                 },
-                yes: Stage::Broken,
-                no: Stage::Kept,
+                yes: TwoNamesNode::Broken,
+                no: TwoNamesNode::Kept,
             },
-            Stage::Kept => Turn::Holds,
-            Stage::Broken => Turn::Fails(7),
+            TwoNamesNode::Kept => Turn::Holds,
+            TwoNamesNode::Broken => Turn::Fails(7),
         })
     }
 

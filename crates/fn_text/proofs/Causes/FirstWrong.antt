@@ -14,7 +14,7 @@ use Rattle.fn_moves.specs.declared.fault.FaultKind.TheVariants as faults
 use Rattle.fn_moves.specs.declared.control.Want.{Want}
 use Rattle.fn_moves.specs.declared.control.Want.TheVariants as wants
 use Rattle.fn_moves.specs.declared.control.Control.{Control}
-use Rattle.fn_moves.specs.declared.control.Move.{Move}
+use Rattle.fn_moves.specs.declared.control.TokenMove.{TokenMove}
 use Rattle.fn_moves.specs.Controls.{lacks_with, lacks_block}
 use Rattle.fn_moves.specs.Kinds.{has_seen}
 use Rattle.fn_rules.specs.Functions.{is_declared}
@@ -51,7 +51,7 @@ module _ {V : Tightness → Type 0} {K B : Type 0} (m : Maker V K B) where
       let block : false ≡ true → this_block [] ≡ Some (kinds.Ins, kinds.Ins) = λ begun. absurd (cc) in
       assumption
 
-  step : (s : State V K B) (at : Placed) (before : List Placed) (after : State V K B) (move : Option Move) →
+  step : (s : State V K B) (at : Placed) (before : List Placed) (after : State V K B) (move : Option TokenMove) →
       move_for s.control at s.control.want at.token ≡ move → after_move m s at move ≡ Ok after → StandsBehind s before →
       StandsBehind after (at ∷ before)
   step s at before after None goes e h = absurd (cc)

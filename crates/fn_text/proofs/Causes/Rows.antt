@@ -18,8 +18,8 @@ use Rattle.fn_moves.specs.declared.fault.FaultKind.TheVariants as faults
 use Rattle.fn_moves.specs.declared.control.Want.{Want}
 use Rattle.fn_moves.specs.declared.control.Want.TheVariants as wants
 use Rattle.fn_moves.specs.declared.control.Control.{Control}
-use Rattle.fn_moves.specs.declared.control.Move.{Move}
-use Rattle.fn_moves.specs.declared.control.Move.TheVariants as moves
+use Rattle.fn_moves.specs.declared.control.TokenMove.{TokenMove}
+use Rattle.fn_moves.specs.declared.control.TokenMove.TheVariants as moves
 use Rattle.fn_moves.specs.Languages.{language_numbered}
 use Rattle.fn_moves.specs.Kinds.{has_seen}
 use Rattle.fn_moves.specs.Meaning.{is_offset_number, may_compare}
@@ -36,7 +36,7 @@ use Rattle.fn_text.proofs.Causes.States.{wants_in_result, wants_operand, wants_b
 use Rattle.fn_text.proofs.Causes.States.{wants_behind_result, first_for, compared_for}
 use Rattle.fn_text.proofs.Causes.States.{atoms_for, wants_counted, wants_head, wants_end, wants_fresh, wants_inside, Where}
 
-refused : (test : Bool) (move : Move) → allowed test move ≡ None → test ≡ false
+refused : (test : Bool) (move : TokenMove) → allowed test move ≡ None → test ≡ false
 refused true move h = absurd (cc)
 refused false move h = refl
 

@@ -8,13 +8,13 @@ use Rattle.fn_rules.specs.declared.guard.Tightness.{Tightness}
 use Rattle.fn_tokens.specs.declared.token.Token.{Token}
 use Rattle.fn_tokens.specs.declared.token.Token.TheVariants.{Known, Open}
 use Rattle.fn_tokens.specs.declared.token.Word.TheVariants as words
-use Rattle.fn_moves.specs.declared.control.Next.TheVariants as nexts
+use Rattle.fn_moves.specs.declared.control.AfterLine.TheVariants as nexts
 use Rattle.fn_moves.specs.declared.control.Want.{Want}
 use Rattle.fn_moves.specs.declared.control.Want.TheVariants as wants
 use Rattle.fn_moves.specs.declared.control.Control.{Control}
 use Rattle.fn_moves.specs.Controls.{lacks_block}
 use Rattle.fn_moves.specs.Kinds.{has_seen}
-use Rattle.fn_text.specs.Reader.{Level}
+use Rattle.fn_text.specs.Reader.{Nesting}
 use Rattle.fn_text.specs.Counting.{language_before, is_behind_line_end, is_behind_sign, is_behind_otfn, is_behind_block, is_in_kinds}
 use Rattle.fn_text.specs.Counting.{is_in_block_line}
 use Rattle.fn_text.specs.Counting.{is_in_guard, is_in_result, declares, first_of_block, is_behind_pair, blocks_before, has_block}
@@ -140,12 +140,12 @@ nots_upon zero opened = opened
 nots_upon (suc n) opened = Known words.Not ∷ nots_upon n opened
 
 -- the `(` and `not` around the innermost parentheses, these counted
-abbrev pub opened_by : {V : Tightness → Type 0} → List (Level V) → List Token
+abbrev pub opened_by : {V : Tightness → Type 0} → List (Nesting V) → List Token
 opened_by [] = []
 opened_by (level ∷ levels) = Open ∷ nots_upon level.nots (opened_by levels)
 
 -- so many `(` and `not` stand around each of the open parentheses as are told
-abbrev pub AreAround : {V : Tightness → Type 0} → ℕ → List (Level V) → Type 0
+abbrev pub AreAround : {V : Tightness → Type 0} → ℕ → List (Nesting V) → Type 0
 AreAround outside [] = outside ≡ 0
 AreAround outside (level ∷ levels) =
     (outside ≡ level.outside + level.nots + 1) × AreAround level.outside levels
@@ -190,7 +190,7 @@ abbrev pub wants_fresh : Want → Bool
 wants_fresh want = wants_head want || wants_in_block_line want || wants_end want
 
 -- what the state tells, where something is wanted, of the tokens before, and of the place of their last word `block`
-pub record Stands {V : Tightness → Type 0} (c : Control) (outer : List (Level V)) (want : Want) (before : List Token)
+pub record Stands {V : Tightness → Type 0} (c : Control) (outer : List (Nesting V)) (want : Want) (before : List Token)
     (place : ℕ × ℕ) : Type 0 where
   pub near : Near want before
   pub line : c.line ≡ place.0

@@ -22,17 +22,17 @@ use Rattle.fn_tokens.specs.declared.token.Token.{Token}
 use Rattle.fn_tokens.specs.declared.token.Token.TheVariants.{Known, Number, Open, Close}
 use Rattle.fn_tokens.specs.declared.token.Word.TheVariants as words
 use Rattle.fn_tokens.specs.declared.token.Placed.{Placed}
-use Rattle.fn_moves.specs.declared.control.Next.{Next}
-use Rattle.fn_moves.specs.declared.control.Next.TheVariants as nexts
+use Rattle.fn_moves.specs.declared.control.AfterLine.{AfterLine}
+use Rattle.fn_moves.specs.declared.control.AfterLine.TheVariants as nexts
 use Rattle.fn_moves.specs.declared.control.Want.{Want}
 use Rattle.fn_moves.specs.declared.control.Want.TheVariants as wants
-use Rattle.fn_moves.specs.declared.control.Move.{Move}
-use Rattle.fn_moves.specs.declared.control.Move.TheVariants as moves
+use Rattle.fn_moves.specs.declared.control.TokenMove.{TokenMove}
+use Rattle.fn_moves.specs.declared.control.TokenMove.TheVariants as moves
 use Rattle.fn_moves.specs.declared.language.Language.{Language}
 use Rattle.fn_moves.specs.declared.language.Language.TheVariants.{One, Two}
 use Rattle.fn_moves.specs.Languages.{language_numbered, number_of}
 use Rattle.fn_moves.specs.Meaning.{Maker}
-use Rattle.fn_text.specs.Reader.{State, Level, disjunction, left_for, closed, moved}
+use Rattle.fn_text.specs.Reader.{State, Nesting, disjunction, left_for, closed, moved}
 use Rattle.fn_moves.specs.Controls.{lacks_block}
 use Rattle.fn_moves.specs.Kinds.{with_kind, with_pair, has_seen}
 use Rattle.fn_moves.specs.Moves.{move_for}
@@ -111,13 +111,13 @@ declared_over_chars head kinds.Upd = refl
 nots_more : (n : ℕ) (opened : List Token) → nots_upon (n + 1) opened ≡ Known words.Not ∷ nots_upon n opened
 nots_more n opened = let e : n + 1 ≡ suc n = omega arith in ap (λ x. nots_upon x opened) e
 
-pub closed_nots : {V : Tightness → Type 0} (n : ℕ) (outer : List (Level V)) →
+pub closed_nots : {V : Tightness → Type 0} (n : ℕ) (outer : List (Nesting V)) →
     without_nots (nots_upon n (opened_by outer)) ≡ opened_by outer
 closed_nots zero [] = refl
 closed_nots zero (level ∷ levels) = refl
 closed_nots (suc n) outer = closed_nots n outer
 
-none_opened : {V : Tightness → Type 0} (n : ℕ) (outer : List (Level V)) → AreAround n outer → n ≡ 0 → [] ≡ opened_by outer
+none_opened : {V : Tightness → Type 0} (n : ℕ) (outer : List (Nesting V)) → AreAround n outer → n ≡ 0 → [] ≡ opened_by outer
 none_opened n [] h e = refl
 none_opened n (level ∷ levels) h e = let one = h.0 in absurd (omega (arith, one, e))
 
@@ -127,13 +127,13 @@ module _ {V : Tightness → Type 0} {K B : Type 0} (m : Maker V K B) (s : State 
   abbrev StandsAt : Want → Type 0
   StandsAt want = Stands s.control s.outer want before place
 
-  abbrev Keeps : Token → Move → Type 0
+  abbrev Keeps : Token → TokenMove → Type 0
   Keeps t move =
       Stands (moved m s move).control (moved m s move).outer (moved m s move).control.want (t ∷ before) (place_behind t at place)
 
   -- each token that goes on there keeps it
   abbrev KeepsAt : Want → Type 0
-  KeepsAt want = (t : Token) (move : Move) → StandsAt want → move_for s.control at want t ≡ Some move → Keeps t move
+  KeepsAt want = (t : Token) (move : TokenMove) → StandsAt want → move_for s.control at want t ≡ Some move → Keeps t move
 
   otfn_keeps : KeepsAt wants.Otfn
   otfn_keeps t move h e = by_otfn Keeps t move e assumption
@@ -159,7 +159,7 @@ module _ {V : Tightness → Type 0} {K B : Type 0} (m : Maker V K B) (s : State 
   kinds_keeps : KeepsAt wants.Kinds
   kinds_keeps t move h e = by_kinds Keeps t move e assumption
 
-  line_end_keeps : (following : Next) → KeepsAt (wants.LineEnd following)
+  line_end_keeps : (following : AfterLine) → KeepsAt (wants.LineEnd following)
   line_end_keeps nexts.Text t move h e = by_line_end Keeps nexts.Text t move e assumption
   line_end_keeps nexts.Kinds t move h e = by_line_end Keeps nexts.Kinds t move e assumption
   line_end_keeps nexts.Line t move h e = by_line_end Keeps nexts.Line t move e assumption
@@ -300,7 +300,7 @@ module _ {V : Tightness → Type 0} {K B : Type 0} (m : Maker V K B) (s : State 
       assumption)
 
   -- at `)` after an operand
-  close_keeps : (outer : List (Level V)) → s.outer ≡ outer → StandsAt wants.Operator → nat_lt 0 s.control.outside ≡ true →
+  close_keeps : (outer : List (Nesting V)) → s.outer ≡ outer → StandsAt wants.Operator → nat_lt 0 s.control.outside ≡ true →
       Keeps Close moves.Close
   close_keeps [] same h test =
       let none : s.control.outside ≡ 0 = subst (λ x. AreAround s.control.outside x) same h.around in
@@ -356,7 +356,7 @@ module _ {V : Tightness → Type 0} {K B : Type 0} (m : Maker V K B) (s : State 
       whole Char h = let first = operand_behind Char (other_side left) before (Some (Char, left)) h.near.compared in assumption
 
   -- each token that goes on
-  pub token_keeps : (want : Want) (move : Move) → StandsAt want →
+  pub token_keeps : (want : Want) (move : TokenMove) → StandsAt want →
       move_for s.control at want at.token ≡ Some move → Keeps at.token move
   token_keeps wants.Otfn move h e = otfn_keeps at.token move h e
   token_keeps wants.Version move h e = version_keeps at.token move h e

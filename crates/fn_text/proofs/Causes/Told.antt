@@ -26,7 +26,7 @@ use Rattle.fn_moves.specs.Controls.{has_chars, lacks, lacks_with, lacks_block, d
 use Rattle.fn_moves.specs.Moves.{move_for}
 use Rattle.fn_moves.specs.Faults.{region_of, number_fault, operand_fault, thing_fault, kind_fault, end_fault, case_fault, nesting_fault}
 use Rattle.fn_moves.specs.Faults.{word_fault, cause_in}
-use Rattle.fn_text.specs.Reader.{Level}
+use Rattle.fn_text.specs.Reader.{Nesting}
 use Rattle.fn_text.specs.Counting.{is_behind_otfn, is_in_block_line, is_in_guard, declares, blocks_before}
 use Rattle.fn_text.specs.Counting.{has_block, lacks_pair, lacks_pair_with, lacks_some_pair, this_block, may_name_chars, transforms}
 use Rattle.fn_text.specs.Counting.{cases_before, atoms_before, is_behind_operand, without_nots, opened_before}
@@ -45,7 +45,7 @@ nots_length : (n : ℕ) (opened : List Token) → length (nots_upon n opened) �
 nots_length zero opened = omega arith
 nots_length (suc n) opened = let others = nots_length n opened in omega (arith, others)
 
-opened_length : {V : Tightness → Type 0} (outside : ℕ) (outer : List (Level V)) → AreAround outside outer →
+opened_length : {V : Tightness → Type 0} (outside : ℕ) (outer : List (Nesting V)) → AreAround outside outer →
     length (opened_by outer) ≡ outside
 opened_length outside [] h = sym h
 opened_length outside (level ∷ levels) h =
@@ -79,7 +79,7 @@ same_any : (p q : Kind → Bool) (ks : List Kind) → ((k : Kind) → p k ≡ q 
 same_any p q [] same = refl
 same_any p q (k ∷ ks) same = ap (λ x. x || list_any p ks) (same k) ∙ ap (λ x. q k || x) (same_any p q ks same)
 
-module _ {V : Tightness → Type 0} (c : Control) (outer : List (Level V)) (want : Want) (before : List Token) (place : ℕ × ℕ)
+module _ {V : Tightness → Type 0} (c : Control) (outer : List (Nesting V)) (want : Want) (before : List Token) (place : ℕ × ℕ)
     (h : Stands c outer want before place) where
   pair_lacks : (k l : Kind) → lacks c k l ≡ lacks_pair before k l
   pair_lacks k l =

@@ -28,8 +28,8 @@ use Rattle.fn_moves.specs.declared.control.Written.{Written}
 use Rattle.fn_moves.specs.declared.control.Written.TheVariants as written
 use Rattle.fn_moves.specs.declared.control.Want.TheVariants as wants
 use Rattle.fn_moves.specs.declared.control.Pairs.{Pairs}
-use Rattle.fn_moves.specs.declared.control.Move.{Move}
-use Rattle.fn_moves.specs.declared.control.Move.TheVariants as moves
+use Rattle.fn_moves.specs.declared.control.TokenMove.{TokenMove}
+use Rattle.fn_moves.specs.declared.control.TokenMove.TheVariants as moves
 use Rattle.fn_moves.specs.declared.language.Language.{Language}
 use Rattle.fn_moves.specs.Kinds.{has_seen, with_pair}
 use Rattle.fn_moves.specs.Meaning.{to_formulas}
@@ -38,7 +38,7 @@ use Rattle.fn_moves.specs.FixedMoves.{at_fixed}
 use Rattle.fn_moves.specs.LineMoves.{at_line, at_block_first, at_block_second}
 use Rattle.fn_moves.specs.GuardMoves.{at_result}
 use Rattle.fn_grammar.specs.Print.{head_tokens}
-use Rattle.fn_text.specs.Reader.{Level, blocks_of}
+use Rattle.fn_text.specs.Reader.{Nesting, blocks_of}
 use Rattle.fn_grammar.specs.Grammar.{written_as, WrittenCase, WrittenBlock, result_written_as, case_written_as, block_written_as}
 use Rattle.fn_grammar.specs.Grammar.{block_made, is_allowed_result, is_allowed_case, is_allowed_block}
 use Rattle.fn_grammar.proofs.KindLists.{each_pair_from, kind_fails, same_pair}
@@ -46,12 +46,12 @@ use Rattle.fn_text.proofs.SeenPairs.{has_seen-with_pair}
 use Rattle.fn_text.proofs.ReadIsWritten.Moves.{by_line, by_block_first, by_block_second, by_block_end, by_result, by_result_position}
 use Rattle.fn_text.proofs.ReadIsWritten.Moves.{by_result_offset, by_result_number, by_result_end}
 use Rattle.fn_text.proofs.ReadIsWritten.States.{to_phrases, Phrases, front_of, atoms_part, nots_front, level_front, levels_front}
-use Rattle.fn_text.proofs.ReadIsWritten.States.{atoms_of_level, atoms_of_levels, here, AreLevels, IsGuard, IsQuiet, AreBlocks, lines_of}
+use Rattle.fn_text.proofs.ReadIsWritten.States.{atoms_of_level, atoms_of_levels, here, AreNestings, IsGuard, IsQuiet, AreBlocks, lines_of}
 use Rattle.fn_text.proofs.ReadIsWritten.States.{BehindColon, result_front, Reached, allowed_part, nesting_part}
 use Rattle.fn_text.proofs.ReadIsWritten.Guards.{Steps}
 
 -- where no guard was open, one begins
-pub quiet_guard : (chars : Bool) (level : Level _) (outer : List (Level _)) → IsQuiet level outer → IsGuard chars level outer
+pub quiet_guard : (chars : Bool) (level : Nesting _) (outer : List (Nesting _)) → IsQuiet level outer → IsGuard chars level outer
 quiet_guard chars level outer q =
     let outside = q.outside in
     let nots = q.nots in
@@ -64,18 +64,18 @@ quiet_guard chars level outer q =
         any_nested = omega (arith, outside, any);
         all_nested = omega (arith, outside, all);
       };
-      around = subst (λ x. AreLevels chars level.outside x) (sym q.outer_none) outside;
+      around = subst (λ x. AreNestings chars level.outside x) (sym q.outer_none) outside;
       depth = omega (arith, outside, nots);
     }
 
-quiet_atoms : (level : Level _) (outer : List (Level _)) → IsQuiet level outer → 0 ≡ atoms_of_levels outer + atoms_of_level level
+quiet_atoms : (level : Nesting _) (outer : List (Nesting _)) → IsQuiet level outer → 0 ≡ atoms_of_levels outer + atoms_of_level level
 quiet_atoms level outer q =
     let any : atoms_part level.any ≡ 0 = ap (λ x. atoms_part x) q.any in
     let all : atoms_part level.all ≡ 0 = ap (λ x. atoms_part x) q.all in
     let around : atoms_of_levels outer ≡ 0 = ap (λ x. atoms_of_levels x) q.outer_none in
     omega (arith, any, all, around)
 
-quiet_front : (level : Level _) (outer : List (Level _)) → IsQuiet level outer → levels_front outer ++ level_front level ≡ []
+quiet_front : (level : Nesting _) (outer : List (Nesting _)) → IsQuiet level outer → levels_front outer ++ level_front level ≡ []
 quiet_front level outer q =
     ap (λ x. levels_front x ++ level_front level) q.outer_none
     ∙ (ap (λ x. front_of (Known words.Or) x ++ front_of (Known words.And) level.all ++ nots_front level.nots) q.any
@@ -109,7 +109,7 @@ end_steps s ts h full =
     )
 
 -- a token that goes on where a line begins
-pub line_steps : (s : Phrases) (at : Placed) (ts : List Token) (t : Token) (move : Move) → Reached s wants.Line ts →
+pub line_steps : (s : Phrases) (at : Placed) (ts : List Token) (t : Token) (move : TokenMove) → Reached s wants.Line ts →
     at_line s.control at t ≡ Some move → Steps s ts t move
 line_steps s at ts t move h e =
     by_line (Steps s ts) s.control at t move e
@@ -127,7 +127,7 @@ line_steps s at ts t move h e =
     ))
     (λ test. end_steps s ts h (not-true _ test))
 
-pub block_first_steps : (s : Phrases) (ts : List Token) (t : Token) (move : Move) → Reached s wants.BlockFirst ts →
+pub block_first_steps : (s : Phrases) (ts : List Token) (t : Token) (move : TokenMove) → Reached s wants.BlockFirst ts →
     at_block_first s.control t ≡ Some move → Steps s ts t move
 block_first_steps s ts t move h e =
     by_block_first (Steps s ts) s.control t move e
@@ -195,7 +195,7 @@ block_front ts head blocks k l e =
     rw (e, flat_map-append block_written_as blocks (record { first = k; second = l; cases = [] } ∷ [])) (simp append_assoc)
 
 -- the second kind of a block
-pub block_second_steps : (s : Phrases) (k : Kind) (ts : List Token) (t : Token) (move : Move) → Reached s (wants.BlockSecond k) ts →
+pub block_second_steps : (s : Phrases) (k : Kind) (ts : List Token) (t : Token) (move : TokenMove) → Reached s (wants.BlockSecond k) ts →
     at_block_second s.control k t ≡ Some move → Steps s ts t move
 block_second_steps s k ts t move h e =
     by_block_second (Steps s ts) s.control k t move e
@@ -209,7 +209,7 @@ block_second_steps s k ts t move h e =
       block_front ts (head_tokens s.control.language s.control.head) (blocks_of to_phrases s) k l h.2,
     ))
 
-pub block_end_steps : (s : Phrases) (ts : List Token) (t : Token) (move : Move) → Reached s wants.BlockEnd ts →
+pub block_end_steps : (s : Phrases) (ts : List Token) (t : Token) (move : TokenMove) → Reached s wants.BlockEnd ts →
     at_fixed wants.BlockEnd t ≡ Some move → Steps s ts t move
 block_end_steps s ts t move h e = by_block_end (Steps s ts) t move e h
 
@@ -302,14 +302,14 @@ end_case_steps s w ts h ok e =
           h.0.1.begun_so,
     )
 
-pub result_steps : (s : Phrases) (ts : List Token) (t : Token) (move : Move) → Reached s wants.Result ts →
+pub result_steps : (s : Phrases) (ts : List Token) (t : Token) (move : TokenMove) → Reached s wants.Result ts →
     at_result s.control t ≡ Some move → Steps s ts t move
 result_steps s ts t move h e =
     by_result (Steps s ts) s.control t move e
     (h.0, refl, in_result (lines_of s) ts (written_as s.guard) [] _ h.1)
     (h.0, in_result (lines_of s) ts (written_as s.guard) [] _ h.1)
 
-pub result_position_steps : (s : Phrases) (ts : List Token) (t : Token) (move : Move) → Reached s wants.ResultPosition ts →
+pub result_position_steps : (s : Phrases) (ts : List Token) (t : Token) (move : TokenMove) → Reached s wants.ResultPosition ts →
     at_fixed wants.ResultPosition t ≡ Some move → Steps s ts t move
 result_position_steps s ts t move h e =
     by_result_position (Steps s ts) t move e
@@ -319,7 +319,7 @@ result_position_steps s ts t move h e =
           (Known (words.Thing Pos side) ∷ []) h.1,
     ))
 
-pub result_offset_steps : (s : Phrases) (side : Side) (ts : List Token) (t : Token) (move : Move) →
+pub result_offset_steps : (s : Phrases) (side : Side) (ts : List Token) (t : Token) (move : TokenMove) →
     Reached s (wants.ResultOffset side) ts → at_fixed (wants.ResultOffset side) t ≡ Some move → Steps s ts t move
 result_offset_steps s side ts t move h e =
     by_result_offset (Steps s ts) side t move e
@@ -330,7 +330,7 @@ result_offset_steps s side ts t move h e =
     ))
     (end_case_steps s (written.At side) ts h.0 refl h.1)
 
-pub result_number_steps : (s : Phrases) (side : Side) (sign : Sign) (ts : List Token) (t : Token) (move : Move) →
+pub result_number_steps : (s : Phrases) (side : Side) (sign : Sign) (ts : List Token) (t : Token) (move : TokenMove) →
     Reached s (wants.ResultNumber side sign) ts → at_fixed (wants.ResultNumber side sign) t ≡ Some move → Steps s ts t move
 result_number_steps s side sign ts t move h e =
     by_result_number (Steps s ts) side sign t move e
@@ -341,7 +341,7 @@ result_number_steps s side sign ts t move h e =
           (result_written_as s.control.first (written.At side) ++ tokens.Sign sign ∷ []) (Number n ∷ []) h.1,
     ))
 
-pub result_end_steps : (s : Phrases) (w : Written) (ts : List Token) (t : Token) (move : Move) → Reached s (wants.ResultEnd w) ts →
+pub result_end_steps : (s : Phrases) (w : Written) (ts : List Token) (t : Token) (move : TokenMove) → Reached s (wants.ResultEnd w) ts →
     at_fixed (wants.ResultEnd w) t ≡ Some move → Steps s ts t move
 result_end_steps s w ts t move h e =
     by_result_end (Steps s ts) w t move e (end_case_steps s w ts h.0 h.1 h.2)

@@ -5,7 +5,7 @@ use Rattle.fn_tokens.specs.declared.token.Token.{Token}
 use Rattle.fn_tokens.specs.declared.token.Placed.{Placed}
 use Rattle.fn_moves.specs.declared.control.Want.{Want}
 use Rattle.fn_moves.specs.declared.control.Want.TheVariants as wants
-use Rattle.fn_moves.specs.declared.control.Move.{Move}
+use Rattle.fn_moves.specs.declared.control.TokenMove.{TokenMove}
 use Rattle.fn_moves.specs.declared.language.Language.{Language}
 use Rattle.fn_moves.specs.Moves.{move_for}
 use Rattle.fn_text.specs.Reader.{moved, after_move, ended, read_from, first_state}
@@ -22,7 +22,7 @@ use Rattle.fn_text.proofs.ReadIsWritten.Blocks.{line_steps, block_first_steps, b
 use Rattle.fn_text.proofs.ReadIsWritten.Blocks.{result_position_steps, result_offset_steps, result_number_steps, result_end_steps}
 
 -- each token that goes on
-pub token_steps : (s : Phrases) (want : Want) (ts : List Token) (at : Placed) (move : Move) → Reached s want ts →
+pub token_steps : (s : Phrases) (want : Want) (ts : List Token) (at : Placed) (move : TokenMove) → Reached s want ts →
     move_for s.control at want at.token ≡ Some move → Steps s ts at.token move
 token_steps s wants.Otfn ts at move h e = otfn_steps s ts at.token move h e
 token_steps s wants.Version ts at move h e = version_steps s ts at.token move h e
@@ -67,7 +67,7 @@ ended_file s _ ts parts h e = absurd (cc)
 turned_file : (s : Phrases) (ts : List Token) (at : Placed) (rest : List Placed) (parts : Head × List WrittenBlock) →
     Reached s s.control.want ts →
     ((after : Phrases) (more : List Token) → Reached after after.control.want more → read_from to_phrases after rest ≡ Ok parts →
-    IsFile (more ++ bare rest) parts) → (move : Option Move) → move_for s.control at s.control.want at.token ≡ move →
+    IsFile (more ++ bare rest) parts) → (move : Option TokenMove) → move_for s.control at s.control.want at.token ≡ move →
     going to_phrases rest (after_move to_phrases s at move) ≡ Ok parts → IsFile (ts ++ at.token ∷ bare rest) parts
 turned_file s ts at rest parts h others None same e = absurd (cc)
 turned_file s ts at rest parts h others (Some move) same e =

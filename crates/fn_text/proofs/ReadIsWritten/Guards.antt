@@ -15,20 +15,20 @@ use Rattle.fn_tokens.specs.declared.token.Token.TheVariants.{Known, Number, Open
 use Rattle.fn_tokens.specs.declared.token.Word.TheVariants as words
 use Rattle.fn_tokens.specs.declared.token.Sign.{Sign}
 use Rattle.fn_moves.specs.declared.control.Want.TheVariants as wants
-use Rattle.fn_moves.specs.declared.control.Move.{Move}
-use Rattle.fn_moves.specs.declared.control.Move.TheVariants as moves
+use Rattle.fn_moves.specs.declared.control.TokenMove.{TokenMove}
+use Rattle.fn_moves.specs.declared.control.TokenMove.TheVariants as moves
 use Rattle.fn_moves.specs.Controls.{has_chars}
 use Rattle.fn_moves.specs.FixedMoves.{at_fixed}
 use Rattle.fn_moves.specs.GuardMoves.{at_operand, at_operator, at_offset}
-use Rattle.fn_text.specs.Reader.{Level, negate, join, choose, disjunction, closed, moved}
+use Rattle.fn_text.specs.Reader.{Nesting, negate, join, choose, disjunction, closed, moved}
 use Rattle.fn_grammar.specs.Grammar.{Phrase, Compare, Shifted, written_as, atoms_in, nesting_in, is_allowed}
 use Rattle.fn_text.proofs.ReadIsWritten.Moves.{by_operand, by_comparison, by_right, by_operator, by_offset, by_number}
 use Rattle.fn_text.proofs.ReadIsWritten.States.{to_phrases, Phrases, front_of, allowed_part, atoms_part, nesting_part, nots_front}
-use Rattle.fn_text.proofs.ReadIsWritten.States.{level_front, levels_front, atoms_of_level, atoms_of_levels, here, guard_front, IsLevel}
-use Rattle.fn_text.proofs.ReadIsWritten.States.{AreLevels, IsOperand, lines_of, Reached}
+use Rattle.fn_text.proofs.ReadIsWritten.States.{level_front, levels_front, atoms_of_level, atoms_of_levels, here, guard_front, IsNesting}
+use Rattle.fn_text.proofs.ReadIsWritten.States.{AreNestings, IsOperand, lines_of, Reached}
 
 -- behind a token and its move the state is reached by one token more
-abbrev pub Steps : Phrases → List Token → Token → Move → Type 0
+abbrev pub Steps : Phrases → List Token → Token → TokenMove → Type 0
 Steps s ts t move = Reached (moved to_phrases s move) (moved to_phrases s move).control.want (ts ++ t ∷ [])
 
 -- operands behind `not`
@@ -41,10 +41,10 @@ nots_more zero = refl
 nots_more (suc n) = ap (λ x. Known words.Not ∷ x) (nots_more n)
 
 -- what parentheses have told, with an operand behind it
-abbrev pub conjunction_at : Level Phrase → Phrase Tight → Phrase Joined
+abbrev pub conjunction_at : Nesting Phrase → Phrase Tight → Phrase Joined
 conjunction_at level last = join to_phrases level.all (negate to_phrases level.nots last)
 
-abbrev pub disjunction_at : Level Phrase → Phrase Tight → Phrase Loose
+abbrev pub disjunction_at : Nesting Phrase → Phrase Tight → Phrase Loose
 disjunction_at level last = choose to_phrases level.any (conjunction_at level last)
 
 behind_and : (c nots last : List Token) → c ++ Known words.And ∷ (nots ++ last) ≡ c ++ Known words.And ∷ [] ++ nots ++ last
@@ -102,7 +102,7 @@ choose_is chars outside atoms (Some d) c before around p =
     record { allowed = and_from _ _ before p.allowed; nested = omega (arith, around, nested); counted = omega (arith, count) }
 
 -- the conjunction that an operand ends is within the limits, where its level and the operand are
-conjunction_is : (chars : Bool) (level : Level Phrase) (last : Phrase Tight) → IsLevel chars level → IsOperand chars level last →
+conjunction_is : (chars : Bool) (level : Nesting Phrase) (last : Phrase Tight) → IsNesting chars level → IsOperand chars level last →
     IsPhrase chars level.outside (atoms_part level.all + atoms_in last) (conjunction_at level last)
 conjunction_is chars level last inner operand =
     join_is chars level.outside (atoms_in last) level.all (negate to_phrases level.nots last) inner.all_allowed inner.all_nested
@@ -110,7 +110,7 @@ conjunction_is chars level last inner operand =
     record { allowed = operand.last_allowed; nested = operand.last_nested; counted = refl })
 
 -- so is the disjunction that it ends
-pub disjunction_is : (chars : Bool) (level : Level Phrase) (last : Phrase Tight) → IsLevel chars level →
+pub disjunction_is : (chars : Bool) (level : Nesting Phrase) (last : Phrase Tight) → IsNesting chars level →
     IsOperand chars level last → IsPhrase chars level.outside (atoms_of_level level + atoms_in last) (disjunction_at level last)
 disjunction_is chars level last inner operand =
     let whole = choose_is chars level.outside (atoms_part level.all + atoms_in last) level.any (conjunction_at level last)
@@ -118,7 +118,7 @@ disjunction_is chars level last inner operand =
     let count = whole.counted in
     record { allowed = whole.allowed; nested = whole.nested; counted = omega (arith, count) }
 
-pub disjunction_written : (level : Level Phrase) (last : Phrase Tight) →
+pub disjunction_written : (level : Nesting Phrase) (last : Phrase Tight) →
     written_as (disjunction_at level last) ≡ level_front level ++ written_as last
 disjunction_written level last =
     choose_written level.any (conjunction_at level last)
@@ -148,7 +148,7 @@ negated_front : (levels any all : List Token) (n : ℕ) →
 negated_front levels any all n = rw (add-one, nots_more n) (simp append_assoc)
 
 -- a token that goes on where an operand is wanted
-pub operand_steps : (s : Phrases) (ts : List Token) (t : Token) (move : Move) → Reached s wants.Operand ts →
+pub operand_steps : (s : Phrases) (ts : List Token) (t : Token) (move : TokenMove) → Reached s wants.Operand ts →
     at_operand s.control t ≡ Some move → Steps s ts t move
 operand_steps s ts t move h e =
     let guard = h.0.1 in
@@ -210,7 +210,7 @@ operand_steps s ts t move h e =
       in_case (lines_of s) ts front (Known (words.Thing sort side) ∷ []) h.1,
     ))
 
-pub comparison_steps : (s : Phrases) (sort : Sort) (left : Side) (ts : List Token) (t : Token) (move : Move) →
+pub comparison_steps : (s : Phrases) (sort : Sort) (left : Side) (ts : List Token) (t : Token) (move : TokenMove) →
     Reached s (wants.Comparison sort left) ts → at_fixed (wants.Comparison sort left) t ≡ Some move → Steps s ts t move
 comparison_steps s sort left ts t move h e =
     by_comparison (Steps s ts) sort left t move e
@@ -247,7 +247,7 @@ compared_steps s Char left cmp ts h =
           (Known (words.Thing Char (other_side left)) ∷ [])),
     )
 
-pub right_steps : (s : Phrases) (sort : Sort) (left : Side) (cmp : Cmp) (ts : List Token) (t : Token) (move : Move) →
+pub right_steps : (s : Phrases) (sort : Sort) (left : Side) (cmp : Cmp) (ts : List Token) (t : Token) (move : TokenMove) →
     Reached s (wants.Right sort left cmp) ts → at_fixed (wants.Right sort left cmp) t ≡ Some move → Steps s ts t move
 right_steps s sort left cmp ts t move h e =
     by_right (Steps s ts) sort left cmp t move e (compared_steps s sort left cmp ts h)
@@ -322,11 +322,11 @@ closed_front : (levels level inner front last : List Token) → inner ≡ front 
     (((levels ++ level ++ Open ∷ []) ++ front) ++ last) ++ Close ∷ [] ≡ (levels ++ level) ++ Open ∷ (inner ++ Close ∷ [])
 closed_front levels level inner front last e = rw e (simp append_assoc)
 
-abbrev within : Phrases → List (Level Phrase) → Phrases
+abbrev within : Phrases → List (Nesting Phrase) → Phrases
 within s levels = record s { outer = levels }
 
 -- `)` ends the innermost level, and what stood in it is an operand of the next one
-closed_steps : (s : Phrases) (levels : List (Level Phrase)) (ts : List Token) → Reached (within s levels) wants.Operator ts →
+closed_steps : (s : Phrases) (levels : List (Nesting Phrase)) (ts : List Token) → Reached (within s levels) wants.Operator ts →
     0 < s.control.outside →
     Reached (closed to_phrases (within s levels) levels) (closed to_phrases (within s levels) levels).control.want (ts ++ Close ∷ [])
 closed_steps s [] ts h some = let none : s.control.outside ≡ 0 = h.0.0.1.around in absurd (omega (arith, none, some))
@@ -352,7 +352,7 @@ closed_steps s (level ∷ levels) ts h some =
           (closed_front (levels_front levels) (level_front level) _ _ (written_as s.last) (disjunction_written (here s) s.last)),
     )
 
-no_levels : (chars : Bool) (outside : ℕ) (levels : List (Level Phrase)) → AreLevels chars outside levels → outside ≡ 0 → levels ≡ []
+no_levels : (chars : Bool) (outside : ℕ) (levels : List (Nesting Phrase)) → AreNestings chars outside levels → outside ≡ 0 → levels ≡ []
 no_levels chars outside [] h none = refl
 no_levels chars outside (level ∷ levels) h none = let some = h.0 in absurd (omega (arith, some, none))
 
@@ -380,7 +380,7 @@ colon_steps s ts h none =
           (colon_front (levels_front s.outer) _ _ (written_as s.last) (ap levels_front top) (disjunction_written (here s) s.last)),
     )
 
-pub operator_steps : (s : Phrases) (ts : List Token) (t : Token) (move : Move) → Reached s wants.Operator ts →
+pub operator_steps : (s : Phrases) (ts : List Token) (t : Token) (move : TokenMove) → Reached s wants.Operator ts →
     at_operator s.control t ≡ Some move → Steps s ts t move
 operator_steps s ts t move h e =
     by_operator (Steps s ts) s.control t move e
@@ -389,7 +389,7 @@ operator_steps s ts t move h e =
     (λ test. closed_steps s s.outer ts h (ltb-true _ _ test))
     (λ test. colon_steps s ts h (eqb-true _ 0 test))
 
-pub offset_steps : (s : Phrases) (left : Side) (cmp : Cmp) (ts : List Token) (t : Token) (move : Move) →
+pub offset_steps : (s : Phrases) (left : Side) (cmp : Cmp) (ts : List Token) (t : Token) (move : TokenMove) →
     Reached s (wants.Offset left cmp) ts → at_offset s.control left cmp t ≡ Some move → Steps s ts t move
 offset_steps s left cmp ts t move h e =
     by_offset (Steps s ts) s.control left cmp t move e
@@ -403,7 +403,7 @@ shifted_front front left cmp sign n last e =
     ap (λ p. front ++ written_as p ++ tokens.Sign sign ∷ [] ++ Number n ∷ []) e ∙ simp append_assoc
 
 -- the number that ends an atom with an offset
-pub number_steps : (s : Phrases) (left : Side) (cmp : Cmp) (sign : Sign) (ts : List Token) (t : Token) (move : Move) →
+pub number_steps : (s : Phrases) (left : Side) (cmp : Cmp) (sign : Sign) (ts : List Token) (t : Token) (move : TokenMove) →
     Reached s (wants.Number left cmp sign) ts → at_fixed (wants.Number left cmp sign) t ≡ Some move → Steps s ts t move
 number_steps s left cmp sign ts t move h e =
     let guard = h.0.0.1 in

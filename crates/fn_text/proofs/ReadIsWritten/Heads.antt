@@ -13,13 +13,13 @@ use Rattle.fn_rules.specs.Building.{is_for}
 use Rattle.fn_tokens.specs.declared.token.Token.{Token}
 use Rattle.fn_tokens.specs.declared.token.Token.TheVariants.{Known, Number, LineEnd, FileEnd}
 use Rattle.fn_tokens.specs.declared.token.Word.TheVariants as words
-use Rattle.fn_moves.specs.declared.control.Next.{Next}
-use Rattle.fn_moves.specs.declared.control.Next.TheVariants as nexts
+use Rattle.fn_moves.specs.declared.control.AfterLine.{AfterLine}
+use Rattle.fn_moves.specs.declared.control.AfterLine.TheVariants as nexts
 use Rattle.fn_moves.specs.declared.control.Want.TheVariants as wants
 use Rattle.fn_moves.specs.declared.control.Pairs.{Pairs}
 use Rattle.fn_moves.specs.declared.language.Language.{Language}
-use Rattle.fn_moves.specs.declared.control.Move.{Move}
-use Rattle.fn_moves.specs.declared.control.Move.TheVariants as moves
+use Rattle.fn_moves.specs.declared.control.TokenMove.{TokenMove}
+use Rattle.fn_moves.specs.declared.control.TokenMove.TheVariants as moves
 use Rattle.fn_moves.specs.Kinds.{with_kind, has_seen, declares_some, comes_next}
 use Rattle.fn_moves.specs.Languages.{number_of, has_word, has_words}
 use Rattle.fn_moves.specs.Meaning.{to_formulas}
@@ -35,27 +35,27 @@ use Rattle.fn_text.proofs.Languages.{has_words-more}
 use Rattle.fn_grammar.proofs.OwnBlocks.{head_of}
 use Rattle.fn_text.proofs.ReadIsWritten.Guards.{Steps}
 
-pub otfn_steps : (s : Phrases) (ts : List Token) (t : Token) (move : Move) → Reached s wants.Otfn ts →
+pub otfn_steps : (s : Phrases) (ts : List Token) (t : Token) (move : TokenMove) → Reached s wants.Otfn ts →
     at_fixed wants.Otfn t ≡ Some move → Steps s ts t move
 otfn_steps s ts t move h e = by_otfn (Steps s ts) t move e (h.0, ap (λ x. x ++ Known words.Otfn ∷ []) h.1)
 
-pub version_steps : (s : Phrases) (ts : List Token) (t : Token) (move : Move) → Reached s wants.Version ts →
+pub version_steps : (s : Phrases) (ts : List Token) (t : Token) (move : TokenMove) → Reached s wants.Version ts →
     at_fixed wants.Version t ≡ Some move → Steps s ts t move
 version_steps s ts t move h e =
     by_version (Steps s ts) t move e (λ language. (h.0, ap (λ x. x ++ Number (number_of language) ∷ []) h.1))
 
-pub text_steps : (s : Phrases) (ts : List Token) (t : Token) (move : Move) → Reached s wants.Text ts →
+pub text_steps : (s : Phrases) (ts : List Token) (t : Token) (move : TokenMove) → Reached s wants.Text ts →
     at_fixed wants.Text t ≡ Some move → Steps s ts t move
 text_steps s ts t move h e = by_text (Steps s ts) t move e (h.0, ap (λ x. x ++ Known words.Text ∷ []) h.1)
 
-pub mode_steps : (s : Phrases) (ts : List Token) (t : Token) (move : Move) → Reached s wants.Mode ts → at_fixed wants.Mode t ≡ Some move →
+pub mode_steps : (s : Phrases) (ts : List Token) (t : Token) (move : TokenMove) → Reached s wants.Mode ts → at_fixed wants.Mode t ≡ Some move →
     Steps s ts t move
 mode_steps s ts t move h e =
     by_mode (Steps s ts) t move e
     (λ mode. ((h.0.0, h.0.1, ap (λ (x : Head). record x { mode = mode }) h.0.2), ap (λ x. x ++ Known (words.Mode mode) ∷ []) h.1))
 
 -- the word that begins the line of the kinds
-pub kinds_steps : (s : Phrases) (ts : List Token) (t : Token) (move : Move) → Reached s wants.Kinds ts →
+pub kinds_steps : (s : Phrases) (ts : List Token) (t : Token) (move : TokenMove) → Reached s wants.Kinds ts →
     at_fixed wants.Kinds t ≡ Some move → Steps s ts t move
 kinds_steps s ts t move h e =
     let language = s.control.language in
@@ -172,12 +172,12 @@ kinds_end_steps s ts h some =
           ∙ head_alone (kinds_line language head ++ LineEnd ∷ []) language head blocks none (plain_head language head h.2),
     )
 
-pub next_kind_steps : (s : Phrases) (ts : List Token) (t : Token) (move : Move) → Reached s wants.NextKind ts →
+pub next_kind_steps : (s : Phrases) (ts : List Token) (t : Token) (move : TokenMove) → Reached s wants.NextKind ts →
     at_next_kind s.control t ≡ Some move → Steps s ts t move
 next_kind_steps s ts t move h e =
     by_next_kind (Steps s ts) s.control t move e (declared_steps s ts h) (kinds_end_steps s ts h)
 
-pub line_end_steps : (s : Phrases) (following : Next) (ts : List Token) (t : Token) (move : Move) →
+pub line_end_steps : (s : Phrases) (following : AfterLine) (ts : List Token) (t : Token) (move : TokenMove) →
     Reached s (wants.LineEnd following) ts → at_fixed (wants.LineEnd following) t ≡ Some move → Steps s ts t move
 line_end_steps s nexts.Text ts t move h e = by_line_end (Steps s ts) nexts.Text t move e (h.0, ap (λ x. x ++ LineEnd ∷ []) h.1)
 line_end_steps s nexts.Kinds ts t move h e = by_line_end (Steps s ts) nexts.Kinds t move e (h.0, ap (λ x. x ++ LineEnd ∷ []) h.1)
@@ -185,7 +185,7 @@ line_end_steps s nexts.Line ts t move h e = by_line_end (Steps s ts) nexts.Line 
 line_end_steps s nexts.File ts t move h e =
     by_line_end (Steps s ts) nexts.File t move e (h.0, append_assoc ts (LineEnd ∷ []) (FileEnd ∷ []) ∙ h.1)
 
-pub file_end_steps : (s : Phrases) (ts : List Token) (t : Token) (move : Move) → Reached s wants.FileEnd ts →
+pub file_end_steps : (s : Phrases) (ts : List Token) (t : Token) (move : TokenMove) → Reached s wants.FileEnd ts →
     at_fixed wants.FileEnd t ≡ Some move → Steps s ts t move
 file_end_steps s ts t move h e = by_file_end (Steps s ts) t move e h
 
@@ -260,7 +260,7 @@ assumed_front ts language old new blocks t none e line =
     regrouped front = simp append_assoc
 
 -- what is assumed, which the head then keeps
-pub assumed_steps : (s : Phrases) (ts : List Token) (t : Token) (move : Move) → Reached s wants.Assumed ts →
+pub assumed_steps : (s : Phrases) (ts : List Token) (t : Token) (move : TokenMove) → Reached s wants.Assumed ts →
     at_assumed s.control t ≡ Some move → Steps s ts t move
 assumed_steps s ts t move h e =
     let language = s.control.language in
@@ -278,7 +278,7 @@ assumed_steps s ts t move h e =
           (chars_line language head h.2),
     )
 
-pub differ_steps : (s : Phrases) (ts : List Token) (t : Token) (move : Move) → Reached s wants.Differ ts →
+pub differ_steps : (s : Phrases) (ts : List Token) (t : Token) (move : TokenMove) → Reached s wants.Differ ts →
     at_fixed wants.Differ t ≡ Some move → Steps s ts t move
 differ_steps s ts t move h e =
     by_differ (Steps s ts) t move e (h.0, append_assoc ts (Known words.Differ ∷ []) (LineEnd ∷ []) ∙ h.1)

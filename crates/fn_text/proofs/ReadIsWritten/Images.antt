@@ -10,18 +10,18 @@ use Rattle.fn_moves.specs.declared.fault.TextFault.{TextFault}
 use Rattle.fn_tokens.specs.declared.token.Placed.{Placed}
 use Rattle.fn_moves.specs.declared.control.Want.{Want}
 use Rattle.fn_moves.specs.declared.control.Want.TheVariants as wants
-use Rattle.fn_moves.specs.declared.control.Move.{Move}
-use Rattle.fn_moves.specs.declared.control.Move.TheVariants as moves
+use Rattle.fn_moves.specs.declared.control.TokenMove.{TokenMove}
+use Rattle.fn_moves.specs.declared.control.TokenMove.TheVariants as moves
 use Rattle.fn_moves.specs.Moves.{move_for}
 use Rattle.fn_moves.specs.Meaning.{Maker}
-use Rattle.fn_text.specs.Reader.{Level, State, negate, join, choose, conjunction, disjunction, blocks_of, closed, moved, after_move}
+use Rattle.fn_text.specs.Reader.{Nesting, State, negate, join, choose, conjunction, disjunction, blocks_of, closed, moved, after_move}
 use Rattle.fn_text.specs.Reader.{ended, read_from}
 use Rattle.fn_grammar.specs.Grammar.{Phrase, made, WrittenBlock, case_made, block_made}
 use Rattle.fn_text.proofs.WrittenIsRead.Guards.{going}
 use Rattle.fn_text.proofs.ReadIsWritten.States.{to_phrases, Phrases}
 
 module _ {V : Tightness → Type 0} {K B : Type 0} (m : Maker V K B) where
-  abbrev pub level_made : Level Phrase → Level V
+  abbrev pub level_made : Nesting Phrase → Nesting V
   level_made level = record {
     outside = level.outside;
     nots = level.nots;
@@ -75,14 +75,14 @@ module _ {V : Tightness → Type 0} {K B : Type 0} (m : Maker V K B) where
   blocks_made s =
       begun_made s.control.begun s.done (record { first = s.control.first; second = s.control.second; cases = s.cases })
 
-  closed_made : (s : Phrases) (levels : List (Level Phrase)) →
+  closed_made : (s : Phrases) (levels : List (Nesting Phrase)) →
       closed m (state_made s) (map (level_made) levels) ≡ state_made (closed to_phrases s levels)
   closed_made s [] = refl
   closed_made s (level ∷ levels) =
       ap (λ x. record (state_made (closed to_phrases s (level ∷ levels))) { last = m.round x }) (disjunction_made s)
 
   -- a move on the image of a state is the image of the move
-  pub moved_made : (s : Phrases) (move : Move) → moved m (state_made s) move ≡ state_made (moved to_phrases s move)
+  pub moved_made : (s : Phrases) (move : TokenMove) → moved m (state_made s) move ≡ state_made (moved to_phrases s move)
   moved_made s (moves.Skip want) = refl
   moved_made s (moves.SetLanguage language) = refl
   moved_made s (moves.SetMode mode) = refl
@@ -123,7 +123,7 @@ module _ {V : Tightness → Type 0} {K B : Type 0} (m : Maker V K B) where
 
   going_made : (s : Phrases) (at : Placed) (rest : List Placed) →
       ((after : Phrases) → read_from m (state_made after) rest ≡ parts_made (read_from to_phrases after rest)) →
-      (move : Option Move) →
+      (move : Option TokenMove) →
       going m rest (after_move m (state_made s) at move) ≡ parts_made (going to_phrases rest (after_move to_phrases s at move))
   going_made s at rest others None = refl
   going_made s at rest others (Some move) =

@@ -19,12 +19,12 @@ use Rattle.fn_tokens.specs.declared.token.Placed.{Placed}
 use Rattle.fn_tokens.specs.declared.token.Sign.{Sign}
 use Rattle.fn_moves.specs.declared.control.Written.{Written}
 use Rattle.fn_moves.specs.declared.control.Written.TheVariants as written
-use Rattle.fn_moves.specs.declared.control.Next.{Next}
-use Rattle.fn_moves.specs.declared.control.Next.TheVariants as nexts
+use Rattle.fn_moves.specs.declared.control.AfterLine.{AfterLine}
+use Rattle.fn_moves.specs.declared.control.AfterLine.TheVariants as nexts
 use Rattle.fn_moves.specs.declared.control.Want.TheVariants as wants
 use Rattle.fn_moves.specs.declared.control.Control.{Control}
-use Rattle.fn_moves.specs.declared.control.Move.{Move}
-use Rattle.fn_moves.specs.declared.control.Move.TheVariants as moves
+use Rattle.fn_moves.specs.declared.control.TokenMove.{TokenMove}
+use Rattle.fn_moves.specs.declared.control.TokenMove.TheVariants as moves
 use Rattle.fn_moves.specs.declared.language.Language.{Language}
 use Rattle.fn_moves.specs.Languages.{language_numbered, number_of, has_word}
 use Rattle.fn_moves.specs.Kinds.{has_seen, declares_some, comes_next}
@@ -40,11 +40,11 @@ use Rattle.fn_grammar.proofs.KindLists.{same_kind}
 use Rattle.fn_text.proofs.Languages.{numbered_is}
 
 -- the move that was told
-told : (P : Move → Type 0) (there move : Move) → Some there ≡ Some move → P there → P move
+told : (P : TokenMove → Type 0) (there move : TokenMove) → Some there ≡ Some move → P there → P move
 told P there move h goes = let e : there ≡ move = cc in subst P e goes
 
 -- a move behind a test
-by_allowed : (P : Move → Type 0) (test : Bool) (there move : Move) → allowed test there ≡ Some move → (test ≡ true → P there) → P move
+by_allowed : (P : TokenMove → Type 0) (test : Bool) (there move : TokenMove) → allowed test there ≡ Some move → (test ≡ true → P there) → P move
 by_allowed P true there move h goes = told P there move h (goes refl)
 by_allowed P false there move h goes = absurd (cc)
 
@@ -58,45 +58,45 @@ other_thing P Char Char First Second h goes = goes
 other_thing P Char Char Second First h goes = goes
 other_thing P sort other left right h goes = absurd (cc)
 
-module _ (P : Token → Move → Type 0) where
-  pub by_otfn : (t : Token) (move : Move) → at_fixed wants.Otfn t ≡ Some move → P (Known words.Otfn) (moves.Skip wants.Version) → P t move
+module _ (P : Token → TokenMove → Type 0) where
+  pub by_otfn : (t : Token) (move : TokenMove) → at_fixed wants.Otfn t ≡ Some move → P (Known words.Otfn) (moves.Skip wants.Version) → P t move
   by_otfn (Known words.Otfn) move h goes = told (P (Known words.Otfn)) _ move h goes
   by_otfn _ move h goes = absurd (cc)
 
-  pub by_text : (t : Token) (move : Move) → at_fixed wants.Text t ≡ Some move → P (Known words.Text) (moves.Skip wants.Mode) → P t move
+  pub by_text : (t : Token) (move : TokenMove) → at_fixed wants.Text t ≡ Some move → P (Known words.Text) (moves.Skip wants.Mode) → P t move
   by_text (Known words.Text) move h goes = told (P (Known words.Text)) _ move h goes
   by_text _ move h goes = absurd (cc)
 
-  pub by_kinds : (t : Token) (move : Move) → at_fixed wants.Kinds t ≡ Some move → P (Known words.Kinds) (moves.Skip wants.NextKind) →
+  pub by_kinds : (t : Token) (move : TokenMove) → at_fixed wants.Kinds t ≡ Some move → P (Known words.Kinds) (moves.Skip wants.NextKind) →
       P t move
   by_kinds (Known words.Kinds) move h goes = told (P (Known words.Kinds)) _ move h goes
   by_kinds _ move h goes = absurd (cc)
 
-  pub by_differ : (t : Token) (move : Move) → at_fixed wants.Differ t ≡ Some move →
+  pub by_differ : (t : Token) (move : TokenMove) → at_fixed wants.Differ t ≡ Some move →
       P (Known words.Differ) (moves.Skip (wants.LineEnd nexts.Line)) → P t move
   by_differ (Known words.Differ) move h goes = told (P (Known words.Differ)) _ move h goes
   by_differ _ move h goes = absurd (cc)
 
-  pub by_line_end : (following : Next) (t : Token) (move : Move) → at_fixed (wants.LineEnd following) t ≡ Some move →
+  pub by_line_end : (following : AfterLine) (t : Token) (move : TokenMove) → at_fixed (wants.LineEnd following) t ≡ Some move →
       P LineEnd (moves.Skip (want_next following)) → P t move
   by_line_end following LineEnd move h goes = told (P LineEnd) _ move h goes
   by_line_end following _ move h goes = absurd (cc)
 
-  pub by_block_end : (t : Token) (move : Move) → at_fixed wants.BlockEnd t ≡ Some move → P LineEnd (moves.Skip wants.Line) → P t move
+  pub by_block_end : (t : Token) (move : TokenMove) → at_fixed wants.BlockEnd t ≡ Some move → P LineEnd (moves.Skip wants.Line) → P t move
   by_block_end LineEnd move h goes = told (P LineEnd) _ move h goes
   by_block_end _ move h goes = absurd (cc)
 
-  pub by_result_end : (result : Written) (t : Token) (move : Move) → at_fixed (wants.ResultEnd result) t ≡ Some move →
+  pub by_result_end : (result : Written) (t : Token) (move : TokenMove) → at_fixed (wants.ResultEnd result) t ≡ Some move →
       P LineEnd (moves.EndCase result) → P t move
   by_result_end result LineEnd move h goes = told (P LineEnd) _ move h goes
   by_result_end result _ move h goes = absurd (cc)
 
-  pub by_file_end : (t : Token) (move : Move) → at_fixed wants.FileEnd t ≡ Some move → P FileEnd (moves.Skip wants.Nothing) → P t move
+  pub by_file_end : (t : Token) (move : TokenMove) → at_fixed wants.FileEnd t ≡ Some move → P FileEnd (moves.Skip wants.Nothing) → P t move
   by_file_end FileEnd move h goes = told (P FileEnd) _ move h goes
   by_file_end _ move h goes = absurd (cc)
 
   -- at the version: the number of a language
-  pub by_version : (t : Token) (move : Move) → at_fixed wants.Version t ≡ Some move →
+  pub by_version : (t : Token) (move : TokenMove) → at_fixed wants.Version t ≡ Some move →
       ((language : Language) → P (Number (number_of language)) (moves.SetLanguage language)) → P t move
   by_version (Number n) move h goes = by_language (language_numbered n) refl h
     where
@@ -108,12 +108,12 @@ module _ (P : Token → Move → Type 0) where
           (subst (λ x. P (Number x) (moves.SetLanguage language)) (numbered_is n language same) (goes language))
   by_version _ move h goes = absurd (cc)
 
-  pub by_mode : (t : Token) (move : Move) → at_fixed wants.Mode t ≡ Some move →
+  pub by_mode : (t : Token) (move : TokenMove) → at_fixed wants.Mode t ≡ Some move →
       ((mode : Mode) → P (Known (words.Mode mode)) (moves.SetMode mode)) → P t move
   by_mode (Known (words.Mode mode)) move h goes = told (P (Known (words.Mode mode))) _ move h (goes mode)
   by_mode _ move h goes = absurd (cc)
 
-  pub by_next_kind : (c : Control) (t : Token) (move : Move) → at_next_kind c t ≡ Some move →
+  pub by_next_kind : (c : Control) (t : Token) (move : TokenMove) → at_next_kind c t ≡ Some move →
       ((k : Kind) → has_word c.language k ≡ true → comes_next c.head k ≡ true → P (Known (words.Kind k)) (moves.Declare k)) →
       (declares_some c.head ≡ true → P LineEnd (moves.Skip wants.Line)) → P t move
   by_next_kind c (Known (words.Kind k)) move h declare ends =
@@ -122,7 +122,7 @@ module _ (P : Token → Move → Type 0) where
   by_next_kind c _ move h declare ends = absurd (cc)
 
   -- where a line begins: `assume`, `block`, `case` or `end`
-  pub by_line : (c : Control) (at : Placed) (t : Token) (move : Move) → at_line c at t ≡ Some move →
+  pub by_line : (c : Control) (at : Placed) (t : Token) (move : TokenMove) → at_line c at t ≡ Some move →
       ((not c.begun && not c.head.chars_differ) ≡ true → P (Known words.Assume) (moves.Skip wants.Assumed)) →
       P (Known words.Block) (moves.BlockWord at.line at.column) →
       ((c.begun && nat_lt c.cases 64) ≡ true → P (Known words.Case) moves.BeginCase) →
@@ -134,18 +134,18 @@ module _ (P : Token → Move → Type 0) where
   by_line c at (Known words.End) move h assume block case ends = by_allowed (P (Known words.End)) _ _ move h ends
   by_line c at _ move h assume block case ends = absurd (cc)
 
-  pub by_assumed : (c : Control) (t : Token) (move : Move) → at_assumed c t ≡ Some move →
+  pub by_assumed : (c : Control) (t : Token) (move : TokenMove) → at_assumed c t ≡ Some move →
       (not c.head.sites_differ ≡ true → P (Known words.Sites) moves.AssumeSites) → P (Known words.Chars) moves.AssumeChars → P t move
   by_assumed c (Known words.Sites) move h sites chars = by_allowed (P (Known words.Sites)) _ _ move h sites
   by_assumed c (Known words.Chars) move h sites chars = told (P (Known words.Chars)) _ move h chars
   by_assumed c _ move h sites chars = absurd (cc)
 
-  pub by_block_first : (c : Control) (t : Token) (move : Move) → at_block_first c t ≡ Some move →
+  pub by_block_first : (c : Control) (t : Token) (move : TokenMove) → at_block_first c t ≡ Some move →
       ((k : Kind) → is_declared c.head k ≡ true → P (Known (words.Kind k)) (moves.Skip (wants.BlockSecond k))) → P t move
   by_block_first c (Known (words.Kind k)) move h goes = by_allowed (P (Known (words.Kind k))) _ _ move h (goes k)
   by_block_first c _ move h goes = absurd (cc)
 
-  pub by_block_second : (c : Control) (k : Kind) (t : Token) (move : Move) → at_block_second c k t ≡ Some move →
+  pub by_block_second : (c : Control) (k : Kind) (t : Token) (move : TokenMove) → at_block_second c k t ≡ Some move →
       ((l : Kind) → is_declared c.head l ≡ true → not (has_seen c.seen k l) ≡ true → P (Known (words.Kind l)) (moves.BeginBlock k l)) →
       P t move
   by_block_second c k (Known (words.Kind l)) move h goes =
@@ -153,7 +153,7 @@ module _ (P : Token → Move → Type 0) where
   by_block_second c k _ move h goes = absurd (cc)
 
   -- at an operand: `(`, `not`, `true`, or what begins an atom
-  pub by_operand : (c : Control) (t : Token) (move : Move) → at_operand c t ≡ Some move →
+  pub by_operand : (c : Control) (t : Token) (move : TokenMove) → at_operand c t ≡ Some move →
       (nat_lt (depth_of c) 32 ≡ true → P Open moves.Open) →
       (nat_lt (depth_of c) 32 ≡ true → P (Known words.Not) moves.Negate) →
       (nat_lt c.atoms 16 ≡ true → P (Known words.True) moves.Always) →
@@ -167,19 +167,19 @@ module _ (P : Token → Move → Type 0) where
       by_allowed (P (Known (words.Thing sort side))) _ _ move h (λ test. let parts = and_parts _ _ test in atom sort side parts.0 parts.1)
   by_operand c _ move h round negate always atom = absurd (cc)
 
-  pub by_comparison : (sort : Sort) (left : Side) (t : Token) (move : Move) → at_fixed (wants.Comparison sort left) t ≡ Some move →
+  pub by_comparison : (sort : Sort) (left : Side) (t : Token) (move : TokenMove) → at_fixed (wants.Comparison sort left) t ≡ Some move →
       ((cmp : Cmp) → P (tokens.Comparison cmp) (moves.Skip (wants.Right sort left cmp))) → P t move
   by_comparison sort left (tokens.Comparison cmp) move h goes = told (P (tokens.Comparison cmp)) _ move h (goes cmp)
   by_comparison sort left _ move h goes = absurd (cc)
 
-  pub by_right : (sort : Sort) (left : Side) (cmp : Cmp) (t : Token) (move : Move) → at_fixed (wants.Right sort left cmp) t ≡ Some move →
+  pub by_right : (sort : Sort) (left : Side) (cmp : Cmp) (t : Token) (move : TokenMove) → at_fixed (wants.Right sort left cmp) t ≡ Some move →
       P (Known (words.Thing sort (other_side left))) (moves.Compare sort left cmp) → P t move
   by_right sort left cmp (Known (words.Thing other right)) move h goes =
       by_allowed (P (Known (words.Thing other right))) _ _ move h
       (λ test. other_thing (λ x y. P (Known (words.Thing x y)) (moves.Compare sort left cmp)) sort other left right test goes)
   by_right sort left cmp _ move h goes = absurd (cc)
 
-  pub by_operator : (c : Control) (t : Token) (move : Move) → at_operator c t ≡ Some move →
+  pub by_operator : (c : Control) (t : Token) (move : TokenMove) → at_operator c t ≡ Some move →
       P (Known words.And) moves.And → P (Known words.Or) moves.Or → (nat_lt 0 c.outside ≡ true → P Close moves.Close) →
       ((c.outside == 0) ≡ true → P Colon moves.Colon) → P t move
   by_operator c (Known words.And) move h both either close colon = told (P (Known words.And)) _ move h both
@@ -188,17 +188,17 @@ module _ (P : Token → Move → Type 0) where
   by_operator c Colon move h both either close colon = by_allowed (P Colon) _ _ move h colon
   by_operator c _ move h both either close colon = absurd (cc)
 
-  pub by_offset : (c : Control) (left : Side) (cmp : Cmp) (t : Token) (move : Move) → at_offset c left cmp t ≡ Some move →
+  pub by_offset : (c : Control) (left : Side) (cmp : Cmp) (t : Token) (move : TokenMove) → at_offset c left cmp t ≡ Some move →
       ((sign : Sign) → P (tokens.Sign sign) (moves.Skip (wants.Number left cmp sign))) → (at_operator c t ≡ Some move → P t move) → P t move
   by_offset c left cmp (tokens.Sign sign) move h signed others = told (P (tokens.Sign sign)) _ move h (signed sign)
   by_offset c left cmp t move h signed others = others h
 
-  pub by_number : (left : Side) (cmp : Cmp) (sign : Sign) (t : Token) (move : Move) → at_fixed (wants.Number left cmp sign) t ≡ Some move →
+  pub by_number : (left : Side) (cmp : Cmp) (sign : Sign) (t : Token) (move : TokenMove) → at_fixed (wants.Number left cmp sign) t ≡ Some move →
       ((n : ℕ) → nat_le n 99 ≡ true → P (Number n) (moves.Shift left cmp sign n)) → P t move
   by_number left cmp sign (Number n) move h goes = by_allowed (P (Number n)) _ _ move h (goes n)
   by_number left cmp sign _ move h goes = absurd (cc)
 
-  pub by_result : (c : Control) (t : Token) (move : Move) → at_result c t ≡ Some move →
+  pub by_result : (c : Control) (t : Token) (move : TokenMove) → at_result c t ≡ Some move →
       P (Known words.Nop) (moves.Skip (wants.ResultEnd written.Nop)) →
       P (Known (words.Kind c.first)) (moves.Skip wants.ResultPosition) → P t move
   by_result c (Known words.Nop) move h nop kept = told (P (Known words.Nop)) _ move h nop
@@ -207,19 +207,19 @@ module _ (P : Token → Move → Type 0) where
       (λ test. same_kind (λ x. P (Known (words.Kind x)) (moves.Skip wants.ResultPosition)) c.first k test kept)
   by_result c _ move h nop kept = absurd (cc)
 
-  pub by_result_position : (t : Token) (move : Move) → at_fixed wants.ResultPosition t ≡ Some move →
+  pub by_result_position : (t : Token) (move : TokenMove) → at_fixed wants.ResultPosition t ≡ Some move →
       ((side : Side) → P (Known (words.Thing Pos side)) (moves.Skip (wants.ResultOffset side))) → P t move
   by_result_position (Known (words.Thing Pos side)) move h goes = told (P (Known (words.Thing Pos side))) _ move h (goes side)
   by_result_position _ move h goes = absurd (cc)
 
-  pub by_result_offset : (side : Side) (t : Token) (move : Move) → at_fixed (wants.ResultOffset side) t ≡ Some move →
+  pub by_result_offset : (side : Side) (t : Token) (move : TokenMove) → at_fixed (wants.ResultOffset side) t ≡ Some move →
       ((sign : Sign) → P (tokens.Sign sign) (moves.Skip (wants.ResultNumber side sign))) →
       P LineEnd (moves.EndCase (written.At side)) → P t move
   by_result_offset side (tokens.Sign sign) move h signed ends = told (P (tokens.Sign sign)) _ move h (signed sign)
   by_result_offset side LineEnd move h signed ends = told (P LineEnd) _ move h ends
   by_result_offset side _ move h signed ends = absurd (cc)
 
-  pub by_result_number : (side : Side) (sign : Sign) (t : Token) (move : Move) → at_fixed (wants.ResultNumber side sign) t ≡ Some move →
+  pub by_result_number : (side : Side) (sign : Sign) (t : Token) (move : TokenMove) → at_fixed (wants.ResultNumber side sign) t ≡ Some move →
       ((n : ℕ) → nat_le n 99 ≡ true → P (Number n) (moves.Skip (wants.ResultEnd (written.Moved side sign n)))) → P t move
   by_result_number side sign (Number n) move h goes = by_allowed (P (Number n)) _ _ move h (goes n)
   by_result_number side sign _ move h goes = absurd (cc)

@@ -6,7 +6,7 @@ use Rattle.fn_tokens.specs.declared.token.Placed.{Placed}
 use Rattle.fn_moves.specs.declared.control.Want.{Want}
 use Rattle.fn_moves.specs.declared.control.Want.TheVariants as wants
 use Rattle.fn_moves.specs.declared.control.Control.{Control}
-use Rattle.fn_moves.specs.declared.control.Move.{Move}
+use Rattle.fn_moves.specs.declared.control.TokenMove.{TokenMove}
 use Rattle.fn_moves.specs.GuardMoves.{at_operator}
 use Rattle.fn_moves.specs.Moves.{HasRoom, move_for}
 use Rattle.fn_text.proofs.ReadIsWritten.Moves.{by_otfn, by_text, by_kinds, by_differ, by_line_end, by_block_end, by_result_end}
@@ -17,14 +17,14 @@ use Rattle.fn_text.proofs.ReadIsWritten.Moves.{by_result, by_result_position, by
 
 module _ (c : Control) where
   -- the token does not matter
-  abbrev Fit : Token → Move → Type 0
+  abbrev Fit : Token → TokenMove → Type 0
   Fit token move = HasRoom c move
 
-  operator_fits : (token : Token) (m : Move) → at_operator c token ≡ Some m → HasRoom c m
+  operator_fits : (token : Token) (m : TokenMove) → at_operator c token ≡ Some m → HasRoom c m
   operator_fits token m e = by_operator Fit c token m e tt tt (λ _. tt) (λ _. tt)
 
   -- the tests of a move hold where a token was given that move
-  pub move_fits : (at : Placed) (want : Want) (token : Token) (m : Move) → move_for c at want token ≡ Some m → HasRoom c m
+  pub move_fits : (at : Placed) (want : Want) (token : Token) (m : TokenMove) → move_for c at want token ≡ Some m → HasRoom c m
   move_fits at wants.Otfn token m e = by_otfn Fit token m e tt
   move_fits at wants.Version token m e = by_version Fit token m e (λ _. tt)
   move_fits at wants.Text token m e = by_text Fit token m e tt

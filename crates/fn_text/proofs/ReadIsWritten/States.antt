@@ -18,7 +18,7 @@ use Rattle.fn_tokens.specs.declared.token.Token.{Token}
 use Rattle.fn_tokens.specs.declared.token.Token.TheVariants.{Known, Number, Open, Colon, LineEnd, FileEnd}
 use Rattle.fn_tokens.specs.declared.token.Word.TheVariants as words
 use Rattle.fn_moves.specs.declared.control.Written.TheVariants as written
-use Rattle.fn_moves.specs.declared.control.Next.TheVariants as nexts
+use Rattle.fn_moves.specs.declared.control.AfterLine.TheVariants as nexts
 use Rattle.fn_moves.specs.declared.control.Want.{Want}
 use Rattle.fn_moves.specs.declared.control.Want.TheVariants as wants
 use Rattle.fn_moves.specs.declared.control.Pairs.{Pairs}
@@ -28,7 +28,7 @@ use Rattle.fn_moves.specs.Languages.{number_of, has_words}
 use Rattle.fn_moves.specs.Meaning.{Maker, may_compare, to_formulas}
 use Rattle.fn_moves.specs.Controls.{has_chars}
 use Rattle.fn_grammar.specs.Print.{kind_tokens, head_tokens, first_lines}
-use Rattle.fn_text.specs.Reader.{Level, State, blocks_of}
+use Rattle.fn_text.specs.Reader.{Nesting, State, blocks_of}
 use Rattle.fn_grammar.specs.Grammar.{Phrase, Always, Compare, Shifted, Negated, Round, One, Both, Single, Either, written_as, atoms_in}
 use Rattle.fn_grammar.specs.Grammar.{nesting_in, is_allowed, WrittenCase, WrittenBlock, result_written_as, block_written_as}
 use Rattle.fn_grammar.specs.Grammar.{file_written_as, block_made, is_allowed_result, is_allowed_block, is_allowed_file}
@@ -74,23 +74,23 @@ nots_front zero = []
 nots_front (suc n) = Known words.Not ∷ nots_front n
 
 -- the tokens before an operand in its own parentheses, and with all that is around them
-abbrev pub level_front : Level Phrase → List Token
+abbrev pub level_front : Nesting Phrase → List Token
 level_front level =
     front_of (Known words.Or) level.any ++ front_of (Known words.And) level.all ++ nots_front level.nots
 
-abbrev pub levels_front : List (Level Phrase) → List Token
+abbrev pub levels_front : List (Nesting Phrase) → List Token
 levels_front [] = []
 levels_front (level ∷ levels) = levels_front levels ++ level_front level ++ Open ∷ []
 
-abbrev pub atoms_of_level : Level Phrase → ℕ
+abbrev pub atoms_of_level : Nesting Phrase → ℕ
 atoms_of_level level = atoms_part level.any + atoms_part level.all
 
-abbrev pub atoms_of_levels : List (Level Phrase) → ℕ
+abbrev pub atoms_of_levels : List (Nesting Phrase) → ℕ
 atoms_of_levels [] = 0
 atoms_of_levels (level ∷ levels) = atoms_of_levels levels + atoms_of_level level
 
 -- the innermost parentheses
-abbrev pub here : Phrases → Level Phrase
+abbrev pub here : Phrases → Nesting Phrase
 here s = record { outside = s.control.outside; nots = s.control.nots; any = s.any; all = s.all }
 
 -- the tokens of a guard before its next operand
@@ -102,29 +102,29 @@ abbrev pub atoms_before : Phrases → ℕ
 atoms_before s = atoms_of_levels s.outer + atoms_of_level (here s)
 
 -- what stands in parentheses is within the limits
-pub record IsLevel (chars : Bool) (level : Level Phrase) : Type 0 where
+pub record IsNesting (chars : Bool) (level : Nesting Phrase) : Type 0 where
   pub any_allowed : allowed_part chars level.any ≡ true
   pub all_allowed : allowed_part chars level.all ≡ true
   pub any_nested : level.outside + nesting_part level.any ≤ 32
   pub all_nested : level.outside + nesting_part level.all ≤ 32
 
 -- as many `(` and `not` as are told stand around these parentheses
-abbrev pub AreLevels : Bool → ℕ → List (Level Phrase) → Type 0
-AreLevels chars outside [] = outside ≡ 0
-AreLevels chars outside (level ∷ levels) =
-    (outside ≡ level.outside + level.nots + 1) × IsLevel chars level × AreLevels chars level.outside levels
+abbrev pub AreNestings : Bool → ℕ → List (Nesting Phrase) → Type 0
+AreNestings chars outside [] = outside ≡ 0
+AreNestings chars outside (level ∷ levels) =
+    (outside ≡ level.outside + level.nots + 1) × IsNesting chars level × AreNestings chars level.outside levels
 
 -- an open guard before its next operand
-pub record IsGuard (chars : Bool) (level : Level Phrase) (outer : List (Level Phrase)) : Type 0 where
-  pub inner : IsLevel chars level
-  pub around : AreLevels chars level.outside outer
+pub record IsGuard (chars : Bool) (level : Nesting Phrase) (outer : List (Nesting Phrase)) : Type 0 where
+  pub inner : IsNesting chars level
+  pub around : AreNestings chars level.outside outer
   pub depth : level.outside + level.nots ≤ 32
 
 abbrev pub HasGuard : Phrases → Type 0
 HasGuard s = IsGuard (has_chars s.control) (here s) s.outer
 
 -- an operand behind that
-pub record IsOperand (chars : Bool) (level : Level Phrase) (last : Phrase Tight) : Type 0 where
+pub record IsOperand (chars : Bool) (level : Nesting Phrase) (last : Phrase Tight) : Type 0 where
   pub last_allowed : is_allowed chars last ≡ true
   pub last_nested : level.outside + level.nots + nesting_in last ≤ 32
 
@@ -132,7 +132,7 @@ abbrev pub HasOperand : Phrases → Type 0
 HasOperand s = IsOperand (has_chars s.control) (here s) s.last
 
 -- no guard is open
-pub record IsQuiet (level : Level Phrase) (outer : List (Level Phrase)) : Type 0 where
+pub record IsQuiet (level : Nesting Phrase) (outer : List (Nesting Phrase)) : Type 0 where
   pub any : level.any ≡ None
   pub all : level.all ≡ None
   pub nots : level.nots ≡ 0

@@ -11,8 +11,8 @@ use Rattle.fn_tokens.specs.declared.token.Token.{Token}
 use Rattle.fn_tokens.specs.declared.token.Placed.{Placed}
 use Rattle.fn_moves.specs.declared.control.Want.{Want}
 use Rattle.fn_moves.specs.declared.control.Want.TheVariants as wants
-use Rattle.fn_moves.specs.declared.control.Move.{Move}
-use Rattle.fn_moves.specs.declared.control.Move.TheVariants as moves
+use Rattle.fn_moves.specs.declared.control.TokenMove.{TokenMove}
+use Rattle.fn_moves.specs.declared.control.TokenMove.TheVariants as moves
 use Rattle.fn_moves.specs.Meaning.{Formulas, to_formulas}
 use Rattle.fn_moves.specs.Controls.{lacks, lacks_with, lacks_block}
 use Rattle.fn_moves.specs.Moves.{move_for}
@@ -41,7 +41,7 @@ too_many n e h = let less : n < 16 = ltb-true n 16 h in omega (arith, e, less)
 operand_turn : (s : Phrases) (at : Placed) (rest : List Placed) (parts : Head × List WrittenBlock) →
     s.control.want ≡ wants.Operand → s.control.atoms ≡ 16 →
     ((after : Phrases) → after.control.want ≡ wants.Operand → after.control.atoms ≡ 16 →
-    read_from to_phrases after rest ≡ Ok parts → ⊥) → (move : Option Move) → move_for s.control at s.control.want at.token ≡ move →
+    read_from to_phrases after rest ≡ Ok parts → ⊥) → (move : Option TokenMove) → move_for s.control at s.control.want at.token ≡ move →
     going to_phrases rest (after_move to_phrases s at move) ≡ Ok parts → ⊥
 operand_turn s at rest parts want full others None same e = absurd (cc)
 operand_turn s at rest parts want full others (Some move) same e =
@@ -64,7 +64,7 @@ operand_never s (at ∷ rest) parts want full e =
 -- no second kind makes a pair that is missing
 second_turn : (s : Phrases) (k : Kind) (at : Placed) (rest : List Placed) (parts : Head × List WrittenBlock) →
     s.control.want ≡ wants.BlockSecond k → is_declared s.control.head k ≡ true → lacks_with s.control k ≡ false →
-    (move : Option Move) → move_for s.control at s.control.want at.token ≡ move →
+    (move : Option TokenMove) → move_for s.control at s.control.want at.token ≡ move →
     going to_phrases rest (after_move to_phrases s at move) ≡ Ok parts → ⊥
 second_turn s k at rest parts want declared none None same e = absurd (cc)
 second_turn s k at rest parts want declared none (Some move) same e =
@@ -84,7 +84,7 @@ second_never s k (at ∷ rest) parts want declared none e =
 
 -- nor does a first kind begin one
 first_turn : (s : Phrases) (at : Placed) (rest : List Placed) (parts : Head × List WrittenBlock) →
-    s.control.want ≡ wants.BlockFirst → lacks_block s.control ≡ false → (move : Option Move) →
+    s.control.want ≡ wants.BlockFirst → lacks_block s.control ≡ false → (move : Option TokenMove) →
     move_for s.control at s.control.want at.token ≡ move → going to_phrases rest (after_move to_phrases s at move) ≡ Ok parts → ⊥
 first_turn s at rest parts want full None same e = absurd (cc)
 first_turn s at rest parts want full (Some move) same e =

@@ -29,11 +29,11 @@ use Rattle.fn_tokens.specs.declared.token.Placed.{Placed}
 use Rattle.fn_tokens.specs.declared.token.Sign.{Sign}
 use Rattle.fn_moves.specs.declared.control.Written.{Written}
 use Rattle.fn_moves.specs.declared.control.Written.TheVariants as written
-use Rattle.fn_moves.specs.declared.control.Next.TheVariants as nexts
+use Rattle.fn_moves.specs.declared.control.AfterLine.TheVariants as nexts
 use Rattle.fn_moves.specs.declared.control.Want.{Want}
 use Rattle.fn_moves.specs.declared.control.Want.TheVariants as wants
-use Rattle.fn_moves.specs.declared.control.Move.{Move}
-use Rattle.fn_moves.specs.declared.control.Move.TheVariants as moves
+use Rattle.fn_moves.specs.declared.control.TokenMove.{TokenMove}
+use Rattle.fn_moves.specs.declared.control.TokenMove.TheVariants as moves
 use Rattle.fn_moves.specs.declared.language.Language.{Language}
 use Rattle.fn_moves.specs.declared.language.Language.TheVariants as languages
 use Rattle.fn_moves.specs.Meaning.{Formulas, Maker, to_formulas}
@@ -306,7 +306,7 @@ answer_made m (Err fault) = Err fault
 
 turn_made : {V : Tightness → Type 0} {K B : Type 0} (m : Maker V K B) (s : Phrases) (at : Placed) (rest : List Placed) →
     ((after : Phrases) → state_behind m (state_made m after) rest ≡ answer_made m (state_behind to_phrases after rest)) →
-    (move : Option Move) →
+    (move : Option TokenMove) →
     behind_turn m rest (after_move m (state_made m s) at move)
     ≡ answer_made m (behind_turn to_phrases rest (after_move to_phrases s at move))
 turn_made m s at rest others None = refl
@@ -321,7 +321,7 @@ behind_made m s (at ∷ rest) =
 
 reached_turn : (s now : Phrases) (ts : List Token) (at : Placed) (rest : List Placed) → Reached s s.control.want ts →
     ((after : Phrases) (more : List Token) → Reached after after.control.want more → state_behind to_phrases after rest ≡ Ok now →
-    Reached now now.control.want (more ++ bare rest)) → (move : Option Move) →
+    Reached now now.control.want (more ++ bare rest)) → (move : Option TokenMove) →
     move_for s.control at s.control.want at.token ≡ move → behind_turn to_phrases rest (after_move to_phrases s at move) ≡ Ok now →
     Reached now now.control.want (ts ++ at.token ∷ bare rest)
 reached_turn s now ts at rest h others None same e = absurd (cc)

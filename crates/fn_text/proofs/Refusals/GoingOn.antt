@@ -14,16 +14,16 @@ use Rattle.fn_tokens.specs.declared.token.Word.TheVariants as words
 use Rattle.fn_tokens.specs.declared.token.Placed.{Placed}
 use Rattle.fn_tokens.specs.Tokens.{bare}
 use Rattle.fn_moves.specs.declared.fault.TextFault.{TextFault}
-use Rattle.fn_moves.specs.declared.control.Next.TheVariants as nexts
+use Rattle.fn_moves.specs.declared.control.AfterLine.TheVariants as nexts
 use Rattle.fn_moves.specs.declared.control.Want.{Want}
 use Rattle.fn_moves.specs.declared.control.Want.TheVariants as wants
 use Rattle.fn_moves.specs.declared.control.Control.{Control}
-use Rattle.fn_moves.specs.declared.control.Move.{Move}
-use Rattle.fn_moves.specs.declared.control.Move.TheVariants as moves
+use Rattle.fn_moves.specs.declared.control.TokenMove.{TokenMove}
+use Rattle.fn_moves.specs.declared.control.TokenMove.TheVariants as moves
 use Rattle.fn_moves.specs.Meaning.{Formulas, to_formulas}
 use Rattle.fn_moves.specs.Controls.{depth_of, lacks_block, allowed}
 use Rattle.fn_moves.specs.Moves.{move_for}
-use Rattle.fn_text.specs.Reader.{State, Level, moved, closed, after_move, turn, read_from, first_state}
+use Rattle.fn_text.specs.Reader.{State, Nesting, moved, closed, after_move, turn, read_from, first_state}
 use Rattle.fn_grammar.specs.Grammar.{file_written_as}
 use Rattle.fn_text.specs.Theorems.{state_behind}
 use Rattle.fn_text.specs.Counting.{declares, is_behind_block, first_of_block, atoms_before, is_before_operand, nesting_before}
@@ -93,14 +93,14 @@ Leads before s = state_behind to_formulas (first_state to_formulas) (reverse bef
 -- it takes a token behind others
 pub record Takes (before : List Placed) (at : Placed) (t : Token) : Type 0 where
   pub now : Reading
-  pub move : Move
+  pub move : TokenMove
   pub leads : Leads before now
   pub goes : move_for now.control at now.control.want t ≡ Some move
 
 in_order : (at : Placed) (before : List Placed) → reverse (at ∷ before) ≡ reverse before ++ at ∷ []
 in_order at before = reverse-append (at ∷ []) before
 
-pub leads_on : (before : List Placed) (at : Placed) (now : Reading) (move : Move) → Leads before now →
+pub leads_on : (before : List Placed) (at : Placed) (now : Reading) (move : TokenMove) → Leads before now →
     move_for now.control at now.control.want at.token ≡ Some move → Leads (at ∷ before) (moved to_formulas now move)
 leads_on before at now move leads goes =
     ap (λ x. state_behind to_formulas (first_state to_formulas) x) (in_order at before)
@@ -110,12 +110,12 @@ leads_on before at now move leads goes =
 -- the state behind tokens comes by the move of the last one
 pub record LastMove (before : List Placed) (at : Placed) (next : Reading) : Type 0 where
   pub now : Reading
-  pub move : Move
+  pub move : TokenMove
   pub leads : Leads before now
   pub goes : move_for now.control at now.control.want at.token ≡ Some move
   pub is : moved to_formulas now move ≡ next
 
-by_move : (before : List Placed) (at : Placed) (now next : Reading) (move : Option Move) →
+by_move : (before : List Placed) (at : Placed) (now next : Reading) (move : Option TokenMove) →
     move_for now.control at now.control.want at.token ≡ move → Leads before now →
     after_move to_formulas now at move ≡ Ok next →
     LastMove before at next
@@ -194,13 +194,13 @@ takes_of before t file =
     record { now = last.now; move = last.move; leads = last.leads; goes = last.goes }
 
 -- `)` and `:` come where an operand is whole, and so do `and` and `or`
-close_goes : (c : Control) (at : Placed) (want : Want) (move : Move) → move_for c at want Close ≡ Some move →
+close_goes : (c : Control) (at : Placed) (want : Want) (move : TokenMove) → move_for c at want Close ≡ Some move →
     wants_behind_operand want ≡ true
 close_goes c at wants.Operator move goes = refl
 close_goes c at (wants.Offset left cmp) move goes = refl
 close_goes c at _ move goes = absurd (cc)
 
-colon_goes : (c : Control) (at : Placed) (want : Want) (move : Move) → move_for c at want Colon ≡ Some move →
+colon_goes : (c : Control) (at : Placed) (want : Want) (move : TokenMove) → move_for c at want Colon ≡ Some move →
     wants_behind_operand want ≡ true
 colon_goes c at wants.Operator move goes = refl
 colon_goes c at (wants.Offset left cmp) move goes = refl
@@ -238,7 +238,7 @@ whole_of before (inr file) =
     record { now = takes.now; leads = takes.leads; whole = whole }
 
 -- the word `block` comes where `end` comes
-end_goes : (c : Control) (at : Placed) (want : Want) (move : Move) →
+end_goes : (c : Control) (at : Placed) (want : Want) (move : TokenMove) →
     move_for c at want (Known words.End) ≡ Some move → want ≡ wants.Line
 end_goes c at wants.Line move goes = refl
 end_goes c at _ move goes = absurd (cc)
@@ -251,7 +251,7 @@ first_wanted : (want : Want) → wants_block_first want ≡ true → want ≡ wa
 first_wanted wants.BlockFirst e = refl
 first_wanted _ e = absurd (cc)
 
-allowed_by : (test : Bool) (move : Move) → test ≡ true → allowed test move ≡ Some move
+allowed_by : (test : Bool) (move : TokenMove) → test ≡ true → allowed test move ≡ Some move
 allowed_by true move e = refl
 allowed_by false move e = absurd (cc)
 
@@ -265,7 +265,7 @@ depth_here before now h want =
     depth_by now.control now.outer wants.Operand (bare before) place here false here.near.whole
 
 -- `not` and `(` are taken where an operand comes next
-deeper : (before : List Placed) (at : Placed) (t : Token) (move : Move) → Taken before →
+deeper : (before : List Placed) (at : Placed) (t : Token) (move : TokenMove) → Taken before →
     (is_before_operand (bare before) && nat_lt (nesting_before (bare before)) 32) ≡ true →
     ((c : Control) → move_for c at wants.Operand t ≡ allowed (nat_lt (depth_of c) 32) move) → Takes before at t
 deeper before at t move taken test row =
@@ -343,7 +343,7 @@ file_begins before s leads once few =
     (subst (λ x. Begins (cond x 1 0) (bare (reverse before))) few (taken_tokens_go_on (reverse before) s leads once))
 
 -- it goes on with a token that is taken, where the state behind that one is no exception
-file_goes : (before : List Placed) (at : Placed) (now : Reading) (move : Move) (want : Want) → Leads before now →
+file_goes : (before : List Placed) (at : Placed) (now : Reading) (move : TokenMove) (want : Want) → Leads before now →
     move_for now.control at now.control.want at.token ≡ Some move → (moved to_formulas now move).control.want ≡ want →
     ((c : Control) → repeats_block c want ≡ false) → ((c : Control) → wants_atom_more c want ≡ false) →
     BeginsFile (at.token ∷ bare before)
@@ -353,7 +353,7 @@ file_goes before at now move want leads goes is once few =
     (ap (λ w. repeats_block next.control w) is ∙ once next.control)
     (ap (λ w. wants_atom_more next.control w) is ∙ few next.control)
 
-closed_wants : (s : Reading) (outer : List (Level Formulas)) →
+closed_wants : (s : Reading) (outer : List (Nesting Formulas)) →
     (closed to_formulas s outer).control.want ≡ wants.Operator
 closed_wants s [] = refl
 closed_wants s (level ∷ levels) = refl
@@ -387,45 +387,45 @@ whole_ends before now false none leads whole =
     let row = colon_row now.control (anywhere Colon) now.control.want whole zero in
     inr (file_goes before (anywhere Colon) now moves.Colon wants.Result leads row refl (λ c. refl) (λ c. refl))
 
-and_wanted : (c : Control) (at : Placed) (want : Want) (move : Move) →
+and_wanted : (c : Control) (at : Placed) (want : Want) (move : TokenMove) →
     move_for c at want (Known words.And) ≡ Some move →
     wants_behind_operand want ≡ true
 and_wanted c at wants.Operator move goes = refl
 and_wanted c at (wants.Offset left cmp) move goes = refl
 and_wanted c at _ move goes = absurd (cc)
 
-or_wanted : (c : Control) (at : Placed) (want : Want) (move : Move) → move_for c at want (Known words.Or) ≡ Some move →
+or_wanted : (c : Control) (at : Placed) (want : Want) (move : TokenMove) → move_for c at want (Known words.Or) ≡ Some move →
     wants_behind_operand want ≡ true
 or_wanted c at wants.Operator move goes = refl
 or_wanted c at (wants.Offset left cmp) move goes = refl
 or_wanted c at _ move goes = absurd (cc)
 
 -- `not` and `(` come where an operand is wanted
-not_wanted : (c : Control) (at : Placed) (want : Want) (move : Move) →
+not_wanted : (c : Control) (at : Placed) (want : Want) (move : TokenMove) →
     move_for c at want (Known words.Not) ≡ Some move → want ≡ wants.Operand
 not_wanted c at wants.Operand move goes = refl
 not_wanted c at _ move goes = absurd (cc)
 
-open_wanted : (c : Control) (at : Placed) (want : Want) (move : Move) → move_for c at want Open ≡ Some move →
+open_wanted : (c : Control) (at : Placed) (want : Want) (move : TokenMove) → move_for c at want Open ≡ Some move →
     want ≡ wants.Operand
 open_wanted c at wants.Operand move goes = refl
 open_wanted c at _ move goes = absurd (cc)
 
-block_wanted : (c : Control) (at : Placed) (want : Want) (move : Move) →
+block_wanted : (c : Control) (at : Placed) (want : Want) (move : TokenMove) →
     move_for c at want (Known words.Block) ≡ Some move → want ≡ wants.Line
 block_wanted c at wants.Line move goes = refl
 block_wanted c at _ move goes = absurd (cc)
 
-allowed_test : (test : Bool) (there move : Move) → allowed test there ≡ Some move → test ≡ true
+allowed_test : (test : Bool) (there move : TokenMove) → allowed test there ≡ Some move → test ≡ true
 allowed_test true there move goes = refl
 allowed_test false there move goes = absurd (cc)
 
-allowed_move : (test : Bool) (there move : Move) → allowed test there ≡ Some move → move ≡ there
+allowed_move : (test : Bool) (there move : TokenMove) → allowed test there ≡ Some move → move ≡ there
 allowed_move true there move goes = cc
 allowed_move false there move goes = absurd (cc)
 
 -- `not` or `(` behind tokens that are taken also, with as many atoms
-inner_also : (before : List Placed) (now : Reading) (there move : Move) → Leads before now →
+inner_also : (before : List Placed) (now : Reading) (there move : TokenMove) → Leads before now →
     now.control.want ≡ wants.Operand →
     allowed (nat_lt (depth_of now.control) 32) there ≡ Some move →
     (moved to_formulas now there).control.atoms ≡ now.control.atoms → (moved to_formulas now move).control.atoms ≡ 16 →
@@ -441,7 +441,7 @@ inner_also before now there move leads want row same full others =
     (and_from _ _ operand room, others kept)
 
 -- where an operand is wanted behind 16 atoms, the tokens are taken also
-operand_by : (before : List Placed) (at : Placed) (t : Token) (now : Reading) (move : Move) → Leads before now →
+operand_by : (before : List Placed) (at : Placed) (t : Token) (now : Reading) (move : TokenMove) → Leads before now →
     move_for now.control at now.control.want t ≡ Some move → is_before_operand (t ∷ bare before) ≡ true →
     atoms_before (t ∷ bare before) ≡ 16 → (moved to_formulas now move).control.atoms ≡ 16 →
     (now.control.want ≡ wants.Operand → now.control.atoms ≡ 16 → IsTakenAlso (bare before)) →
@@ -483,7 +483,7 @@ operand_also (at ∷ before) s leads want full =
     (λ wanted more. operand_also before last.now last.leads wanted more)
 
 -- the word `block` where no block is missing: `end` could stand in its place
-block_by : (before : List Placed) (at : Placed) (t : Token) (now : Reading) (move : Move) → Leads before now →
+block_by : (before : List Placed) (at : Placed) (t : Token) (now : Reading) (move : TokenMove) → Leads before now →
     move_for now.control at now.control.want t ≡ Some move → is_behind_block (t ∷ bare before) ≡ true →
     not (lacks_block (moved to_formulas now move).control) ≡ true → IsTakenAlso (t ∷ bare before)
 block_by before at (Known words.Block) now move leads goes word none =
@@ -504,7 +504,7 @@ some_where true j k e = refl
 some_where false j k e = absurd (cc)
 
 -- the first kind of a block was declared
-kind_by : (before : List Placed) (at : Placed) (t : Token) (k : Kind) (now : Reading) (move : Move) → Leads before now →
+kind_by : (before : List Placed) (at : Placed) (t : Token) (k : Kind) (now : Reading) (move : TokenMove) → Leads before now →
     move_for now.control at now.control.want t ≡ Some move → first_of_block (t ∷ bare before) ≡ Some k →
     GoesOn (bare before) →
     IsTakenAlso (t ∷ bare before)

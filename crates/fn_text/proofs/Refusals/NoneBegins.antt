@@ -9,8 +9,8 @@ use Rattle.fn_tokens.specs.declared.token.Placed.{Placed}
 use Rattle.fn_moves.specs.declared.control.Want.{Want}
 use Rattle.fn_moves.specs.declared.control.Want.TheVariants as wants
 use Rattle.fn_moves.specs.declared.control.Control.{Control}
-use Rattle.fn_moves.specs.declared.control.Move.{Move}
-use Rattle.fn_moves.specs.declared.control.Move.TheVariants as moves
+use Rattle.fn_moves.specs.declared.control.TokenMove.{TokenMove}
+use Rattle.fn_moves.specs.declared.control.TokenMove.TheVariants as moves
 use Rattle.fn_moves.specs.declared.fault.TextFault.{TextFault}
 use Rattle.fn_moves.specs.Moves.{move_for}
 use Rattle.fn_moves.specs.Faults.{fault_of}
@@ -22,7 +22,7 @@ use Rattle.fn_tokens.specs.Tokens.{bare}
 use Rattle.fn_text.proofs.WrittenIsRead.Guards.{going}
 
 -- the end of the file goes on in one way
-file_end_goes : (c : Control) (at : Placed) (want : Want) (move : Move) → move_for c at want FileEnd ≡ Some move →
+file_end_goes : (c : Control) (at : Placed) (want : Want) (move : TokenMove) → move_for c at want FileEnd ≡ Some move →
     move ≡ moves.Skip wants.Nothing
 file_end_goes c at wants.Otfn move e = absurd (cc)
 file_end_goes c at wants.Version move e = absurd (cc)
@@ -89,7 +89,7 @@ stops_here m s at rest fault none e =
 -- the wrong token comes after one that is taken
 stops_later : {V : Tightness →
     Type 0} {K B : Type 0} (m : Maker V K B) (s : State V K B) (at : Placed) (rest : List Placed) (fault : TextFault)
-    (move : Move) → move_for s.control at s.control.want at.token ≡ Some move → Stops m (moved m s move) rest fault →
+    (move : TokenMove) → move_for s.control at s.control.want at.token ≡ Some move → Stops m (moved m s move) rest fault →
     Stops m s (at ∷ rest) fault
 stops_later m s at rest fault move some later = record {
   before = at ∷ later.before;
@@ -109,20 +109,20 @@ not_both (Err z) x y e f = absurd (cc)
 -- tokens whose last one is the file's end are refused at one of them
 stops_by : {V : Tightness →
     Type 0} {K B : Type 0} (m : Maker V K B) (s : State V K B) (at : Placed) (rest : List Placed) (fault : TextFault)
-    (move : Option Move) → move_for s.control at s.control.want at.token ≡ move →
-    ((one : Move) → move ≡ Some one → Stops m (moved m s one) rest fault) → read_from m s (at ∷ rest) ≡ Err fault →
+    (move : Option TokenMove) → move_for s.control at s.control.want at.token ≡ move →
+    ((one : TokenMove) → move ≡ Some one → Stops m (moved m s one) rest fault) → read_from m s (at ∷ rest) ≡ Err fault →
     Stops m s (at ∷ rest) fault
 stops_by m s at rest fault None goes others e = stops_here m s at rest fault goes e
 stops_by m s at rest fault (Some one) goes others e =
     stops_later m s at rest fault one goes (others one refl)
 
 still_refused : {V : Tightness →
-    Type 0} {K B : Type 0} (m : Maker V K B) (s : State V K B) (at : Placed) (rest : List Placed) (fault : TextFault) (one : Move) →
+    Type 0} {K B : Type 0} (m : Maker V K B) (s : State V K B) (at : Placed) (rest : List Placed) (fault : TextFault) (one : TokenMove) →
     move_for s.control at s.control.want at.token ≡ Some one → read_from m s (at ∷ rest) ≡ Err fault →
     read_from m (moved m s one) rest ≡ Err fault
 still_refused m s at rest fault one goes e = sym (ap (λ x. going m rest (after_move m s at x)) goes) ∙ e
 
-ends_well : {V : Tightness → Type 0} {K B : Type 0} (m : Maker V K B) (s : State V K B) (one : Move) →
+ends_well : {V : Tightness → Type 0} {K B : Type 0} (m : Maker V K B) (s : State V K B) (one : TokenMove) →
     one ≡ moves.Skip wants.Nothing → read_from m (moved m s one) [] ≡ Ok (s.control.head, s.done)
 ends_well m s one e = ap (λ x. read_from m (moved m s x) []) e
 

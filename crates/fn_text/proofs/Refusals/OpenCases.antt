@@ -10,26 +10,26 @@ use Rattle.fn_tokens.specs.declared.token.Word.TheVariants as words
 use Rattle.fn_moves.specs.declared.control.Written.TheVariants as written
 use Rattle.fn_moves.specs.Controls.{has_chars}
 use Rattle.fn_grammar.specs.Print.{head_tokens}
-use Rattle.fn_text.specs.Reader.{Level, blocks_of}
+use Rattle.fn_text.specs.Reader.{Nesting, blocks_of}
 use Rattle.fn_grammar.specs.Grammar.{Phrase, Round, written_as, atoms_in, nesting_in, WrittenCase}
 use Rattle.fn_text.specs.Continuing.{is_allowed_case_with, Begins}
 use Rattle.fn_text.proofs.ReadIsWritten.States.{to_phrases, Phrases, level_front, levels_front, atoms_of_level, atoms_of_levels, here}
-use Rattle.fn_text.proofs.ReadIsWritten.States.{guard_front, atoms_before, AreLevels, HasGuard, IsOperand, HasBlocks, lines_of, InCase}
+use Rattle.fn_text.proofs.ReadIsWritten.States.{guard_front, atoms_before, AreNestings, HasGuard, IsOperand, HasBlocks, lines_of, InCase}
 use Rattle.fn_text.proofs.ReadIsWritten.States.{case_front}
 use Rattle.fn_text.proofs.ReadIsWritten.Guards.{disjunction_at, IsPhrase, disjunction_is, disjunction_written}
 use Rattle.fn_text.proofs.ReadIsWritten.Blocks.{case_front_more}
 use Rattle.fn_text.proofs.Refusals.MissingBlocks.{IsOpen, blocks_are_open, open_case, lines_begin}
 
 -- all open parentheses are closed behind what stands in the innermost ones
-abbrev closed_phrase : List (Level Phrase) → Phrase Loose → Phrase Loose
+abbrev closed_phrase : List (Nesting Phrase) → Phrase Loose → Phrase Loose
 closed_phrase [] d = d
 closed_phrase (level ∷ levels) d = closed_phrase levels (disjunction_at level (Round d))
 
-abbrev closing : List (Level Phrase) → List Token
+abbrev closing : List (Nesting Phrase) → List Token
 closing [] = []
 closing (level ∷ levels) = Close ∷ closing levels
 
-closed_written : (levels : List (Level Phrase)) (d : Phrase Loose) →
+closed_written : (levels : List (Nesting Phrase)) (d : Phrase Loose) →
     levels_front levels ++ written_as d ++ closing levels ≡ written_as (closed_phrase levels d)
 closed_written [] d = append-nil (written_as d)
 closed_written (level ∷ levels) d =
@@ -41,7 +41,7 @@ closed_written (level ∷ levels) d =
     regrouped a b c d = simp append_assoc
 
 -- closing the open levels makes a phrase within the limits, with all their atoms
-closed_is : (chars : Bool) (levels : List (Level Phrase)) (outside atoms : ℕ) (d : Phrase Loose) → AreLevels chars outside levels →
+closed_is : (chars : Bool) (levels : List (Nesting Phrase)) (outside atoms : ℕ) (d : Phrase Loose) → AreNestings chars outside levels →
     IsPhrase chars outside atoms d → IsPhrase chars 0 (atoms_of_levels levels + atoms) (closed_phrase levels d)
 closed_is chars [] outside atoms d around p =
     let nested = p.nested in

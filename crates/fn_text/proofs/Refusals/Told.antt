@@ -10,7 +10,7 @@ use Rattle.fn_rules.specs.Building.{PairCases}
 use Rattle.fn_moves.specs.declared.fault.TextFault.{TextFault}
 use Rattle.fn_text.specs.declared.stop.TextError.{TextError}
 use Rattle.fn_text.specs.declared.stop.TextError.TheVariants as errors
-use Rattle.fn_moves.specs.declared.control.Move.{Move}
+use Rattle.fn_moves.specs.declared.control.TokenMove.{TokenMove}
 use Rattle.fn_moves.specs.Moves.{move_for}
 use Rattle.fn_moves.specs.Meaning.{Formulas, to_formulas}
 use Rattle.fn_text.specs.Reader.{State, after_move, read_from, first_state}
@@ -71,7 +71,7 @@ refusals_are_final bytes fault e =
 
 -- the wrong token is not taken
 refused_by : (tokens : List Placed) (fault : TextFault) (r : IsRefusedFor tokens fault)
-    (s : State Formulas GuardedCase PairCases) → Leads (reverse r.before) s → (move : Option Move) →
+    (s : State Formulas GuardedCase PairCases) → Leads (reverse r.before) s → (move : Option TokenMove) →
     move_for s.control r.wrong s.control.want r.wrong.token ≡ move →
     read_from to_formulas (first_state to_formulas) tokens ≡ Err fault
 refused_by tokens fault r s leads None refused =

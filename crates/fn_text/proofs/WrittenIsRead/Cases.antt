@@ -13,7 +13,7 @@ use Rattle.fn_tokens.specs.declared.token.Placed.{Placed}
 use Rattle.fn_moves.specs.declared.control.Written.{Written}
 use Rattle.fn_moves.specs.declared.control.Written.TheVariants as written
 use Rattle.fn_moves.specs.declared.control.Want.TheVariants as wants
-use Rattle.fn_moves.specs.declared.control.Move.TheVariants as moves
+use Rattle.fn_moves.specs.declared.control.TokenMove.TheVariants as moves
 use Rattle.fn_moves.specs.Meaning.{Maker}
 use Rattle.fn_moves.specs.Controls.{has_chars}
 use Rattle.fn_text.specs.Reader.{State, disjunction, moved}

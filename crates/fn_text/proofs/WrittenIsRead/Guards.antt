@@ -21,20 +21,20 @@ use Rattle.fn_tokens.specs.Tokens.{bare}
 use Rattle.fn_moves.specs.declared.control.Want.{Want}
 use Rattle.fn_moves.specs.declared.control.Want.TheVariants as wants
 use Rattle.fn_moves.specs.declared.control.Control.{Control}
-use Rattle.fn_moves.specs.declared.control.Move.{Move}
-use Rattle.fn_moves.specs.declared.control.Move.TheVariants as moves
+use Rattle.fn_moves.specs.declared.control.TokenMove.{TokenMove}
+use Rattle.fn_moves.specs.declared.control.TokenMove.TheVariants as moves
 use Rattle.fn_moves.specs.Moves.{move_for}
 use Rattle.fn_moves.specs.Meaning.{Maker, may_compare}
 use Rattle.fn_moves.specs.Controls.{allowed, has_chars, depth_of}
 use Rattle.fn_moves.specs.FixedMoves.{at_fixed}
 use Rattle.fn_moves.specs.GuardMoves.{at_operator, at_offset}
-use Rattle.fn_text.specs.Reader.{Level, State, negate, join, choose, conjunction, disjunction, moved, closed, read_from, after_move}
+use Rattle.fn_text.specs.Reader.{Nesting, State, negate, join, choose, conjunction, disjunction, moved, closed, read_from, after_move}
 use Rattle.fn_text.specs.Reader.{want_behind}
 use Rattle.fn_grammar.specs.Grammar.{Phrase, Always, Compare, Shifted, Negated, Round, One, Both, Single, Either, written_as, made}
 use Rattle.fn_grammar.specs.Grammar.{atoms_in, nesting_in, is_allowed}
 
 -- the same in other parentheses
-abbrev pub around : {V : Tightness → Type 0} {K B : Type 0} → State V K B → ℕ → List (Level V) → State V K B
+abbrev pub around : {V : Tightness → Type 0} {K B : Type 0} → State V K B → ℕ → List (Nesting V) → State V K B
 around x outside levels = record x { control = record x.control { outside = outside }; outer = levels }
 
 -- behind a phrase an operator is wanted, or an offset in place of it
@@ -47,22 +47,22 @@ atom_is_behind Pos left cmp = shiftable left cmp refl
 atom_is_behind Site left cmp = plainly refl
 atom_is_behind Char left cmp = plainly refl
 
-pub allowed_true : (test : Bool) (move : Move) → test ≡ true → allowed test move ≡ Some move
+pub allowed_true : (test : Bool) (move : TokenMove) → test ≡ true → allowed test move ≡ Some move
 allowed_true true move h = refl
 allowed_true false move h = absurd (cc)
 
 -- what is wanted is known
-pub at_wanted : (c : Control) (at : Placed) (want : Want) (t : Token) (move : Move) → c.want ≡ want →
+pub at_wanted : (c : Control) (at : Placed) (want : Want) (t : Token) (move : TokenMove) → c.want ≡ want →
     move_for c at want t ≡ Some move → move_for c at c.want t ≡ Some move
 at_wanted c at want t move e h = ap (λ w. move_for c at w t) e ∙ h
 
-offset_goes : (c : Control) (left : Side) (cmp : Cmp) (t : Token) (move : Move) → at_operator c t ≡ Some move →
+offset_goes : (c : Control) (left : Side) (cmp : Cmp) (t : Token) (move : TokenMove) → at_operator c t ≡ Some move →
     at_offset c left cmp t ≡ Some move
 offset_goes c left cmp (tokens.Sign sign) move h = absurd (cc)
 offset_goes c left cmp t move h = h
 
 -- behind a phrase an operator goes on, though an offset might stand there too
-pub operator_goes : (c : Control) (at : Placed) (t : Token) (move : Move) → IsBehind c.want → at_operator c t ≡ Some move →
+pub operator_goes : (c : Control) (at : Placed) (t : Token) (move : TokenMove) → IsBehind c.want → at_operator c t ≡ Some move →
     move_for c at c.want t ≡ Some move
 operator_goes c at t move (plainly e) h = at_wanted c at wants.Operator t move e h
 operator_goes c at t move (shiftable left cmp e) h =
@@ -93,7 +93,7 @@ module _ {V : Tightness → Type 0} {K B : Type 0} (m : Maker V K B) where
   going rest (Err fault) = Err fault
 
   -- one token that can go on
-  pub leads_by : (s : State V K B) (ps : List Placed) (t : Token) (more : List Token) (move : Move) → bare ps ≡ t ∷ more →
+  pub leads_by : (s : State V K B) (ps : List Placed) (t : Token) (more : List Token) (move : TokenMove) → bare ps ≡ t ∷ more →
       ((at : Placed) → move_for s.control at s.control.want t ≡ Some move) → Leads s ps (moved m s move) more
   leads_by s [] t more move e h = absurd (cc)
   leads_by s (at ∷ rest) t more move e h =
@@ -134,7 +134,7 @@ module _ {V : Tightness → Type 0} {K B : Type 0} (m : Maker V K B) where
   }
 
   -- closing a level that was opened here leaves all but the last operand as it was
-  closed_keeps : (s : State V K B) (inner : State V K B) (levels : List (Level V)) → levels ≡ inner.outer →
+  closed_keeps : (s : State V K B) (inner : State V K B) (levels : List (Nesting V)) → levels ≡ inner.outer →
       forget inner ≡ forget (moved m s moves.Open) → forget (closed m inner levels) ≡ forget s
   closed_keeps s inner [] same kept =
       let outer = ap (λ x. x.outer) kept in absurd (cc)
@@ -161,7 +161,7 @@ module _ {V : Tightness → Type 0} {K B : Type 0} (m : Maker V K B) where
   behind_keeps s (Either d c) =
       behind_keeps (moved m (behind s d) moves.Or) c ∙ behind_keeps s d
 
-  closed_atoms : (s : State V K B) (levels : List (Level V)) → (closed m s levels).control.atoms ≡ s.control.atoms
+  closed_atoms : (s : State V K B) (levels : List (Nesting V)) → (closed m s levels).control.atoms ≡ s.control.atoms
   closed_atoms s [] = refl
   closed_atoms s (level ∷ levels) = refl
 
@@ -184,7 +184,7 @@ module _ {V : Tightness → Type 0} {K B : Type 0} (m : Maker V K B) where
       let right = behind_atoms (moved m (behind s d) moves.Or) c in
       omega (arith, left, right)
 
-  closed_is_behind : (s : State V K B) (levels : List (Level V)) → (closed m s levels).control.want ≡ wants.Operator
+  closed_is_behind : (s : State V K B) (levels : List (Nesting V)) → (closed m s levels).control.want ≡ wants.Operator
   closed_is_behind s [] = refl
   closed_is_behind s (level ∷ levels) = refl
 
@@ -306,7 +306,7 @@ module _ {V : Tightness → Type 0} {K B : Type 0} (m : Maker V K B) where
   negate_more : (n : ℕ) (u : V Tight) → negate m (n + 1) u ≡ negate m n (m.negated u)
   negate_more n u = rw add-one (sym (negate_inside n u))
 
-  closed_says : (s inner : State V K B) (levels : List (Level V)) (value : V Loose) →
+  closed_says : (s inner : State V K B) (levels : List (Nesting V)) (value : V Loose) →
       levels ≡ record { outside = s.control.outside; nots = s.control.nots; any = s.any; all = s.all } ∷ s.outer →
       disjunction m inner ≡ value → Says Tight s (closed m inner levels) (m.round value)
   closed_says s inner [] value same inside = absurd (cc)

@@ -2,14 +2,14 @@
 ghost use Rattle.std.specs.Prelude.{◌≡◌, ◌++◌, [], is_some, OnOk};
 ghost use Rattle.std.specs.List.{flat_map, list_all};
 ghost use Rattle.cert_text.specs.Spelling.{kind_text};
-ghost use Rattle.ot_counter.specs.Sides.{operation_side};
+ghost use Rattle.ot_counter.specs.Ways.{operation_result};
 ghost use Rattle.ot_replies.specs.AuditTexts.{audit_status, audit_text, block_text, case_line, case_lines};
 ghost use Rattle.ot_replies.specs.AuditTexts.{difference_text, found_text, is_total, open_line};
 ghost use Rattle.ot_replies.specs.AuditTexts.{same_status, same_text, spent_text};
 
-use super::counters::{write_op, write_ops, write_side_line};
+use super::counters::{write_op, write_ops, write_way_line};
 use ot_audit::{Audit, BlockAudit, Same};
-use ot_counter::Side;
+use ot_counter::WayResult;
 use ot_model::{Kind, NoMemory, Op};
 use std::alloc::Global;
 
@@ -186,12 +186,12 @@ pub(crate) fn write_audit(alloc: Global, audit: &Audit, out: &mut Vec<u8>) -> Re
 }
 
 /// What a function gives.
-pub(crate) fn side_of(form: Option<Op>) -> Side
-    ensures { result ≡ operation_side form }
+pub(crate) fn way_of(form: Option<Op>) -> WayResult
+    ensures { result ≡ operation_result form }
 {
     match form {
-        None => Side::Undefined,
-        Some(op) => Side::Op(op),
+        None => WayResult::Undefined,
+        Some(op) => WayResult::Op(op),
     }
 }
 
@@ -213,8 +213,8 @@ fn write_difference(
     let block = format!(in alloc; "differ {one} {other}\n")?;
     out.extend_from_slice(block.as_bytes())?;
     write_ops(alloc, ops, out)?;
-    write_side_line(alloc, "left ", &side_of(left), out)?;
-    write_side_line(alloc, "right ", &side_of(right), out)?;
+    write_way_line(alloc, "left ", &way_of(left), out)?;
+    write_way_line(alloc, "right ", &way_of(right), out)?;
     Ok(())
 }
 

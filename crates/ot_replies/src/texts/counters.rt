@@ -4,13 +4,13 @@ ghost use Rattle.std.specs.Fmt.{decimal, signed_decimal};
 ghost use Rattle.case_json.specs.DocText.{char_text};
 ghost use Rattle.cert_text.specs.Spelling.{level_text};
 ghost use Rattle.ot_replies.specs.DocumentTexts.{document_text};
-ghost use Rattle.ot_replies.specs.CounterTexts.{counter_text, line_of, op_lines, op_text, side_text, why_word};
+ghost use Rattle.ot_replies.specs.CounterTexts.{counter_text, line_of, op_lines, op_text, way_text, why_word};
 
 use super::documents::write_document;
 use super::level_word;
 use case_json::char_write;
 use fn_rules::Level;
-use ot_counter::{Counter, Side};
+use ot_counter::{Counter, WayResult};
 use ot_model::{Doc, NoMemory, Op};
 use ot_questions::Why;
 use std::alloc::Global;
@@ -96,14 +96,14 @@ pub(crate) fn write_op(alloc: Global, op: &Op, out: &mut Vec<u8>) -> Result<(), 
     Ok(())
 }
 
-fn write_side(alloc: Global, side: &Side, out: &mut Vec<u8>) -> Result<(), NoMemory>
-    ensures { OnOk result (out.new.items ≡ out.old.items ++ side_text side.now) }
+fn write_way(alloc: Global, way: &WayResult, out: &mut Vec<u8>) -> Result<(), NoMemory>
+    ensures { OnOk result (out.new.items ≡ out.old.items ++ way_text way.now) }
 {
-    match side {
-        Side::Undefined => out.extend_from_slice(b"undefined")?,
-        Side::OutOfRange => out.extend_from_slice(b"range")?,
-        Side::Doc(doc) => write_document(doc, out)?,
-        Side::Op(op) => write_op(alloc, op, out)?,
+    match way {
+        WayResult::Undefined => out.extend_from_slice(b"undefined")?,
+        WayResult::OutOfRange => out.extend_from_slice(b"range")?,
+        WayResult::Doc(doc) => write_document(doc, out)?,
+        WayResult::Op(op) => write_op(alloc, op, out)?,
     }
     Ok(())
 }
@@ -152,17 +152,17 @@ pub(crate) fn write_ops(alloc: Global, ops: &[Op], out: &mut Vec<u8>) -> Result<
     Ok(())
 }
 
-/// Writes the line of a side, behind its name.
-pub(crate) fn write_side_line(
+/// Writes the line of a way's result, behind its name.
+pub(crate) fn write_way_line(
     alloc: Global,
     name: &str,
-    side: &Side,
+    way: &WayResult,
     out: &mut Vec<u8>,
 ) -> Result<(), NoMemory>
-    ensures { OnOk result (out.new.items ≡ out.old.items ++ line_of (name.now ++ side_text side.now)) }
+    ensures { OnOk result (out.new.items ≡ out.old.items ++ line_of (name.now ++ way_text way.now)) }
 {
     out.extend_from_slice(name.as_bytes())?;
-    write_side(alloc, side, out)?;
+    write_way(alloc, way, out)?;
     out.push(b'\n')?;
     Ok(())
 }
@@ -179,7 +179,7 @@ pub(crate) fn write_counter(
     write_failure(alloc, counter.level, counter.why, out)?;
     write_doc_line(&counter.doc, out)?;
     write_ops(alloc, counter.ops.as_slice(), out)?;
-    write_side_line(alloc, "left ", &counter.left, out)?;
-    write_side_line(alloc, "right ", &counter.right, out)?;
+    write_way_line(alloc, "left ", &counter.left, out)?;
+    write_way_line(alloc, "right ", &counter.right, out)?;
     Ok(())
 }

@@ -3,8 +3,8 @@ ghost use Rattle.std.specs.Prelude.{◌≡◌, ◌++◌, [], codes, OnOk};
 ghost use Rattle.ot_replies.specs.CounterTexts.{line_of};
 ghost use Rattle.ot_replies.specs.ReversalTexts.{loss_text, loss_word, reversal_status, reversal_text};
 
-use super::audits::{side_of, write_spent};
-use super::counters::{write_doc_line, write_ops, write_side_line};
+use super::audits::{way_of, write_spent};
+use super::counters::{write_doc_line, write_ops, write_way_line};
 use ot_model::{Doc, NoMemory, Op};
 use ot_reverse::Back;
 use std::alloc::Global;
@@ -63,8 +63,8 @@ fn write_instance(
     write_loss(alloc, there, back, out)?;
     write_doc_line(doc, out)?;
     write_ops(alloc, ops, out)?;
-    write_side_line(alloc, "there ", &side_of(there), out)?;
-    write_side_line(alloc, "back ", &side_of(back), out)?;
+    write_way_line(alloc, "there ", &way_of(there), out)?;
+    write_way_line(alloc, "back ", &way_of(back), out)?;
     Ok(())
 }
 

@@ -7,7 +7,7 @@ use Rattle.fn_rules.specs.Obligations.{is_obligation, obligations_of}
 use Rattle.fn_rules.specs.Rules.{function_of}
 use Rattle.cert_text.specs.Spelling.{header_text}
 use Rattle.ot_questions.specs.Obligation.{plan_of}
-use Rattle.ot_decide.specs.declared.verdict.Search.{Search}
+use Rattle.ot_decide.specs.declared.verdict.SearchVerdict.{SearchVerdict}
 use Rattle.ot_decide.specs.Proving.{AreSettled}
 use Rattle.ot_decide.proofs.Settled.{decided_no, decided_spent, decided_yes, few_yes}
 use Rattle.ot_decide.proofs.proving.prove_all.Goals as goal
@@ -34,7 +34,7 @@ returns-in-AllHold c =
     let before = c.write_header.new.out.items in
     let after = c.search_all.new.bytes.items in
     let settled =
-    subst (λ (s : Search). AreSettled f.head (plan_of f) obs c.args.budget before after s) c.in-AllHold.is c.in_ok-search_all.ensures.settled in
+    subst (λ (s : SearchVerdict). AreSettled f.head (plan_of f) obs c.args.budget before after s) c.in-AllHold.is c.in_ok-search_all.ensures.settled in
     let begun : before ≡ header_text obs c.args.level =
     c.in_ok-write_header.ensures.ok
     ∙ ap (λ (x : List ℕ). x ++ header_text c.deref.result.now c.args.level) c.new-bytes.ensures.items
@@ -55,7 +55,7 @@ returns-in-Fails c =
     let before = c.write_header.new.out.items in
     let after = c.search_all.new.bytes.items in
     let settled =
-    subst (λ (s : Search). AreSettled f.head (plan_of f) obs c.args.budget before after s) c.in-Fails.is c.in_ok-search_all.ensures.settled in
+    subst (λ (s : SearchVerdict). AreSettled f.head (plan_of f) obs c.args.budget before after s) c.in-Fails.is c.in_ok-search_all.ensures.settled in
     record {
       decides =
           decided_no f c.args.level c.args.budget obs are before after c.in-Fails.ob c.in-Fails.answers c.in-Fails.why settled;
@@ -72,7 +72,7 @@ returns c =
     let before = c.write_header.new.out.items in
     let after = c.search_all.new.bytes.items in
     let settled =
-    subst (λ (s : Search). AreSettled f.head (plan_of f) obs c.args.budget before after s) c.in-Spent.is c.in_ok-search_all.ensures.settled in
+    subst (λ (s : SearchVerdict). AreSettled f.head (plan_of f) obs c.args.budget before after s) c.in-Spent.is c.in_ok-search_all.ensures.settled in
     record {
       decides = decided_spent f c.args.level c.args.budget obs are before after settled;
       within = λ _. tt;

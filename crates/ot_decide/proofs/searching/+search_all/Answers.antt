@@ -8,7 +8,7 @@ use Rattle.ot_prove.specs.declared.outcome.Outcome.{Outcome}
 use Rattle.ot_prove.specs.Outcomes.{IsDecided}
 use Rattle.ot_questions.specs.declared.why.Why.{Why}
 use Rattle.ot_questions.specs.Obligation.{plan_below}
-use Rattle.ot_decide.specs.declared.verdict.Search.TheVariants as search
+use Rattle.ot_decide.specs.declared.verdict.SearchVerdict.TheVariants as search
 use Rattle.ot_decide.specs.Proving.{AreSettled}
 use Rattle.ot_decide.proofs.Listed.{all_split}
 use Rattle.ot_decide.proofs.Settled.{searched_spellable, settled_behind, settled_refuted, settled_spent}

@@ -5,7 +5,7 @@ use Rattle.ot_model.specs.declared.op.Op.{Op}
 use Rattle.fn_rules.specs.Functions.{Function}
 use Rattle.fn_rules.specs.Rules.{function_of}
 use Rattle.ot_hub.specs.declared.carry.Crossed.{Crossed}
-use Rattle.ot_hub.specs.declared.placed.Placed.{Placed}
+use Rattle.ot_hub.specs.declared.placed.PlacedOp.{PlacedOp}
 use Rattle.ot_hub.specs.Carry.{crossed, behind, carry, from_place}
 use Rattle.ot_hub.specs.Usable.{farthest}
 use Rattle.ot_hub.proofs.Carrying.{no_one, from_true, from_false, rest-dropped, carry-next, behind-behind, behind-nothing}
@@ -31,11 +31,11 @@ cross-requires-clause-own c =
 pub loop-other-preserved : goal.loop-other-preserved
 loop-other-preserved c =
     let f : Function = function_of c.args.rules.now in
-    let list : List Placed = c.args.list.now in
+    let list : List PlacedOp = c.args.list.now in
     let i : ℕ = c.loop-other.other-index in
     let o : Op = c.loop-other.form in
     let m : ℕ = farthest (length list) in
-    let here : Placed = get_or list i no_one in
+    let here : PlacedOp = get_or list i no_one in
     let inside : i < length list = c.loop-other-test.true in
     let has : KeepsNear f =
     keeps_near f c.functions_keep_forms.ensures c.transform_stays_near.ensures c.enabled_operations_are_near.ensures.wider c.rules_are_valid.ensures in
@@ -43,7 +43,7 @@ loop-other-preserved c =
       | then-other-place+in-Some+in_ok-push w ↦
           (let both : Crossed = w.in-Some.both in
           let is : crossed f o here.op ≡ Some both = sym w.in-Some.ensures in
-          let moved : List Placed = record here { op = both.other } ∷ [] in
+          let moved : List PlacedOp = record here { op = both.other } ∷ [] in
           let pushed : w.push.new.self ≡ c.loop-other.new ++ moved = w.in_ok-push.ensures.ok in
           rw (w.form-is, w.new-is, pushed) (record {
             same = c.loop-other.invariant.same

@@ -3,7 +3,7 @@ use Rattle.std.proofs.Common.{inr, subst, Ok}
 use Rattle.std.proofs.lemmas.Result.{err_from_is_err_and}
 use Rattle.fn_rules.specs.Rules.{function_of}
 use Rattle.cert_text.specs.declared.item.Part.TheVariants as part
-use Rattle.cert_text.specs.Reading.{Progress}
+use Rattle.cert_text.specs.Reading.{ReaderState}
 use Rattle.ot_sections.specs.Feeding.{fed}
 use Rattle.ot_sections.specs.Stands.{Came, IsMisspeltBehind, offset_of}
 use Rattle.ot_judge.proofs.WholeRun.{answered, at_start, behind_header, header_refused, refused_behind}
@@ -17,7 +17,7 @@ returns-in_err-level-clause-judged g c =
     rw (p.1, p.2)
     (answered g.F.Feed f c.args.feed.now c.read_header.new.feed c.in_err-level.field-0.0
     (header_refused g.F.Feed f c.args.feed.now c.read_header.new.feed c.in_err-level.field-0.0
-    (subst (λ (r : Progress). IsMisspeltBehind g.F.Feed (fed r c.args.feed.now) c.read_header.new.feed c.in_err-level.field-0.0) at
+    (subst (λ (r : ReaderState). IsMisspeltBehind g.F.Feed (fed r c.args.feed.now) c.read_header.new.feed c.in_err-level.field-0.0) at
     c.in_err-level.ensures.misspelt)))
 
 -- behind the header the sections are refused
@@ -27,7 +27,8 @@ returns-in_err-judge_sections-clause-judged g c =
     let f = function_of c.args.rules.now in
     let at = at_start f c.args.head.now _ _ c.new-reader.result c.new-reader.ensures c.in_ok-tp1.ensures c.in_ok-tp2.ensures c.requires.head in
     let first = fed c.read_header.new.reader c.read_header.new.feed in
-    let header = subst (λ (r : Progress). Came g.F.Feed (fed r c.args.feed.now) first (record { offset = offset_of r; part = part.Header c.in_ok-level.level }))
+    let header = subst (λ (r : ReaderState). Came g.F.Feed (fed r c.args.feed.now) first
+    (record { offset = offset_of r; part = part.Header c.in_ok-level.level }))
     at c.in_ok-level.ensures.header in
     rw (p.1, p.2)
     (answered g.F.Feed f c.args.feed.now c.judge_sections.new.feed c.in_err-judge_sections.field-0.0
@@ -40,7 +41,8 @@ returns-clause-judged g c =
     let f = function_of c.args.rules.now in
     let at = at_start f c.args.head.now _ _ c.new-reader.result c.new-reader.ensures c.in_ok-tp1.ensures c.in_ok-tp2.ensures c.requires.head in
     let first = fed c.read_header.new.reader c.read_header.new.feed in
-    let header = subst (λ (r : Progress). Came g.F.Feed (fed r c.args.feed.now) first (record { offset = offset_of r; part = part.Header c.in_ok-level.level }))
+    let header = subst (λ (r : ReaderState). Came g.F.Feed (fed r c.args.feed.now) first
+    (record { offset = offset_of r; part = part.Header c.in_ok-level.level }))
     at c.in_ok-level.ensures.header in
     inr
     (λ all have.

@@ -7,7 +7,7 @@ use Rattle.fn_rules.specs.declared.function.ObName.{ObName}
 use Rattle.fn_rules.specs.Rules.{function_of}
 use Rattle.ot_questions.specs.declared.why.Why.{Why}
 use Rattle.ot_questions.specs.Obligation.{plan_below}
-use Rattle.ot_decide.specs.declared.verdict.Search.{Search}
+use Rattle.ot_decide.specs.declared.verdict.SearchVerdict.{SearchVerdict}
 use Rattle.ot_decide.specs.Proving.{AreSettled}
 use Rattle.ot_decide.specs.Verdicts.{ObQuestions}
 use Rattle.ot_least.specs.Endings.{end_of}
@@ -28,7 +28,7 @@ returns-in_ok-write_end-in-AllHold-clause-falls t c =
     let before = c.write_low_header.new.out.items in
     let after = c.search_all.new.bytes.items in
     let settled =
-    subst (λ (s : Search). AreSettled f.head (plan_below f (Some e.cells)) obs c.args.budget before after s) c.in-AllHold.is
+    subst (λ (s : SearchVerdict). AreSettled f.head (plan_below f (Some e.cells)) obs c.args.budget before after s) c.in-AllHold.is
     c.in_ok-search_all.ensures.settled in
     let begun : before ≡ low_header_text (level_of e.ob) e.cells =
     c.in_ok-write_low_header.ensures
@@ -49,7 +49,7 @@ returns-in_ok-write_end-in-AllHold-clause-holds t c =
     let before = c.write_low_header.new.out.items in
     let after = c.search_all.new.bytes.items in
     let settled =
-    subst (λ (s : Search). AreSettled f.head (plan_below f (Some e.cells)) obs c.args.budget before after s) c.in-AllHold.is
+    subst (λ (s : SearchVerdict). AreSettled f.head (plan_below f (Some e.cells)) obs c.args.budget before after s) c.in-AllHold.is
     c.in_ok-search_all.ensures.settled in
     let begun : before ≡ low_header_text (level_of e.ob) e.cells =
     c.in_ok-write_low_header.ensures
@@ -74,7 +74,7 @@ returns-in_ok-write_end-in-AllHold-clause-within t c =
     let before = c.write_low_header.new.out.items in
     let after = c.search_all.new.bytes.items in
     let settled =
-    subst (λ (s : Search). AreSettled f.head (plan_below f (Some e.cells)) obs c.args.budget before after s) c.in-AllHold.is
+    subst (λ (s : SearchVerdict). AreSettled f.head (plan_below f (Some e.cells)) obs c.args.budget before after s) c.in-AllHold.is
     c.in_ok-search_all.ensures.settled in
     let begun : before ≡ low_header_text (level_of e.ob) e.cells =
     c.in_ok-write_low_header.ensures
@@ -97,7 +97,7 @@ descend-requires t c =
     let before = c.write_low_header.new.out.items in
     let after = c.search_all.new.bytes.items in
     let settled =
-    subst (λ (s : Search). AreSettled f.head (plan_below f (Some e.cells)) obs c.args.budget before after s) c.in-Fails.is
+    subst (λ (s : SearchVerdict). AreSettled f.head (plan_below f (Some e.cells)) obs c.args.budget before after s) c.in-Fails.is
     c.in_ok-search_all.ensures.settled in
     let next = c.in_ok-next-in-Fails.next in
     let fewer = c.in_ok-next-in-Fails.ensures.fewer in
@@ -124,7 +124,7 @@ returns-in_ok-next-in-Fails-clause-falls t c =
     let before = c.write_low_header.new.out.items in
     let after = c.search_all.new.bytes.items in
     let settled =
-    subst (λ (s : Search). AreSettled f.head (plan_below f (Some e.cells)) obs c.args.budget before after s) c.in-Fails.is
+    subst (λ (s : SearchVerdict). AreSettled f.head (plan_below f (Some e.cells)) obs c.args.budget before after s) c.in-Fails.is
     c.in_ok-search_all.ensures.settled in
     let next = c.in_ok-next-in-Fails.next in
     IfOk-weaker c.descend.result
@@ -148,6 +148,6 @@ returns-in-Spent-clause-falls t c =
     let before = c.write_low_header.new.out.items in
     let after = c.search_all.new.bytes.items in
     let settled =
-    subst (λ (s : Search). AreSettled f.head (plan_below f (Some e.cells)) obs c.args.budget before after s) c.in-Spent.is
+    subst (λ (s : SearchVerdict). AreSettled f.head (plan_below f (Some e.cells)) obs c.args.budget before after s) c.in-Spent.is
     c.in_ok-search_all.ensures.settled in
     falls_spent f c.args.budget e obs are before after settled

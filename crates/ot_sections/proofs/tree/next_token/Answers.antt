@@ -1,7 +1,7 @@
 use Rattle.std.proofs.Common.{◌≡◌, ◌∙◌, subst}
 use Rattle.std.proofs.lemmas.Result.{err_from_is_err_and}
 use Rattle.cert_text.specs.declared.item.Part.TheVariants as part
-use Rattle.cert_text.specs.Reading.{Progress}
+use Rattle.cert_text.specs.Reading.{ReaderState}
 use Rattle.ot_sections.specs.Feeding.{fed}
 use Rattle.ot_sections.specs.Stands.{Came, IsMisspeltBehind}
 use Rattle.ot_sections.proofs.Coming.{IsAsked, came_asked, misspelt_asked, not_begun, part_comes, took_of}
@@ -32,7 +32,7 @@ returns-in_err-offset-clause-misspelt g c =
     ] in
     rw (p.1, p.2)
     (misspelt_asked g.F.Feed c.args.reader.now c.args.feed.now c.more.new.self same c.split_token.new.feed c.in_err-offset.field-0.0
-    (subst (λ (r : Progress). IsMisspeltBehind g.F.Feed (fed r c.more.new.self) c.split_token.new.feed c.in_err-offset.field-0.0) reader_is
+    (subst (λ (r : ReaderState). IsMisspeltBehind g.F.Feed (fed r c.more.new.self) c.split_token.new.feed c.in_err-offset.field-0.0) reader_is
     c.in_err-offset.ensures.misspelt))
 
 -- a token that does not stand whole at hand came
@@ -48,6 +48,6 @@ returns-clause-token g c =
     came_asked g.F.Feed c.args.reader.now c.args.feed.now c.more.new.self same (fed c.split_token.new.reader c.split_token.new.feed)
     (record { offset = c.in_ok-offset.offset; part = part.Tok c.in_ok-offset.whole })
     (subst
-    (λ (r : Progress). Came g.F.Feed (fed r c.more.new.self) (fed c.split_token.new.reader c.split_token.new.feed)
+    (λ (r : ReaderState). Came g.F.Feed (fed r c.more.new.self) (fed c.split_token.new.reader c.split_token.new.feed)
     (record { offset = c.in_ok-offset.offset; part = part.Tok c.in_ok-offset.whole }))
     reader_is c.in_ok-offset.ensures.token)

@@ -9,7 +9,7 @@ use Rattle.ot_causal.specs.Members.{without}
 use Rattle.ot_causal.specs.Past.{Past, maker, IsOpening}
 use Rattle.ot_causal.specs.Forms.{form}
 use Rattle.ot_causal.specs.Counting.{FormName, name_of, sought, count_sought, from_site}
-use Rattle.ot_session.specs.declared.form.Refusal.{Refusal}
+use Rattle.ot_session.specs.declared.form.FormError.{FormError}
 use Rattle.ot_session.specs.Past.{past_of, most_cells}
 use Rattle.ot_session.specs.Lists.{clock}
 use Rattle.ot_session.specs.Entries.{HasForms, IsTable, MaySeek, Seeks, HasSought}
@@ -127,12 +127,12 @@ returns-in_err-own-clause-sought t c = λ names others has total.
     let x : ℕ = c.in-Some.other in
     let split : sought past o l ≡ sought past o (without x l) ++ sought past x (without x l) ++ name_of o l ∷ [] =
     c.forms_are_sought_before_they_are_made.ensures.some past o l x (sym c.in-Some.ensures) in
-    let e : Refusal = c.in_err-own.field-0.0 in
+    let e : FormError = c.in_err-own.field-0.0 in
     let same : c.from_residual-in_err-own.result ≡ Err e = search rules in
     let stopped : HasSought f past seen names others o (without x l) c.form_behind.new.table c.form_behind.new.counted (Err e) =
     subst (λ (m : List ℕ). HasSought f past seen names others o m c.form_behind.new.table c.form_behind.new.counted (Err e))
     (c.deref.ensures.value ∙ c.in_ok-older.ensures) (c.in_err-own.ensures.sought names others has total) in
-    subst (λ (r : Result Op Refusal). HasSought f past seen names others o l c.form_behind.new.table c.form_behind.new.counted r) (sym same)
+    subst (λ (r : Result Op FormError). HasSought f past seen names others o l c.form_behind.new.table c.form_behind.new.counted r) (sym same)
     (HasSought-own f past seen o x l split names others c.form_behind.new.table c.form_behind.new.table c.form_behind.new.counted e stopped)
 
 -- the member that is taken out may be sought behind the shorter list, with the table as it is now
@@ -258,12 +258,12 @@ returns-in_err-by-clause-sought t c = λ names others has total.
     subst (λ (m : List ℕ). Seeks f past seen names others o m c.form_behind.new.table c.form_behind.new.counted)
     (c.deref.ensures.value ∙ c.in_ok-older.ensures) (c.in_ok-own.ensures.sought names others has total) in
     let first : List FormName = count_sought names (sought past o (without x l)) in
-    let e : Refusal = c.in_err-by.field-0.0 in
+    let e : FormError = c.in_err-by.field-0.0 in
     let same : c.from_residual-in_err-by.result ≡ Err e = search rules in
     let stopped : HasSought f past seen first others x (without x l) c.form_behind-2.new.table c.form_behind-2.new.counted (Err e) =
     subst (λ (m : List ℕ). HasSought f past seen first others x m c.form_behind-2.new.table c.form_behind-2.new.counted (Err e))
     (c.deref-2.ensures.value ∙ c.in_ok-older.ensures) (c.in_err-by.ensures.sought first others own.table own.count) in
-    subst (λ (r : Result Op Refusal). HasSought f past seen names others o l c.form_behind-2.new.table c.form_behind-2.new.counted r) (sym same)
+    subst (λ (r : Result Op FormError). HasSought f past seen names others o l c.form_behind-2.new.table c.form_behind-2.new.counted r) (sym same)
     (HasSought-by f past seen o x l split names others own.free c.form_behind-2.new.table c.form_behind-2.new.table
     c.form_behind-2.new.counted e stopped)
 
@@ -283,8 +283,8 @@ returns-in_err-count_one-clause-sought t c = λ names others has total.
     c.args.counts c.args.table.now c.requires.counts (sym c.find.ensures ∙ c.in_default-find.is) c.requires.may has in
     let full = c.in_err-count_one.ensures.err in
     let same : c.from_residual-in_err-count_one.result ≡ Err c.in_err-count_one.field-0.0 = search rules in
-    subst (λ (r : Result Op Refusal). HasSought f past seen names others o l c.form_behind-2.new.table c.count_one.new.counted r)
-    (ap (λ (e : Refusal). Err e) (sym full.0) ∙ sym same)
+    subst (λ (r : Result Op FormError). HasSought f past seen names others o l c.form_behind-2.new.table c.count_one.new.counted r)
+    (ap (λ (e : FormError). Err e) (sym full.0) ∙ sym same)
     (exhausted f past seen o x l names others joined
     (c.forms_are_sought_before_they_are_made.ensures.some past o l x (sym c.in-Some.ensures))
     c.deref.result.now c.deref-2.result.now (c.deref.ensures.value ∙ c.in_ok-older.ensures) (c.deref-2.ensures.value ∙ c.in_ok-older.ensures)

@@ -6,8 +6,8 @@ use Rattle.ot_model.specs.Effect.{is_enabled}
 use Rattle.fn_rules.specs.Rules.{function_of}
 use Rattle.fn_rules.specs.Functions.{Function}
 use Rattle.ot_causal.specs.Past.{Past}
-use Rattle.ot_session.specs.declared.form.Refusal.{Refusal}
-use Rattle.ot_session.specs.declared.form.Refusal.TheVariants.{NoForm, Spent}
+use Rattle.ot_session.specs.declared.form.FormError.{FormError}
+use Rattle.ot_session.specs.declared.form.FormError.TheVariants.{NoForm, Spent}
 use Rattle.ot_session.specs.declared.site.Site.{Site}
 use Rattle.ot_session.specs.Past.{past_of}
 use Rattle.ot_session.specs.Entries.{IsTable, MaySeek}
@@ -71,18 +71,18 @@ form_behind-requires-clause-table c =
 pub returns-in_err-form-clause-stuck : goal.returns-in_err-form-clause-stuck
 returns-in_err-form-clause-stuck c = λ none.
     let items : c.in_ok-seen.seen.items ≡ reverse c.args.site.now.seen.items = c.in_ok-seen.ensures ∙ ap reverse c.deref.ensures.value in
-    let e : Refusal = c.in_err-form.field-0.0 in
+    let e : FormError = c.in_err-form.field-0.0 in
     let same : c.from_residual-in_err-form.result ≡ Err e = search rules in
     let is : e ≡ NoForm = let errs : Err e ≡ Err NoForm = sym same ∙ none in cc in
     IsStuck-missing (function_of c.args.rules.now) (past_of c.args.made.now) c.args.site.now c.args.number c.args.total.now c.form_behind.new.counted
     c.form_behind.new.table c.deref-2.result.now c.deref-4.result.now (c.deref-2.ensures.value ∙ items) (c.deref-4.ensures.value ∙ items)
     c.requires.total c.requires.can c.requires.next e is c.in_err-form.ensures.sought
-    (c.in_err-form.ensures.no_form (ap (λ (x : Refusal). Err x) is))
+    (c.in_err-form.ensures.no_form (ap (λ (x : FormError). Err x) is))
 
 pub returns-in_err-form-clause-stuck_at : goal.returns-in_err-form-clause-stuck_at
 returns-in_err-form-clause-stuck_at c = λ none.
     let items : c.in_ok-seen.seen.items ≡ reverse c.args.site.now.seen.items = c.in_ok-seen.ensures ∙ ap reverse c.deref.ensures.value in
-    let e : Refusal = c.in_err-form.field-0.0 in
+    let e : FormError = c.in_err-form.field-0.0 in
     let same : c.from_residual-in_err-form.result ≡ Err e = search rules in
     let is : e ≡ NoForm = let errs : Err e ≡ Err NoForm = sym same ∙ none in cc in
     count_behind-missing (function_of c.args.rules.now) (past_of c.args.made.now) c.args.site.now c.args.number c.args.total.now c.form_behind.new.counted
@@ -92,7 +92,7 @@ returns-in_err-form-clause-stuck_at c = λ none.
 pub returns-in_err-form-clause-spent : goal.returns-in_err-form-clause-spent
 returns-in_err-form-clause-spent c = λ none.
     let items : c.in_ok-seen.seen.items ≡ reverse c.args.site.now.seen.items = c.in_ok-seen.ensures ∙ ap reverse c.deref.ensures.value in
-    let e : Refusal = c.in_err-form.field-0.0 in
+    let e : FormError = c.in_err-form.field-0.0 in
     let same : c.from_residual-in_err-form.result ≡ Err e = search rules in
     let is : e ≡ Spent = let errs : Err e ≡ Err Spent = sym same ∙ none in cc in
     IsSpent-sought (function_of c.args.rules.now) (past_of c.args.made.now) c.args.site.now c.args.number c.args.total.now c.form_behind.new.counted

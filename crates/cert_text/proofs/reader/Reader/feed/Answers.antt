@@ -1,5 +1,5 @@
 use Rattle.std.proofs.Common.{◌≡◌, [], ap, ◌∙◌}
-use Rattle.cert_text.specs.declared.step.Step.TheVariants as step
+use Rattle.cert_text.specs.declared.step.PartStep.TheVariants as step
 use Rattle.cert_text.specs.Stages.{begun_text}
 use Rattle.cert_text.proofs.ReadingLemmas.{reads_on}
 use Rattle.cert_text.proofs.ReaderLemmas.{gives_part, gives_refusal, steps_for, under_way}

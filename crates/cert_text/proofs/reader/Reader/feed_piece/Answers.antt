@@ -1,5 +1,5 @@
 use Rattle.std.proofs.Common.{Some, Ok, rules, subst}
-use Rattle.cert_text.specs.Reading.{Progress}
+use Rattle.cert_text.specs.Reading.{ReaderState}
 use Rattle.cert_text.specs.Pieces.{GivesOf}
 use Rattle.cert_text.proofs.PieceLemmas.{piece_reads, piece_within}
 use Rattle.cert_text.proofs.reader.Reader.feed_piece.Goals as goal
@@ -19,7 +19,7 @@ returns-in-Some c =
 pub returns-in-None : goal.returns-in-None
 returns-in-None c =
     let given =
-    subst (λ (p : Progress). GivesOf p c.args.piece.now c.feed_each.result.0 c.feed_each.result.1 c.feed_each.new.self) c.in-None.ensures.none
+    subst (λ (p : ReaderState). GivesOf p c.args.piece.now c.feed_each.result.0 c.feed_each.result.1 c.feed_each.new.self) c.in-None.ensures.none
     c.feed_each.ensures.gives in
     let taken = piece_within c.args.self.now c.feed_each.new.self c.args.piece.now c.feed_each.result.0 c.feed_each.result.1 given in
     record {

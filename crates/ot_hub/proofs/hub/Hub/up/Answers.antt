@@ -7,7 +7,7 @@ use Rattle.ot_model.specs.declared.op.Mode.{Mode}
 use Rattle.fn_rules.specs.Functions.{Function}
 use Rattle.fn_rules.specs.Rules.{function_of}
 use Rattle.ot_hub.specs.declared.client.Client.{Client}
-use Rattle.ot_hub.specs.declared.placed.Placed.{Placed}
+use Rattle.ot_hub.specs.declared.placed.PlacedOp.{PlacedOp}
 use Rattle.ot_hub.specs.declared.placed.Entry.{Entry}
 use Rattle.ot_hub.specs.declared.answer.Move.TheVariants as moves
 use Rattle.ot_hub.specs.InStep.{AreInStep, AreCounted}
@@ -35,7 +35,7 @@ invariant_of-self c =
     let all : List Client = s.clients.items in
     let place : ℕ = c.args.client - 1 in
     let one : Client = client_at all place in
-    let message : Placed = c.in-Some.message in
+    let message : PlacedOp = c.in-Some.message in
     let there : IsClient (length all) c.args.client = c.if-not-has_client.ensures.0 refl in
     let inside : place < length all = inside_of all c.args.client there in
     let client_is : one ≡ c.index.result.now = client_read all c.args.client c.index.result.now there c.index.ensures in
@@ -57,7 +57,7 @@ invariant_of-self c =
     (omega (arith, inside, s.kept.sides)) went.is) in
     let longer : length new.log ≡ length s.server.log + 1 =
     ap (λ (server : Server). length server.log) (sym went.new_is) ∙ length-append s.server.log (record { client = c.args.client; op = went.it.op } ∷ []) in
-    let told : List (List Placed) = map (λ list. list ++ record { place = length s.server.log; op = went.it.op } ∷ []) s.server.ahead in
+    let told : List (List PlacedOp) = map (λ list. list ++ record { place = length s.server.log; op = went.it.op } ∷ []) s.server.ahead in
     let sides : length new.ahead ≡ length s.server.ahead =
     ap (λ (server : Server). length server.ahead) (sym went.new_is) ∙ length-set told place went.it.list
     ∙ length-map s.server.ahead (λ list. list ++ record { place = length s.server.log; op = went.it.op } ∷ []) in
@@ -84,7 +84,7 @@ returns-in-Ok-clause-moved c =
     let all : List Client = s.clients.items in
     let place : ℕ = c.args.client - 1 in
     let one : Client = client_at all place in
-    let message : Placed = c.in-Some.message in
+    let message : PlacedOp = c.in-Some.message in
     let there : IsClient (length all) c.args.client = c.if-not-has_client.ensures.0 refl in
     let client_is : one ≡ c.index.result.now = client_read all c.args.client c.index.result.now there c.index.ensures in
     let first : Some message ≡ slice_get one.messages 0 = rw client_is c.in-Some.ensures in
@@ -104,7 +104,7 @@ returns-in-Err-clause-moved c =
     let all : List Client = s.clients.items in
     let place : ℕ = c.args.client - 1 in
     let one : Client = client_at all place in
-    let message : Placed = c.in-Some.message in
+    let message : PlacedOp = c.in-Some.message in
     let there : IsClient (length all) c.args.client = c.if-not-has_client.ensures.0 refl in
     let client_is : one ≡ c.index.result.now = client_read all c.args.client c.index.result.now there c.index.ensures in
     let first : Some message ≡ slice_get one.messages 0 = rw client_is c.in-Some.ensures in
@@ -125,7 +125,7 @@ returns-in-Err-clause-never_stuck c tp1 chars is =
     let all : List Client = s.clients.items in
     let place : ℕ = c.args.client - 1 in
     let one : Client = client_at all place in
-    let message : Placed = c.in-Some.message in
+    let message : PlacedOp = c.in-Some.message in
     let there : IsClient (length all) c.args.client = c.if-not-has_client.ensures.0 refl in
     let client_is : one ≡ c.index.result.now = client_read all c.args.client c.index.result.now there c.index.ensures in
     let first : Some message ≡ slice_get one.messages 0 = rw client_is c.in-Some.ensures in

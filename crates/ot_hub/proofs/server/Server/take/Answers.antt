@@ -4,7 +4,7 @@ use Rattle.ot_model.specs.declared.op.Op.{Op}
 use Rattle.ot_model.specs.Effect.{is_enabled}
 use Rattle.fn_rules.specs.Functions.{Function}
 use Rattle.fn_rules.specs.Rules.{function_of}
-use Rattle.ot_hub.specs.declared.placed.Placed.{Placed}
+use Rattle.ot_hub.specs.declared.placed.PlacedOp.{PlacedOp}
 use Rattle.ot_hub.specs.Carry.{carry, from_place}
 use Rattle.ot_hub.specs.Steps.{ahead_of, server_step, server_after, To}
 use Rattle.ot_hub.proofs.Kept.{CanBeCarried-ahead}
@@ -25,9 +25,9 @@ carry_list-requires-clause-usable c =
 pub returns : goal.returns
 returns c =
     let f : Function = function_of c.args.rules.now in
-    let list : List Placed = c.as_slice-ahead.result.now in
+    let list : List PlacedOp = c.as_slice-ahead.result.now in
     let form : Op = c.in-Some.form in
-    let own : List Placed = c.in_ok-own.own in
+    let own : List PlacedOp = c.in_ok-own.own in
     let there : ahead_of c.args.self.now c.args.client ≡ list = ap (λ found. unwrap_or found []) c.index.ensures ∙ sym c.as_slice-ahead.ensures in
     let enabled : is_enabled form (length c.args.self.now.doc) ≡ true =
     ap (is_enabled form) (sym c.len.ensures) ∙ sym c.if-not-enabled.ensures.test in

@@ -1,5 +1,5 @@
 use Rattle.std.proofs.Common.{◌≡◌, ◌∙◌, take, drop, ◌+◌, ◌-◌, arith, refl}
-use Rattle.proof_check.specs.declared.places.Waiting.TheVariants as waiting
+use Rattle.proof_check.specs.declared.places.WaitingPlace.TheVariants as waiting
 use Rattle.proof_check.proofs.PlaceLemmas.{closed_places, learned_places, longer_path, shorter_path, popped}
 use Rattle.proof_check.proofs.places.Places.close.Goals as goal
 

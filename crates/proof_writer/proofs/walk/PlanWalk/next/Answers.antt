@@ -1,6 +1,6 @@
-use Rattle.proof_writer.specs.declared.place.Waiting.TheVariants.{Part, Cycle, Learn}
+use Rattle.proof_writer.specs.declared.place.WriterTask.TheVariants.{Part, Cycle, Learn}
 use Rattle.proof_writer.proofs.Walking.{others_popped, others_taken}
-use Rattle.proof_writer.proofs.walk.Walk.next.Goals as goal
+use Rattle.proof_writer.proofs.walk.PlanWalk.next.Goals as goal
 
 pub returns-in_ok-put-in-Some-Cycle-clause-nodes : goal.returns-in_ok-put-in-Some-Cycle-clause-nodes
 returns-in_ok-put-in-Some-Cycle-clause-nodes g c =

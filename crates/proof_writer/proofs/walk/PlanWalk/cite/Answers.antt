@@ -1,6 +1,6 @@
 use Rattle.std.proofs.Common.{◌∙◌}
 use Rattle.proof_writer.proofs.Walking.{others_closed, others_kept}
-use Rattle.proof_writer.proofs.walk.Walk.cite.Goals as goal
+use Rattle.proof_writer.proofs.walk.PlanWalk.cite.Goals as goal
 
 pub returns-then-not-branch-clause-nodes : goal.returns-then-not-branch-clause-nodes
 returns-then-not-branch-clause-nodes g c =

@@ -1,6 +1,6 @@
 use Rattle.proof_writer.proofs.Walking.{parts_of_yes, parts_of_both, pushed_on}
-use Rattle.proof_writer.specs.declared.place.Waiting.TheVariants.{Part}
-use Rattle.proof_writer.proofs.walk.Walk.ask.Goals as goal
+use Rattle.proof_writer.specs.declared.place.WriterTask.TheVariants.{Part}
+use Rattle.proof_writer.proofs.walk.PlanWalk.ask.Goals as goal
 
 pub returns-then-branch-2-clause-nodes : goal.returns-then-branch-2-clause-nodes
 returns-then-branch-2-clause-nodes g c =

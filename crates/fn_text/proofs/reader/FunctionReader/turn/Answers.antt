@@ -1,6 +1,6 @@
 use Rattle.std.proofs.Common.{sym}
 use Rattle.fn_text.proofs.ReadIsWritten.Room.{move_fits}
-use Rattle.fn_text.proofs.reader.Reader.turn.Goals as goal
+use Rattle.fn_text.proofs.reader.FunctionReader.turn.Goals as goal
 
 pub apply-requires : goal.apply-requires
 apply-requires c =

@@ -1,6 +1,6 @@
 use Rattle.std.proofs.Common.{◌≡◌}
 use Rattle.proof_writer.specs.Texts.{Extends}
-use Rattle.proof_writer.proofs.walk.Walk.put_cycles.Given as goal
+use Rattle.proof_writer.proofs.walk.PlanWalk.put_cycles.Given as goal
 
 abbrev pub invariant-literals : goal.invariant-literals
 invariant-literals g l = record {

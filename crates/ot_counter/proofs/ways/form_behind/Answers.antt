@@ -2,7 +2,7 @@ use Rattle.std.proofs.Common.{◌+◌, arith, sym}
 use Rattle.fn_rules.specs.Rules.{function_of}
 use Rattle.ot_values.specs.Values.{farthest}
 use Rattle.ot_counter.proofs.Near.{IsWithin-more, IsForKind-form}
-use Rattle.ot_counter.proofs.sides.form_behind.Goals as goal
+use Rattle.ot_counter.proofs.ways.form_behind.Goals as goal
 
 pub transform-requires-clause-a_in_range : goal.transform-requires-clause-a_in_range
 transform-requires-clause-a_in_range c = IsWithin-more farthest 1099511627776 c.args.b.now (omega arith) c.requires.b_near

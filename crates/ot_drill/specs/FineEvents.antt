@@ -18,13 +18,13 @@ use Rattle.ot_drill.specs.declared.limits.TheConstants.{SITES}
 use Rattle.ot_drill.specs.Workload.{drill_function}
 
 -- how many operations each site made, how many were made in all, and whether one was taken since
-pub record Counts : Type 0 where
+pub record MadeCounts : Type 0 where
   pub made : ℕ → ℕ
   pub total : ℕ
   pub taking : Bool
 
 -- nothing was made
-abbrev pub none_made : Counts
+abbrev pub none_made : MadeCounts
 none_made = record { made = λ s. 0; total = 0; taking = false }
 
 -- the number is that of a site
@@ -32,31 +32,31 @@ abbrev pub is_site : ℕ → Bool
 is_site s = nat_le 1 s && nat_le s SITES
 
 -- an insertion at the front of a document, or a deletion there behind an insertion at this site
-abbrev pub is_at_front : Counts → ℕ → Op → Bool
+abbrev pub is_at_front : MadeCounts → ℕ → Op → Bool
 is_at_front c s (Ins at ch site) = int_eq at (pos 0) && nat_eq site s
 is_at_front c s (Del at site) = int_eq at (pos 0) && nat_eq site s && nat_lt 0 (c.made s)
 is_at_front c s (Upd at ch site) = false
 is_at_front c s Nop = false
 
 -- an operation may be made before any is taken, and taken once it was made
-abbrev pub is_fine : Counts → Event → Bool
+abbrev pub is_fine : MadeCounts → Event → Bool
 is_fine c (Make s op) = not c.taking && is_site s && nat_lt (c.made s) MOST_ROUNDS && nat_lt c.total 48 && is_at_front c
     s op
 is_fine c (Take s number) = is_site s && nat_lt number c.total
 
-abbrev pub counts_behind : Counts → Event → Counts
+abbrev pub counts_behind : MadeCounts → Event → MadeCounts
 counts_behind c (Make s op) =
     record { made = λ t. c.made t + (if nat_eq s t then 1 else 0); total = c.total + 1; taking = c.taking }
 counts_behind c (Take s number) = record { made = c.made; total = c.total; taking = true }
 
 -- each event may be done behind those before it
-abbrev pub are_fine : Counts → List Event → Bool
+abbrev pub are_fine : MadeCounts → List Event → Bool
 are_fine c [] = true
 are_fine c (event ∷ events) = is_fine c event && are_fine (counts_behind c event) events
 
 -- the session is open, and its counts are these, which are small; before an operation is taken, sites that made one
 -- have cells
-pub record Stands (v : View) (c : Counts) : Type 0 where
+pub record Stands (v : View) (c : MadeCounts) : Type 0 where
   pub is_open : v.is_open ≡ true
   pub sites : length v.sites ≡ SITES
   pub total : length v.made ≡ c.total

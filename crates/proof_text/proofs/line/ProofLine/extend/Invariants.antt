@@ -1,5 +1,5 @@
 use Rattle.std.proofs.Common.{◌≡◌, ◌++◌, take}
-use Rattle.proof_text.proofs.line.LineBytes.extend.Given as goal
+use Rattle.proof_text.proofs.line.ProofLine.extend.Given as goal
 
 -- the bytes before the next one were pushed
 abbrev pub invariant-loop-byte : goal.invariant-loop-byte

@@ -1,5 +1,5 @@
 use Rattle.proof_writer.proofs.Walking.{begun_at}
-use Rattle.proof_writer.proofs.walk.Walk.learn.Goals as goal
+use Rattle.proof_writer.proofs.walk.PlanWalk.learn.Goals as goal
 
 pub returns-clause-nodes : goal.returns-clause-nodes
 returns-clause-nodes g c =

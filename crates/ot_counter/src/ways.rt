@@ -7,23 +7,23 @@ ghost use Rattle.fn_rules.specs.Conditions.{IsWithin};
 ghost use Rattle.fn_rules.specs.Rules.{function_of};
 ghost use Rattle.ot_questions.specs.Instances as instances;
 ghost use Rattle.ot_values.specs.Values.{farthest};
-ghost use Rattle.ot_counter.specs.Sides as sides;
+ghost use Rattle.ot_counter.specs.Ways as ways;
 
 use crate::NoMemory;
-use crate::counter::Side;
+use crate::counter::WayResult;
 use fn_rules::{
     Rules, rules_are_valid, transform, transform_keeps_all_but_the_position, transform_stays_near,
 };
 use ot_model::{Apply, Doc, Mode, Op, apply};
 
 // An operation executed where it is enabled.
-fn executed(mode: Mode, doc: &Doc, op: &Op) -> Result<Side, NoMemory>
-    ensures { IfOk result (λ side. side ≡ sides.executed mode doc.now op.now) }
+fn executed(mode: Mode, doc: &Doc, op: &Op) -> Result<WayResult, NoMemory>
+    ensures { IfOk result (λ way. way ≡ ways.executed mode doc.now op.now) }
 {
     let mut current = doc.try_clone()?;
     match apply(mode, op, &mut current) {
-        Ok(()) => Ok(Side::Doc(current)),
-        Err(Apply::NotEnabled) => Ok(Side::OutOfRange),
+        Ok(()) => Ok(WayResult::Doc(current)),
+        Err(Apply::NotEnabled) => Ok(WayResult::OutOfRange),
         Err(Apply::NoMemory) => Err(NoMemory),
     }
 }
@@ -47,18 +47,18 @@ pub(crate) fn document_way(
     doc: &Doc,
     first: &Op,
     other: &Op,
-) -> Result<Side, NoMemory>
+) -> Result<WayResult, NoMemory>
     requires enabled { IsEnabled first.now (length doc.now) }
     requires first_declared { IsForKind (function_of rules.now).head (kind_of first.now) }
     requires other_declared { IsForKind (function_of rules.now).head (kind_of other.now) }
     requires first_near { IsWithin farthest first.now }
     requires other_near { IsWithin farthest other.now }
-    ensures { IfOk result (λ side. side ≡ sides.document_way (function_of rules.now) doc.now first.now other.now) }
+    ensures { IfOk result (λ way. way ≡ ways.document_way (function_of rules.now) doc.now first.now other.now) }
 {
     let mode = rules.head().mode;
     let next = after(mode, doc, first)?;
     match transform(rules, other, first) {
-        None => Ok(Side::Undefined),
+        None => Ok(WayResult::Undefined),
         Some(form) => executed(mode, &next, &form),
     }
 }
@@ -81,18 +81,18 @@ fn form_behind(rules: &Rules, a: &Op, b: &Op, c: &Op) -> Option<Op>
     transform(rules, &c_after_a, &b_after_a)
 }
 
-/// The form of `c` behind `a` and then `b`, as a side.
-pub(crate) fn operation_way(rules: &Rules, a: &Op, b: &Op, c: &Op) -> Side
+/// The form of `c` behind `a` and then `b`, as the result of a way.
+pub(crate) fn operation_way(rules: &Rules, a: &Op, b: &Op, c: &Op) -> WayResult
     requires a_declared { IsForKind (function_of rules.now).head (kind_of a.now) }
     requires b_declared { IsForKind (function_of rules.now).head (kind_of b.now) }
     requires c_declared { IsForKind (function_of rules.now).head (kind_of c.now) }
     requires a_near { IsWithin farthest a.now }
     requires b_near { IsWithin farthest b.now }
     requires c_near { IsWithin farthest c.now }
-    ensures { result ≡ sides.operation_side (instances.form_behind (function_of rules.now) a.now b.now c.now) }
+    ensures { result ≡ ways.operation_result (instances.form_behind (function_of rules.now) a.now b.now c.now) }
 {
     match form_behind(rules, a, b, c) {
-        None => Side::Undefined,
-        Some(form) => Side::Op(form),
+        None => WayResult::Undefined,
+        Some(form) => WayResult::Op(form),
     }
 }
