@@ -1,6 +1,7 @@
 -- Ways through a literal: where that of its first name goes on no lower than what is kept, none does. One that is no
 -- lower than what the row of its end keeps goes on no lower.
-use Rattle.std.proofs.Common.{◌≡◌, ℕ, ◌<◌, pos, ◌+ℤ◌, ◌≤ℤ◌, ◌⊎◌, inl, inr, int_lt, List, [], length, get_or, Option, Some, None, arith, refl, sym, ap, ◌∙◌, subst}
+use Rattle.std.proofs.Common.{◌≡◌, ℕ, ◌<◌, pos, ◌+ℤ◌, ◌≤ℤ◌, ◌⊎◌, inl, inr, int_lt, List, [], length, get_or, Option, Some, None}
+use Rattle.std.proofs.Common.{arith, refl, sym, ap, ◌∙◌, subst}
 use Rattle.std.proofs.lemmas.Bool.{cases_Bool}
 use Rattle.std.proofs.lemmas.Int.{ints}
 use Rattle.diff_graph.specs.declared.lit.Lit.{Lit}

@@ -73,7 +73,7 @@ impl Place {
         }
     }
 
-    /// Whether this place is at most another one of its name. Of two names it is a question, so that there is no answer.
+    /// Whether this place is at most another one of its name. None where the two names differ: then it is a question.
     #[inline(always)]
     pub fn is_at_most(self, other: Place) -> Option<bool>
         ensures { result ≡ (if nat_eq self.var other.var then Some (int_le self.off other.off) else None) }

@@ -17,7 +17,8 @@ const FILES: Files<'static> = &[
     ),
     (
         "held.json",
-        r#"{"doc":"","sites":3,"events":[["make",1,["ins",0,"a",1]],["make",2,["ins",0,"b",2]],["take",2,0],["make",2,["del",1,2]],["take",3,2],["take",3,1],["take",3,0],["take",1,1],["take",1,1],["take",1,2]]}"#,
+        r#"{"doc":"","sites":3,"events":[["make",1,["ins",0,"a",1]],["make",2,["ins",0,"b",2]],["take",2,0],
+            ["make",2,["del",1,2]],["take",3,2],["take",3,1],["take",3,0],["take",1,1],["take",1,1],["take",1,2]]}"#,
     ),
 ];
 

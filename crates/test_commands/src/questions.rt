@@ -166,8 +166,18 @@ const OF_MARKS: Rows = &[
 ];
 
 /// Deletions that leave tombstones and updates, which stay as and where they are.
-const STAYING_OT: &str =
-    "otfn 2\ntext tomb\nkinds del upd\nblock del del\ncase true : del p1\nblock del upd\ncase true : del p1\nblock upd del\ncase true : upd p1\nblock upd upd\ncase true : upd p1\nend\n";
+const STAYING_OT: &str = "otfn 2\n\
+     text tomb\n\
+     kinds del upd\n\
+     block del del\n\
+     case true : del p1\n\
+     block del upd\n\
+     case true : del p1\n\
+     block upd del\n\
+     case true : upd p1\n\
+     block upd upd\n\
+     case true : upd p1\n\
+     end\n";
 
 // A deletion and an update of one cell: both final documents have the update's character in a tombstone.
 const OF_STAYING: Rows = &[

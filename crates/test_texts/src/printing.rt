@@ -41,8 +41,14 @@ fn a_function_on_deletions_is_printed(rt: HostRuntime) -> Result<(), Fail> {
     assert!(rt; is_within_limits(&head, &blocks));
     let rules = Rules::build(head, blocks);
     let text = print(rt.alloc(), &rules)?;
-    let wanted =
-        "otfn 1\ntext tomb\nkinds del\nassume sites differ\nblock del del\ncase p2 <= p1 - 10 : del p1 - 1\ncase true : nop\nend\n";
+    let wanted = "otfn 1\n\
+         text tomb\n\
+         kinds del\n\
+         assume sites differ\n\
+         block del del\n\
+         case p2 <= p1 - 10 : del p1 - 1\n\
+         case true : nop\n\
+         end\n";
     assert_eq!(rt; text.as_slice(), wanted.as_bytes());
     let again = read_back(rt.alloc(), &rules).ok().ok_or("read back")?;
     let text = print(rt.alloc(), &again)?;
