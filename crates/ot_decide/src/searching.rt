@@ -125,6 +125,8 @@ pub fn search_all(
     match search_ob(alloc, rules, below, *ob, budget)? {
         Outcome::Yes { tree, asked } => {
             write_ob(*ob, &tree, bytes)?;
+            // What is searched next takes the memory of this tree.
+            drop(tree);
             search_all(alloc, rules, below, others, budget - asked, bytes)
         }
         Outcome::No { answers, why } => Ok(SearchVerdict::Fails {
