@@ -1,6 +1,8 @@
 """Runs a program and measures it: its output, status, seconds and peak memory in KiB.
 
-The peak is that of GNU time, which is small itself: a child of Python would show Python's own.
+The peak is that of GNU time, which is small itself: a child of Python would show Python's own. A program that takes
+less than a second runs once more, alone and with its output in a file, so that the seconds are those from its own
+start to its own end.
 """
 import os
 import subprocess
@@ -20,10 +22,20 @@ def run_under_time(words, wanted):
         return run.stdout.strip(), run.returncode, numbers.read().split()
 
 
+def run_alone(words):
+    """The seconds of a program whose output goes to a file."""
+    with tempfile.TemporaryFile() as output:
+        to_file = [(os.POSIX_SPAWN_DUP2, output.fileno(), 1)]
+        start = time.perf_counter()
+        os.waitpid(os.posix_spawnp(words[0], words, os.environ, file_actions=to_file), 0)
+        return time.perf_counter() - start
+
+
 def measure(words):
-    start = time.monotonic()
+    start = time.perf_counter()
     text, status, numbers = run_under_time(words, "%M")
-    return text, status, time.monotonic() - start, int(numbers[0])
+    seconds = time.perf_counter() - start
+    return text, status, run_alone(words) if seconds < 1 else seconds, int(numbers[0])
 
 
 def measure_processor(words):
