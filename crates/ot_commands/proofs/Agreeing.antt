@@ -7,9 +7,9 @@ use Rattle.std.proofs.lemmas.List.{reverse-append}
 use Rattle.std.proofs.lemmas.Option.{slice_get_within}
 use Rattle.ot_causal.specs.Members.{has, HaveOneSet}
 use Rattle.ot_causal.specs.Sessions.{IsSite}
-use Rattle.ot_session.specs.Sites.{SiteView, document_in, end_of, seen_in}
+use Rattle.ot_session.specs.Sites.{SiteView, document_in, seen_in}
 use Rattle.ot_session.specs.declared.ending.SiteEnd.{SiteEnd}
-use Rattle.ot_commands.specs.Sessions.{Differ, IsFirstOther, IsFirstPair}
+use Rattle.ot_commands.specs.Replay.{Differ, IsFirstOther, IsFirstPair}
 
 -- none of the others differs from one
 abbrev AgreesWith : SiteEnd → List SiteEnd → Type 0

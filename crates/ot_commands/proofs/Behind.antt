@@ -3,7 +3,7 @@ use Rattle.std.proofs.Common.{◌≡◌, ℕ, List, Option, Ok, inr, subst}
 use Rattle.fn_rules.specs.Functions.{Function}
 use Rattle.ot_replies.specs.declared.reply.Reply.{Reply}
 use Rattle.ot_replies.specs.declared.reply.Subject.{Subject}
-use Rattle.ot_commands.specs.Replies.{IsReadAs, IsReplyToFunction}
+use Rattle.ot_commands.specs.Load.{IsReadAs, IsReplyToFunction}
 
 -- the function's file is told first, and the shelf holds the same of the other one when it is opened
 pub then_gets :

@@ -18,7 +18,7 @@ use Rattle.ot_replies.specs.declared.reply.FileKind.TheVariants as files
 use Rattle.ot_replies.specs.declared.reply.Reply.{Reply}
 use Rattle.ot_replies.specs.declared.reply.Reply.TheVariants.{TooLong}
 use Rattle.ot_replies.specs.Limits.{limit_of}
-use Rattle.ot_commands.specs.Confirmations.{IsReplyBy, IsReplyToConfirmed, TellsJudgement, ends_early, rests_on_more}
+use Rattle.ot_commands.specs.Confirm.{IsReplyBy, IsReplyToConfirmed, TellsJudgement, ends_early, rests_on_more}
 use Rattle.ot_commands.proofs.Given.{long_told}
 
 -- a refusal of bytes that do not end too early stands where more follow

@@ -31,7 +31,7 @@ use Rattle.ot_replies.specs.declared.reply.FileKind.TheVariants as files
 use Rattle.ot_replies.specs.declared.reply.Reply.{Reply}
 use Rattle.ot_replies.specs.declared.reply.Reply.TheVariants.{Proved, Spent}
 use Rattle.ot_replies.specs.Limits.{limit_of}
-use Rattle.ot_commands.specs.Verdicts.{IsReplyToProof, TellsVerdict}
+use Rattle.ot_commands.specs.Prove.{IsReplyToProof, TellsVerdict}
 use Rattle.ot_words.specs.Words.{most_questions}
 use Rattle.ot_prove.proofs.Leads.{literals_lead}
 

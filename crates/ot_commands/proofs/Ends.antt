@@ -7,7 +7,7 @@ use Rattle.ot_model.specs.declared.cell.Cell.{Cell}
 use Rattle.fn_rules.specs.Orders.{Document}
 use Rattle.ot_integrate.specs.declared.end.End.{End}
 use Rattle.ot_integrate.specs.Ends.{outcome_of}
-use Rattle.ot_commands.specs.Replies.{HaveOneEnd}
+use Rattle.ot_commands.specs.Integrate.{HaveOneEnd}
 
 -- the end is this document
 abbrev Is : List Cell → End → Type 0

@@ -11,9 +11,9 @@ use Rattle.ot_replies.specs.declared.reply.Reply.{Reply}
 use Rattle.ot_replies.specs.declared.reply.Subject.{Subject}
 use Rattle.ot_replies.specs.declared.reply.Subject.TheVariants.{Second}
 use Rattle.ot_replies.specs.Limits.{IsTooLong}
-use Rattle.ot_commands.specs.Given.{IsReadFirst, IsReadSecond, HaveRead}
-use Rattle.ot_commands.specs.Judgements.{IsReplyToCertificate}
-use Rattle.ot_commands.specs.Replies.{Holds, IsFunctionRefusal, IsReadAs, IsReplyToFile, IsReplyToFunction}
+use Rattle.ot_commands.specs.Certificate.{IsReplyToCertificate}
+use Rattle.ot_commands.specs.Given.{HaveRead, IsReadFirst, IsReadSecond}
+use Rattle.ot_commands.specs.Load.{Holds, IsFunctionRefusal, IsReadAs, IsReplyToFile, IsReplyToFunction}
 
 -- two openings are no single one
 twice_is_not_once :

@@ -8,7 +8,7 @@ use Rattle.ot_hub.specs.declared.client.Client.{Client}
 use Rattle.ot_hub.specs.Clients.{client_at, nobody}
 use Rattle.ot_hub.specs.Views.{HubData, IsClient, client_of}
 use Rattle.ot_replies.specs.declared.reply.ClientEnd.{ClientEnd}
-use Rattle.ot_commands.specs.Hubs.{IsFirstApart, client_end}
+use Rattle.ot_commands.specs.Hub.{IsFirstApart, client_end}
 
 pub end_is : (client : Client) (end : ClientEnd) → end.received ≡ client.received → end.pending ≡ length client.pending → end.doc ≡ client.doc
     → end ≡ client_end client

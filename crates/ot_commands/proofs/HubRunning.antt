@@ -13,7 +13,7 @@ use Rattle.ot_hub.specs.declared.server.Server.{Server}
 use Rattle.ot_hub.specs.Clients.{sent}
 use Rattle.ot_hub.specs.Steps.{Step, Nothing, Stuck, To, step_map, server_step, client_step}
 use Rattle.ot_hub.specs.Views.{HubData, HasMoved, client_of, up_step, up_with, down_step, down_with}
-use Rattle.ot_commands.specs.Hubs.{IsDone}
+use Rattle.ot_commands.specs.Hub.{IsDone}
 
 -- a hub is open as another one was, and has its function and its number of clients
 pub record Keeps (old new : HubData) : Type 0 where

@@ -10,7 +10,7 @@ use Rattle.ot_hub.specs.declared.answer.Moved.{Moved}
 use Rattle.ot_hub.specs.Views.{HubData}
 use Rattle.ot_replies.specs.declared.reply.Reply.{Reply}
 use Rattle.ot_replies.specs.Texts.{status_of}
-use Rattle.ot_commands.specs.Hubs.{IsRefused, TellsNotEdited, TellsNotMoved}
+use Rattle.ot_commands.specs.Hub.{IsRefused, TellsNotEdited, TellsNotMoved}
 
 -- an edit that is refused has status 4, or 9
 not_edited_status : (i : ℕ) (reason : Edit) (r : Reply) → TellsNotEdited i reason r → (status_of r ≡ 4) ⊎ (status_of r ≡ 9)

@@ -17,7 +17,7 @@ use Rattle.ot_least.specs.Judgements.{IsWant}
 use Rattle.ot_replies.specs.declared.reply.FileKind.TheVariants as files
 use Rattle.ot_replies.specs.declared.reply.Reply.{Reply}
 use Rattle.ot_replies.specs.declared.reply.Reply.TheVariants.{TooLong}
-use Rattle.ot_commands.specs.Judgements.{IsReplyToCertificate, Tells, is_truncated, rests_on_the_end}
+use Rattle.ot_commands.specs.Certificate.{IsReplyToCertificate, Tells, is_truncated, rests_on_the_end}
 use Rattle.ot_replies.specs.Limits.{limit_of}
 
 -- a told judgement is no want

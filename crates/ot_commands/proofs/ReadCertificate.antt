@@ -13,7 +13,7 @@ use Rattle.ot_replies.specs.declared.reply.FileKind.TheVariants as files
 use Rattle.ot_replies.specs.declared.reply.Reply.{Reply}
 use Rattle.ot_replies.specs.declared.reply.Reply.TheVariants.{TooLong}
 use Rattle.ot_replies.specs.Limits.{limit_of}
-use Rattle.ot_commands.specs.Judgements.{IsReplyToCertificate, Tells, rests_on_the_end}
+use Rattle.ot_commands.specs.Certificate.{IsReplyToCertificate, Tells, rests_on_the_end}
 use Rattle.ot_commands.proofs.Judged.{not_want, nothing_taken, sure}
 
 -- what was read of the open file

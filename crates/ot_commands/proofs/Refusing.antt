@@ -16,7 +16,7 @@ use Rattle.ot_replies.specs.declared.reply.EventFault.TheVariants as why
 use Rattle.ot_replies.specs.declared.reply.Reply.{Reply}
 use Rattle.ot_replies.specs.declared.reply.Reply.TheVariants.{EventRefused, CaseRefused, Spent}
 use Rattle.ot_replies.specs.Texts.{status_of}
-use Rattle.ot_commands.specs.Sessions.{CannotMake, TellsNotMade, TellsNotTaken, IsRefused}
+use Rattle.ot_commands.specs.Replay.{CannotMake, IsRefused, TellsNotMade, TellsNotTaken}
 
 -- the answer is this refusal
 abbrev Is : NotMade → NotMade → Type 0

@@ -5,7 +5,7 @@ use Rattle.case_json.specs.declared.script.Event.{Event}
 use Rattle.case_json.specs.declared.script.Event.TheVariants.{Make, Take}
 use Rattle.ot_session.specs.Views.{View}
 use Rattle.ot_replies.specs.declared.reply.Reply.{Reply}
-use Rattle.ot_commands.specs.Sessions.{IsDone, IsRefused, Runs}
+use Rattle.ot_commands.specs.Replay.{IsDone, IsRefused, Runs}
 
 pub done_is_open : (v new : View) (event : Event) → IsDone v event new → v.is_open ≡ true → new.is_open ≡ true
 done_is_open v new (Make t o) done was = done.1.is_open ∙ was

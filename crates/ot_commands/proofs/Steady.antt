@@ -13,8 +13,10 @@ use Rattle.ot_replies.specs.declared.reply.Subject.{Subject}
 use Rattle.ot_words.specs.Words.{asked_by}
 use Rattle.ot_words.specs.Commands.{Asked, Replay, Hub}
 use Rattle.ot_replies.specs.Limits.{IsTooLong}
-use Rattle.ot_commands.specs.Replies.{IsFunctionRefusal, IsReadAs}
-use Rattle.ot_commands.specs.Steady.{AreSteady, IsServed, IsSteady, IsSteadyReply}
+use Rattle.ot_commands.specs.Hub.{IsServed}
+use Rattle.ot_commands.specs.Load.{IsFunctionRefusal, IsReadAs}
+use Rattle.ot_commands.specs.Replay.{IsSteady}
+use Rattle.ot_commands.specs.Steady.{AreSteady, IsSteadyReply}
 use Rattle.ot_replies.specs.Texts.{status_of}
 
 -- a reply of another status

@@ -5,10 +5,11 @@ use Rattle.ot_outside.specs.Reads.{Reads, after_reading}
 use Rattle.fn_rules.specs.Functions.{Function}
 use Rattle.ot_replies.specs.declared.reply.Reply.{Reply}
 use Rattle.ot_replies.specs.declared.reply.Subject.TheVariants.{First}
-use Rattle.ot_words.specs.Commands.{Asked, Prove, Settle, Check, Integrate, Replay, Hub, Audit, Same, Reverse, Least}
-use Rattle.ot_words.specs.Commands.{Bound, Confirm, Drill}
+use Rattle.ot_words.specs.Commands.{Asked}
 use Rattle.ot_words.specs.Words.{asked_by}
-use Rattle.ot_commands.specs.Replies.{IsReply, IsReplyTo, IsReplyToFunction}
+use Rattle.ot_commands.specs.Facts.{FunctionAnd, NoFile, OneFunction, Opens, TwoFunctions}
+use Rattle.ot_commands.specs.Load.{IsReplyToFunction}
+use Rattle.ot_commands.specs.Replies.{IsReply, IsReplyTo, facts_of}
 use Rattle.ot_commands.specs.Steady.{AreSteady, IsSteadyReply}
 
 -- In what follows `old` and `new` are what the calls had given before a command and behind it, and `holds` says what
@@ -32,21 +33,16 @@ HaveRead old new first second =
     × ((new ≡ after_reading first bytes old) ⊎ ((given : List ℕ)
     × (new ≡ after_reading second given (after_reading first bytes old))))
 
--- a command has opened its files in their order, each once, the second one only behind the function's
+-- the files were opened in their order, each once, the second one only behind the function's
+abbrev pub WereOpened : Reads → Reads → Opens → Type 0
+WereOpened old new (NoFile Gets) = Unit {0}
+WereOpened old new (OneFunction function Gets) = new ≡ after_reading function new.bytes old
+WereOpened old new (FunctionAnd function other Gets) = HaveRead old new function other
+WereOpened old new (TwoFunctions function other Gets) = HaveRead old new function other
+
+-- a command has opened its files so
 abbrev pub HasRead : Reads → Reads → Asked → Type 0
-HasRead old new (Prove level budget function) = new ≡ after_reading function new.bytes old
-HasRead old new (Settle level budget function) = new ≡ after_reading function new.bytes old
-HasRead old new (Check function certificate) = HaveRead old new function certificate
-HasRead old new (Integrate function case) = HaveRead old new function case
-HasRead old new (Replay function session) = HaveRead old new function session
-HasRead old new (Hub function hub) = HaveRead old new function hub
-HasRead old new (Audit function) = new ≡ after_reading function new.bytes old
-HasRead old new (Same function other) = HaveRead old new function other
-HasRead old new (Reverse function other) = HaveRead old new function other
-HasRead old new (Least cert function) = new ≡ after_reading function new.bytes old
-HasRead old new (Bound function certificate) = HaveRead old new function certificate
-HasRead old new (Confirm function proof) = HaveRead old new function proof
-HasRead old new (Drill number) = Unit {0}
+HasRead old new asked = WereOpened old new (facts_of asked).opens
 
 -- of two files `holds` tells nothing but the bytes that were given
 abbrev pub TellBoth : Reads → Reads → (List ℕ → Option (List ℕ)) → List ℕ → List ℕ → Type 0
@@ -62,21 +58,16 @@ IsReplyOfBoth old new first second Gets r =
     × ((holds : List ℕ → Option (List ℕ)) → TellBoth old new holds first second
     → IsReplyToFunction First (holds first) (λ f. Gets (holds second) f r) r)
 
--- of the files of a command `holds` tells nothing but the bytes that were given
+-- of the files that are opened `holds` tells nothing but the bytes that were given
+abbrev pub TellsOpened : Reads → Reads → (List ℕ → Option (List ℕ)) → Opens → Type 0
+TellsOpened old new holds (NoFile Gets) = Unit {0}
+TellsOpened old new holds (OneFunction function Gets) = ForSome (holds function) (IsReadFirst old new function)
+TellsOpened old new holds (FunctionAnd function other Gets) = TellBoth old new holds function other
+TellsOpened old new holds (TwoFunctions function other Gets) = TellBoth old new holds function other
+
+-- the same of the files of a command
 abbrev pub TellsGiven : Reads → Reads → (List ℕ → Option (List ℕ)) → Asked → Type 0
-TellsGiven old new holds (Prove level budget function) = ForSome (holds function) (IsReadFirst old new function)
-TellsGiven old new holds (Settle level budget function) = ForSome (holds function) (IsReadFirst old new function)
-TellsGiven old new holds (Check function certificate) = TellBoth old new holds function certificate
-TellsGiven old new holds (Integrate function case) = TellBoth old new holds function case
-TellsGiven old new holds (Replay function session) = TellBoth old new holds function session
-TellsGiven old new holds (Hub function hub) = TellBoth old new holds function hub
-TellsGiven old new holds (Audit function) = ForSome (holds function) (IsReadFirst old new function)
-TellsGiven old new holds (Same function other) = TellBoth old new holds function other
-TellsGiven old new holds (Reverse function other) = TellBoth old new holds function other
-TellsGiven old new holds (Least cert function) = ForSome (holds function) (IsReadFirst old new function)
-TellsGiven old new holds (Bound function certificate) = TellBoth old new holds function certificate
-TellsGiven old new holds (Confirm function proof) = TellBoth old new holds function proof
-TellsGiven old new holds (Drill number) = Unit {0}
+TellsGiven old new holds asked = TellsOpened old new holds (facts_of asked).opens
 
 -- the command has read its files, and this is the reply to it, whatever is told of what was given
 abbrev pub IsReplyOfGiven : Reads → Reads → Asked → Reply → Type 0

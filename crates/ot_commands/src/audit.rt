@@ -4,7 +4,7 @@ ghost use Rattle.fn_rules.specs.Rules.{function_of};
 ghost use Rattle.ot_outside.specs.Faults.{Rose};
 ghost use Rattle.ot_outside.specs.Unchanged.{Unchanged};
 ghost use Rattle.ot_words.specs.Commands.{Audit};
-ghost use Rattle.ot_commands.specs.Audits.{IsReplyToAudit};
+ghost use Rattle.ot_commands.specs.Audit.{IsReplyToAudit};
 ghost use Rattle.ot_commands.specs.Given.{IsReplyOfGiven};
 ghost use Rattle.ot_commands.specs.Replies.{IsReplyTo};
 

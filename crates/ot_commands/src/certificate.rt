@@ -6,9 +6,9 @@ ghost use Rattle.ot_outside.specs.Faults.{Rose};
 ghost use Rattle.ot_outside.specs.Reads.{IsSameReading, after_reading};
 ghost use Rattle.ot_outside.specs.ShelfFeed.{IsAllOfReads, file_left, gave_by, held_by, room_of, shelf_of};
 ghost use Rattle.ot_outside.specs.Unchanged.{Unchanged};
+ghost use Rattle.ot_commands.specs.Certificate.{IsReplyToCertificate, Tells, is_truncated, rests_on_the_end};
 ghost use Rattle.ot_commands.specs.Given.{IsReplyOfBoth};
-ghost use Rattle.ot_commands.specs.Judgements.{IsReplyToCertificate, Tells, is_truncated, rests_on_the_end};
-ghost use Rattle.ot_commands.specs.Replies.{GoesOn, IsReplyToFunction};
+ghost use Rattle.ot_commands.specs.Load.{GoesOn, IsReplyToFunction};
 ghost use Rattle.ot_replies.specs.Limits.{limit_of};
 ghost use Rattle.ot_replies.specs.declared.reply.FileKind.TheVariants as files;
 ghost use Rattle.ot_replies.specs.declared.reply.Subject.TheVariants.{First};
@@ -75,7 +75,7 @@ impl Finding for Level {
 // A low certificate shows the property of its level on every document of fewer cells than its bound.
 impl Finding for (Level, u32) {
     ghost use Rattle.ot_least.specs.Judgements.{IsLowJudgement};
-    ghost use Rattle.ot_commands.specs.Judgements.{at_least};
+    ghost use Rattle.ot_commands.specs.Bound.{at_least};
 
     ghost judges = { IsLowJudgement };
 

@@ -5,10 +5,10 @@ ghost use Rattle.ot_outside.specs.Faults.{Rose};
 ghost use Rattle.ot_outside.specs.Reads.{after_reading};
 ghost use Rattle.ot_outside.specs.Unchanged.{Unchanged};
 ghost use Rattle.ot_words.specs.Commands.{Confirm};
-ghost use Rattle.ot_commands.specs.Confirmations.{IsReplyBy, IsReplyToConfirmed, TellsJudgement, ends_early};
-ghost use Rattle.ot_commands.specs.Confirmations.{rests_on_more};
+ghost use Rattle.ot_commands.specs.Confirm.{IsReplyBy, IsReplyToConfirmed, TellsJudgement, ends_early, rests_on_more};
 ghost use Rattle.ot_commands.specs.Given.{IsReplyOfGiven};
-ghost use Rattle.ot_commands.specs.Replies.{GoesOn, IsReplyTo};
+ghost use Rattle.ot_commands.specs.Load.{GoesOn};
+ghost use Rattle.ot_commands.specs.Replies.{IsReplyTo};
 
 use crate::load::{Stop, limit, load_function};
 use fn_rules::{Level, Rules};

@@ -3,7 +3,7 @@ ghost use Rattle.std.specs.Prelude.{◌≡◌, ◌≢◌, ◌≤◌, ◌<◌, �
 ghost use Rattle.fn_rules.specs.Rules.{function_of};
 ghost use Rattle.ot_drill.specs.Workload.{drill_function};
 ghost use Rattle.ot_sections.specs.Certificates.{IsCertificate};
-ghost use Rattle.ot_commands.specs.Drills.{IsDrilled, IsReplyToDrill};
+ghost use Rattle.ot_commands.specs.Drill.{IsDrilled, IsReplyToDrill};
 ghost use Rattle.ot_replies.specs.Texts.{status_of};
 
 use crate::prove::reply_to_function;

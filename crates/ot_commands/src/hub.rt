@@ -12,10 +12,12 @@ ghost use Rattle.ot_outside.specs.Unchanged.{Unchanged};
 ghost use Rattle.ot_words.specs.Commands as commands;
 ghost use Rattle.ot_replies.specs.Texts.{status_of};
 ghost use Rattle.ot_commands.specs.Given.{IsReplyOfGiven};
-ghost use Rattle.ot_commands.specs.Replies.{GoesOn, IsReplyTo, IsReplyToHubFile};
-ghost use Rattle.ot_commands.specs.Steady.{IsSteadyReply, MakesClientsAgree};
-ghost use Rattle.ot_commands.specs.Hubs.{IsApart, IsDone, IsFirstApart, IsRefused, IsReplyToHub, IsReplyToHubScript};
-ghost use Rattle.ot_commands.specs.Hubs.{Runs, TellsHub, TellsNotEdited, TellsNotMoved, client_end};
+ghost use Rattle.ot_commands.specs.Hub.{IsApart, IsDone, IsFirstApart, IsRefused, IsReplyToHub, IsReplyToHubFile};
+ghost use Rattle.ot_commands.specs.Hub.{IsReplyToHubScript, MakesClientsAgree, Runs, TellsHub, TellsNotEdited};
+ghost use Rattle.ot_commands.specs.Hub.{TellsNotMoved, client_end};
+ghost use Rattle.ot_commands.specs.Load.{GoesOn};
+ghost use Rattle.ot_commands.specs.Replies.{IsReplyTo};
+ghost use Rattle.ot_commands.specs.Steady.{IsSteadyReply};
 ghost use Rattle.ot_commands.specs.declared.halt.Halt.TheVariants as halts;
 
 use crate::halt::Halt;
@@ -209,7 +211,7 @@ fn run_script(alloc: Global, rules: &Rules, script: &HubScript) -> Result<Reply,
 }
 
 // The reply to the bytes of a hub.
-#[tactic(auto, unfolding(crate::specs::Hubs::IsReplyToHub))]
+#[tactic(auto, unfolding(crate::specs::Hub::IsReplyToHub))]
 fn reply_to_hub(alloc: Global, rules: &Rules, bytes: &[u8]) -> Result<Reply, NoMemory>
     ensures reply { IfOk result (λ reply. IsReplyToHub (function_of rules.now) bytes.now reply) }
     ensures steady { MakesClientsAgree (function_of rules.now) → IfOk result (λ r. status_of r ≢ 1) }

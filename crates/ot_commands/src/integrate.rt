@@ -10,8 +10,9 @@ ghost use Rattle.ot_outside.specs.Unchanged.{Unchanged};
 ghost use Rattle.ot_words.specs.Commands.{Integrate};
 ghost use Rattle.ot_replies.specs.Limits.{limit_of};
 ghost use Rattle.ot_commands.specs.Given.{IsReplyOfGiven};
-ghost use Rattle.ot_commands.specs.Replies.{GoesOn, HaveOneEnd, IsReplyTo, IsReplyToCase, IsReplyToCaseFile};
-ghost use Rattle.ot_commands.specs.Replies.{TellsOutcomes, outcomes_of};
+ghost use Rattle.ot_commands.specs.Integrate.{HaveOneEnd, IsReplyToCase, IsReplyToCaseFile, TellsOutcomes, outcomes_of};
+ghost use Rattle.ot_commands.specs.Load.{GoesOn};
+ghost use Rattle.ot_commands.specs.Replies.{IsReplyTo};
 ghost use Rattle.ot_replies.specs.declared.reply.FileKind.TheVariants as files;
 
 use crate::load::{Stop, load_function, read_file};
@@ -86,7 +87,7 @@ fn outcomes(alloc: Global, rules: &Rules, trial: &Trial) -> Result<Reply, NoMemo
 }
 
 // The reply to a case.
-#[tactic(auto, unfolding(crate::specs::Replies::IsReplyToCase))]
+#[tactic(auto, unfolding(crate::specs::Integrate::IsReplyToCase))]
 fn reply_to_case(alloc: Global, rules: &Rules, bytes: &[u8]) -> Result<Reply, NoMemory>
     requires { length bytes.now ≤ limit_of files.Case }
     ensures { IfOk result (λ reply. IsReplyToCase (function_of rules.now) bytes.now reply) }

@@ -5,8 +5,8 @@ ghost use Rattle.ot_outside.specs.Faults.{Rose};
 ghost use Rattle.ot_outside.specs.Unchanged.{Unchanged};
 ghost use Rattle.ot_words.specs.Commands.{Least};
 ghost use Rattle.ot_commands.specs.Given.{IsReplyOfGiven};
+ghost use Rattle.ot_commands.specs.Least.{IsReplyToLeast};
 ghost use Rattle.ot_commands.specs.Replies.{IsReplyTo};
-ghost use Rattle.ot_commands.specs.Shortest.{IsReplyToLeast};
 
 use crate::load::{Stop, load_function};
 use crate::prove::counter_of;

@@ -17,7 +17,7 @@
 //! whole way from its function to its sites.
 //!
 //! The crate above relies on one call a command, whose clauses say which reply comes, of what the shelf tells and of
-//! what its calls gave.
+//! what its calls gave. What is said of a command stands in one module of `specs/`, which is named as its file.
 #![tactic(auto)]
 
 pub mod audit;

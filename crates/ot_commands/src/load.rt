@@ -5,7 +5,7 @@ ghost use Rattle.ot_outside.specs.Faults.{Rose};
 ghost use Rattle.ot_outside.specs.Reads.{after_reading};
 ghost use Rattle.ot_outside.specs.Unchanged.{Unchanged};
 ghost use Rattle.ot_replies.specs.Limits.{limit_of, IsTooLong};
-ghost use Rattle.ot_commands.specs.Replies.{Holds, IsFunctionRefusal, IsReadAs};
+ghost use Rattle.ot_commands.specs.Load.{Holds, IsFunctionRefusal, IsReadAs};
 
 use fn_rules::Rules;
 use fn_text::{TextError, read};

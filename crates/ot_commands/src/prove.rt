@@ -11,8 +11,8 @@ ghost use Rattle.ot_prove.specs.Outcomes.{AreAnswersTo, answered_by};
 ghost use Rattle.ot_questions.specs.Obligation.{plan_of};
 ghost use Rattle.ot_words.specs.Commands.{Prove};
 ghost use Rattle.ot_commands.specs.Given.{IsReplyOfGiven};
+ghost use Rattle.ot_commands.specs.Prove.{IsReplyToProof};
 ghost use Rattle.ot_commands.specs.Replies.{IsReplyTo};
-ghost use Rattle.ot_commands.specs.Verdicts.{IsReplyToProof};
 
 use crate::load::{Stop, load_function};
 use fn_rules::{Level, ObName, Rules};

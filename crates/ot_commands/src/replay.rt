@@ -13,11 +13,12 @@ ghost use Rattle.ot_outside.specs.Unchanged.{Unchanged};
 ghost use Rattle.ot_session.specs.Views.{view_of};
 ghost use Rattle.ot_words.specs.Commands.{Replay};
 ghost use Rattle.ot_commands.specs.Given.{IsReplyOfGiven};
-ghost use Rattle.ot_commands.specs.Replies.{GoesOn, IsReplyTo, IsReplyToSessionFile};
-ghost use Rattle.ot_commands.specs.Sessions.{Differ, IsDone, IsFirstOther, IsFirstPair, IsRefused, IsReplyToSession};
-ghost use Rattle.ot_commands.specs.Sessions.{IsReplyToScript};
-ghost use Rattle.ot_commands.specs.Sessions.{Runs, TellsNotMade, TellsNotTaken, TellsSites};
-ghost use Rattle.ot_commands.specs.Steady.{IsSteadyReply, MakesSitesAgree};
+ghost use Rattle.ot_commands.specs.Load.{GoesOn};
+ghost use Rattle.ot_commands.specs.Replay.{Differ, IsDone, IsFirstOther, IsFirstPair, IsRefused, IsReplyToScript};
+ghost use Rattle.ot_commands.specs.Replay.{IsReplyToSession, IsReplyToSessionFile, MakesSitesAgree, Runs, TellsNotMade};
+ghost use Rattle.ot_commands.specs.Replay.{TellsNotTaken, TellsSites};
+ghost use Rattle.ot_commands.specs.Replies.{IsReplyTo};
+ghost use Rattle.ot_commands.specs.Steady.{IsSteadyReply};
 ghost use Rattle.ot_replies.specs.Texts.{status_of};
 ghost use Rattle.ot_commands.specs.declared.halt.Halt.TheVariants as halts;
 
@@ -203,7 +204,7 @@ fn run_script(alloc: Global, rules: &Rules, script: &Script) -> Result<Reply, No
 }
 
 // The reply to the bytes of a session.
-#[tactic(auto, unfolding(crate::specs::Sessions::IsReplyToSession))]
+#[tactic(auto, unfolding(crate::specs::Replay::IsReplyToSession))]
 fn reply_to_session(alloc: Global, rules: &Rules, bytes: &[u8]) -> Result<Reply, NoMemory>
     ensures reply { IfOk result (λ reply. IsReplyToSession (function_of rules.now) bytes.now reply) }
     ensures steady { MakesSitesAgree (function_of rules.now) → IfOk result (λ r. status_of r ≢ 1) }

@@ -6,8 +6,9 @@ ghost use Rattle.ot_outside.specs.Reads.{after_reading};
 ghost use Rattle.ot_outside.specs.Unchanged.{Unchanged};
 ghost use Rattle.ot_words.specs.Commands as commands;
 ghost use Rattle.ot_commands.specs.Given.{IsReplyOfGiven};
-ghost use Rattle.ot_commands.specs.Replies.{GoesOn, IsReplyTo, IsReplyToReverser};
-ghost use Rattle.ot_commands.specs.Reversals.{IsReplyToReversal};
+ghost use Rattle.ot_commands.specs.Load.{GoesOn};
+ghost use Rattle.ot_commands.specs.Replies.{IsReplyTo};
+ghost use Rattle.ot_commands.specs.Reverse.{IsReplyToReversal, IsReplyToReverser};
 
 use crate::load::{Stop, load_function};
 use fn_rules::Rules;

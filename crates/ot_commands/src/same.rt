@@ -5,9 +5,10 @@ ghost use Rattle.ot_outside.specs.Faults.{Rose};
 ghost use Rattle.ot_outside.specs.Reads.{after_reading};
 ghost use Rattle.ot_outside.specs.Unchanged.{Unchanged};
 ghost use Rattle.ot_words.specs.Commands as commands;
-ghost use Rattle.ot_commands.specs.Audits.{IsReplyToTwo};
 ghost use Rattle.ot_commands.specs.Given.{IsReplyOfGiven};
-ghost use Rattle.ot_commands.specs.Replies.{GoesOn, IsReplyTo, IsReplyToSecond};
+ghost use Rattle.ot_commands.specs.Load.{GoesOn};
+ghost use Rattle.ot_commands.specs.Replies.{IsReplyTo};
+ghost use Rattle.ot_commands.specs.Same.{IsReplyToSecond, IsReplyToTwo};
 
 use crate::load::{Stop, load_function};
 use fn_rules::Rules;

@@ -6,7 +6,7 @@ ghost use Rattle.ot_outside.specs.Unchanged.{Unchanged};
 ghost use Rattle.ot_words.specs.Commands.{Settle};
 ghost use Rattle.ot_commands.specs.Given.{IsReplyOfGiven};
 ghost use Rattle.ot_commands.specs.Replies.{IsReplyTo};
-ghost use Rattle.ot_commands.specs.Verdicts.{IsReplyToSettle};
+ghost use Rattle.ot_commands.specs.Settle.{IsReplyToSettle};
 
 use crate::load::{Stop, load_function};
 use crate::prove::counter_of;

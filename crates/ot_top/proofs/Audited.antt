@@ -7,8 +7,8 @@ use Rattle.ot_replies.specs.declared.reply.Subject.TheVariants.{First, Second}
 use Rattle.ot_replies.specs.Texts.{status_of, text_of}
 use Rattle.ot_words.specs.Commands.{Audit, Same}
 use Rattle.ot_top.specs.Audited.{IsAudited, IsCompared}
-use Rattle.ot_commands.specs.Audits.{IsReplyToAudit, IsReplyToTwo}
-use Rattle.ot_commands.specs.Replies.{IsReplyToSecond}
+use Rattle.ot_commands.specs.Audit.{IsReplyToAudit}
+use Rattle.ot_commands.specs.Same.{IsReplyToSecond, IsReplyToTwo}
 use Rattle.ot_top.proofs.Proving.{gets, reply_to_asked}
 use Rattle.ot_top.proofs.Told.{IsAnswered}
 

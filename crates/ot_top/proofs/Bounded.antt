@@ -38,9 +38,9 @@ use Rattle.ot_replies.specs.Limits.{limit_of}
 use Rattle.ot_replies.specs.Texts.{status_of, text_of}
 use Rattle.ot_words.specs.Commands.{Bound, Least}
 use Rattle.ot_top.specs.Bounded.{IsBoundJudgedAs, IsBounded, IsBoundedAt, IsCertifiedWritten, IsShortestWritten, IsSought, ShowsLeast, ShowsShort}
-use Rattle.ot_commands.specs.Judgements.{IsReplyToBound, at_least}
+use Rattle.ot_commands.specs.Bound.{IsReplyToBound, at_least}
+use Rattle.ot_commands.specs.Least.{IsReplyToLeast, TellsLeast, TellsShort}
 use Rattle.ot_commands.specs.Replies.{IsReply, IsReplyTo}
-use Rattle.ot_commands.specs.Shortest.{IsReplyToLeast, TellsLeast, TellsShort}
 use Rattle.ot_top.specs.Shown.{HasBefore, IsAskedAt}
 use Rattle.ot_top.proofs.OneVerdict.{least_once}
 use Rattle.ot_top.proofs.Breaking.{counter_breaks}

@@ -20,8 +20,9 @@ use Rattle.ot_replies.specs.declared.reply.Subject.TheVariants.{First}
 use Rattle.ot_replies.specs.Limits.{limit_of}
 use Rattle.ot_replies.specs.Texts.{status_of, text_of}
 use Rattle.ot_words.specs.Commands.{Confirm}
-use Rattle.ot_commands.specs.Confirmations.{IsReplyToConfirmed, IsReplyToJudged, TellsJudgement, rests_on_more}
-use Rattle.ot_commands.specs.Replies.{IsReply, IsReplyTo, IsReplyToFunction}
+use Rattle.ot_commands.specs.Confirm.{IsReplyToConfirmed, IsReplyToJudged, TellsJudgement, rests_on_more}
+use Rattle.ot_commands.specs.Load.{IsReplyToFunction}
+use Rattle.ot_commands.specs.Replies.{IsReply, IsReplyTo}
 use Rattle.ot_top.specs.Confirmed.{IsConfirmed, IsConfirmJudgedAs}
 use Rattle.ot_top.specs.Shown.{HasLevel}
 use Rattle.ot_top.proofs.OneFile.{function_once}

@@ -11,8 +11,9 @@ use Rattle.ot_replies.specs.declared.reply.Reply.TheVariants.{BoundTooLong, Cert
 use Rattle.ot_replies.specs.declared.reply.Subject.TheVariants.{First}
 use Rattle.ot_words.specs.Commands.{Least}
 use Rattle.ot_words.specs.Words.{most_questions}
-use Rattle.ot_commands.specs.Replies.{IsFunctionRefusal, IsReplyTo}
-use Rattle.ot_commands.specs.Shortest.{TellsShort}
+use Rattle.ot_commands.specs.Least.{TellsShort}
+use Rattle.ot_commands.specs.Load.{IsFunctionRefusal}
+use Rattle.ot_commands.specs.Replies.{IsReplyTo}
 
 -- a function that is refused gets another reply
 refused_otherwise : (told : Option (List ℕ)) (r : Reply) → IsFunctionRefusal First told r → r ≡ BoundTooLong → ⊥

@@ -9,8 +9,9 @@ use Rattle.ot_replies.specs.declared.reply.Reply.TheVariants.{Audited, Compared}
 use Rattle.ot_replies.specs.declared.reply.Subject.TheVariants.{First, Second}
 use Rattle.ot_words.specs.Commands.{Audit, Same}
 use Rattle.ot_words.specs.Words.{most_questions}
-use Rattle.ot_commands.specs.Audits.{IsReplyToAudit, IsReplyToTwo}
-use Rattle.ot_commands.specs.Replies.{IsReplyTo, IsReplyToSecond}
+use Rattle.ot_commands.specs.Audit.{IsReplyToAudit}
+use Rattle.ot_commands.specs.Replies.{IsReplyTo}
+use Rattle.ot_commands.specs.Same.{IsReplyToSecond, IsReplyToTwo}
 use Rattle.ot_top.proofs.OneFile.{function_once}
 
 -- the reply of `audit` to a told file is one

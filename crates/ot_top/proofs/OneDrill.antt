@@ -26,9 +26,9 @@ use Rattle.ot_replies.specs.declared.reply.Drilled.{Drilled}
 use Rattle.ot_replies.specs.declared.reply.Reply.{Reply}
 use Rattle.ot_replies.specs.declared.reply.Reply.TheVariants as replies
 use Rattle.ot_words.specs.Commands.{Drill}
-use Rattle.ot_commands.specs.Drills.{IsDrilled, IsReplyToQuestions}
+use Rattle.ot_commands.specs.Drill.{IsDrilled, IsReplyToQuestions}
+use Rattle.ot_commands.specs.Replay.{IsFirstPair}
 use Rattle.ot_commands.specs.Replies.{IsReplyTo}
-use Rattle.ot_commands.specs.Sessions.{IsFirstPair}
 use Rattle.ot_top.proofs.OneReply.{first_pair_one, taken_is_no_refusal}
 
 -- the events are done one after the other from a session and a count on, which are these two in the end

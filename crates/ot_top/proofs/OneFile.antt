@@ -7,7 +7,7 @@ use Rattle.ot_replies.specs.declared.reply.FileKind.{FileKind}
 use Rattle.ot_replies.specs.declared.reply.Reply.{Reply}
 use Rattle.ot_replies.specs.declared.reply.Reply.TheVariants.{FunctionRefused}
 use Rattle.ot_replies.specs.declared.reply.Subject.{Subject}
-use Rattle.ot_commands.specs.Replies.{IsReplyToFile, IsReplyToFunction}
+use Rattle.ot_commands.specs.Load.{IsReplyToFile, IsReplyToFunction}
 
 module _ (told : Option (List ℕ)) (bytes : List ℕ) (is_told : told ≡ Some bytes) where
   -- two replies to a function's file are one refusal, or both come of the one function that it holds

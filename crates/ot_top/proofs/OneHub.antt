@@ -20,8 +20,7 @@ use Rattle.ot_replies.specs.declared.reply.ClientEnd.{ClientEnd}
 use Rattle.ot_replies.specs.declared.reply.HubEnd.{HubEnd}
 use Rattle.ot_replies.specs.declared.reply.Reply.{Reply}
 use Rattle.ot_replies.specs.declared.reply.Reply.TheVariants.{Served}
-use Rattle.ot_commands.specs.Hubs.{IsFirstApart, IsEndOf, TellsHub, TellsNotEdited, TellsNotMoved, IsRefused, IsDone}
-use Rattle.ot_commands.specs.Hubs.{IsReplyToHub, IsReplyToHubScript}
+use Rattle.ot_commands.specs.Hub.{IsDone, IsEndOf, IsFirstApart, IsRefused, IsReplyToHub, IsReplyToHubScript, TellsHub, TellsNotEdited, TellsNotMoved}
 use Rattle.ot_commands.proofs.RunsBy.{runs_once}
 
 -- the first that is apart is one

@@ -7,9 +7,9 @@ use Rattle.ot_sections.specs.declared.refusal.JudgeError.TheVariants as judge
 use Rattle.ot_replies.specs.declared.reply.FileKind.TheVariants as files
 use Rattle.ot_replies.specs.declared.reply.Reply.{Reply}
 use Rattle.ot_replies.specs.declared.reply.Subject.TheVariants.{First}
-use Rattle.ot_commands.specs.Judgements.{IsReplyToCertificate, IsReplyToJudgement, Tells, rests_on_the_end}
+use Rattle.ot_commands.specs.Certificate.{IsReplyToCertificate, IsReplyToJudgement, Tells, rests_on_the_end}
+use Rattle.ot_commands.specs.Load.{IsReplyToFunction}
 use Rattle.ot_replies.specs.Limits.{limit_of, IsTooLong}
-use Rattle.ot_commands.specs.Replies.{IsReplyToFunction}
 use Rattle.ot_top.proofs.OneFile.{function_once}
 
 module _ {T : Type 0} (accepts : T → Reply) where

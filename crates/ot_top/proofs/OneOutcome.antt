@@ -13,7 +13,9 @@ use Rattle.ot_replies.specs.declared.reply.Reply.{Reply}
 use Rattle.ot_replies.specs.declared.reply.Subject.TheVariants.{First}
 use Rattle.ot_replies.specs.declared.reply.Reply.TheVariants.{Integrated}
 use Rattle.ot_words.specs.Commands.{Integrate}
-use Rattle.ot_commands.specs.Replies.{HaveOneEnd, IsReplyTo, IsReplyToCase, IsReplyToFile, IsReplyToFunction, IsReplyToTrial, TellsOutcomes, outcomes_of}
+use Rattle.ot_commands.specs.Integrate.{HaveOneEnd, IsReplyToCase, IsReplyToTrial, TellsOutcomes, outcomes_of}
+use Rattle.ot_commands.specs.Load.{IsReplyToFile, IsReplyToFunction}
+use Rattle.ot_commands.specs.Replies.{IsReplyTo}
 use Rattle.ot_top.proofs.OneFile.{file_once, function_once}
 
 -- ends with one outcome are one

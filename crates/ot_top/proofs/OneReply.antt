@@ -21,8 +21,9 @@ use Rattle.ot_session.specs.Sites.{end_of}
 use Rattle.ot_session.specs.Views.{View, data_in, IsBegun, HasMade, HasTaken}
 use Rattle.ot_replies.specs.declared.reply.Reply.{Reply}
 use Rattle.ot_replies.specs.declared.reply.Reply.TheVariants.{Replayed}
-use Rattle.ot_commands.specs.Sessions.{IsFirstOther, IsFirstPair, TellsSites, CannotMake, TellsNotMade, TellsNotTaken, IsRefused, IsDone, Runs}
-use Rattle.ot_commands.specs.Sessions.{IsReplyToScript, IsReplyToSession}
+use Rattle.ot_session.specs.declared.ending.SiteEnd.{SiteEnd}
+use Rattle.ot_commands.specs.Replay.{CannotMake, IsDone, IsFirstOther, IsFirstPair, IsRefused, IsReplyToScript, IsReplyToSession, Runs, TellsNotMade}
+use Rattle.ot_commands.specs.Replay.{TellsNotTaken, TellsSites}
 
 -- the first that differs from one is one
 first_other_one :

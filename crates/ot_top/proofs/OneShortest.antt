@@ -11,8 +11,8 @@ use Rattle.ot_replies.specs.declared.reply.Subject.TheVariants.{First}
 use Rattle.ot_replies.specs.Texts.{status_of}
 use Rattle.ot_words.specs.Commands.{Least}
 use Rattle.ot_words.specs.Words.{most_questions}
+use Rattle.ot_commands.specs.Least.{IsReplyToLeast, TellsShort}
 use Rattle.ot_commands.specs.Replies.{IsReplyTo}
-use Rattle.ot_commands.specs.Shortest.{IsReplyToLeast, TellsShort}
 use Rattle.ot_top.proofs.OneFile.{function_once}
 use Rattle.ot_top.proofs.OneVerdict.{end_countered_once}
 

@@ -21,9 +21,9 @@ use Rattle.ot_replies.specs.declared.reply.Reply.{Reply}
 use Rattle.ot_replies.specs.declared.reply.Subject.TheVariants.{First}
 use Rattle.ot_replies.specs.declared.reply.Reply.TheVariants.{Broken}
 use Rattle.ot_words.specs.Commands.{Prove}
+use Rattle.ot_commands.specs.Prove.{IsReplyToProof, TellsVerdict}
 use Rattle.ot_commands.specs.Replies.{IsReplyTo}
 use Rattle.ot_replies.specs.Texts.{status_of}
-use Rattle.ot_commands.specs.Verdicts.{IsReplyToProof, TellsVerdict}
 use Rattle.ot_top.proofs.OneFile.{function_once}
 
 -- integers that are no higher than each other are one

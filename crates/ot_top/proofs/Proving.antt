@@ -44,14 +44,17 @@ use Rattle.ot_confirm.specs.Judgement.{judgement_of}
 use Rattle.ot_settle.specs.declared.settled.Settled.{Settled}
 use Rattle.ot_settle.specs.declared.settled.Settled.TheVariants as outcomes
 use Rattle.ot_settle.specs.Outcomes.{HoldsBefore, IsSettled}
-use Rattle.ot_commands.specs.Confirmations.{IsReplyToConfirmed, IsReplyToJudged}
-use Rattle.ot_commands.specs.Judgements.{IsReplyToCertificate, IsReplyToChecked, IsReplyToJudgement}
+use Rattle.ot_commands.specs.Certificate.{IsReplyToCertificate, IsReplyToJudgement}
+use Rattle.ot_commands.specs.Check.{IsReplyToChecked}
+use Rattle.ot_commands.specs.Confirm.{IsReplyToConfirmed, IsReplyToJudged}
+use Rattle.ot_commands.specs.Load.{IsReadAs, IsReplyToFunction}
+use Rattle.ot_commands.specs.Prove.{IsReplyToProof, TellsVerdict}
+use Rattle.ot_commands.specs.Replies.{IsReply, IsReplyTo}
+use Rattle.ot_commands.specs.Settle.{IsReplyToSettle, TellsSettled}
 use Rattle.ot_replies.specs.Limits.{limit_of}
-use Rattle.ot_commands.specs.Replies.{IsReadAs, IsReply, IsReplyTo, IsReplyToFunction}
 use Rattle.ot_top.specs.Evidence.{Evidence, Certificate, Proof, IsAcceptedAt, IsEvidence, asks_for, file_of}
 use Rattle.ot_top.specs.Shown.{HasBefore, HasLevel, IsAskedAt, IsBroken, IsComplete, IsProved, status_by}
 use Rattle.ot_replies.specs.Texts.{status_of, text_of}
-use Rattle.ot_commands.specs.Verdicts.{IsReplyToProof, IsReplyToSettle, TellsSettled, TellsVerdict}
 use Rattle.ot_words.specs.Words.{IsWithinBounds, asked_by, most_questions}
 use Rattle.ot_top.proofs.Asking.{asked_at, asked_once, listed_at}
 use Rattle.ot_top.proofs.Breaking.{IsBrokenBy, counter_breaks}

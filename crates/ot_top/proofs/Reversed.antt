@@ -12,8 +12,8 @@ use Rattle.ot_reverse.specs.declared.back.Back.{Back}
 use Rattle.ot_reverse.specs.Answers.{AreSearched}
 use Rattle.ot_words.specs.Commands.{Reverse}
 use Rattle.ot_words.specs.Words.{most_questions}
-use Rattle.ot_commands.specs.Replies.{IsReplyTo, IsReplyToReverser}
-use Rattle.ot_commands.specs.Reversals.{IsReplyToReversal, IsReversed}
+use Rattle.ot_commands.specs.Replies.{IsReplyTo}
+use Rattle.ot_commands.specs.Reverse.{IsReplyToReversal, IsReplyToReverser, IsReversed}
 use Rattle.ot_top.proofs.OneFile.{function_once}
 use Rattle.ot_top.proofs.Proving.{gets, reply_to_asked}
 use Rattle.ot_top.proofs.Told.{IsAnswered}

@@ -21,9 +21,10 @@ use Rattle.ot_replies.specs.declared.reply.Subject.{Subject}
 use Rattle.ot_replies.specs.declared.reply.Subject.TheVariants.{First}
 use Rattle.ot_replies.specs.declared.reply.Reply.TheVariants.{Accepted, Refused, FunctionRefused, Usage, TooLong}
 use Rattle.ot_words.specs.Commands.{Asked, Check}
-use Rattle.ot_commands.specs.Judgements.{IsReplyToCertificate, IsReplyToContents, Tells, rests_on_the_end}
+use Rattle.ot_commands.specs.Certificate.{IsReplyToCertificate, IsReplyToContents, Tells, rests_on_the_end}
+use Rattle.ot_commands.specs.Load.{IsFunctionRefusal, IsReadAs, IsReplyToFunction}
+use Rattle.ot_commands.specs.Replies.{IsReply, IsReplyTo}
 use Rattle.ot_replies.specs.Limits.{limit_of, IsTooLong}
-use Rattle.ot_commands.specs.Replies.{IsFunctionRefusal, IsReadAs, IsReply, IsReplyTo, IsReplyToFunction}
 use Rattle.ot_top.specs.Shown.{HasLevel, IsShown}
 use Rattle.ot_replies.specs.Texts.{status_of, text_of}
 

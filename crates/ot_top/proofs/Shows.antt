@@ -16,12 +16,12 @@ use Rattle.ot_confirm.specs.Judgement.{judgement_of}
 use Rattle.ot_outside.specs.Reads.{Reads}
 use Rattle.ot_replies.specs.declared.reply.Reply.{Reply}
 use Rattle.ot_commands.specs.Given.{IsAnswerOfGiven}
+use Rattle.ot_commands.specs.Replies.{IsReply}
+use Rattle.ot_commands.specs.Steady.{AreSteady}
 use Rattle.ot_top.specs.Bounded.{IsBounded, IsSought}
 use Rattle.ot_top.specs.Evidence.{Evidence}
-use Rattle.ot_commands.specs.Replies.{IsReply}
 use Rattle.ot_top.specs.Shown.{HasLevel, IsBroken, IsComplete}
 use Rattle.ot_top.specs.Shows.{AreKnown, IsOfReply, Shows}
-use Rattle.ot_commands.specs.Steady.{AreSteady}
 use Rattle.ot_replies.specs.Texts.{status_of, text_of}
 use Rattle.ot_top.proofs.Audited.{audited, compared}
 use Rattle.ot_top.proofs.Bounded.{bound_judged}

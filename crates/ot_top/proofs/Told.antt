@@ -19,17 +19,18 @@ use Rattle.ot_replies.specs.declared.reply.Reply.{Reply}
 use Rattle.ot_replies.specs.declared.reply.Reply.TheVariants as replies
 use Rattle.ot_replies.specs.declared.reply.Subject.TheVariants.{First}
 use Rattle.ot_words.specs.Commands.{Check, Drill}
-use Rattle.ot_commands.specs.Drills.{IsDrilled, IsReplyToQuestions}
+use Rattle.ot_commands.specs.Certificate.{IsReplyToCertificate, IsReplyToJudgement, Tells}
+use Rattle.ot_commands.specs.Check.{IsReplyToChecked}
+use Rattle.ot_commands.specs.Drill.{IsDrilled, IsReplyToQuestions}
+use Rattle.ot_commands.specs.Replies.{IsReply}
+use Rattle.ot_commands.specs.Steady.{AreSteady}
 use Rattle.ot_audit.specs.declared.audits.Audit.TheVariants as audits
 use Rattle.ot_audit.specs.declared.audits.Same.TheVariants as sames
 use Rattle.ot_reverse.specs.declared.back.Back.TheVariants as backs
 use Rattle.ot_replies.specs.AuditTexts.{is_total}
 use Rattle.ot_replies.specs.DrillTexts.{drill_text}
-use Rattle.ot_commands.specs.Judgements.{IsReplyToCertificate, IsReplyToChecked, IsReplyToJudgement, Tells}
 use Rattle.ot_replies.specs.Limits.{limit_of}
-use Rattle.ot_commands.specs.Replies.{IsReply}
 use Rattle.ot_top.specs.Shown.{IsGoneThrough, IsJudgedAs}
-use Rattle.ot_commands.specs.Steady.{AreSteady}
 use Rattle.ot_replies.specs.Texts.{differ_status, status_of, text_of}
 use Rattle.ot_top.proofs.Proving.{gets, reply_to_asked}
 use Rattle.ot_commands.proofs.Steady.{steady_asked}

@@ -54,21 +54,24 @@ use Rattle.ot_audit.specs.declared.audits.Same.TheVariants as sames
 use Rattle.ot_reverse.specs.declared.back.Back.{Back}
 use Rattle.ot_reverse.specs.declared.back.Back.TheVariants as backs
 use Rattle.ot_replies.specs.AuditTexts.{is_total}
-use Rattle.ot_commands.specs.Audits.{IsReplyToTwo}
-use Rattle.ot_commands.specs.Drills.{IsReplyToQuestions}
-use Rattle.ot_commands.specs.Hubs.{IsDone, IsRefused, IsReplyToHub, IsReplyToHubScript, TellsHub}
+use Rattle.ot_commands.specs.Bound.{at_least}
+use Rattle.ot_commands.specs.Certificate.{IsReplyToCertificate, Tells}
+use Rattle.ot_commands.specs.Confirm.{IsReplyToConfirmed, TellsJudgement}
+use Rattle.ot_commands.specs.Drill.{IsReplyToQuestions}
+use Rattle.ot_commands.specs.Hub.{IsDone, IsRefused, IsReplyToHub, IsReplyToHubScript, TellsHub}
+use Rattle.ot_commands.specs.Integrate.{IsReplyToCase, IsReplyToTrial, TellsOutcomes}
+use Rattle.ot_commands.specs.Least.{TellsLeast, TellsShort}
+use Rattle.ot_commands.specs.Load.{IsReplyToFile, IsReplyToFunction}
+use Rattle.ot_commands.specs.Prove.{TellsVerdict}
+use Rattle.ot_commands.specs.Replay.{IsReplyToScript, IsReplyToSession, Runs, TellsNotMade, TellsNotTaken, TellsSites}
+use Rattle.ot_commands.specs.Replies.{IsReplyTo}
+use Rattle.ot_commands.specs.Reverse.{IsReplyToReversal, IsReplyToReverser}
+use Rattle.ot_commands.specs.Same.{IsReplyToSecond, IsReplyToTwo}
+use Rattle.ot_commands.specs.Settle.{TellsSettled}
 use Rattle.fn_rules.specs.declared.function.Level.{Level}
-use Rattle.ot_commands.specs.Confirmations.{IsReplyToConfirmed, TellsJudgement}
-use Rattle.ot_commands.specs.Judgements.{IsReplyToCertificate, Tells, at_least}
-use Rattle.ot_commands.specs.Replies.{IsReplyTo, IsReplyToCase, IsReplyToFile, IsReplyToFunction, IsReplyToReverser, IsReplyToSecond, IsReplyToTrial}
-use Rattle.ot_commands.specs.Replies.{TellsOutcomes}
-use Rattle.ot_commands.specs.Reversals.{IsReplyToReversal}
-use Rattle.ot_commands.specs.Sessions.{IsReplyToScript, IsReplyToSession, Runs, TellsNotMade, TellsNotTaken, TellsSites}
 use Rattle.ot_top.specs.Shown.{IsUnread, IsUnreadFrom, function_names}
 use Rattle.ot_replies.specs.Limits.{limit_of}
 use Rattle.ot_replies.specs.Texts.{differ_status, status_of}
-use Rattle.ot_commands.specs.Shortest.{TellsLeast, TellsShort}
-use Rattle.ot_commands.specs.Verdicts.{TellsSettled, TellsVerdict}
 use Rattle.ot_commands.proofs.HubStatus.{refused_other}
 use Rattle.ot_top.proofs.Proving.{reply_to_asked}
 use Rattle.ot_commands.proofs.RunsBy.{runs_other}

@@ -25,9 +25,10 @@ use Rattle.ot_counter.specs.Ways.{document_way, operation_result}
 use Rattle.ot_replies.specs.declared.reply.FileKind.TheVariants as files
 use Rattle.ot_replies.specs.declared.reply.Drilled.{Drilled}
 use Rattle.ot_replies.specs.declared.reply.Reply.TheVariants.{Spent}
-use Rattle.ot_words.specs.Commands.{Asked, Prove, Settle, Check, Integrate, Replay, Hub, Audit, Same, Reverse, Least}
-use Rattle.ot_words.specs.Commands.{Bound, Confirm, Drill}
-use Rattle.ot_commands.specs.Drills.{IsDrilled}
+use Rattle.ot_words.specs.Commands.{Asked, Check, Drill, Prove}
+use Rattle.ot_commands.specs.Drill.{IsDrilled}
+use Rattle.ot_commands.specs.Facts.{FunctionAnd, NoFile, OneFunction, Opens, TwoFunctions}
+use Rattle.ot_commands.specs.Replies.{facts_of}
 use Rattle.ot_replies.specs.DrillTexts.{drill_text}
 use Rattle.ot_replies.specs.CounterTexts.{counter_text}
 use Rattle.ot_replies.specs.Limits.{limit_of}
@@ -122,21 +123,16 @@ IsJudgedAs words holds status =
     → (judgement : Result Level JudgeError) × IsJudgement f certificate judgement
     × (status ≡ (if is_ok judgement then 0 else 2))
 
--- the names of the functions' files, in the order in which they are opened
+-- of the files that are opened, the names of the functions' files, in their order
+abbrev pub names_of_functions : Opens → List (List ℕ)
+names_of_functions (NoFile Gets) = []
+names_of_functions (OneFunction function Gets) = function ∷ []
+names_of_functions (FunctionAnd function other Gets) = function ∷ []
+names_of_functions (TwoFunctions function other Gets) = function ∷ other ∷ []
+
+-- the names of the functions' files of a command, in the order in which they are opened
 abbrev pub function_names : Asked → List (List ℕ)
-function_names (Prove level budget name) = name ∷ []
-function_names (Settle level budget name) = name ∷ []
-function_names (Check name certificate_name) = name ∷ []
-function_names (Integrate name case) = name ∷ []
-function_names (Replay name session) = name ∷ []
-function_names (Hub name hub) = name ∷ []
-function_names (Audit name) = name ∷ []
-function_names (Same name other) = name ∷ other ∷ []
-function_names (Reverse name other) = name ∷ other ∷ []
-function_names (Least cert name) = name ∷ []
-function_names (Bound name certificate_name) = name ∷ []
-function_names (Confirm name proof_name) = name ∷ []
-function_names (Drill number) = []
+function_names asked = names_of_functions (facts_of asked).opens
 
 -- of the functions' files that are still to be read, where each that is reached is told and within its limit: one that
 -- is the text of no function by the grammar ends the command with 3, a text of a function goes on to the next one, and

@@ -7,9 +7,10 @@ use Rattle.ot_top.specs.Bounded.{IsBoundJudgedAs, IsBounded, IsSought}
 use Rattle.ot_top.specs.Confirmed.{IsConfirmJudgedAs, IsConfirmed}
 use Rattle.ot_top.specs.Evidence.{Evidence}
 use Rattle.ot_commands.specs.Given.{TellsGivenOf}
-use Rattle.ot_commands.specs.Reversals.{IsReversed}
+use Rattle.ot_commands.specs.Hub.{IsServed}
+use Rattle.ot_commands.specs.Replay.{IsSteady}
+use Rattle.ot_commands.specs.Reverse.{IsReversed}
 use Rattle.ot_top.specs.Shown.{IsBroken, IsComplete, IsGoneThrough, IsJudgedAs, IsProved, IsShown, IsUnread}
-use Rattle.ot_commands.specs.Steady.{IsServed, IsSteady}
 
 -- the status is that of a reply: neither the files nor the sink failed, and there was memory
 abbrev pub IsOfReply : ℕ → Type 0

@@ -2,7 +2,7 @@
 use Rattle.std.proofs.Common.{inl, rules}
 use Rattle.fn_rules.specs.Rules.{function_of}
 use Rattle.ot_replies.specs.declared.reply.Subject.TheVariants.{First}
-use Rattle.ot_commands.specs.Audits.{IsReplyToAudit}
+use Rattle.ot_commands.specs.Audit.{IsReplyToAudit}
 use Rattle.ot_commands.proofs.Given.{gets_behind, refused_first}
 use Rattle.ot_commands.proofs.audit.audit.Goals as goal
 

@@ -2,7 +2,7 @@
 use Rattle.std.proofs.Common.{inl, rules}
 use Rattle.fn_rules.specs.Rules.{function_of}
 use Rattle.ot_replies.specs.declared.reply.Subject.TheVariants.{First}
-use Rattle.ot_commands.specs.Judgements.{IsReplyToCertificate}
+use Rattle.ot_commands.specs.Certificate.{IsReplyToCertificate}
 use Rattle.ot_commands.proofs.Behind.{then_gets}
 use Rattle.ot_commands.proofs.Given.{certificate_told, have_read_both, refused_first, then_given}
 use Rattle.ot_commands.proofs.certificate.reply_to_both.Goals as goal

@@ -4,7 +4,7 @@ use Rattle.std.specs.Option.{ForSome}
 use Rattle.fn_rules.specs.Rules.{function_of}
 use Rattle.ot_outside.specs.ShelfFeed.{feed_left, file_left, hand_of, room_of}
 use Rattle.ot_sections.specs.Feeding.{IsSpent}
-use Rattle.ot_commands.specs.Judgements.{rests_on_the_end}
+use Rattle.ot_commands.specs.Certificate.{rests_on_the_end}
 use Rattle.ot_commands.proofs.Feeding.{kept_since, reading_on, unchanged_on}
 use Rattle.ot_commands.proofs.Judged.{at_its_end, goes_on, told_replies, too_long_reply}
 use Rattle.ot_commands.proofs.ReadCertificate.{ended_reply, further_reply, none_unread, reply_of, unrested_reply}

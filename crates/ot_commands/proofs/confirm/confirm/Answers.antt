@@ -2,7 +2,7 @@
 use Rattle.std.proofs.Common.{inl, rules}
 use Rattle.fn_rules.specs.Rules.{function_of}
 use Rattle.ot_replies.specs.declared.reply.Subject.TheVariants.{First}
-use Rattle.ot_commands.specs.Confirmations.{IsReplyToConfirmed}
+use Rattle.ot_commands.specs.Confirm.{IsReplyToConfirmed}
 use Rattle.ot_commands.proofs.Behind.{then_gets}
 use Rattle.ot_commands.proofs.Confirming.{proof_told}
 use Rattle.ot_commands.proofs.Given.{have_read_both, refused_first, then_given}

@@ -8,7 +8,7 @@ use Rattle.ot_sections.specs.Certificates.{IsCertificate}
 use Rattle.ot_replies.specs.declared.reply.Reply.{Reply}
 use Rattle.ot_replies.specs.declared.reply.Reply.TheVariants.{Proved}
 use Rattle.ot_replies.specs.Texts.{status_of}
-use Rattle.ot_commands.specs.Verdicts.{IsReplyToProof}
+use Rattle.ot_commands.specs.Prove.{IsReplyToProof}
 use Rattle.ot_words.specs.Words.{most_questions}
 use Rattle.ot_commands.proofs.Drilling.{IsShownBy, shown_by, too_many}
 use Rattle.ot_commands.proofs.drill.drill.Goals as goal

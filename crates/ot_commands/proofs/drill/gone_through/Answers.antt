@@ -5,7 +5,7 @@ use Rattle.fn_rules.specs.Properties.{HasTp1, HasTp2}
 use Rattle.ot_session.specs.Sites.{end_of}
 use Rattle.ot_session.specs.Views.{view_of}
 use Rattle.ot_session.specs.declared.ending.SiteEnd.{SiteEnd}
-use Rattle.ot_commands.specs.Sessions.{IsFirstPair}
+use Rattle.ot_commands.specs.Replay.{IsFirstPair}
 use Rattle.ot_commands.proofs.Agreeing.{none_differ}
 use Rattle.ot_commands.proofs.drill.gone_through.Goals as goal
 

@@ -3,7 +3,7 @@ use Rattle.ot_model.specs.declared.cell.Cell.{Cell}
 use Rattle.ot_hub.specs.Views.{view_of}
 use Rattle.ot_replies.specs.declared.reply.ClientEnd.{ClientEnd}
 use Rattle.ot_replies.specs.Texts.{differ_status}
-use Rattle.ot_commands.specs.Hubs.{IsFirstApart, client_end}
+use Rattle.ot_commands.specs.Hub.{IsFirstApart, client_end}
 use Rattle.ot_commands.proofs.HubEnding.{none_apart}
 use Rattle.ot_commands.proofs.hub.ended.Goals as goal
 

@@ -1,6 +1,6 @@
 use Rattle.std.proofs.Common.{◌≡◌, map, take}
 use Rattle.ot_hub.specs.Views.{view_of}
-use Rattle.ot_commands.specs.Hubs.{client_end}
+use Rattle.ot_commands.specs.Hub.{client_end}
 use Rattle.ot_commands.proofs.hub.ends_of.Given as goal
 
 abbrev pub invariant-loop-place : goal.invariant-loop-place

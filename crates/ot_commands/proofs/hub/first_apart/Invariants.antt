@@ -1,5 +1,5 @@
 use Rattle.std.proofs.Common.{ℕ, ◌+◌, Option, drop}
-use Rattle.ot_commands.specs.Hubs.{IsFirstApart}
+use Rattle.ot_commands.specs.Hub.{IsFirstApart}
 use Rattle.ot_commands.proofs.hub.first_apart.Given as goal
 
 -- what is found among the others is what is found

@@ -4,9 +4,7 @@ use Rattle.fn_rules.specs.Functions.{Function}
 use Rattle.fn_rules.specs.Rules.{function_of}
 use Rattle.ot_replies.specs.declared.reply.Subject.TheVariants.{First}
 use Rattle.ot_replies.specs.declared.reply.FileKind.TheVariants as files
-use Rattle.ot_commands.specs.Replies.{IsReplyToHubFile}
-use Rattle.ot_commands.specs.Hubs.{IsReplyToHub}
-use Rattle.ot_commands.specs.Steady.{MakesClientsAgree}
+use Rattle.ot_commands.specs.Hub.{IsReplyToHub, IsReplyToHubFile, MakesClientsAgree}
 use Rattle.ot_commands.proofs.Behind.{then_gets}
 use Rattle.ot_commands.proofs.Given.{file_told, have_read_both, known_function, refused_first, then_given}
 use Rattle.ot_commands.proofs.Steady.{function_refused-steady, same_function}

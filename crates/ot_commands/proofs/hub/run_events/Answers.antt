@@ -1,7 +1,7 @@
 use Rattle.std.proofs.Common.{◌∙◌}
 use Rattle.std.proofs.lemmas.List.{drop_more}
 use Rattle.ot_hub.specs.Views.{view_of}
-use Rattle.ot_commands.specs.Hubs.{IsDone, IsRefused, TellsHub}
+use Rattle.ot_commands.specs.Hub.{IsDone, IsRefused, TellsHub}
 use Rattle.ot_commands.proofs.HubRunning.{done_keeps}
 use Rattle.ot_commands.proofs.RunsBy.{goes_on}
 use Rattle.ot_commands.proofs.hub.run_events.Goals as goal

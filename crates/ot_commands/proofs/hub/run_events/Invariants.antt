@@ -1,7 +1,7 @@
 use Rattle.std.proofs.Common.{◌≡◌, length, drop, true}
 use Rattle.ot_hub.specs.Views.{view_of}
 use Rattle.ot_replies.specs.declared.reply.Reply.{Reply}
-use Rattle.ot_commands.specs.Hubs.{Runs}
+use Rattle.ot_commands.specs.Hub.{Runs}
 use Rattle.ot_commands.proofs.hub.run_events.Given as goal
 
 -- the hub is open, and what the other events come to from here on is what all come to

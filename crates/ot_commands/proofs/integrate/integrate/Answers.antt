@@ -3,7 +3,7 @@ use Rattle.std.proofs.Common.{inl, rules}
 use Rattle.fn_rules.specs.Rules.{function_of}
 use Rattle.ot_replies.specs.declared.reply.Subject.TheVariants.{First}
 use Rattle.ot_replies.specs.declared.reply.FileKind.TheVariants as files
-use Rattle.ot_commands.specs.Replies.{IsReplyToCase, IsReplyToCaseFile}
+use Rattle.ot_commands.specs.Integrate.{IsReplyToCase, IsReplyToCaseFile}
 use Rattle.ot_commands.proofs.Behind.{then_gets}
 use Rattle.ot_commands.proofs.Given.{file_told, have_read_both, refused_first, then_given}
 use Rattle.ot_commands.proofs.integrate.integrate.Goals as goal

@@ -3,7 +3,7 @@ use Rattle.ot_session.specs.Sites.{end_of}
 use Rattle.ot_session.specs.Views.{view_of}
 use Rattle.ot_session.specs.declared.ending.SiteEnd.{SiteEnd}
 use Rattle.ot_replies.specs.declared.reply.Reply.TheVariants.{Replayed}
-use Rattle.ot_commands.specs.Sessions.{IsFirstPair}
+use Rattle.ot_commands.specs.Replay.{IsFirstPair}
 use Rattle.ot_replies.specs.Texts.{status_of}
 use Rattle.ot_commands.proofs.Agreeing.{none_differ}
 use Rattle.ot_commands.proofs.replay.ended.Goals as goal

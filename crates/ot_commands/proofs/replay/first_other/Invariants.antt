@@ -1,5 +1,5 @@
 use Rattle.std.proofs.Common.{ℕ, ◌+◌, Option, drop}
-use Rattle.ot_commands.specs.Sessions.{IsFirstOther}
+use Rattle.ot_commands.specs.Replay.{IsFirstOther}
 use Rattle.ot_commands.proofs.replay.first_other.Given as goal
 
 -- what is found behind is what is found

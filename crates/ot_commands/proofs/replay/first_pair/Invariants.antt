@@ -1,5 +1,5 @@
 use Rattle.std.proofs.Common.{ℕ, ◌+◌, Option, drop}
-use Rattle.ot_commands.specs.Sessions.{IsFirstPair}
+use Rattle.ot_commands.specs.Replay.{IsFirstPair}
 use Rattle.ot_commands.proofs.replay.first_pair.Given as goal
 
 -- what is found behind is what is found

@@ -2,8 +2,7 @@
 use Rattle.std.proofs.Common.{inl, rules}
 use Rattle.fn_rules.specs.Rules.{function_of}
 use Rattle.ot_replies.specs.declared.reply.Subject.TheVariants.{First}
-use Rattle.ot_commands.specs.Replies.{IsReplyToReverser}
-use Rattle.ot_commands.specs.Reversals.{IsReplyToReversal}
+use Rattle.ot_commands.specs.Reverse.{IsReplyToReversal, IsReplyToReverser}
 use Rattle.ot_commands.proofs.Behind.{then_gets}
 use Rattle.ot_commands.proofs.Given.{have_read_both, refused_first, second_told, then_given}
 use Rattle.ot_commands.proofs.reverse.reverse.Goals as goal

@@ -2,8 +2,7 @@
 use Rattle.std.proofs.Common.{inl, rules}
 use Rattle.fn_rules.specs.Rules.{function_of}
 use Rattle.ot_replies.specs.declared.reply.Subject.TheVariants.{First}
-use Rattle.ot_commands.specs.Audits.{IsReplyToTwo}
-use Rattle.ot_commands.specs.Replies.{IsReplyToSecond}
+use Rattle.ot_commands.specs.Same.{IsReplyToSecond, IsReplyToTwo}
 use Rattle.ot_commands.proofs.Behind.{then_gets}
 use Rattle.ot_commands.proofs.Given.{have_read_both, refused_first, second_told, then_given}
 use Rattle.ot_commands.proofs.same.same.Goals as goal

@@ -1,15 +1,15 @@
 use Rattle.ot_judge.specs.Refusals.{IsJudgement}
 use Rattle.ot_least.specs.Judgements.{IsLowJudgement}
 use Rattle.ot_replies.specs.declared.reply.Reply.TheVariants.{Accepted}
-use Rattle.ot_commands.specs.Judgements.{at_least}
+use Rattle.ot_commands.specs.Bound.{at_least}
+use Rattle.ot_commands.specs.Hub.{IsReplyToHub}
+use Rattle.ot_commands.specs.Replay.{IsReplyToSession}
 use Rattle.ot_top.proofs.OneAudit.{audit_replied_once, same_replied_once}
 use Rattle.ot_top.proofs.Confirmed.{confirm_replied_once}
 use Rattle.ot_top.proofs.OneDrill.{drill_replied_once}
 use Rattle.ot_top.proofs.OneJudgement.{both_replied_once}
 use Rattle.ot_top.proofs.OneShortest.{certified_replied_once, least_replied_once}
 use Rattle.ot_top.proofs.Reversed.{reverse_replied_once}
-use Rattle.ot_commands.specs.Hubs.{IsReplyToHub}
-use Rattle.ot_commands.specs.Sessions.{IsReplyToSession}
 use Rattle.ot_top.proofs.OneOutcome.{file_replied_once, integrate_replied_once}
 use Rattle.ot_top.proofs.OneVerdict.{prove_replied_once}
 use Rattle.ot_top.proofs.laws.commands_have_one_reply.Goals as goal

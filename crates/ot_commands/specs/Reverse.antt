@@ -6,6 +6,7 @@ use Rattle.fn_grammar.specs.Grammar.{IsTextOf}
 use Rattle.ot_replies.specs.declared.reply.FileKind.TheVariants as files
 use Rattle.ot_replies.specs.declared.reply.Reply.{Reply}
 use Rattle.ot_replies.specs.declared.reply.Reply.TheVariants.{Reversed, Unlike}
+use Rattle.ot_replies.specs.declared.reply.Subject.TheVariants.{Second}
 use Rattle.ot_replies.specs.Limits.{limit_of}
 use Rattle.ot_replies.specs.ReversalTexts.{reversal_status, reversal_text, unlike_text}
 use Rattle.ot_reverse.specs.declared.back.Back.{Back}
@@ -13,6 +14,8 @@ use Rattle.ot_reverse.specs.Answers.{IsReversedAs}
 use Rattle.ot_reverse.specs.Reversal.{AreAlike}
 use Rattle.ot_words.specs.Commands.{Reverse}
 use Rattle.ot_words.specs.Words.{asked_by, most_questions}
+use Rattle.ot_commands.specs.Facts.{Facts, NothingMore, TwoFunctions}
+use Rattle.ot_commands.specs.Load.{IsReplyToFunction}
 
 -- the reply to two functions: they are of different modes or for different kinds; or else whether the second one takes
 -- back what the first one makes, with so many questions for each ordered pair of kinds
@@ -20,6 +23,14 @@ abbrev pub IsReplyToReversal : Function → Function → Reply → Type 0
 IsReplyToReversal f e r =
     ((AreAlike f.head e.head → ⊥) × (r ≡ Unlike))
     ⊎ ((back : Back) × AreAlike f.head e.head × IsReversedAs f e most_questions back × (r ≡ Reversed back))
+
+-- the reply to the file of the second function
+abbrev pub IsReplyToReverser : Function → Option (List ℕ) → Reply → Type 0
+IsReplyToReverser f told r = IsReplyToFunction Second told (λ e. IsReplyToReversal f e r) r
+
+-- the facts of the command
+abbrev pub reverse_facts : List ℕ → List ℕ → Facts
+reverse_facts function other = record { opens = TwoFunctions function other IsReplyToReversal; steady = NothingMore }
 
 -- the words ask whether a second function takes back what the first one makes; where both files are told, are within
 -- their limit and are texts of functions by the grammar, this was written of all documents: that mode or kinds differ,

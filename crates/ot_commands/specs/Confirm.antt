@@ -14,6 +14,7 @@ use Rattle.ot_replies.specs.declared.reply.Reply.TheVariants.{Confirmed, ProofRe
 use Rattle.ot_outside.specs.declared.whole.ReadError.{ReadError}
 use Rattle.ot_outside.specs.declared.whole.ReadError.TheVariants as read
 use Rattle.ot_replies.specs.Limits.{limit_of, IsTooLong}
+use Rattle.ot_commands.specs.Facts.{Facts, FunctionAnd, NothingMore}
 
 abbrev pub ends_early : ProofRefusal → Bool
 ends_early why.Truncated = true
@@ -56,3 +57,7 @@ abbrev pub IsReplyToConfirmed : Function → Option (List ℕ) → Reply → Typ
 IsReplyToConfirmed f told r =
     (contents : List ℕ) × ForSome told (λ known. contents ≡ known)
     × IsReplyToJudged told contents (judgement_of f (take (limit_of files.Proof) contents)) r
+
+-- the facts of the command
+abbrev pub confirm_facts : List ℕ → List ℕ → Facts
+confirm_facts function proof = record { opens = FunctionAnd function proof IsReplyToConfirmed; steady = NothingMore }

@@ -15,6 +15,7 @@ use Rattle.ot_replies.specs.declared.reply.Reply.{Reply}
 use Rattle.ot_replies.specs.declared.reply.Reply.TheVariants.{BoundTooLong, Certified, Shortest, Spent, Unbroken}
 use Rattle.ot_replies.specs.Limits.{limit_of}
 use Rattle.ot_words.specs.Words.{most_questions}
+use Rattle.ot_commands.specs.Facts.{Facts, NothingMore, OneFunction}
 
 -- the reply tells of the shortest documents: the bytes of the certificate that none is shorter, where that is asked
 -- for, and otherwise the counterexample of the answers that lead to the end
@@ -36,3 +37,10 @@ abbrev pub IsReplyToLeast : Function → Bool → Reply → Type 0
 IsReplyToLeast f cert r =
     (short : Short) × IsShort f most_questions short × IsTrueOf f short × IsWithin (limit_of files.Certificate) short
     × TellsShort f cert short r
+
+-- the facts of the command
+abbrev pub least_facts : Bool → List ℕ → Facts
+least_facts cert function = record {
+  opens = OneFunction function (λ f r. IsReplyToLeast f cert r);
+  steady = NothingMore;
+}

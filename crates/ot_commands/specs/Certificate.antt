@@ -1,18 +1,14 @@
--- Which reply a certificate gets: the judgement of its bytes within the limit, or that it is too long. It is one of any
--- kind: what its bytes are judged as and the reply to what it shows come with it.
+-- Which reply a certificate gets of any kind: the judgement of its bytes within the limit, or that it is too long. What
+-- its bytes are judged as and the reply to what it shows come with the kind.
 use Rattle.std.specs.Prelude.{◌≡◌, ℕ, ◌≤◌, ◌⊎◌, Bool, true, false, List, length, take, Option, Result, Ok, Err, IsTrue}
 use Rattle.std.specs.Option.{ForSome}
-use Rattle.fn_rules.specs.declared.function.Level.{Level}
-use Rattle.fn_rules.specs.Functions.{Function}
 use Rattle.ot_sections.specs.declared.refusal.JudgeError.{JudgeError}
 use Rattle.ot_sections.specs.declared.refusal.JudgeError.TheVariants as judge
 use Rattle.ot_sections.specs.declared.refusal.Refusal.{Refusal}
 use Rattle.ot_sections.specs.declared.refusal.Refusal.TheVariants as why
-use Rattle.ot_judge.specs.Refusals.{IsJudgement}
-use Rattle.ot_least.specs.Judgements.{IsLowJudgement}
 use Rattle.ot_replies.specs.declared.reply.FileKind.TheVariants as files
 use Rattle.ot_replies.specs.declared.reply.Reply.{Reply}
-use Rattle.ot_replies.specs.declared.reply.Reply.TheVariants.{Accepted, AtLeast, Refused}
+use Rattle.ot_replies.specs.declared.reply.Reply.TheVariants.{Refused}
 use Rattle.ot_replies.specs.Limits.{limit_of, IsTooLong}
 
 abbrev pub is_truncated : Refusal → Bool
@@ -58,14 +54,3 @@ abbrev pub IsReplyToCertificate : {T : Type 0} → (List ℕ → Result T JudgeE
     → Reply → Type 0
 IsReplyToCertificate Judges accepts told r =
     (contents : List ℕ) × ForSome told (λ known. contents ≡ known) × IsReplyToContents Judges accepts told contents r
-
--- the reply to a certificate of a function, by what its level says
-abbrev pub IsReplyToChecked : Function → Option (List ℕ) → Reply → Type 0
-IsReplyToChecked f told r = IsReplyToCertificate (IsJudgement f) Accepted told r
-
-abbrev pub at_least : Level × ℕ → Reply
-at_least shown = AtLeast shown.0 shown.1
-
--- the reply to a certificate that no document of fewer cells than its bound breaks a property
-abbrev pub IsReplyToBound : Function → Option (List ℕ) → Reply → Type 0
-IsReplyToBound f told r = IsReplyToCertificate (IsLowJudgement f) at_least told r

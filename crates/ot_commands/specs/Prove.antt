@@ -1,5 +1,5 @@
 -- Which reply a function gets that is to be proved: a certificate, a counterexample, or that its questions are too
--- many; and which one that is to be settled: a proof with lemmas, a counterexample, or that nothing is said.
+-- many.
 use Rattle.std.specs.Prelude.{◌≡◌, ℕ, ◌≤◌, List}
 use Rattle.fn_rules.specs.declared.function.Level.{Level}
 use Rattle.fn_rules.specs.declared.function.ObName.{ObName}
@@ -10,9 +10,6 @@ use Rattle.ot_questions.specs.declared.why.Why.{Why}
 use Rattle.ot_decide.specs.declared.verdict.Verdict.{Verdict}
 use Rattle.ot_decide.specs.declared.verdict.Verdict.TheVariants as verdicts
 use Rattle.ot_decide.specs.Verdicts.{IsDecidedAs, IsWithin}
-use Rattle.ot_settle.specs.declared.settled.Settled.{Settled}
-use Rattle.ot_settle.specs.declared.settled.Settled.TheVariants as outcomes
-use Rattle.ot_settle.specs.Outcomes.{IsSettled}
 use Rattle.ot_counter.specs.declared.counter.Counter.{Counter}
 use Rattle.ot_counter.specs.Counters.{IsCounter}
 use Rattle.ot_replies.specs.declared.reply.FileKind.TheVariants as files
@@ -20,6 +17,7 @@ use Rattle.ot_replies.specs.declared.reply.Reply.{Reply}
 use Rattle.ot_replies.specs.declared.reply.Reply.TheVariants.{Proved, Broken, Spent}
 use Rattle.ot_replies.specs.Limits.{limit_of}
 use Rattle.ot_words.specs.Words.{most_questions}
+use Rattle.ot_commands.specs.Facts.{Facts, NothingMore, OneFunction}
 
 -- the reply tells the counterexample of the answers that lead to a failing end
 abbrev pub TellsCounter : Function → ObName → List Answer → Why → Reply → Type 0
@@ -41,12 +39,9 @@ IsReplyToProof f level budget r =
     × (budget ≤ most_questions → IsWithin (limit_of files.Certificate) verdict)
     × TellsVerdict f verdict r
 
--- the reply tells what settling came to: the bytes of the proof, or the counterexample of a failing end
-abbrev pub TellsSettled : Function → Settled → Reply → Type 0
-TellsSettled f (outcomes.Yes bytes) r = r ≡ Proved bytes.items
-TellsSettled f (outcomes.No ob answers why) r = TellsCounter f ob answers.items why r
-TellsSettled f outcomes.Spent r = r ≡ Spent
-
--- the reply to a function at a level that is to be settled; how many questions are allowed says nothing of it
-abbrev pub IsReplyToSettle : Function → Level → Reply → Type 0
-IsReplyToSettle f level r = (settled : Settled) × IsSettled f level settled × TellsSettled f settled r
+-- the facts of the command
+abbrev pub prove_facts : Level → ℕ → List ℕ → Facts
+prove_facts level budget function = record {
+  opens = OneFunction function (λ f r. IsReplyToProof f level budget r);
+  steady = NothingMore;
+}

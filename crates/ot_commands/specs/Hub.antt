@@ -1,7 +1,11 @@
--- What the events of a hub come to, and which reply tells it.
-use Rattle.std.specs.Prelude.{◌≡◌, ◌≢◌, ℕ, ◌+◌, ◌⊎◌, List, [], ◌∷◌, length, map, Option, Some, None, Result, Ok, Err}
+-- What the events of a hub come to, and which reply tells it. Where a hub is run under a function that makes clients
+-- agree, nobody is stuck and no client differs from the server.
+use Rattle.std.specs.Prelude.{◌≡◌, ◌≢◌, ℕ, ◌+◌, ◌⊎◌, false, List, [], ◌∷◌, length, map, Option, Some, None, Result, Ok}
+use Rattle.std.specs.Prelude.{Err}
 use Rattle.ot_model.specs.declared.cell.Cell.{Cell}
 use Rattle.fn_rules.specs.Functions.{Function}
+use Rattle.fn_rules.specs.Properties.{HasTp1}
+use Rattle.fn_grammar.specs.Grammar.{IsTextOf}
 use Rattle.case_json.specs.declared.fault.CaseFault.{CaseFault}
 use Rattle.case_json.specs.declared.fault.CaseFault.TheVariants as faults
 use Rattle.case_json.specs.declared.fault.Name.TheVariants as names
@@ -18,9 +22,14 @@ use Rattle.ot_hub.specs.declared.client.Client.{Client}
 use Rattle.ot_hub.specs.Views.{HubData, begun, HasEdited, HasMoved, up_step, down_step}
 use Rattle.ot_replies.specs.declared.reply.ClientEnd.{ClientEnd}
 use Rattle.ot_replies.specs.declared.reply.EventFault.TheVariants as why
+use Rattle.ot_replies.specs.declared.reply.FileKind.TheVariants as files
 use Rattle.ot_replies.specs.declared.reply.HubEnd.{HubEnd}
 use Rattle.ot_replies.specs.declared.reply.Reply.{Reply}
 use Rattle.ot_replies.specs.declared.reply.Reply.TheVariants.{Served, StuckAt, EventRefused, CaseRefused}
+use Rattle.ot_words.specs.Commands.{Hub}
+use Rattle.ot_words.specs.Words.{asked_by}
+use Rattle.ot_commands.specs.Facts.{Facts, FunctionAnd, IsSteadyUnder}
+use Rattle.ot_commands.specs.Load.{IsReplyToFile}
 use Rattle.ot_commands.specs.Running.{RunsBy}
 
 -- how much a client has received, how much of it is pending, and its document
@@ -92,3 +101,27 @@ IsReplyToHubScript f (Ok script) r = Runs (begun f script.doc script.clients) 0 
 
 unfoldable pub IsReplyToHub : Function → List ℕ → Reply → Type 0
 IsReplyToHub f bytes r = IsReplyToHubScript f (hub_script_in bytes) r
+
+-- the reply to a hub's file
+abbrev pub IsReplyToHubFile : Function → Option (List ℕ) → Reply → Type 0
+IsReplyToHubFile f told r = IsReplyToFile files.Case told (λ bytes. IsReplyToHub f bytes r) r
+
+-- the function has the first property and does not assume that characters differ
+pub record MakesClientsAgree (f : Function) : Type 0 where
+  pub tp1 : HasTp1 f
+  pub chars : f.head.chars_differ ≡ false
+
+-- the facts of the command; under a function that makes clients agree its status is not 1
+abbrev pub hub_facts : List ℕ → List ℕ → Facts
+hub_facts function hub = record {
+  opens = FunctionAnd function hub IsReplyToHubFile;
+  steady = IsSteadyUnder MakesClientsAgree function;
+}
+
+-- the words ask to run a hub; where the function's file is told and is the text of a function that makes clients agree,
+-- the status is not 1
+abbrev pub IsServed : List (List ℕ) → (List ℕ → Option (List ℕ)) → ℕ → Type 0
+IsServed words holds status =
+    (name hub bytes : List ℕ) (f : Function)
+    → asked_by words ≡ Some (Hub name hub) → holds name ≡ Some bytes
+    → IsTextOf bytes f → MakesClientsAgree f → status ≢ 1

@@ -1,10 +1,13 @@
--- What the events of a session come to, and which reply tells it.
-use Rattle.std.specs.Prelude.{◌≡◌, ◌≢◌, ℕ, ◌+◌, ◌<◌, ◌⊎◌, List, [], ◌∷◌, length, map, Option, Some, None}
-use Rattle.std.specs.Prelude.{Result, Ok, Err}
+-- What the events of a session come to, and which reply tells it. Where a session is replayed under a function that
+-- makes sites agree, no site is stuck and no two differ.
+use Rattle.std.specs.Prelude.{◌≡◌, ◌≢◌, ℕ, ◌+◌, ◌<◌, ◌⊎◌, false, List, [], ◌∷◌, length, map, Option, Some}
+use Rattle.std.specs.Prelude.{None, Result, Ok, Err}
 use Rattle.ot_model.specs.declared.op.Op.{Op}
 use Rattle.ot_model.specs.Effect.{IsEnabled}
 use Rattle.ot_model.specs.Operations.{kind_of, site_of}
 use Rattle.fn_rules.specs.Functions.{Function, HasDeclaredKind}
+use Rattle.fn_rules.specs.Properties.{HasTp1, HasTp2}
+use Rattle.fn_grammar.specs.Grammar.{IsTextOf}
 use Rattle.case_json.specs.declared.fault.CaseFault.{CaseFault}
 use Rattle.case_json.specs.declared.fault.CaseFault.TheVariants as faults
 use Rattle.case_json.specs.declared.fault.Name.TheVariants as names
@@ -24,8 +27,13 @@ use Rattle.ot_session.specs.declared.limits.TheConstants.{MAX_MADE}
 use Rattle.ot_session.specs.Sites.{end_of}
 use Rattle.ot_session.specs.Views.{View, data_in, IsBegun, HasMade, HasTaken}
 use Rattle.ot_replies.specs.declared.reply.EventFault.TheVariants as why
+use Rattle.ot_replies.specs.declared.reply.FileKind.TheVariants as files
 use Rattle.ot_replies.specs.declared.reply.Reply.{Reply}
 use Rattle.ot_replies.specs.declared.reply.Reply.TheVariants.{Replayed, StuckAt, EventRefused, CaseRefused, Spent}
+use Rattle.ot_words.specs.Commands.{Replay}
+use Rattle.ot_words.specs.Words.{asked_by}
+use Rattle.ot_commands.specs.Facts.{Facts, FunctionAnd, IsSteadyUnder}
+use Rattle.ot_commands.specs.Load.{IsReplyToFile}
 
 -- the sites have integrated the same operations and hold different documents
 pub record Differ (a b : SiteEnd) : Type 0 where
@@ -104,3 +112,28 @@ IsReplyToScript f (Ok script) r = (v : View) × IsBegun f script.doc script.site
 
 unfoldable pub IsReplyToSession : Function → List ℕ → Reply → Type 0
 IsReplyToSession f bytes r = IsReplyToScript f (script_in bytes) r
+
+-- the reply to a session's file
+abbrev pub IsReplyToSessionFile : Function → Option (List ℕ) → Reply → Type 0
+IsReplyToSessionFile f told r = IsReplyToFile files.Case told (λ bytes. IsReplyToSession f bytes r) r
+
+-- the function has both properties and does not assume that characters differ
+pub record MakesSitesAgree (f : Function) : Type 0 where
+  pub tp1 : HasTp1 f
+  pub tp2 : HasTp2 f
+  pub chars : f.head.chars_differ ≡ false
+
+-- the facts of the command; under a function that makes sites agree its status is not 1
+abbrev pub replay_facts : List ℕ → List ℕ → Facts
+replay_facts function session = record {
+  opens = FunctionAnd function session IsReplyToSessionFile;
+  steady = IsSteadyUnder MakesSitesAgree function;
+}
+
+-- the words ask to replay a session; where the function's file is told and is the text of a function that makes sites
+-- agree, the status is not 1
+abbrev pub IsSteady : List (List ℕ) → (List ℕ → Option (List ℕ)) → ℕ → Type 0
+IsSteady words holds status =
+    (name session bytes : List ℕ) (f : Function)
+    → asked_by words ≡ Some (Replay name session) → holds name ≡ Some bytes
+    → IsTextOf bytes f → MakesSitesAgree f → status ≢ 1

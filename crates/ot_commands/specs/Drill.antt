@@ -1,5 +1,5 @@
 -- What a workload comes to: its function is proved, its certificate accepted, and its session gone through.
-use Rattle.std.specs.Prelude.{◌≡◌, ℕ, ◌<◌, ◌≤◌, ◌⊎◌, List, [], length, map}
+use Rattle.std.specs.Prelude.{◌≡◌, ◌≢◌, ℕ, ◌<◌, ◌≤◌, ◌⊎◌, List, [], length, map}
 use Rattle.fn_rules.specs.declared.function.Level.TheVariants.{Tp2}
 use Rattle.fn_rules.specs.Obligations.{obligations_of}
 use Rattle.ot_questions.specs.declared.why.Why.{Why}
@@ -14,8 +14,10 @@ use Rattle.ot_drill.specs.Workload.{case_count, drill_function}
 use Rattle.ot_replies.specs.declared.reply.Drilled.{Drilled}
 use Rattle.ot_replies.specs.declared.reply.Reply.{Reply}
 use Rattle.ot_replies.specs.declared.reply.Reply.TheVariants as replies
-use Rattle.ot_commands.specs.Sessions.{IsFirstPair}
+use Rattle.ot_replies.specs.Texts.{status_of}
 use Rattle.ot_words.specs.Words.{most_questions}
+use Rattle.ot_commands.specs.Facts.{Facts, NoFile}
+use Rattle.ot_commands.specs.Replay.{IsFirstPair}
 
 -- what came of the workload of a number: the cases of its function, the level that its certificate shows, what was
 -- counted while its events were done in a new session of its sites without cells, and what these hold in the end
@@ -43,3 +45,7 @@ IsReplyToDrill n r =
     (lists : List (ObQuestions Why)) × AreAsked (plan_of (drill_function n))
     (obligations_of (drill_function n).head Tp2) lists
     × IsReplyToQuestions n lists r
+
+-- the facts of the command; its status is never 1
+abbrev pub drill_facts : ℕ → Facts
+drill_facts number = record { opens = NoFile (IsReplyToDrill number); steady = λ holds r. status_of r ≢ 1 }
