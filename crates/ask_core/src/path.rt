@@ -5,7 +5,7 @@ ghost use Rattle.ask_core.specs.Paths.{OpenPlace, after_question, first_answers}
 
 use crate::NoMemory;
 use diff_graph::{Lit, answered};
-use std::alloc::{AllocError, Global};
+use std::alloc::Global;
 use std::marker::Model;
 
 /// A part for no that waits: its node, how many answers it shares with the open path, and its own
@@ -85,17 +85,15 @@ impl<N: Copy> Path<N> {
         ensures ok { OnOk result (self.new ≡ after_question lit yes no self.old) }
         ensures err { OnErr result (self.new ≡ self.old) }
     {
+        self.answers.reserve(1)?;
+        self.waiting.reserve(1)?;
         let depth = self.answers.len();
-        self.answers.push(answered(lit, true))?;
-        let waiting = Waiting {
+        self.answers.push_reserved(answered(lit, true));
+        self.waiting.push_reserved(Waiting {
             node: no,
             depth,
             answer: answered(lit, false),
-        };
-        if self.waiting.push(waiting).is_err() {
-            self.answers.truncate(depth);
-            return Err(AllocError);
-        }
+        });
         self.current = Some(yes);
         Ok(())
     }
@@ -108,7 +106,8 @@ impl<N: Copy> Path<N> {
         ensures ok { OnOk result ((yes : N) → self.new ≡ drop 1 (after_question lit yes no self.old)) }
         ensures err { OnErr result (self.new ≡ self.old) }
     {
-        self.answers.push(answered(lit, false))?;
+        self.answers.reserve(1)?;
+        self.answers.push_reserved(answered(lit, false));
         self.current = Some(no);
         Ok(())
     }

@@ -51,6 +51,19 @@ impl Model for Tree {
     ghost invariant = { λ t. HaveNumbers t.marks.items t.numbers.items };
 }
 
+/// Puts numbers at the end, which are so few that they are stored one by one. The error is want of memory.
+#[inline(always)]
+pub fn append_few(numbers: &mut Vec<u32>, more: &[u32]) -> Result<(), NoMemory>
+    ensures ok { OnOk result (numbers.new.items ≡ numbers.old.items ++ more.now) }
+    ensures err { OnErr result (numbers.new.items ≡ numbers.old.items) }
+{
+    numbers.reserve(more.len())?;
+    for number in more {
+        numbers.push_reserved(*number);
+    }
+    Ok(())
+}
+
 impl Tree {
     /// No tokens. The allocator is not asked for memory.
     pub fn new(alloc: Global) -> Tree
@@ -80,7 +93,8 @@ impl Tree {
         ensures ok { OnOk result (self.new ≡ self.old ++ Ask ∷ []) }
         ensures err { OnErr result (self.new ≡ self.old) }
     {
-        self.marks.push(Mark::Ask)?;
+        self.marks.reserve(1)?;
+        self.marks.push_reserved(Mark::Ask);
         Ok(())
     }
 
@@ -90,7 +104,8 @@ impl Tree {
         ensures ok { OnOk result (self.new ≡ self.old ++ Holds ∷ []) }
         ensures err { OnErr result (self.new ≡ self.old) }
     {
-        self.marks.push(Mark::Holds)?;
+        self.marks.reserve(1)?;
+        self.marks.push_reserved(Mark::Holds);
         Ok(())
     }
 
@@ -102,7 +117,7 @@ impl Tree {
         ensures err { OnErr result (self.new ≡ self.old) }
     {
         self.marks.reserve(1)?;
-        self.numbers.extend_from_slice(numbers)?;
+        append_few(&mut self.numbers, numbers)?;
         self.marks.push_reserved(Mark::Cycle(numbers.len() as u8));
         Ok(())
     }

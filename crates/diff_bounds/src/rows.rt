@@ -214,8 +214,9 @@ pub fn append_cycle<const N: usize>(
         ++ number ∷ numbers_along (λ x. kept_of rows.now x lit.x) (length rows.now) lit.y lit.x) }
     ensures err { OnErr result (picks.new.items ≡ picks.old.items) }
 {
+    picks.reserve(1)?;
     let before = picks.len();
-    picks.push(number)?;
+    picks.push_reserved(number);
     match push_chain(picks, &rows[lit.x as usize][..], lit.y, lit.x) {
         Ok(()) => Ok(()),
         Err(_) => {

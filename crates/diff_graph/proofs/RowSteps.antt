@@ -89,13 +89,6 @@ HasPut-more before after rest later whole number has on = record {
   all = append_assoc has.put (number ∷ []) later ∙ rw on at has.all;
 }
 
--- those that were put are the first
-pub AppendsFirst-put : (before after rest whole : List ℕ) → HasPut before after rest whole → AppendsFirst before whole after
-AppendsFirst-put before after rest whole has =
-    let first : take (length has.put) whole ≡ has.put =
-    ap (λ (xs : List ℕ). take (length has.put) xs) (sym has.all) ∙ take_at has.put rest (length has.put) refl in
-    (length has.put, has.is_put ∙ ap (λ (xs : List ℕ). before ++ xs) (sym first))
-
 pub numbers_along-none : (f : ℕ → Option Hop) (most i x y : ℕ) → most ≤ i → numbers_along f (most - i) x y ≡ []
 numbers_along-none f most i x y past =
     let e : most - i ≡ 0 = omega arith in

@@ -137,6 +137,7 @@ pub fn push_chain(
     ensures err { OnErr result (AppendsFirst picks.old.items
         (numbers_along (λ x. slice_index_or row.now x None) (length row.now) from to) picks.new.items) }
 {
+    picks.reserve(row.len())?;
     let mut name = from;
     for _step in 0..row.len() {
         if name == to {
@@ -145,7 +146,7 @@ pub fn push_chain(
         let Some(hop) = hop_at(row, name) else {
             return Ok(());
         };
-        picks.push(hop.number)?;
+        picks.push_reserved(hop.number);
         name = hop.second;
     }
     Ok(())

@@ -4,7 +4,7 @@ ghost use Rattle.ask_core.specs.declared.picks.TheConstants.{MAX_PICKS};
 ghost use Rattle.ot_prove.specs.Waiting.{IsTaken};
 
 use crate::NoMemory;
-use ask_core::Tree;
+use ask_core::{Tree, append_few};
 use std::alloc::Global;
 use std::marker::Model;
 
@@ -65,7 +65,7 @@ impl Cycles {
     {
         self.starts.reserve(1)?;
         let start = self.numbers.len();
-        self.numbers.extend_from_slice(numbers)?;
+        append_few(&mut self.numbers, numbers)?;
         self.starts.push_reserved(Some(start));
         Ok(())
     }

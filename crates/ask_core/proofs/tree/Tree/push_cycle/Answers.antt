@@ -8,11 +8,11 @@ invariant_of-self-2 c =
     let marks : c.push_reserved.new.self.items ≡ c.self.inside.marks.items ++ Cycle (length c.args.numbers.now) ∷ [] =
     rw c.reserve.ensures.items at c.push_reserved.ensures.items in
     HaveNumbers-pushed_cycle c.self.inside.marks.items c.push_reserved.new.self.items c.self.inside.numbers.items c.args.numbers.now
-    c.extend_from_slice.new.self.items c.self.invariant c.requires marks c.in_ok-extend_from_slice.ensures.items
+    c.append_few.new.numbers.items c.self.invariant c.requires marks c.in_ok-append_few.ensures.ok
 
 pub returns-clause-ok : goal.returns-clause-ok
 returns-clause-ok c =
     let marks : c.push_reserved.new.self.items ≡ c.self.inside.marks.items ++ Cycle (length c.args.numbers.now) ∷ [] =
     rw c.reserve.ensures.items at c.push_reserved.ensures.items in
     pushed_cycle c.self.inside.marks.items c.push_reserved.new.self.items c.self.inside.numbers.items c.args.numbers.now
-    c.extend_from_slice.new.self.items c.args.self.now c.self.invariant c.self.view_is marks c.in_ok-extend_from_slice.ensures.items
+    c.append_few.new.numbers.items c.args.self.now c.self.invariant c.self.view_is marks c.in_ok-append_few.ensures.ok

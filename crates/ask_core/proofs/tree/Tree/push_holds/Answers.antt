@@ -5,10 +5,10 @@ use Rattle.ask_core.proofs.tree.Tree.push_holds.Goals as goal
 
 pub invariant_of-self-2 : goal.invariant_of-self-2
 invariant_of-self-2 c =
-    HaveNumbers-pushed_mark c.self.inside.marks.items c.push.new.self.items c.self.inside.numbers.items Holds c.self.invariant refl
-    c.in_ok-push.ensures.items
+    HaveNumbers-pushed_mark c.self.inside.marks.items c.push_reserved.new.self.items c.self.inside.numbers.items Holds
+    c.self.invariant refl (rw c.reserve.ensures.items at c.push_reserved.ensures.items)
 
 pub returns-clause-ok : goal.returns-clause-ok
 returns-clause-ok c =
-    pushed_mark c.self.inside.marks.items c.push.new.self.items c.self.inside.numbers.items Holds c.args.self.now c.self.invariant
-    c.self.view_is c.in_ok-push.ensures.items
+    pushed_mark c.self.inside.marks.items c.push_reserved.new.self.items c.self.inside.numbers.items Holds c.args.self.now
+    c.self.invariant c.self.view_is (rw c.reserve.ensures.items at c.push_reserved.ensures.items)
