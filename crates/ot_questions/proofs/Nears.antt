@@ -1,6 +1,6 @@
 -- Offsets stay small.
 use Rattle.std.proofs.Common.{◌≡◌, ℕ, ◌+◌, ℤ, pos, negsuc, ◌+ℤ◌, ◌≤ℤ◌, Bool, true, false, ◌&&◌, IsTrue, nat_le, int_le, List, [], ◌∷◌, length, arith, rules}
-use Rattle.std.proofs.Common.{refl, sym, subst, lit≤, ◌≤◌}
+use Rattle.std.proofs.Common.{refl, ◌≤◌}
 use Rattle.std.specs.Ordering.{int_eq}
 use Rattle.std.specs.List.{AllByRecursion, list_all}
 use Rattle.std.proofs.lemmas.Int.{ints}
@@ -14,10 +14,9 @@ use Rattle.fn_rules.specs.Functions.{GuardedCase}
 use Rattle.fn_rules.specs.Validity.{is_offset, is_offset_for, has_valid_atoms, is_valid_res, is_valid_case, are_valid_cases, atoms_of, nesting_of}
 use Rattle.fn_rules.specs.declared.limits.TheConstants.{MAX_CASES, MAX_ATOMS, MAX_NESTING}
 use Rattle.fn_rules.specs.declared.guard.Tightness.TheVariants.{Loose}
-use Rattle.ot_questions.specs.declared.place.Place.{Place}
 use Rattle.ot_questions.specs.declared.place.SymOp.{SymOp}
 use Rattle.ot_questions.specs.declared.place.SymOp.TheVariants.{Ins, Del, Upd, Nop}
-use Rattle.ot_questions.specs.Places.{plus, sym_at, sym_thing, sym_result, offset_of}
+use Rattle.ot_questions.specs.Places.{plus, sym_at, sym_result, offset_of}
 use Rattle.ot_questions.specs.Nears.{IsNear, IsNearOp, HasNearAtoms, IsNearCase, IsResultOf}
 
 pub both_true : (a b : Bool) → a && b ≡ true → (a ≡ true) × (b ≡ true)
@@ -102,14 +101,6 @@ IsNear-more m n k h near = record { low = omega (arith, ints); high = omega (ari
 
 pub IsNear-plus : (m n : ℕ) (j k : ℤ) → IsNear m j → IsNear n k → IsNear (m + n) (j +ℤ k)
 IsNear-plus m n j k near other = record { low = omega (arith, ints); high = omega (arith, ints) }
-
--- both sides of an atom stay near
-pub near_thing_plus :
-    (sort : Sort) (o : SymOp) (p q : Place) (k : ℤ) → p ≡ sym_thing sort o → q ≡ plus p k → IsNearOp 200 o → IsNear 99 k
-    → IsNear 999 q.off
-near_thing_plus sort o p q k e d near other =
-    let thing : IsNear 200 p.off = subst (λ r. IsNear 200 r.off) (sym e) (sym_thing_near 200 sort o near) in
-    subst (λ r. IsNear 999 r.off) (sym d) (IsNear-more 299 999 _ (lit≤ tt) (IsNear-plus 200 99 p.off k thing other))
 
 -- what a result makes of an operation
 is_result : (res : Res) (a b : SymOp) → IsNear 99 (offset_of res) → IsResultOf a b (sym_result res a b)
