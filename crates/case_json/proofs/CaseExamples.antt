@@ -12,7 +12,7 @@ use Rattle.case_json.specs.declared.fault.CaseFault.TheVariants.{Json, Field, Ki
 use Rattle.case_json.specs.declared.fault.Name.TheVariants.{Doc, Orders}
 use Rattle.case_json.specs.declared.trial.Trial.{Trial}
 use Rattle.case_json.specs.Operations.{number_in, operation_in}
-use Rattle.case_json.specs.Tests.{fault_of}
+use Rattle.case_json.specs.Tests.{case_fault_of}
 use Rattle.case_json.specs.Cases.{elements_from, trial_in}
 
 -- an array of a word and of other values
@@ -58,20 +58,20 @@ too_many_come_first = refl
 abbrev trial : List Op → List (List ℕ) → Trial
 trial ops orders = record { doc = live_cell 121 ∷ []; ops = ops; orders = orders }
 
-faultless : fault_of sites (trial (Ins (pos 1) 97 1 ∷ Del (pos 0) 2 ∷ []) ((1 ∷ 0 ∷ []) ∷ (0 ∷ 1 ∷ []) ∷ [])) ≡ None
+faultless : case_fault_of sites (trial (Ins (pos 1) 97 1 ∷ Del (pos 0) 2 ∷ []) ((1 ∷ 0 ∷ []) ∷ (0 ∷ 1 ∷ []) ∷ [])) ≡ None
 faultless = refl
 
-kind_before_position : fault_of (record sites { head = record sites.head { del = false } }) (trial (Del (pos 1) 1 ∷ []) []) ≡ Some (Kind 0)
+kind_before_position : case_fault_of (record sites { head = record sites.head { del = false } }) (trial (Del (pos 1) 1 ∷ []) []) ≡ Some (Kind 0)
 kind_before_position = refl
 
-position_before_the_next_operation : fault_of sites (trial (Del (pos 1) 1 ∷ Del (pos 2) 1 ∷ []) ((7 ∷ []) ∷ [])) ≡ Some (Enabled 0)
+position_before_the_next_operation : case_fault_of sites (trial (Del (pos 1) 1 ∷ Del (pos 2) 1 ∷ []) ((7 ∷ []) ∷ [])) ≡ Some (Enabled 0)
 position_before_the_next_operation = refl
 
-pairs_by_their_first : fault_of sites (trial (Del (pos 0) 1 ∷ Del (pos 0) 2 ∷ Del (pos 0) 2 ∷ Del (pos 0) 1 ∷ []) ((7 ∷ []) ∷ []))
+pairs_by_their_first : case_fault_of sites (trial (Del (pos 0) 1 ∷ Del (pos 0) 2 ∷ Del (pos 0) 2 ∷ Del (pos 0) 1 ∷ []) ((7 ∷ []) ∷ []))
     ≡ Some (Pair 0 3)
 pairs_by_their_first = refl
 
-names_twice : fault_of sites (trial (Del (pos 0) 1 ∷ Del (pos 0) 2 ∷ []) ((0 ∷ 1 ∷ []) ∷ (1 ∷ 1 ∷ []) ∷ [])) ≡ Some (Order 1)
+names_twice : case_fault_of sites (trial (Del (pos 0) 1 ∷ Del (pos 0) 2 ∷ []) ((0 ∷ 1 ∷ []) ∷ (1 ∷ 1 ∷ []) ∷ [])) ≡ Some (Order 1)
 names_twice = refl
 
 -- whole cases, from their bytes

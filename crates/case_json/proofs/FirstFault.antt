@@ -20,7 +20,7 @@ use Rattle.case_json.specs.declared.limits.TheConstants.{MAX_ORDERS}
 use Rattle.case_json.specs.declared.fault.CaseFault.{CaseFault}
 use Rattle.case_json.specs.declared.fault.CaseFault.TheVariants as faults
 use Rattle.case_json.specs.declared.trial.Trial.{Trial}
-use Rattle.case_json.specs.Tests.{first_fault, operation_fault, pair_fault, pairs_fault, order_fault, fault_of, IsReady}
+use Rattle.case_json.specs.Tests.{first_fault, operation_fault, pair_fault, pairs_fault, order_fault, case_fault_of, IsReadyTrial}
 
 -- where nothing was found, nothing is in front
 option_or-none : {A : Type 0} (found other : Option A) → option_or found other ≡ None → (found ≡ None) × (other ≡ None)
@@ -88,8 +88,8 @@ module _ (decide : TestsDecide) (f : Function) where
       )
 
   -- a trial within the limits that has no fault is ready
-  pub faultless-ready : (trial : Trial) → fault_of f trial ≡ None
-      → length trial.doc ≤ MAX_CELLS → length trial.ops ≤ MAX_OPERATIONS → length trial.orders ≤ MAX_ORDERS → IsReady f trial
+  pub faultless-ready : (trial : Trial) → case_fault_of f trial ≡ None
+      → length trial.doc ≤ MAX_CELLS → length trial.ops ≤ MAX_OPERATIONS → length trial.orders ≤ MAX_ORDERS → IsReadyTrial f trial
   faultless-ready trial none cells ops orders =
       let operation : ℕ → Op → Option CaseFault = operation_fault f (length trial.doc) in
       let order : ℕ → List ℕ → Option CaseFault = order_fault (length trial.ops) in

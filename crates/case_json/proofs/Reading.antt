@@ -12,7 +12,7 @@ use Rattle.case_json.specs.declared.fault.CaseFault.{CaseFault}
 use Rattle.case_json.specs.declared.fault.CaseFault.TheVariants.{Field, Limit}
 use Rattle.case_json.specs.declared.fault.Name.TheVariants.{Doc, Cells}
 use Rattle.case_json.specs.declared.stop.CaseError.{CaseError}
-use Rattle.case_json.specs.Faults.{Reads}
+use Rattle.case_json.specs.Faults.{CaseReads}
 use Rattle.case_json.specs.DocText.{with_flag, backslash, tilde, newline, carriage_return, letter_n, letter_r, cells_within, with_first}
 use Rattle.case_json.specs.DocText.{cell_at, char_at, cell_text, char_text, doc_text}
 
@@ -132,10 +132,10 @@ cells_within-doc_text (cell ∷ doc) (suc room) fits =
     ∙ ap (with_first cell) (cells_within-doc_text doc room (omega arith))
 
 -- so a text that was written has the document as its reading
-pub written_reads : (answer : Result (List Cell) CaseError) (text : List ℕ) → Reads answer (cells_within MAX_CELLS text)
-    → (doc : List Cell) → length doc ≤ MAX_CELLS → text ≡ doc_text doc → Reads answer (Ok doc)
+pub written_reads : (answer : Result (List Cell) CaseError) (text : List ℕ) → CaseReads answer (cells_within MAX_CELLS text)
+    → (doc : List Cell) → length doc ≤ MAX_CELLS → text ≡ doc_text doc → CaseReads answer (Ok doc)
 written_reads answer text reads doc fits written =
-    subst (Reads answer) (ap (cells_within MAX_CELLS) written ∙ cells_within-doc_text doc MAX_CELLS fits) reads
+    subst (CaseReads answer) (ap (cells_within MAX_CELLS) written ∙ cells_within-doc_text doc MAX_CELLS fits) reads
 
 -- a text that is not empty has a character
 pub chars_some : (bytes : List ℕ) → IsUtf8 bytes → 0 < length bytes → 0 < length (chars bytes)

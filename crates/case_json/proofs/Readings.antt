@@ -25,25 +25,25 @@ use Rattle.case_json.specs.declared.fault.Name.TheVariants.{Doc, Ops, Orders, Ce
 use Rattle.case_json.specs.declared.stop.CaseError.{CaseError}
 use Rattle.case_json.specs.declared.stop.CaseError.TheVariants.{Fault, NoMemory}
 use Rattle.case_json.specs.declared.trial.Trial.{Trial}
-use Rattle.case_json.specs.Faults.{Reads, StopsAt, and_then, seen_as}
+use Rattle.case_json.specs.Faults.{CaseReads, StopsAt, and_then_read, seen_as}
 use Rattle.case_json.specs.DocText.{cells_within, no_cells, with_first, with_cells_behind, cell_at}
 use Rattle.case_json.specs.Json.{json_in, elements_of}
 use Rattle.case_json.specs.Operations.{operation_in}
-use Rattle.case_json.specs.Tests.{fault_of, IsReady}
+use Rattle.case_json.specs.Tests.{case_fault_of, IsReadyTrial}
 use Rattle.case_json.specs.Cases.{document_from, document_in, operations_in, order_in, orders_in, parts_in, case_in, tested, trial_in}
 use Rattle.case_json.proofs.Elements.{elements_from-few}
 use Rattle.case_json.proofs.FirstFault.{TestsDecide, faultless-ready}
 
 -- what stops the first reading stops both
 stops_first : {A B : Type 0} (error : CaseError) (reading : Result A CaseFault) (further : A → Result B CaseFault)
-    → StopsAt error reading → StopsAt error (and_then reading further)
+    → StopsAt error reading → StopsAt error (and_then_read reading further)
 stops_first (Fault fault) reading further is = rw is refl
 stops_first NoMemory reading further is = tt
 
 -- the same of an answer that passes the error on
 pub error_passed_on : {A B : Type 0} (answer : Result B CaseError) (error : CaseError) (reading : Result A CaseFault)
-    (further : A → Result B CaseFault) → IsErrAnd answer (λ passed. passed ≡ error) → Reads (Err error) reading
-    → Reads answer (and_then reading further)
+    (further : A → Result B CaseFault) → IsErrAnd answer (λ passed. passed ≡ error) → CaseReads (Err error) reading
+    → CaseReads answer (and_then_read reading further)
 error_passed_on {A} {B} (Ok value) error reading further passes reads = absurd passes
 error_passed_on {A} {B} (Err passed) error reading further passes reads = rw passes (stops_first error reading further reads)
 
@@ -60,7 +60,7 @@ json_value bytes json utf8 is = rw (is_utf8-from_IsUtf8 bytes utf8, is) refl
 pub json_fault : (bytes : List ℕ) (error : Error) (answer : Result Value CaseError)
     → IsErrAnd answer (λ stop. (IsMemory error → stop ≡ NoMemory) × (¬ (IsMemory error) → stop ≡ Fault Json))
     → (¬ (IsMemory error) → IsUtf8 bytes → read bytes ≡ None)
-    → Reads (seen_as view answer) (ok_or (json_in bytes) Json)
+    → CaseReads (seen_as view answer) (ok_or (json_in bytes) Json)
 json_fault bytes error (Ok value) gives refuses = absurd gives
 json_fault bytes error (Err stop) gives refuses = elim (memory_or_not error.code) [
   | inl memory ↦ rw (gives.0 memory) tt
@@ -119,7 +119,7 @@ parts-few : (doc : Result (List Cell) CaseFault) (ops : Result (List Op) CaseFau
     → ((cells : List Cell) → doc ≡ Ok cells → length cells ≤ MAX_CELLS)
     → ((list : List Op) → ops ≡ Ok list → length list ≤ MAX_OPERATIONS)
     → ((list : List (List ℕ)) → orders ≡ Ok list → length list ≤ MAX_ORDERS)
-    → and_then doc (λ d. and_then ops (λ os. and_then orders (λ lists. Ok (of_parts d os lists)))) ≡ Ok trial
+    → and_then_read doc (λ d. and_then_read ops (λ os. and_then_read orders (λ lists. Ok (of_parts d os lists)))) ≡ Ok trial
     → IsLimited trial
 parts-few (Err fault) ops orders trial few_cells few_ops few_orders is = cc
 parts-few (Ok d) (Err fault) orders trial few_cells few_ops few_orders is = cc
@@ -128,7 +128,7 @@ parts-few (Ok d) (Ok os) (Ok lists) trial few_cells few_ops few_orders is =
     let same : of_parts d os lists ≡ trial = cc in
     subst IsLimited same (few_cells d refl, few_ops os refl, few_orders lists refl)
 
-case_in-limited : (json : Result Data CaseFault) (trial : Trial) → and_then json parts_in ≡ Ok trial → IsLimited trial
+case_in-limited : (json : Result Data CaseFault) (trial : Trial) → and_then_read json parts_in ≡ Ok trial → IsLimited trial
 case_in-limited (Err fault) trial is = cc
 case_in-limited (Ok json) trial is =
     parts-few (document_in json) (operations_in json) (orders_in json) trial
@@ -144,18 +144,18 @@ case_in-few bytes trial is = case_in-limited (ok_or (json_in bytes) Json) trial 
 module _ (decide : TestsDecide) (f : Function) where
   -- a trial that was read and has no fault is ready
   tested-ready : (reading : Result Trial CaseFault) (trial : Trial) → ((parts : Trial) → reading ≡ Ok parts → IsLimited parts)
-      → and_then reading (λ parts. tested (fault_of f parts) parts) ≡ Ok trial → IsReady f trial
+      → and_then_read reading (λ parts. tested (case_fault_of f parts) parts) ≡ Ok trial → IsReadyTrial f trial
   tested-ready (Err fault) trial few is = cc
-  tested-ready (Ok parts) trial few is = by (fault_of f parts) refl is
+  tested-ready (Ok parts) trial few is = by (case_fault_of f parts) refl is
     where
-      by : (fault : Option CaseFault) → fault_of f parts ≡ fault → tested fault parts ≡ Ok trial → IsReady f trial
+      by : (fault : Option CaseFault) → case_fault_of f parts ≡ fault → tested fault parts ≡ Ok trial → IsReadyTrial f trial
       by (Some fault) none is = cc
       by None none is =
           let same : parts ≡ trial = cc in
           let limits : IsLimited parts = few parts refl in
-          subst (IsReady f) same (faultless-ready decide f parts none limits.0 limits.1 limits.2)
+          subst (IsReadyTrial f) same (faultless-ready decide f parts none limits.0 limits.1 limits.2)
 
   -- a trial that a case is read as for a function is ready
-  pub read_trial_is_ready : (bytes : List ℕ) (trial : Trial) → trial_in f bytes ≡ Ok trial → IsReady f trial
+  pub read_trial_is_ready : (bytes : List ℕ) (trial : Trial) → trial_in f bytes ≡ Ok trial → IsReadyTrial f trial
   unfolding trial_in
   read_trial_is_ready bytes trial is = tested-ready (case_in bytes) trial (case_in-few bytes) is

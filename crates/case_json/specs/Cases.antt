@@ -14,11 +14,11 @@ use Rattle.case_json.specs.declared.fault.CaseFault.TheVariants.{Json, Field, Li
 use Rattle.case_json.specs.declared.fault.Name.{Name}
 use Rattle.case_json.specs.declared.fault.Name.TheVariants.{Doc, Ops, Orders}
 use Rattle.case_json.specs.declared.trial.Trial.{Trial}
-use Rattle.case_json.specs.Faults.{and_then}
+use Rattle.case_json.specs.Faults.{and_then_read}
 use Rattle.case_json.specs.DocText.{cells_within}
 use Rattle.case_json.specs.Json.{json_in, elements_of, each}
 use Rattle.case_json.specs.Operations.{operation_in, number_in}
-use Rattle.case_json.specs.Tests.{fault_of}
+use Rattle.case_json.specs.Tests.{case_fault_of}
 
 -- the document of a text, if there is one
 abbrev pub document_from : Option (List ℕ) → Result (List Cell) CaseFault
@@ -54,14 +54,14 @@ orders_in json = elements_at (codes "orders") Orders MAX_ORDERS order_in json
 -- the parts of a case: its document, then its operations, then its orders
 abbrev pub parts_in : Data → Result Trial CaseFault
 parts_in json =
-    and_then (document_in json) (λ doc.
-    and_then (operations_in json) (λ ops.
-    and_then (orders_in json) (λ orders.
+    and_then_read (document_in json) (λ doc.
+    and_then_read (operations_in json) (λ ops.
+    and_then_read (orders_in json) (λ orders.
     Ok (record { doc = doc; ops = ops; orders = orders }))))
 
 -- the parts of the case that bytes hold
 abbrev pub case_in : List ℕ → Result Trial CaseFault
-case_in bytes = and_then (ok_or (json_in bytes) Json) parts_in
+case_in bytes = and_then_read (ok_or (json_in bytes) Json) parts_in
 
 -- a trial that no test finds a fault in
 abbrev pub tested : Option CaseFault → Trial → Result Trial CaseFault
@@ -70,4 +70,4 @@ tested (Some fault) trial = Err fault
 
 -- what the bytes of a case are read as for a function
 unfoldable pub trial_in : Function → List ℕ → Result Trial CaseFault
-trial_in f bytes = and_then (case_in bytes) (λ trial. tested (fault_of f trial) trial)
+trial_in f bytes = and_then_read (case_in bytes) (λ trial. tested (case_fault_of f trial) trial)

@@ -11,14 +11,14 @@ StopsAt (Fault fault) reading = reading ≡ Err fault
 StopsAt NoMemory reading = Unit {0}
 
 -- the call answers what the reading is, a value or its first fault, unless memory was wanting
-abbrev pub Reads : {T : Type 0} → Result T CaseError → Result T CaseFault → Type 0
-Reads (Ok value) reading = reading ≡ Ok value
-Reads (Err error) reading = StopsAt error reading
+abbrev pub CaseReads : {T : Type 0} → Result T CaseError → Result T CaseFault → Type 0
+CaseReads (Ok value) reading = reading ≡ Ok value
+CaseReads (Err error) reading = StopsAt error reading
 
 -- a reading, and then a further one of what it gave
-abbrev pub and_then : {A B : Type 0} → Result A CaseFault → (A → Result B CaseFault) → Result B CaseFault
-and_then (Ok value) further = further value
-and_then (Err fault) further = Err fault
+abbrev pub and_then_read : {A B : Type 0} → Result A CaseFault → (A → Result B CaseFault) → Result B CaseFault
+and_then_read (Ok value) further = further value
+and_then_read (Err fault) further = Err fault
 
 -- an answer whose value is seen as something else
 abbrev pub seen_as : {A B E : Type 0} → (A → B) → Result A E → Result B E

@@ -9,7 +9,7 @@ use Rattle.case_json.specs.declared.hub.HubEvent.{HubEvent}
 use Rattle.case_json.specs.declared.hub.HubEvent.TheVariants.{Edit, Up, Down}
 use Rattle.case_json.specs.declared.hub.HubScript.{HubScript}
 use Rattle.case_json.specs.declared.parts.Parts.{Parts}
-use Rattle.case_json.specs.Faults.{and_then}
+use Rattle.case_json.specs.Faults.{and_then_read}
 use Rattle.case_json.specs.Json.{elements_of, is_word}
 use Rattle.case_json.specs.Operations.{number_in}
 use Rattle.case_json.specs.Parts.{parts_in, with_operation, AreWithinLimits}
@@ -40,7 +40,7 @@ hub_script_of parts = record { doc = parts.doc; clients = parts.sites; events = 
 
 -- what the bytes of a hub's script are read as
 abbrev pub hub_script_in : List ℕ → Result HubScript CaseFault
-hub_script_in bytes = and_then (parts_in hub_event_in bytes) (λ parts. Ok (hub_script_of parts))
+hub_script_in bytes = and_then_read (parts_in hub_event_in bytes) (λ parts. Ok (hub_script_of parts))
 
 -- a script of a hub that can be played: within the limits
 abbrev pub IsHubPlayable : HubScript → Type 0

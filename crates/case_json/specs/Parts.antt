@@ -13,7 +13,7 @@ use Rattle.case_json.specs.declared.fault.CaseFault.{CaseFault}
 use Rattle.case_json.specs.declared.fault.CaseFault.TheVariants.{Json, Field, Limit}
 use Rattle.case_json.specs.declared.fault.Name.TheVariants.{Sites, Events}
 use Rattle.case_json.specs.declared.parts.Parts.{Parts}
-use Rattle.case_json.specs.Faults.{and_then}
+use Rattle.case_json.specs.Faults.{and_then_read}
 use Rattle.case_json.specs.Json.{json_in}
 use Rattle.case_json.specs.Operations.{operation_in, number_in}
 use Rattle.case_json.specs.Cases.{document_in, elements_at}
@@ -31,14 +31,14 @@ sites_in json = sites_from (option_and_then as_u64 (option_and_then as_number (g
 -- the parts of a script, each event as the reader has it: the document, then the number of sites, then the events
 abbrev pub parts_from : {E : Type 0} → (Data → Option E) → Data → Result (Parts E) CaseFault
 parts_from event json =
-    and_then (document_in json) (λ doc.
-    and_then (sites_in json) (λ sites.
-    and_then (elements_at (codes "events") Events MAX_EVENTS event json) (λ events.
+    and_then_read (document_in json) (λ doc.
+    and_then_read (sites_in json) (λ sites.
+    and_then_read (elements_at (codes "events") Events MAX_EVENTS event json) (λ events.
     Ok (record { doc = doc; sites = sites; events = events }))))
 
 -- what bytes are read as, as the parts of a script
 abbrev pub parts_in : {E : Type 0} → (Data → Option E) → List ℕ → Result (Parts E) CaseFault
-parts_in event bytes = and_then (ok_or (json_in bytes) Json) (parts_from event)
+parts_in event bytes = and_then_read (ok_or (json_in bytes) Json) (parts_from event)
 
 -- an event that names a site and an operation
 abbrev pub with_operation : {E : Type 0} → (ℕ → Op → E) → Data → Data → Option E

@@ -9,7 +9,7 @@ use Rattle.case_json.specs.declared.parts.Parts.{Parts}
 use Rattle.case_json.specs.declared.script.Event.{Event}
 use Rattle.case_json.specs.declared.script.Event.TheVariants.{Make, Take}
 use Rattle.case_json.specs.declared.script.Script.{Script}
-use Rattle.case_json.specs.Faults.{and_then}
+use Rattle.case_json.specs.Faults.{and_then_read}
 use Rattle.case_json.specs.Json.{elements_of, is_word}
 use Rattle.case_json.specs.Operations.{number_in}
 use Rattle.case_json.specs.Parts.{parts_in, with_operation, AreWithinLimits}
@@ -39,7 +39,7 @@ script_of parts = record { doc = parts.doc; sites = parts.sites; events = parts.
 
 -- what the bytes of a script are read as
 abbrev pub script_in : List ℕ → Result Script CaseFault
-script_in bytes = and_then (parts_in event_in bytes) (λ parts. Ok (script_of parts))
+script_in bytes = and_then_read (parts_in event_in bytes) (λ parts. Ok (script_of parts))
 
 -- a script that can be played: within the limits
 abbrev pub IsPlayable : Script → Type 0

@@ -41,14 +41,14 @@ abbrev pub order_fault : ℕ → ℕ → List ℕ → Option CaseFault
 order_fault count i order = if names_each_once count order then None else Some (faults.Order i)
 
 -- the first fault of a case whose parts could be read: its operations one by one, its pairs, its orders
-abbrev pub fault_of : Function → Trial → Option CaseFault
-fault_of f trial =
+abbrev pub case_fault_of : Function → Trial → Option CaseFault
+case_fault_of f trial =
     option_or (first_fault (operation_fault f (length trial.doc)) 0 trial.ops)
     (option_or (pairs_fault f 0 trial.ops)
     (first_fault (order_fault (length trial.ops)) 0 trial.orders))
 
 -- a trial that can be integrated: concurrent operations, within the limits, and orders of all of them
-pub record IsReady (f : Function) (trial : Trial) : Type 0 where
+pub record IsReadyTrial (f : Function) (trial : Trial) : Type 0 where
   pub concurrent : AreConcurrent f trial.doc trial.ops
   pub integrable : All (IsIntegrable f (length trial.doc)) trial.ops
   pub orders : All (NamesEachOnce (length trial.ops)) trial.orders

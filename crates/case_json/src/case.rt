@@ -3,9 +3,9 @@ ghost use Rattle.std.specs.Prelude.{◌≡◌, ok_or, IfOk, codes};
 ghost use Rattle.std.specs.Option.{option_and_then};
 ghost use Rattle.serde_json.specs.View.{view};
 ghost use Rattle.fn_rules.specs.Rules.{function_of};
-ghost use Rattle.case_json.specs.Faults.{Reads, seen_as};
+ghost use Rattle.case_json.specs.Faults.{CaseReads, seen_as};
 ghost use Rattle.case_json.specs.Json.{json_in};
-ghost use Rattle.case_json.specs.Tests.{IsReady};
+ghost use Rattle.case_json.specs.Tests.{IsReadyTrial};
 ghost use Rattle.case_json.specs.Cases.{document_in, parts_in, case_in, trial_in};
 ghost use Rattle.case_json.specs.declared.fault.CaseFault.TheVariants.{Json};
 
@@ -24,8 +24,8 @@ use std::alloc::Global;
 
 /// Reads a case for a function, and answers the first fault in the order of the tests.
 pub fn trial_read(alloc: Global, rules: &Rules, bytes: &[u8]) -> Result<Trial, CaseError>
-    ensures reading { Reads result (trial_in (function_of rules.now) bytes.now) }
-    ensures ready { IfOk result (λ trial. IsReady (function_of rules.now) trial) }
+    ensures reading { CaseReads result (trial_in (function_of rules.now) bytes.now) }
+    ensures ready { IfOk result (λ trial. IsReadyTrial (function_of rules.now) trial) }
 {
     read_trials_are_ready();
     let trial = case_read(alloc, bytes)?;
@@ -37,7 +37,7 @@ pub fn trial_read(alloc: Global, rules: &Rules, bytes: &[u8]) -> Result<Trial, C
 
 /// Reads the parts of a case.
 fn case_read(alloc: Global, bytes: &[u8]) -> Result<Trial, CaseError>
-    ensures { Reads result (case_in bytes.now) }
+    ensures { CaseReads result (case_in bytes.now) }
 {
     let json = json_read(alloc, bytes)?;
     parts_read(alloc, &json)
@@ -45,13 +45,13 @@ fn case_read(alloc: Global, bytes: &[u8]) -> Result<Trial, CaseError>
 
 /// Reads bytes as JSON.
 pub(crate) fn json_read(alloc: Global, bytes: &[u8]) -> Result<Value, CaseError>
-    ensures { Reads (seen_as view result) (ok_or (json_in bytes.now) Json) }
+    ensures { CaseReads (seen_as view result) (ok_or (json_in bytes.now) Json) }
 {
     Ok(Value::from_slice(alloc, bytes)?)
 }
 
 fn parts_read(alloc: Global, json: &Value) -> Result<Trial, CaseError>
-    ensures { Reads result (parts_in (view json.now)) }
+    ensures { CaseReads result (parts_in (view json.now)) }
 {
     let doc = document(alloc, json)?;
     let ops = list_at(alloc, json, "ops", Name::Ops, MAX_OPERATIONS)?;
@@ -61,7 +61,7 @@ fn parts_read(alloc: Global, json: &Value) -> Result<Trial, CaseError>
 
 /// Reads the document under the key `doc`.
 pub(crate) fn document(alloc: Global, json: &Value) -> Result<Doc, CaseError>
-    ensures { Reads result (document_in (view json.now)) }
+    ensures { CaseReads result (document_in (view json.now)) }
 {
     match json.get("doc").and_then(Value::as_str) {
         Some(text) => doc_read(alloc, text),

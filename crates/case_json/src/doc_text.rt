@@ -4,7 +4,7 @@ ghost use Rattle.std.specs.Prelude.{OnOk, OnErr, Ok, IfSome, IfNone, Some};
 ghost use Rattle.std.specs.Option.{option_map};
 ghost use Rattle.std.specs.Str.{chars};
 ghost use Rattle.ot_model.specs.declared.cell.Cell.{Cell as CellValue};
-ghost use Rattle.case_json.specs.Faults.{Reads};
+ghost use Rattle.case_json.specs.Faults.{CaseReads};
 ghost use Rattle.case_json.specs.DocText.{doc_text, cell_text, char_text, cells_within};
 ghost use Rattle.case_json.specs.DocText.{cell_at, char_at, escaped_at, meant_by};
 ghost use Rattle.ot_outside.specs.Whole.{AppendsFront};
@@ -17,9 +17,9 @@ use std::alloc::Global;
 /// Reads the text of a document. Of a malformed place (`Field(Doc)`) and a cell too many
 /// (`Limit(Cells)`) it answers the one that comes first in the text.
 pub fn doc_read(alloc: Global, text: &str) -> Result<Doc, CaseError>
-    ensures reading { Reads result (cells_within MAX_CELLS (chars text.now)) }
+    ensures reading { CaseReads result (cells_within MAX_CELLS (chars text.now)) }
     ensures written { (doc : List CellValue) → length doc ≤ MAX_CELLS → chars text.now ≡ doc_text doc
-        → Reads result (Ok doc) }
+        → CaseReads result (Ok doc) }
 {
     let mut doc = Doc::new(alloc);
     let mut rest = text;

@@ -5,7 +5,7 @@ ghost use Rattle.fn_rules.specs.Functions.{has_declared_kind};
 ghost use Rattle.fn_rules.specs.Orders.{names_below, names_each_once};
 ghost use Rattle.fn_rules.specs.Rules.{function_of};
 ghost use Rattle.case_json.specs.Tests.{first_fault, operation_fault, pair_fault, pairs_fault, order_fault};
-ghost use Rattle.case_json.specs.Tests.{fault_of as first_fault_of};
+ghost use Rattle.case_json.specs.Tests.{case_fault_of as first_fault_of};
 
 use crate::fault::CaseFault;
 use crate::limits::MAX_ORDERS;

@@ -1,7 +1,7 @@
 //! Scripts of hubs: a document, a number of clients, and what happens at them; and their reading.
 ghost use Rattle.std.specs.Prelude.{◌≡◌, IfOk, map};
 ghost use Rattle.serde_json.specs.View.{view};
-ghost use Rattle.case_json.specs.Faults.{Reads};
+ghost use Rattle.case_json.specs.Faults.{CaseReads};
 ghost use Rattle.case_json.specs.Json.{is_word};
 ghost use Rattle.case_json.specs.Hubs.{hub_event_in, hub_event_from, edit_from, move_from, hub_script_in};
 ghost use Rattle.case_json.specs.Hubs.{IsHubPlayable};
@@ -44,7 +44,7 @@ pub struct HubScript {
 
 /// Reads the script of a hub, and answers the first fault in the order of the tests.
 pub fn hub_read(alloc: Global, bytes: &[u8]) -> Result<HubScript, CaseError>
-    ensures reading { Reads result (hub_script_in bytes.now) }
+    ensures reading { CaseReads result (hub_script_in bytes.now) }
     ensures limits { IfOk result IsHubPlayable }
 {
     let parts = parts_read(alloc, bytes)?;

@@ -4,7 +4,7 @@ ghost use Rattle.std.specs.Option.{option_map, option_and_then};
 ghost use Rattle.std.specs.Prelude.{ok_or};
 ghost use Rattle.serde_json.specs.View.{view};
 ghost use Rattle.serde_json.specs.Find.{get, as_str};
-ghost use Rattle.case_json.specs.Faults.{Reads, seen_as};
+ghost use Rattle.case_json.specs.Faults.{CaseReads, seen_as};
 ghost use Rattle.case_json.specs.Json.{json_in, elements_of, each, number_up_to, char_in, is_word};
 ghost use Rattle.case_json.specs.Cases.{elements_from, elements_at};
 
@@ -106,7 +106,7 @@ pub(crate) fn list_at<T: Element>(
     part: Name,
     most: usize,
 ) -> Result<List<T>, CaseError>
-    ensures { Reads result (elements_at key.now part most T.Element.meant (view json.now)) }
+    ensures { CaseReads result (elements_at key.now part most T.Element.meant (view json.now)) }
 {
     let Some(items) = json.get(key).and_then(elements) else {
         return Err(CaseError::Fault(CaseFault::Field(part)));

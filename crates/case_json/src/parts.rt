@@ -1,7 +1,7 @@
 //! The parts that each script has.
 ghost use Rattle.std.specs.Prelude.{◌≡◌, IfOk};
 ghost use Rattle.serde_json.specs.View.{view};
-ghost use Rattle.case_json.specs.Faults.{Reads};
+ghost use Rattle.case_json.specs.Faults.{CaseReads};
 ghost use Rattle.case_json.specs.Parts.{sites_in, parts_from, parts_in, AreWithinLimits};
 
 use crate::case::{document, json_read};
@@ -24,7 +24,7 @@ pub(crate) struct Parts<E> {
 
 /// Reads the parts of a script, and answers the first fault in the order of the tests.
 pub(crate) fn parts_read<E: Element>(alloc: Global, bytes: &[u8]) -> Result<Parts<E>, CaseError>
-    ensures reading { Reads result (parts_in E.Element.meant bytes.now) }
+    ensures reading { CaseReads result (parts_in E.Element.meant bytes.now) }
     ensures limits { IfOk result (λ parts. AreWithinLimits parts.doc parts.sites parts.events) }
 {
     let json = json_read(alloc, bytes)?;
@@ -32,7 +32,7 @@ pub(crate) fn parts_read<E: Element>(alloc: Global, bytes: &[u8]) -> Result<Part
 }
 
 fn parts_of<E: Element>(alloc: Global, json: &Value) -> Result<Parts<E>, CaseError>
-    ensures reading { Reads result (parts_from E.Element.meant (view json.now)) }
+    ensures reading { CaseReads result (parts_from E.Element.meant (view json.now)) }
     ensures limits { IfOk result (λ parts. AreWithinLimits parts.doc parts.sites parts.events) }
 {
     let doc = document(alloc, json)?;

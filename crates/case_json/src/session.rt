@@ -1,7 +1,7 @@
 //! The reading of the script of a session.
 ghost use Rattle.std.specs.Prelude.{◌≡◌, IfOk, map};
 ghost use Rattle.serde_json.specs.View.{view};
-ghost use Rattle.case_json.specs.Faults.{Reads};
+ghost use Rattle.case_json.specs.Faults.{CaseReads};
 ghost use Rattle.case_json.specs.Json.{is_word};
 ghost use Rattle.case_json.specs.Scripts.{event_in, event_from, make_from, take_from, script_in, IsPlayable};
 
@@ -16,7 +16,7 @@ use std::alloc::{AllocError, Global};
 
 /// Reads the script of a session, and answers the first fault in the order of the tests.
 pub fn script_read(alloc: Global, bytes: &[u8]) -> Result<Script, CaseError>
-    ensures reading { Reads result (script_in bytes.now) }
+    ensures reading { CaseReads result (script_in bytes.now) }
     ensures limits { IfOk result IsPlayable }
 {
     let parts = parts_read(alloc, bytes)?;

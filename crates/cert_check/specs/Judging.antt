@@ -32,8 +32,8 @@ LeavesOpen Done tokens branches = tokens ≡ []
 
 -- the token followed by any tokens completes the old branches exactly where those leave nothing of the
 -- new ones open
-abbrev pub IsStep : {W : Type 0} → Progress → Tok → List (Branch W) → List (Branch W) → Type 0
-IsStep p tok old new = (tokens : List Tok) → Completes (tok ∷ tokens) old ↔ LeavesOpen p tokens new
+abbrev pub IsCheckStep : {W : Type 0} → Progress → Tok → List (Branch W) → List (Branch W) → Type 0
+IsCheckStep p tok old new = (tokens : List Tok) → Completes (tok ∷ tokens) old ↔ LeavesOpen p tokens new
 
 -- the token begins no tokens that complete the branches
 abbrev pub BeginsNothing : {W : Type 0} → Tok → List (Branch W) → Type 0

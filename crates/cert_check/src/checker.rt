@@ -9,7 +9,7 @@ ghost use Rattle.ask_core.specs.Plans.{value};
 ghost use Rattle.cert_check.specs.declared.verdict.CheckError.TheVariants as end;
 ghost use Rattle.cert_check.specs.declared.verdict.Progress.TheVariants as progress;
 ghost use Rattle.cert_check.specs.Steps.{after};
-ghost use Rattle.cert_check.specs.Judging.{open_branches, IsStep, BeginsNothing, IsCauseOf};
+ghost use Rattle.cert_check.specs.Judging.{open_branches, IsCheckStep, BeginsNothing, IsCauseOf};
 ghost use Rattle.cert_check.specs.Questions.{IsAskedFirst, SkipsTo};
 
 use crate::question::Question;
@@ -71,7 +71,7 @@ impl<A: Asker> Checker<A> {
         // What a token that is taken leaves, and that the last one shows what the tree is for.
         ensures step { IfOk result (λ p. after tok (open_branches A.plan self.old)
             ≡ Ok (open_branches A.plan self.new)) }
-        ensures completes { IfOk result (λ p. IsStep p tok (open_branches A.plan self.old)
+        ensures completes { IfOk result (λ p. IsCheckStep p tok (open_branches A.plan self.old)
             (open_branches A.plan self.new)) }
         ensures done { result ≡ Ok progress.Done → (v : ℕ → ℤ) → value (A.root self.old.asker) v ≡ true }
         ensures open { result ≡ Ok progress.More → 0 < length self.new.places }
@@ -99,7 +99,7 @@ impl<A: Asker> Checker<A> {
         // What a token that is taken leaves, and that the last one shows what the tree is for.
         ensures step { IfOk result (λ p. after tok.now (open_branches A.plan self.old)
             ≡ Ok (open_branches A.plan self.new)) }
-        ensures completes { IfOk result (λ p. IsStep p tok.now (open_branches A.plan self.old)
+        ensures completes { IfOk result (λ p. IsCheckStep p tok.now (open_branches A.plan self.old)
             (open_branches A.plan self.new)) }
         ensures done { result ≡ Ok progress.Done → (v : ℕ → ℤ) → value (A.root self.old.asker) v ≡ true }
         ensures open { result ≡ Ok progress.More → 0 < length self.new.places }

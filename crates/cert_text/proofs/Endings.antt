@@ -18,7 +18,7 @@ use Rattle.cert_text.specs.declared.item.CertError.TheVariants as cert
 use Rattle.cert_text.specs.Cycles.{IsNoFront, IsShortNumber, cycle_text, number_text, numbers_before}
 use Rattle.cert_text.specs.Numbers.{AreShort, IsSpellableCycle, PICK_LIMIT}
 use Rattle.cert_text.specs.Places.{PartPlace, Start, Line, Tree, Finish, Stands, names_of, part_text, place_after}
-use Rattle.cert_text.specs.Reading.{ReaderState, Reading, Refused, EndsThere, HasNoPart, IsFrontOfPart, Reads, ReadsFrom}
+use Rattle.cert_text.specs.Reading.{ReaderState, Reading, Refused, EndsThere, HasNoPart, IsFrontOfPart, ReadsParts, ReadsFrom}
 use Rattle.cert_text.specs.Spelling.{IsSpellable, header_text, token_text}
 use Rattle.cert_text.proofs.CycleLemmas.{AreShort-push, byte_is_wrong, digit_is_too_much, digit_is_wanted, front_of_cycle, front_with_digit}
 use Rattle.cert_text.proofs.CycleLemmas.{front_with_more_digits, other_byte_is_wrong, with_comma, with_end}
@@ -398,7 +398,7 @@ read_within (suc room) place offset bytes few =
 
 -- whatever bytes are still to come, they give a reader some parts, and end
 pub all_read :
-    (reader : ReaderState) (bytes : List ℕ) → (items : List Item) × (end : Result (Unit {0}) CertError) × Reads reader bytes items end
+    (reader : ReaderState) (bytes : List ℕ) → (items : List Item) × (end : Result (Unit {0}) CertError) × ReadsParts reader bytes items end
 all_read (Reading place offset begun) bytes =
     read_within (length (begun ++ bytes)) place offset (begun ++ bytes) (omega arith)
 all_read (Refused refusal) bytes = ([], Err refusal, (refl, refl))

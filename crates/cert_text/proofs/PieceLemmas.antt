@@ -15,10 +15,10 @@ use Rattle.cert_text.specs.declared.stage.Stage.TheVariants as stage
 use Rattle.cert_text.specs.declared.step.PartFront.{PartFront}
 use Rattle.cert_text.specs.declared.step.PartFront.TheVariants as begun
 use Rattle.cert_text.specs.Spelling.{IsSpellable, token_text}
-use Rattle.cert_text.specs.Stages.{IsSound, begun_text, place_of, state_at}
+use Rattle.cert_text.specs.Stages.{IsSoundFront, begun_text, place_of, state_at}
 use Rattle.cert_text.specs.Places.{PartPlace, Stands, Tree, names_of, open_after, part_text, place_after}
-use Rattle.cert_text.specs.Reading.{ReaderState, Reading, Gives, IsFrontOfPart, Reads, ReadsOn}
-use Rattle.cert_text.specs.Pieces.{IsUnderWay, GoesOn, EndsWithin, GivesOf}
+use Rattle.cert_text.specs.Reading.{ReaderState, Reading, Gives, IsFrontOfPart, ReadsParts, ReadsOn}
+use Rattle.cert_text.specs.Pieces.{IsReaderUnderWay, GoesOn, EndsWithin, GivesOf}
 use Rattle.cert_text.proofs.ReadingLemmas.{reads_on, some_text}
 
 -- bytes that are not empty end with a byte
@@ -72,7 +72,7 @@ whole_part place offset taken p piece stands within text =
 -- one byte further
 pub goes_on_more :
     (was between now : ReaderState) (bytes : List ℕ) (byte : ℕ) → GoesOn was bytes between → Gives between byte (Ok None) now
-    → IsUnderWay now → GoesOn was (bytes ++ byte ∷ []) now
+    → IsReaderUnderWay now → GoesOn was (bytes ++ byte ∷ []) now
 goes_on_more was between now [] byte goes gives way =
     (now, subst (λ (p : ReaderState). Gives p byte (Ok None) now) goes gives, way, refl)
 goes_on_more was between now (b ∷ bytes) byte goes gives way =
@@ -82,9 +82,9 @@ goes_on_more was between now (b ∷ bytes) byte goes gives way =
 goes_on_reads :
     (was now : ReaderState) (bytes : List ℕ) → GoesOn was bytes now
     → (rest : List ℕ) (items : List Item) (end : Result (Unit {0}) CertError)
-    → Reads was (bytes ++ rest) items end ↔ Reads now rest items end
+    → ReadsParts was (bytes ++ rest) items end ↔ ReadsParts now rest items end
 goes_on_reads was now [] goes rest items end =
-    subst (λ (p : ReaderState). Reads was rest items end ↔ Reads p rest items end) (sym goes) (λ h. h, λ h. h)
+    subst (λ (p : ReaderState). ReadsParts was rest items end ↔ ReadsParts p rest items end) (sym goes) (λ h. h, λ h. h)
 goes_on_reads was now (b ∷ bytes) goes rest items end =
     let one = reads_on was b (Ok None) goes.0 goes.1 (bytes ++ rest) items end in
     let more = goes_on_reads goes.0 now bytes goes.3 rest items end in
@@ -95,13 +95,13 @@ ends_reads :
     (was now : ReaderState) (piece : List ℕ) (taken : ℕ) (result : Result (Option Item) CertError)
     → EndsWithin was piece taken result now
     → (rest : List ℕ) (items : List Item) (end : Result (Unit {0}) CertError)
-    → Reads was (take taken piece ++ rest) items end ↔ ReadsOn result now rest items end
+    → ReadsParts was (take taken piece ++ rest) items end ↔ ReadsOn result now rest items end
 ends_reads was now piece taken result (within, (front, byte, between, text, goes, gives)) rest items end =
     let bytes : take taken piece ++ rest ≡ front ++ byte ∷ rest =
     ap (λ (l : List ℕ). l ++ rest) text ∙ append_assoc front (byte ∷ []) rest in
     let before = goes_on_reads was between front goes (byte ∷ rest) items end in
     let last = reads_on between byte result now gives rest items end in
-    subst (λ (l : List ℕ). Reads was l items end ↔ ReadsOn result now rest items end) (sym bytes)
+    subst (λ (l : List ℕ). ReadsParts was l items end ↔ ReadsOn result now rest items end) (sym bytes)
     (λ h. last.0 (before.0 h), λ h. before.1 (last.1 h))
 
 -- of a piece that is not empty some bytes are taken, and none behind it
@@ -125,10 +125,10 @@ pub piece_reads :
     (was now : ReaderState) (piece : List ℕ) (taken : ℕ) (result : Result (Option Item) CertError)
     → GivesOf was piece taken result now
     → (rest : List ℕ) (items : List Item) (end : Result (Unit {0}) CertError)
-    → Reads was (take taken piece ++ rest) items end ↔ ReadsOn result now rest items end
+    → ReadsParts was (take taken piece ++ rest) items end ↔ ReadsOn result now rest items end
 piece_reads was now piece taken (Ok None) g rest items end =
     let all : take taken piece ≡ piece = rw g.0 (take-length piece) in
-    subst (λ (l : List ℕ). Reads was (l ++ rest) items end ↔ Reads now rest items end) (sym all)
+    subst (λ (l : List ℕ). ReadsParts was (l ++ rest) items end ↔ ReadsParts now rest items end) (sym all)
     (goes_on_reads was now piece g.1 rest items end)
 piece_reads was now piece taken (Ok (Some item)) g rest items end = ends_reads was now piece taken (Ok (Some item)) g rest items end
 piece_reads was now piece taken (Err refusal) g rest items end = ends_reads was now piece taken (Err refusal) g rest items end
@@ -155,7 +155,7 @@ pub token_ends :
     (tp1 tp2 : List ObName) (at : Stage) (level : Level) (came branches behind offset taken : ℕ) (b : PartFront) (line : List ℕ)
     (refused : Option CertError) (was : ReaderState) (t : Tok) (piece : List ℕ)
     → state_at refused (place_of tp1 tp2 at) offset (begun_text b) ≡ was → refused ≡ None
-    → at ≡ stage.Tree level came branches → b ≡ begun.Line line → IsSound (place_of tp1 tp2 at) b → 0 < branches
+    → at ≡ stage.Tree level came branches → b ≡ begun.Line line → IsSoundFront (place_of tp1 tp2 at) b → 0 < branches
     → behind ≡ open_after branches t → IsSpellable t → taken ≤ length piece → token_text t ≡ take taken piece
     → EndsWithin was piece taken (Ok (Some (record { offset = offset; part = part.Tok t })))
     (state_at refused (place_of tp1 tp2 (stage.Tree level came behind)) (offset + taken) (begun_text b))

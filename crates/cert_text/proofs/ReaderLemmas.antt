@@ -13,14 +13,14 @@ use Rattle.cert_text.specs.declared.step.PartFront.TheVariants as begun
 use Rattle.cert_text.specs.declared.step.PartStep.{PartStep}
 use Rattle.cert_text.specs.declared.step.PartStep.TheVariants as step
 use Rattle.cert_text.specs.Places.{PartPlace, Finish}
-use Rattle.cert_text.specs.Reading.{ReaderState, Reading, Refused, Gives, HasNoPart, Reads}
-use Rattle.cert_text.specs.Pieces.{IsUnderWay}
-use Rattle.cert_text.specs.Stages.{IsSound, PartStepsTo, begun_text, place_of, state_at, refusal_of}
+use Rattle.cert_text.specs.Reading.{ReaderState, Reading, Refused, Gives, HasNoPart, ReadsParts}
+use Rattle.cert_text.specs.Pieces.{IsReaderUnderWay}
+use Rattle.cert_text.specs.Stages.{IsSoundFront, PartStepsTo, begun_text, place_of, state_at, refusal_of}
 use Rattle.cert_text.proofs.ReadingLemmas.{reads_truncated, reads_whole, wrong_byte}
 use Rattle.cert_text.proofs.StepLemmas.{sound_front}
 
 -- behind the last line nothing of a part came
-none_came : (b : PartFront) → IsSound Finish b → begun_text b ≡ []
+none_came : (b : PartFront) → IsSoundFront Finish b → begun_text b ≡ []
 none_came (begun.Line bytes) sound = sound
 none_came (begun.Cycle c) sound = absurd sound
 
@@ -39,29 +39,29 @@ reading refused place offset bytes none = rw none refl
 -- what came is a front of a part, where no byte was refused
 pub under_way :
     (tp1 tp2 : List ObName) (at : Stage) (offset : ℕ) (b : PartFront) (refused : Option CertError) → refused ≡ None
-    → IsSound (place_of tp1 tp2 at) b → IsUnderWay (state_at refused (place_of tp1 tp2 at) offset (begun_text b))
+    → IsSoundFront (place_of tp1 tp2 at) b → IsReaderUnderWay (state_at refused (place_of tp1 tp2 at) offset (begun_text b))
 under_way tp1 tp2 at offset b refused none sound = rw none (sound_front (place_of tp1 tp2 at) b sound)
 
 -- at the end of the file, behind the last line
 pub finish_over :
     (tp1 tp2 : List ObName) (at : Stage) (offset : ℕ) (b : PartFront) (refused : Option CertError) (now : ReaderState)
     → state_at refused (place_of tp1 tp2 at) offset (begun_text b) ≡ now → refused ≡ None → at ≡ stage.Over
-    → IsSound (place_of tp1 tp2 at) b → (items : List Item) (end : Result (Unit {0}) CertError)
-    → Reads now [] items end ↔ ((items ≡ []) × (end ≡ Ok tt))
+    → IsSoundFront (place_of tp1 tp2 at) b → (items : List Item) (end : Result (Unit {0}) CertError)
+    → ReadsParts now [] items end ↔ ((items ≡ []) × (end ≡ Ok tt))
 finish_over tp1 tp2 at offset b refused now is none over sound items end =
-    let empty : begun_text b ≡ [] = none_came b (subst (λ (a : Stage). IsSound (place_of tp1 tp2 a) b) over sound) in
+    let empty : begun_text b ≡ [] = none_came b (subst (λ (a : Stage). IsSoundFront (place_of tp1 tp2 a) b) over sound) in
     let now_is : Reading Finish offset [] ≡ now = rw (none, over, empty) at is in
-    subst (λ (p : ReaderState). Reads p [] items end ↔ ((items ≡ []) × (end ≡ Ok tt))) now_is (reads_whole offset items end)
+    subst (λ (p : ReaderState). ReadsParts p [] items end ↔ ((items ≡ []) × (end ≡ Ok tt))) now_is (reads_whole offset items end)
 
 -- at the end of the file, before it
 pub finish_before :
     (tp1 tp2 : List ObName) (at : Stage) (offset len : ℕ) (b : PartFront) (refused : Option CertError) (now : ReaderState)
     → state_at refused (place_of tp1 tp2 at) offset (begun_text b) ≡ now → refused ≡ None → at ≢ stage.Over
-    → IsSound (place_of tp1 tp2 at) b → len ≡ length (begun_text b) → (items : List Item) (end : Result (Unit {0}) CertError)
-    → Reads now [] items end ↔ ((items ≡ []) × (end ≡ Err (cert.Truncated (offset + len))))
+    → IsSoundFront (place_of tp1 tp2 at) b → len ≡ length (begun_text b) → (items : List Item) (end : Result (Unit {0}) CertError)
+    → ReadsParts now [] items end ↔ ((items ≡ []) × (end ≡ Err (cert.Truncated (offset + len))))
 finish_before tp1 tp2 at offset len b refused now is none before sound len_is items end =
     let now_is : Reading (place_of tp1 tp2 at) offset (begun_text b) ≡ now = sym (reading refused (place_of tp1 tp2 at) offset (begun_text b) none) ∙ is in
-    subst (λ (p : ReaderState). Reads p [] items end ↔ ((items ≡ []) × (end ≡ Err (cert.Truncated (offset + len))))) now_is
+    subst (λ (p : ReaderState). ReadsParts p [] items end ↔ ((items ≡ []) × (end ≡ Err (cert.Truncated (offset + len))))) now_is
     (rw len_is
     (reads_truncated (place_of tp1 tp2 at) offset (begun_text b) (sound_front (place_of tp1 tp2 at) b sound) (not_finished tp1 tp2 at before) items end))
 
@@ -83,7 +83,7 @@ gives_part tp1 tp2 at next offset len byte b fresh refused old p is none steps l
 pub gives_refusal :
     (tp1 tp2 : List ObName) (at : Stage) (offset byte : ℕ) (b : PartFront) (refused : Option CertError) (old : ReaderState) (refusal : CertError)
     → state_at refused (place_of tp1 tp2 at) offset (begun_text b) ≡ old → refused ≡ None
-    → PartStepsTo tp1 tp2 at (begun_text b) byte step.Wrong → IsSound (place_of tp1 tp2 at) b → refusal ≡ refusal_of at offset
+    → PartStepsTo tp1 tp2 at (begun_text b) byte step.Wrong → IsSoundFront (place_of tp1 tp2 at) b → refusal ≡ refusal_of at offset
     → Gives old byte (Err refusal) (Refused refusal)
 gives_refusal tp1 tp2 at offset byte b refused old refusal is none steps sound refusal_is =
     let old_is : Reading (place_of tp1 tp2 at) offset (begun_text b) ≡ old = sym (reading refused (place_of tp1 tp2 at) offset (begun_text b) none) ∙ is in

@@ -12,7 +12,7 @@ use Rattle.cert_text.specs.declared.item.CertError.{CertError}
 use Rattle.cert_text.specs.declared.item.CertError.TheVariants as cert
 use Rattle.cert_text.specs.Spelling.{token_text}
 use Rattle.cert_text.specs.Places.{PartPlace, Start, Line, Tree, Finish, Stands, part_text, place_after}
-use Rattle.cert_text.specs.Reading.{ReaderState, Reading, Refused, EndsThere, Gives, HasNoPart, IsFrontOfPart, Reads, ReadsFrom, ReadsOn}
+use Rattle.cert_text.specs.Reading.{ReaderState, Reading, Refused, EndsThere, Gives, HasNoPart, IsFrontOfPart, ReadsParts, ReadsFrom, ReadsOn}
 use Rattle.cert_text.proofs.PartLemmas.{end_part, no_front, ob_part, start_parts}
 
 -- of two fronts of the same bytes, one is a front of the other
@@ -111,7 +111,7 @@ along place p q a b r s items end parts offsets rests h = rw (← parts, ← off
 reads_more :
     (place : PartPlace) (offset byte : ℕ) (begun : List ℕ) (now : ReaderState) → now ≡ Reading place offset (begun ++ byte ∷ [])
     → (rest : List ℕ) (items : List Item) (end : Result (Unit {0}) CertError)
-    → ReadsFrom place offset (begun ++ byte ∷ rest) items end ↔ Reads now rest items end
+    → ReadsFrom place offset (begun ++ byte ∷ rest) items end ↔ ReadsParts now rest items end
 reads_more place offset byte begun now is rest items end =
     let same : begun ++ byte ∷ rest ≡ (begun ++ byte ∷ []) ++ rest = sym (append_snoc begun byte rest) in
     rw is (
@@ -144,7 +144,7 @@ reads_part place offset byte begun item now g rest (first ∷ items) end =
       λ h.
           let parts : item.part ≡ first.part = ap (λ (i : Item). i.part) (sym h.0) in
           let reads : ReadsFrom (place_after place item.part) (offset + length begun + 1) rest items end =
-          subst (λ (q : ReaderState). Reads q rest items end) g.3 h.1 in (
+          subst (λ (q : ReaderState). ReadsParts q rest items end) g.3 h.1 in (
             ap (λ (i : Item). i.offset) h.0 ∙ g.0,
             subst (λ (p : Part). Stands place p) parts g.1,
             (
@@ -212,7 +212,7 @@ reads_trailing place offset byte at begun g rest items end =
 pub reads_on :
     (old : ReaderState) (byte : ℕ) (result : Result (Option Item) CertError) (now : ReaderState) → Gives old byte result now
     → (rest : List ℕ) (items : List Item) (end : Result (Unit {0}) CertError)
-    → Reads old (byte ∷ rest) items end ↔ ReadsOn result now rest items end
+    → ReadsParts old (byte ∷ rest) items end ↔ ReadsOn result now rest items end
 reads_on (Reading place offset begun) byte (Ok None) now g = reads_more place offset byte begun now g
 reads_on (Reading place offset begun) byte (Ok (Some item)) now g = reads_part place offset byte begun item now g
 reads_on (Reading place offset begun) byte (Err (cert.BadToken at)) now g = reads_bad place offset byte at begun g.1

@@ -20,12 +20,12 @@ use Rattle.cert_text.specs.Cycles.{cycle_text}
 use Rattle.cert_text.specs.Places.{PartPlace, Start, Line, Tree, Finish, Stands, names_of, part_text, place_after}
 use Rattle.cert_text.specs.Reading.{IsFrontOfPart}
 use Rattle.cert_text.specs.Steps.{FitsHeader}
-use Rattle.cert_text.specs.Stages.{IsLineSound, IsSound, LineStepsTo, PartStepsTo, begun_text, branches_of, place_of}
+use Rattle.cert_text.specs.Stages.{IsLineSound, IsSoundFront, LineStepsTo, PartStepsTo, begun_text, branches_of, place_of}
 use Rattle.cert_text.proofs.CycleLemmas.{front_of_cycle}
 use Rattle.cert_text.proofs.PartLemmas.{end_part, ob_part, start_parts}
 
 -- what came is a front of a part
-pub sound_front : (place : PartPlace) (b : PartFront) → IsSound place b → IsFrontOfPart place (begun_text b)
+pub sound_front : (place : PartPlace) (b : PartFront) → IsSoundFront place b → IsFrontOfPart place (begun_text b)
 sound_front (Tree came names branches) (begun.Line bytes) sound = inl sound
 sound_front (Tree came names branches) (begun.Cycle c) sound =
     let front = front_of_cycle c.picks c.number sound.0.0 sound.0.1 sound.0.2 in
@@ -44,10 +44,10 @@ line_steps_to :
     → Stands (place_of tp1 tp2 at) p → part_text (place_of tp1 tp2 at) p ≡ line
     → ((q : Part) → Stands (place_of tp1 tp2 at) q → q ≡ p)
     → place_of tp1 tp2 next ≡ place_after (place_of tp1 tp2 at) p → branches_of next ≤ branches_of at + 1
-    → ((bytes : List ℕ) → IsLineSound (place_of tp1 tp2 at) bytes → IsSound (place_of tp1 tp2 at) (begun.Line bytes))
+    → ((bytes : List ℕ) → IsLineSound (place_of tp1 tp2 at) bytes → IsSoundFront (place_of tp1 tp2 at) (begun.Line bytes))
     → PartStepsTo tp1 tp2 at old byte s
 line_steps_to tp1 tp2 at old now line byte p next (step.More b) now_is h stands text only behind few sound = (
-  subst (IsSound (place_of tp1 tp2 at)) (sym h.0) (sound now (h.1, inr (p, h.2.0, stands, h.2.1, text ∙ h.2.2))),
+  subst (IsSoundFront (place_of tp1 tp2 at)) (sym h.0) (sound now (h.1, inr (p, h.2.0, stands, h.2.1, text ∙ h.2.2))),
   ap begun_text h.0 ∙ now_is,
 )
 line_steps_to tp1 tp2 at old now line byte p next (step.Whole q after) now_is h stands text only behind few sound = (
@@ -118,12 +118,12 @@ names_from names came name within is =
 -- in a tree, where no byte of a token came
 pub tree_steps :
     (tp1 tp2 : List ObName) (at : Stage) (level : Level) (came branches : ℕ) (b : PartFront) (bytes : List ℕ) (byte : ℕ) (s : PartStep)
-    → at ≡ stage.Tree level came branches → b ≡ begun.Line bytes → IsSound (place_of tp1 tp2 at) b
+    → at ≡ stage.Tree level came branches → b ≡ begun.Line bytes → IsSoundFront (place_of tp1 tp2 at) b
     → PartStepsTo tp1 tp2 (stage.Tree level came branches) [] byte s → PartStepsTo tp1 tp2 at (begun_text b) byte s
 tree_steps tp1 tp2 at level came branches b bytes byte s at_is b_is sound h =
     let empty : bytes ≡ [] =
-    subst (λ (a : Stage). IsSound (place_of tp1 tp2 a) (begun.Line bytes)) at_is
-    (subst (λ (x : PartFront). IsSound (place_of tp1 tp2 at) x) b_is sound) in
+    subst (λ (a : Stage). IsSoundFront (place_of tp1 tp2 a) (begun.Line bytes)) at_is
+    (subst (λ (x : PartFront). IsSoundFront (place_of tp1 tp2 at) x) b_is sound) in
     rw (at_is, b_is, empty) h
 
 -- in a cycle of a tree

@@ -14,8 +14,8 @@ use Rattle.cert_text.specs.declared.item.Item.{Item}
 use Rattle.cert_text.specs.declared.item.CertError.{CertError}
 use Rattle.cert_text.specs.Spelling.{AreSpellable, token_text, tokens_text, ob_text, end_text, header_text}
 use Rattle.cert_text.specs.Places.{PartPlace, Start, Line, Tree, Finish, Stands, names_of, part_text, place_after}
-use Rattle.cert_text.specs.Reading.{Reading, Reads, ReadsFrom}
-use Rattle.cert_text.specs.Certificates.{HasTrees, certificate_parts, certificate_text, placed, section_parts, sections_text}
+use Rattle.cert_text.specs.Reading.{Reading, ReadsParts, ReadsFrom}
+use Rattle.cert_text.specs.Certificates.{HasTrees, certificate_parts, certificate_text, placed_parts, section_parts, sections_text}
 use Rattle.cert_text.proofs.PartLemmas.{end_part, ob_part, start_parts}
 
 tok_parts-append : (ts us : List Tok) (parts : List Part) → map part.Tok (ts ++ us) ++ parts ≡ map part.Tok ts ++ (map part.Tok us ++ parts)
@@ -30,9 +30,9 @@ AreSpellable-parts (t ∷ ts) us all = let more = AreSpellable-parts ts us all.1
 tree_read :
     (t : AnswerTree) (came : ℕ) (names : List ObName) (branches b : ℕ) (bytes : List ℕ) (parts : List Part) (end : Result (Unit {0}) CertError)
     → branches ≡ b + 1 → AreSpellable (tokens_of t)
-    → ((o : ℕ) → ReadsFrom (Tree came names b) o bytes (placed (Tree came names b) o parts) end)
+    → ((o : ℕ) → ReadsFrom (Tree came names b) o bytes (placed_parts (Tree came names b) o parts) end)
     → (o : ℕ) → ReadsFrom (Tree came names branches) o (tokens_text (tokens_of t) ++ bytes)
-    (placed (Tree came names branches) o (map part.Tok (tokens_of t) ++ parts)) end
+    (placed_parts (Tree came names branches) o (map part.Tok (tokens_of t) ++ parts)) end
 tree_read (Question t u) came names branches b bytes parts end is spellable behind o =
     let both = AreSpellable-parts (tokens_of t) (tokens_of u) spellable.1 in
     let texts : tokens_text (tokens_of t ++ tokens_of u) ++ bytes ≡ tokens_text (tokens_of t) ++ (tokens_text (tokens_of u) ++ bytes) =
@@ -46,16 +46,16 @@ tree_read (Question t u) came names branches b bytes parts end is spellable behi
         tokens_text (tokens_of t ++ tokens_of u) ++ bytes,
         refl,
         subst (λ (l : List ℕ). ReadsFrom (Tree came names (branches + 1)) (o + 1) l
-            (placed (Tree came names (branches + 1)) (o + 1) (map part.Tok (tokens_of t ++ tokens_of u) ++ parts)) end) (sym texts)
+            (placed_parts (Tree came names (branches + 1)) (o + 1) (map part.Tok (tokens_of t ++ tokens_of u) ++ parts)) end) (sym texts)
             (subst (λ (l : List Part). ReadsFrom (Tree came names (branches + 1)) (o + 1) (tokens_text (tokens_of t) ++ (tokens_text (tokens_of u) ++ bytes))
-            (placed (Tree came names (branches + 1)) (o + 1) l) end) (sym (tok_parts-append (tokens_of t) (tokens_of u) parts)) rest),
+            (placed_parts (Tree came names (branches + 1)) (o + 1) l) end) (sym (tok_parts-append (tokens_of t) (tokens_of u) parts)) rest),
       ),
     )
 tree_read End came names branches b bytes parts end is spellable behind o =
     let less : b ≡ branches - 1 = omega arith in (
       refl,
       (omega arith, tt),
-      (bytes, refl, subst (λ n. ReadsFrom (Tree came names n) (o + 1) bytes (placed (Tree came names n) (o + 1) parts) end) less (behind (o + 1))),
+      (bytes, refl, subst (λ n. ReadsFrom (Tree came names n) (o + 1) bytes (placed_parts (Tree came names n) (o + 1) parts) end) less (behind (o + 1))),
     )
 tree_read (Impossible picks) came names branches b bytes parts end is spellable behind o =
     let less : b ≡ branches - 1 = omega arith in
@@ -66,7 +66,7 @@ tree_read (Impossible picks) came names branches b bytes parts end is spellable 
         bytes,
         ap (λ (l : List ℕ). l ++ bytes) (append-nil (token_text (token.Cycle picks))),
         subst (λ n. ReadsFrom (Tree came names n) (o + length (token_text (token.Cycle picks))) bytes
-            (placed (Tree came names n) (o + length (token_text (token.Cycle picks))) parts) end) less
+            (placed_parts (Tree came names n) (o + length (token_text (token.Cycle picks))) parts) end) less
             (behind (o + length (token_text (token.Cycle picks)))),
       ),
     )
@@ -77,7 +77,7 @@ regroup a b c d x = simp append_assoc
 -- the sections behind the header are read
 sections_read :
     (came : ℕ) (names : List ObName) (trees : List AnswerTree) → HasTrees names trees → (o : ℕ)
-    → ReadsFrom (Line came names) o (sections_text names trees ++ end_text) (placed (Line came names) o (section_parts came trees)) (Ok tt)
+    → ReadsFrom (Line came names) o (sections_text names trees ++ end_text) (placed_parts (Line came names) o (section_parts came trees)) (Ok tt)
 sections_read came [] [] has o = (refl, tt, ([], sym (append-nil end_text), (refl, refl)))
 sections_read came [] (t ∷ trees) has o = absurd has
 sections_read came (name ∷ names) [] has o = absurd has
@@ -97,8 +97,8 @@ sections_read came (name ∷ names) (t ∷ trees) has o = (
 -- a whole certificate is read
 pub certificate_read :
     (tp1 tp2 : List ObName) (level : Level) (trees : List AnswerTree) → 0 < length (names_of tp1 tp2 level) → HasTrees (names_of tp1 tp2 level) trees
-    → Reads (Reading (Start tp1 tp2) 0 []) (certificate_text (names_of tp1 tp2 level) level trees)
-    (placed (Start tp1 tp2) 0 (certificate_parts level trees)) (Ok tt)
+    → ReadsParts (Reading (Start tp1 tp2) 0 []) (certificate_text (names_of tp1 tp2 level) level trees)
+    (placed_parts (Start tp1 tp2) 0 (certificate_parts level trees)) (Ok tt)
 certificate_read tp1 tp2 level trees some has =
     let names : List ObName = names_of tp1 tp2 level in (
       refl,
@@ -128,7 +128,7 @@ record Given (place : PartPlace) (offset : ℕ) (bytes : List ℕ) (items : List
   parts : List Part
   stand : AreParts place parts
   text : bytes ≡ parts_text place parts
-  are : items ≡ placed place offset parts
+  are : items ≡ placed_parts place offset parts
 
 -- items that are read from a place on are parts that stand there, one behind the other
 given : (items : List Item) (place : PartPlace) (offset : ℕ) (bytes : List ℕ) → ReadsFrom place offset bytes items (Ok tt) → Given place offset bytes items
@@ -145,7 +145,7 @@ given (item ∷ items) place offset bytes h =
     }
 
 -- what is placed has the parts that were placed
-parts_placed : (parts : List Part) (place : PartPlace) (offset : ℕ) → map part_of (placed place offset parts) ≡ parts
+parts_placed : (parts : List Part) (place : PartPlace) (offset : ℕ) → map part_of (placed_parts place offset parts) ≡ parts
 unfolding part_of
 parts_placed [] place offset = refl
 parts_placed (p ∷ parts) place offset =
@@ -281,16 +281,16 @@ whole_of tp1 tp2 (p ∷ parts) h =
 
 -- what is read was written
 pub certificate_written :
-    (tp1 tp2 : List ObName) (bytes : List ℕ) (items : List Item) → Reads (Reading (Start tp1 tp2) 0 []) bytes items (Ok tt)
+    (tp1 tp2 : List ObName) (bytes : List ℕ) (items : List Item) → ReadsParts (Reading (Start tp1 tp2) 0 []) bytes items (Ok tt)
     → (level : Level) × (trees : List AnswerTree) × (0 < length (names_of tp1 tp2 level)) × HasTrees (names_of tp1 tp2 level) trees
-    × (bytes ≡ certificate_text (names_of tp1 tp2 level) level trees) × (items ≡ placed (Start tp1 tp2) 0 (certificate_parts level trees))
+    × (bytes ≡ certificate_text (names_of tp1 tp2 level) level trees) × (items ≡ placed_parts (Start tp1 tp2) 0 (certificate_parts level trees))
 certificate_written tp1 tp2 bytes items h =
     let g = given items (Start tp1 tp2) 0 bytes h in
     let whole = whole_of tp1 tp2 g.parts g.stand in
     let level : Level = whole.0 in
     let trees : List AnswerTree = whole.1 in
     let written =
-    given (placed (Start tp1 tp2) 0 (certificate_parts whole.0 whole.1)) (Start tp1 tp2) 0 (certificate_text (names_of tp1 tp2 whole.0) whole.0 whole.1)
+    given (placed_parts (Start tp1 tp2) 0 (certificate_parts whole.0 whole.1)) (Start tp1 tp2) 0 (certificate_text (names_of tp1 tp2 whole.0) whole.0 whole.1)
     (certificate_read tp1 tp2 whole.0 whole.1 whole.2 whole.3) in
     let same : written.parts ≡ certificate_parts whole.0 whole.1 =
     sym (parts_placed written.parts (Start tp1 tp2) 0) ∙ ap (map part_of) (sym written.are)
@@ -300,5 +300,5 @@ certificate_written tp1 tp2 bytes items h =
       whole.2,
       whole.3,
       g.text ∙ ap (parts_text (Start tp1 tp2)) (whole.4 ∙ sym same) ∙ sym written.text,
-      g.are ∙ ap (placed (Start tp1 tp2) 0) whole.4,
+      g.are ∙ ap (placed_parts (Start tp1 tp2) 0) whole.4,
     )

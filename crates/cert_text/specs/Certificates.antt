@@ -38,7 +38,8 @@ abbrev pub certificate_parts : Level → List AnswerTree → List Part
 certificate_parts level trees = part.Header level ∷ section_parts 0 trees
 
 -- parts from a place on, each with its offset, where so many bytes stand before the first one
-abbrev pub placed : PartPlace → ℕ → List Part → List Item
-placed place offset [] = []
-placed place offset (p ∷ parts) =
-    record { offset = offset; part = p } ∷ placed (place_after place p) (offset + length (part_text place p)) parts
+abbrev pub placed_parts : PartPlace → ℕ → List Part → List Item
+placed_parts place offset [] = []
+placed_parts place offset (p ∷ parts) =
+    record { offset = offset; part = p }
+    ∷ placed_parts (place_after place p) (offset + length (part_text place p)) parts

@@ -5,15 +5,15 @@ use Rattle.cert_text.specs.declared.item.CertError.{CertError}
 use Rattle.cert_text.specs.Reading.{ReaderState, Reading, Refused, Gives, IsFrontOfPart}
 
 -- what came of the part that is being read is a proper front of one that may stand there
-abbrev pub IsUnderWay : ReaderState → Type 0
-IsUnderWay (Reading place offset begun) = IsFrontOfPart place begun
-IsUnderWay (Refused refusal) = Unit {0}
+abbrev pub IsReaderUnderWay : ReaderState → Type 0
+IsReaderUnderWay (Reading place offset begun) = IsFrontOfPart place begun
+IsReaderUnderWay (Refused refusal) = Unit {0}
 
 -- one after another the bytes end no part, and each leaves the front of one
 abbrev pub GoesOn : ReaderState → List ℕ → ReaderState → Type 0
 GoesOn was [] now = now ≡ was
 GoesOn was (byte ∷ bytes) now =
-    (between : ReaderState) × Gives was byte (Ok None) between × IsUnderWay between × GoesOn between bytes now
+    (between : ReaderState) × Gives was byte (Ok None) between × IsReaderUnderWay between × GoesOn between bytes now
 
 -- the last of so many bytes of the piece gives this, and those before it nothing
 abbrev pub EndsWithin : ReaderState → List ℕ → ℕ → Result (Option Item) CertError → ReaderState → Type 0

@@ -43,16 +43,16 @@ ReadsFrom place offset bytes (item ∷ items) end =
     × ReadsFrom (place_after place item.part) (offset + length (part_text place item.part)) rest items end)
 
 -- the bytes that are still to come give a reader these parts, and end so
-abbrev pub Reads : ReaderState → List ℕ → List Item → Result (Unit {0}) CertError → Type 0
-Reads (Reading place offset begun) bytes items end = ReadsFrom place offset (begun ++ bytes) items end
-Reads (Refused refusal) bytes items end = (items ≡ []) × (end ≡ Err refusal)
+abbrev pub ReadsParts : ReaderState → List ℕ → List Item → Result (Unit {0}) CertError → Type 0
+ReadsParts (Reading place offset begun) bytes items end = ReadsFrom place offset (begun ++ bytes) items end
+ReadsParts (Refused refusal) bytes items end = (items ≡ []) × (end ≡ Err refusal)
 
 -- the same of what a reader gave for a byte and the bytes behind it
 abbrev pub ReadsOn : Result (Option Item) CertError → ReaderState → List ℕ → List Item → Result (Unit {0}) CertError
     → Type 0
-ReadsOn (Ok None) now rest items end = Reads now rest items end
+ReadsOn (Ok None) now rest items end = ReadsParts now rest items end
 ReadsOn (Ok (Some item)) now rest [] end = ⊥
-ReadsOn (Ok (Some item)) now rest (first ∷ items) end = (first ≡ item) × Reads now rest items end
+ReadsOn (Ok (Some item)) now rest (first ∷ items) end = (first ≡ item) × ReadsParts now rest items end
 ReadsOn (Err refusal) now rest items end = (items ≡ []) × (end ≡ Err refusal)
 
 -- what a reader at a place gives for a byte: nothing while it goes on in a token, the part that the byte ends,

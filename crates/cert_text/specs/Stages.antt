@@ -39,15 +39,15 @@ abbrev pub IsLineSound : PartPlace → List ℕ → Type 0
 IsLineSound place bytes = (length bytes < LINE_ROOM) × IsFrontOfPart place bytes
 
 -- what came is a front of a part that may stand at the place: of a line, or of a cycle in a tree
-abbrev pub IsSound : PartPlace → PartFront → Type 0
-IsSound (Tree came names branches) (begun.Line bytes) = bytes ≡ []
-IsSound (Tree came names branches) (begun.Cycle c) = IsBegunCycle c × (0 < branches)
-IsSound (Start tp1 tp2) (begun.Line bytes) = IsLineSound (Start tp1 tp2) bytes
-IsSound (Start tp1 tp2) (begun.Cycle c) = ⊥
-IsSound (Line came names) (begun.Line bytes) = IsLineSound (Line came names) bytes
-IsSound (Line came names) (begun.Cycle c) = ⊥
-IsSound Finish (begun.Line bytes) = bytes ≡ []
-IsSound Finish (begun.Cycle c) = ⊥
+abbrev pub IsSoundFront : PartPlace → PartFront → Type 0
+IsSoundFront (Tree came names branches) (begun.Line bytes) = bytes ≡ []
+IsSoundFront (Tree came names branches) (begun.Cycle c) = IsBegunCycle c × (0 < branches)
+IsSoundFront (Start tp1 tp2) (begun.Line bytes) = IsLineSound (Start tp1 tp2) bytes
+IsSoundFront (Start tp1 tp2) (begun.Cycle c) = ⊥
+IsSoundFront (Line came names) (begun.Line bytes) = IsLineSound (Line came names) bytes
+IsSoundFront (Line came names) (begun.Cycle c) = ⊥
+IsSoundFront Finish (begun.Line bytes) = bytes ≡ []
+IsSoundFront Finish (begun.Cycle c) = ⊥
 
 -- what came of a cycle knows its length
 abbrev pub KnowsLength : PartFront → Type 0
@@ -57,7 +57,8 @@ KnowsLength (begun.Cycle c) = c.len ≡ length (cycle_text c.picks c.number)
 -- what a byte makes of what came, at a stage: more of a part, a whole part with the stage behind it, or the front
 -- of none
 abbrev pub PartStepsTo : List ObName → List ObName → Stage → List ℕ → ℕ → PartStep → Type 0
-PartStepsTo tp1 tp2 at came byte (step.More b) = IsSound (place_of tp1 tp2 at) b × (begun_text b ≡ came ++ byte ∷ [])
+PartStepsTo tp1 tp2 at came byte (step.More b) =
+    IsSoundFront (place_of tp1 tp2 at) b × (begun_text b ≡ came ++ byte ∷ [])
 PartStepsTo tp1 tp2 at came byte (step.Whole p next) =
     Stands (place_of tp1 tp2 at) p × (part_text (place_of tp1 tp2 at) p ≡ came ++ byte ∷ [])
     × (place_of tp1 tp2 next ≡ place_after (place_of tp1 tp2 at) p) × (branches_of next ≤ branches_of at + 1)
@@ -83,7 +84,7 @@ pub record IsHeld (tp1 tp2 : List ObName) (at : Stage) (offset : ℕ) (b : PartF
   pub few_tp1 : length tp1 < 2 ^ 32
   pub few_tp2 : length tp2 < 2 ^ 32
   pub branches : branches_of at ≤ offset
-  pub sound : IsSound (place_of tp1 tp2 at) b
+  pub sound : IsSoundFront (place_of tp1 tp2 at) b
   pub fed : offset + length (begun_text b) ≤ 2 ^ 63
 
 -- the refusal of a byte with which no part goes on

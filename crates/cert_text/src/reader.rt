@@ -5,8 +5,8 @@ ghost use Rattle.cert_text.specs.declared.item.Item.{Item};
 ghost use Rattle.cert_text.specs.declared.item.CertError.{CertError};
 ghost use Rattle.cert_text.specs.Places.{Line, Start};
 ghost use Rattle.cert_text.specs.Stages.{refusal_of};
-ghost use Rattle.cert_text.specs.Reading.{Gives, Reading, Reads, ReadsOn, fed_to};
-ghost use Rattle.cert_text.specs.Pieces.{GivesOf, IsUnderWay};
+ghost use Rattle.cert_text.specs.Reading.{Gives, Reading, ReadsParts, ReadsOn, fed_to};
+ghost use Rattle.cert_text.specs.Pieces.{GivesOf, IsReaderUnderWay};
 ghost use Rattle.cert_text.specs.Passing.{IsPassed, open_in, passed};
 
 use crate::line::LineBytes;
@@ -39,9 +39,9 @@ impl Model for Reader {
 
     ghost Value = { ReaderState };
 
-    ghost use Rattle.cert_text.specs.Readers.{HeldIn, state_of};
+    ghost use Rattle.cert_text.specs.Readers.{HeldIn, reader_state_of};
 
-    ghost view = { state_of };
+    ghost view = { reader_state_of };
 
     ghost invariant = { HeldIn };
 }
@@ -89,11 +89,11 @@ impl Reader {
         requires { fed_to self.old < 2 ^ 63 }
         ensures gives { Gives self.old byte result self.new }
         ensures fed { fed_to self.new ≤ fed_to self.old + 1 }
-        ensures under_way { result ≡ Ok None → IsUnderWay self.new }
+        ensures under_way { result ≡ Ok None → IsReaderUnderWay self.new }
 
         // The byte and those behind it give what it gave and what they then give.
         ensures reads { (rest : List ℕ) (items : List Item) (end : Result (Unit {0}) CertError) →
-            Reads self.old (byte ∷ rest) items end ↔ ReadsOn result self.new rest items end }
+            ReadsParts self.old (byte ∷ rest) items end ↔ ReadsOn result self.new rest items end }
     {
         if let Some(refusal) = self.refused {
             return Err(refusal);
@@ -131,7 +131,7 @@ impl Reader {
 
         // The bytes that it takes and those behind them give what it gave and what they then give.
         ensures reads { (rest : List ℕ) (items : List Item) (end : Result (Unit {0}) CertError) →
-            Reads self.old (take result.0 piece.now ++ rest) items end ↔ ReadsOn result.1 self.new rest items end }
+            ReadsParts self.old (take result.0 piece.now ++ rest) items end ↔ ReadsOn result.1 self.new rest items end }
     {
         let mut tok = Tok::Ask;
         match self.feed_token(piece, &mut tok) {
@@ -215,7 +215,7 @@ impl Reader {
     /// of a byte.
     pub fn finish(&self) -> Result<(), CertError>
         ensures reads { (items : List Item) (end : Result (Unit {0}) CertError) →
-            Reads self.now [] items end ↔ ((items ≡ []) × (end ≡ result)) }
+            ReadsParts self.now [] items end ↔ ((items ≡ []) × (end ≡ result)) }
     {
         if let Some(refusal) = self.refused {
             return Err(refusal);

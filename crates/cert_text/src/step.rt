@@ -3,7 +3,7 @@ ghost use Rattle.std.specs.Prelude.{◌≡◌, ℕ, ◌+◌, ◌^◌, ◌<◌, �
 ghost use Rattle.fn_rules.specs.declared.function.ObName.{ObName};
 ghost use Rattle.cert_text.specs.Cycles.{IsBegunCycle, cycle_text};
 ghost use Rattle.cert_text.specs.Places.{Line, Start, names_of};
-ghost use Rattle.cert_text.specs.Stages.{IsLineSound, IsSound, KnowsLength, LineStepsTo, PartStepsTo, begun_text};
+ghost use Rattle.cert_text.specs.Stages.{IsLineSound, IsSoundFront, KnowsLength, LineStepsTo, PartStepsTo, begun_text};
 ghost use Rattle.cert_text.specs.Stages.{branches_of, place_of};
 
 use crate::cycle::{Cycle, CycleStep};
@@ -162,7 +162,7 @@ pub(crate) fn part_step(
     requires few_tp1 { length tp1.now < 2 ^ 32 }
     requires few_tp2 { length tp2.now < 2 ^ 32 }
     requires branches { branches_of stage < 2 ^ 63 }
-    requires sound { IsSound (place_of tp1.now tp2.now stage) begun }
+    requires sound { IsSoundFront (place_of tp1.now tp2.now stage) begun }
     requires len { length (begun_text begun) < 2 ^ 63 }
     ensures { PartStepsTo tp1.now tp2.now stage (begun_text begun) byte result }
 {

@@ -148,7 +148,7 @@ fn start_triple<'a>(
 /// The goal that an obligation begins with. What it is of, what it asks and when it is true is told by
 /// `first_goals_stand_for_obligations` of `ot_terms`.
 pub fn start_goal<'a>(bump: &'a Bump, rules: &Rules, ob: ObName) -> Result<&'a Goal<'a>, NoMemory>
-    ensures { IfOk result (λ r. goal_tree r.now ≡ starting.start_of (function_of rules.now).head ob) }
+    ensures { IfOk result (λ r. goal_tree r.now ≡ starting.start_goal_of (function_of rules.now).head ob) }
 {
     let head = rules.head();
     match ob {

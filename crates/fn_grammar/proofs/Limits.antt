@@ -27,7 +27,7 @@ use Rattle.fn_moves.specs.declared.control.Written.{Written}
 use Rattle.fn_moves.specs.declared.control.Written.TheVariants as written
 use Rattle.fn_moves.specs.Meaning.{res_of, signed, to_formulas}
 use Rattle.fn_grammar.specs.Grammar.{Phrase, Always, Compare, Shifted, Negated, Round, One, Both, Single, Either, made, atoms_in}
-use Rattle.fn_grammar.specs.Grammar.{nesting_in, is_allowed, WrittenCase, WrittenBlock, case_made, block_made, is_allowed_result}
+use Rattle.fn_grammar.specs.Grammar.{nesting_in, is_allowed_phrase, WrittenCase, WrittenBlock, case_made, block_made, is_allowed_result}
 use Rattle.fn_grammar.specs.Grammar.{is_allowed_case, is_allowed_block, is_allowed_file, IsTextOf}
 use Rattle.fn_rules.proofs.LimitsKept.{each_pair_true}
 use Rattle.fn_grammar.proofs.KindLists.{each_pair_from, same_pair}
@@ -90,7 +90,7 @@ offset_kept signs.Minus zero h = refl
 offset_kept signs.Minus (suc n) h = let few : suc n ≤ 99 = leb-true _ _ h in and_from _ _ (le-leb n 98 (omega (arith, few))) refl
 
 -- the atoms of an allowed phrase are valid in its formula
-atoms_valid : {t : Tightness} (chars : Bool) (p : Phrase t) → is_allowed chars p ≡ true → has_valid_atoms chars (made to_formulas p) ≡ true
+atoms_valid : {t : Tightness} (chars : Bool) (p : Phrase t) → is_allowed_phrase chars p ≡ true → has_valid_atoms chars (made to_formulas p) ≡ true
 atoms_valid chars Always h = refl
 atoms_valid chars (Compare Pos left cmp) h = refl
 atoms_valid chars (Compare Site left cmp) h = refl
@@ -100,10 +100,10 @@ atoms_valid chars (Negated u) h = atoms_valid chars u h
 atoms_valid chars (Round d) h = atoms_valid chars d h
 atoms_valid chars (One u) h = atoms_valid chars u h
 atoms_valid chars (Both c u) h =
-    and_from _ _ (atoms_valid chars c (and_parts _ _ h).0) (atoms_valid chars u (and_parts (is_allowed chars c) _ h).1)
+    and_from _ _ (atoms_valid chars c (and_parts _ _ h).0) (atoms_valid chars u (and_parts (is_allowed_phrase chars c) _ h).1)
 atoms_valid chars (Single c) h = atoms_valid chars c h
 atoms_valid chars (Either d c) h =
-    and_from _ _ (atoms_valid chars d (and_parts _ _ h).0) (atoms_valid chars c (and_parts (is_allowed chars d) _ h).1)
+    and_from _ _ (atoms_valid chars d (and_parts _ _ h).0) (atoms_valid chars c (and_parts (is_allowed_phrase chars d) _ h).1)
 
 result_kept : (w : Written) → is_allowed_result w ≡ true → is_valid_res (res_of w) ≡ true
 result_kept written.Nop h = refl

@@ -96,16 +96,16 @@ nesting_in (Single c) = nesting_in c
 nesting_in (Either d c) = max (nesting_in d) (nesting_in c)
 
 -- offsets are two digits, and characters are compared only where they may be
-abbrev pub is_allowed : {t : Tightness} → Bool → Phrase t → Bool
-is_allowed chars Always = true
-is_allowed chars (Compare sort left cmp) = may_compare chars sort
-is_allowed chars (Shifted left cmp sign n) = is_offset_number n
-is_allowed chars (Negated u) = is_allowed chars u
-is_allowed chars (Round d) = is_allowed chars d
-is_allowed chars (One u) = is_allowed chars u
-is_allowed chars (Both c u) = is_allowed chars c && is_allowed chars u
-is_allowed chars (Single c) = is_allowed chars c
-is_allowed chars (Either d c) = is_allowed chars d && is_allowed chars c
+abbrev pub is_allowed_phrase : {t : Tightness} → Bool → Phrase t → Bool
+is_allowed_phrase chars Always = true
+is_allowed_phrase chars (Compare sort left cmp) = may_compare chars sort
+is_allowed_phrase chars (Shifted left cmp sign n) = is_offset_number n
+is_allowed_phrase chars (Negated u) = is_allowed_phrase chars u
+is_allowed_phrase chars (Round d) = is_allowed_phrase chars d
+is_allowed_phrase chars (One u) = is_allowed_phrase chars u
+is_allowed_phrase chars (Both c u) = is_allowed_phrase chars c && is_allowed_phrase chars u
+is_allowed_phrase chars (Single c) = is_allowed_phrase chars c
+is_allowed_phrase chars (Either d c) = is_allowed_phrase chars d && is_allowed_phrase chars c
 
 -- a case and a block as they are written
 pub record WrittenCase : Type 0 where
@@ -152,7 +152,7 @@ is_allowed_result (written.Moved side sign n) = is_offset_number n
 
 abbrev pub is_allowed_case : Bool → WrittenCase → Bool
 is_allowed_case chars c =
-    is_allowed chars c.guard && nat_le (atoms_in c.guard) MAX_ATOMS && nat_le (nesting_in c.guard) MAX_NESTING &&
+    is_allowed_phrase chars c.guard && nat_le (atoms_in c.guard) MAX_ATOMS && nat_le (nesting_in c.guard) MAX_NESTING &&
     is_allowed_result c.result
 
 abbrev pub is_allowed_block : WrittenBlock → Bool

@@ -21,14 +21,15 @@ use Rattle.fn_moves.specs.Kinds.{declares_some}
 use Rattle.fn_moves.specs.Controls.{lacks_with, lacks_block}
 use Rattle.fn_text.specs.Reader.{State, first_state}
 use Rattle.fn_text.specs.Theorems.{state_behind}
-use Rattle.fn_grammar.specs.Grammar.{WrittenCase, WrittenBlock, atoms_in, nesting_in, is_allowed, is_allowed_result}
+use Rattle.fn_grammar.specs.Grammar.{WrittenCase, WrittenBlock, atoms_in, nesting_in, is_allowed_phrase}
+use Rattle.fn_grammar.specs.Grammar.{is_allowed_result}
 use Rattle.fn_grammar.specs.Grammar.{file_written_as}
 use Rattle.fn_grammar.specs.Grammar.{block_made}
 
 -- the limits of the grammar, with so many atoms in a case
 abbrev pub is_allowed_case_with : ℕ → Bool → WrittenCase → Bool
 is_allowed_case_with atoms chars c =
-    is_allowed chars c.guard && nat_le (atoms_in c.guard) atoms && nat_le (nesting_in c.guard) MAX_NESTING &&
+    is_allowed_phrase chars c.guard && nat_le (atoms_in c.guard) atoms && nat_le (nesting_in c.guard) MAX_NESTING &&
     is_allowed_result c.result
 
 abbrev pub is_allowed_block_with : ℕ → WrittenBlock → Bool
@@ -47,7 +48,7 @@ abbrev pub cases_above : List WrittenBlock → ℕ
 cases_above blocks = count_by (λ c. nat_lt MAX_ATOMS (atoms_in c.guard)) (flat_map (λ block. block.cases) blocks)
 
 -- some file begins with these tokens, within the limits, but that so many cases have so many atoms more
-pub record Begins (extra : ℕ) (front : List Token) : Type 0 where
+pub record BeginsFileWithExtra (extra : ℕ) (front : List Token) : Type 0 where
   pub language : Language
   pub head : Head
   pub blocks : List WrittenBlock
@@ -76,7 +77,7 @@ TakenTokensGoOn =
     (front : List Placed) (s : State Formulas GuardedCase PairCases)
     → state_behind to_formulas (first_state to_formulas) front ≡ Ok s
     → repeats_block s.control s.control.want ≡ false
-    → Begins (if wants_atom_more s.control s.control.want then 1 else 0) (bare front)
+    → BeginsFileWithExtra (if wants_atom_more s.control s.control.want then 1 else 0) (bare front)
 
 -- no file goes on there within the limits
 abbrev pub ExceptionsAreDeadEnds : Type 0
@@ -84,4 +85,4 @@ ExceptionsAreDeadEnds =
     (front : List Placed) (s : State Formulas GuardedCase PairCases)
     → state_behind to_formulas (first_state to_formulas) front ≡ Ok s
     → (wants_atom_more s.control s.control.want || repeats_block s.control s.control.want) ≡ true
-    → ¬ (Begins 0 (bare front))
+    → ¬ (BeginsFileWithExtra 0 (bare front))

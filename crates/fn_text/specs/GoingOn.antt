@@ -8,14 +8,14 @@ use Rattle.fn_rules.specs.declared.limits.TheConstants.{MAX_ATOMS, MAX_NESTING}
 use Rattle.fn_tokens.specs.declared.token.Token.{Token}
 use Rattle.fn_tokens.specs.declared.token.Token.TheVariants.{Known, Open, Close, Colon}
 use Rattle.fn_tokens.specs.declared.token.Word.TheVariants as words
-use Rattle.fn_text.specs.Continuing.{Begins}
+use Rattle.fn_text.specs.Continuing.{BeginsFileWithExtra}
 use Rattle.fn_text.specs.Counting.{declares, is_behind_block, first_of_block, lacks_pair_with, lacks_some_pair}
 use Rattle.fn_text.specs.Counting.{atoms_before}
 use Rattle.fn_text.specs.Counting.{is_before_operand, nesting_before}
 
 -- some file of the grammar begins with these tokens
 abbrev pub BeginsFile : List Token → Type 0
-BeginsFile before = Begins 0 (reverse before)
+BeginsFile before = BeginsFileWithExtra 0 (reverse before)
 
 -- an operand is whole just before: some file goes on with `)` or with `:`
 abbrev pub EndsOperand : List Token → Type 0
@@ -37,8 +37,8 @@ IsTakenAlso (Known (words.Kind k) ∷ before) =
 IsTakenAlso _ = ⊥
 
 -- the tokens can go on
-abbrev pub GoesOn : List Token → Type 0
-GoesOn before = BeginsFile before ⊎ IsTakenAlso before
+abbrev pub CanGoOn : List Token → Type 0
+CanGoOn before = BeginsFile before ⊎ IsTakenAlso before
 
 -- an operand comes next behind as many atoms as a case may have: `not` and `(` still go on, and what is refused is the
 -- first token of one more
@@ -60,5 +60,5 @@ repeats_some_block before =
 -- one atom more in one case, and in a `block` line whose blocks are all there no file need do so
 abbrev pub GoingTokensBegin : Type 0
 GoingTokensBegin =
-    (before : List Token) → GoesOn before → repeats_some_block before ≡ false →
-    Begins (if is_before_atom_more before then 1 else 0) (reverse before)
+    (before : List Token) → CanGoOn before → repeats_some_block before ≡ false →
+    BeginsFileWithExtra (if is_before_atom_more before then 1 else 0) (reverse before)

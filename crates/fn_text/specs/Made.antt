@@ -14,8 +14,8 @@ use Rattle.fn_moves.specs.Meaning.{Formulas}
 use Rattle.fn_text.specs.Reader.{State}
 use Rattle.fn_text.specs.Reader as plain
 
-abbrev pub nesting_of : Nesting → plain.Nesting Formulas
-nesting_of nesting = record {
+abbrev pub plain_nesting_of : Nesting → plain.Nesting Formulas
+plain_nesting_of nesting = record {
   outside = nesting.outside;
   nots = nesting.nots;
   any = option_map formula_of nesting.any;
@@ -24,7 +24,7 @@ nesting_of nesting = record {
 
 abbrev pub outer_of : Outer → List (plain.Nesting Formulas)
 outer_of rust.Top = []
-outer_of (rust.Around' nesting p outer) = nesting_of nesting ∷ outer_of outer
+outer_of (rust.Around' nesting p outer) = plain_nesting_of nesting ∷ outer_of outer
 
 abbrev pub state_of : FunctionReader → State Formulas GuardedCase PairCases
 state_of reader = record {
@@ -43,6 +43,6 @@ abbrev pub Fails : {Y : Type 0} → TextError → Result Y TextFault → Type 0
 Fails errors.NoMemory read = Unit {0}
 Fails (errors.Fault fault) read = read ≡ Err fault
 
-abbrev pub Gives : {X Y : Type 0} → (X → Y) → Result X TextError → Result Y TextFault → Type 0
-Gives view (Ok x) read = read ≡ Ok (view x)
-Gives view (Err e) read = Fails e read
+abbrev pub GivesView : {X Y : Type 0} → (X → Y) → Result X TextError → Result Y TextFault → Type 0
+GivesView view (Ok x) read = read ≡ Ok (view x)
+GivesView view (Err e) read = Fails e read

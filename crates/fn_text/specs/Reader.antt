@@ -94,9 +94,10 @@ left_for s nesting nestings = record s {
 }
 
 -- parentheses are closed: what stands around them goes on
-abbrev pub closed : {V : Tightness → Type 0} {K B : Type 0} → Maker V K B → State V K B → List (Nesting V) → State V K B
-closed m s [] = record s { control = with_want s.control wants.Operator }
-closed m s (nesting ∷ nestings) = left_for (record s { last = m.round (disjunction m s) }) nesting nestings
+abbrev pub closed_parentheses : {V : Tightness → Type 0} {K B : Type 0} → Maker V K B → State V K B → List (Nesting V)
+    → State V K B
+closed_parentheses m s [] = record s { control = with_want s.control wants.Operator }
+closed_parentheses m s (nesting ∷ nestings) = left_for (record s { last = m.round (disjunction m s) }) nesting nestings
 
 -- what a token makes of the control; where parentheses are closed, what stands around them is told by their nesting
 abbrev pub control_behind : Control → TokenMove → Control
@@ -155,7 +156,7 @@ moved m s (moves.Shift left cmp sign n) = record (told s (moves.Shift left cmp s
     { last = m.shifted left cmp sign n }
 moved m s moves.And = record (told s moves.And) { all = Some (conjunction m s); last = m.always }
 moved m s moves.Or = record (told s moves.Or) { any = Some (disjunction m s); all = None; last = m.always }
-moved m s moves.Close = closed m s s.outer
+moved m s moves.Close = closed_parentheses m s s.outer
 moved m s moves.Colon = record (told s moves.Colon) { any = None; all = None; last = m.always; guard = disjunction m s }
 moved m s (moves.EndCase result) = record (told s (moves.EndCase result)) {
   guard = m.single (m.one m.always);

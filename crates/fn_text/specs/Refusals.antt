@@ -9,7 +9,7 @@ use Rattle.fn_text.specs.declared.stop.TextError.TheVariants as errors
 use Rattle.fn_grammar.specs.Grammar.{IsTextOf}
 use Rattle.fn_text.specs.Reading.{function_in}
 use Rattle.fn_text.specs.Causes.{fault_behind}
-use Rattle.fn_text.specs.GoingOn.{GoesOn}
+use Rattle.fn_text.specs.GoingOn.{CanGoOn}
 
 -- the first wrong token of a file, and the fault that its cause tells
 pub record IsRefusedFor (tokens : List Placed) (fault : TextFault) : Type 0 where
@@ -18,9 +18,9 @@ pub record IsRefusedFor (tokens : List Placed) (fault : TextFault) : Type 0 wher
   pub behind : List Placed
   pub parts : tokens ≡ before ++ wrong ∷ behind
   -- the tokens before it can go on
-  pub goes_on : GoesOn (bare (reverse before))
+  pub goes_on : CanGoOn (bare (reverse before))
   -- with it they can not
-  pub stops : ¬ (GoesOn (wrong.token ∷ bare (reverse before)))
+  pub stops : ¬ (CanGoOn (wrong.token ∷ bare (reverse before)))
   -- its cause is the first row of the table that fits
   pub told : fault ≡ fault_behind (reverse before) wrong
 

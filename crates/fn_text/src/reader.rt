@@ -10,7 +10,7 @@ ghost use Rattle.fn_text.specs.Reader.{moved, turn, ended};
 ghost use Rattle.fn_text.specs.Reader.{read_from, first_state};
 ghost use Rattle.fn_moves.specs.Controls.{depth_of};
 ghost use Rattle.fn_moves.specs.Moves.{HasRoom};
-ghost use Rattle.fn_text.specs.Made.{state_of, nesting_of, outer_of, Gives};
+ghost use Rattle.fn_text.specs.Made.{state_of, plain_nesting_of, outer_of, GivesView};
 
 use crate::NoMemory;
 use crate::behind::behind;
@@ -255,7 +255,7 @@ impl FunctionReader {
 
     /// What stands around the parentheses that are closed goes on.
     fn leave(&mut self, nesting: Nesting, outer: Outer)
-        ensures { state_of self.new ≡ left_for (state_of self.old) (nesting_of nesting) (outer_of outer) }
+        ensures { state_of self.new ≡ left_for (state_of self.old) (plain_nesting_of nesting) (outer_of outer) }
     {
         let Nesting {
             outside,
@@ -350,7 +350,7 @@ impl FunctionReader {
 
     /// Reads one token.
     fn turn(&mut self, alloc: Global, at: &Placed) -> Result<(), TextError>
-        ensures { Gives (λ _. state_of self.new) result (turn to_formulas (state_of self.old) at.now) }
+        ensures { GivesView (λ _. state_of self.new) result (turn to_formulas (state_of self.old) at.now) }
     {
         match self.control.move_for(at) {
             None => Err(TextError::Fault(self.control.fault(at))),
@@ -360,7 +360,7 @@ impl FunctionReader {
 
     /// The head and the blocks, once the file has ended.
     fn ended(self) -> Result<(Head, Vec<Block>), TextError>
-        ensures { Gives (λ x. (x.0, map block_of x.1.items)) result (ended (state_of self) self.control.want) }
+        ensures { GivesView (λ x. (x.0, map block_of x.1.items)) result (ended (state_of self) self.control.want) }
     {
         let FunctionReader { control, done, .. } = self;
         match control.want {
@@ -376,7 +376,7 @@ impl FunctionReader {
 
 /// The head and the blocks that tokens give, or the first token that cannot go on.
 pub(crate) fn read_tokens(alloc: Global, tokens: &[Placed]) -> Result<(Head, Vec<Block>), TextError>
-    ensures { Gives (λ x. (x.0, map block_of x.1.items)) result
+    ensures { GivesView (λ x. (x.0, map block_of x.1.items)) result
         (read_from to_formulas (first_state to_formulas) tokens.now) }
 {
     let mut reader = FunctionReader::new(alloc);

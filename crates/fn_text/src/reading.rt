@@ -6,7 +6,7 @@ ghost use Rattle.fn_rules.specs.Rules.{function_of};
 ghost use Rattle.fn_tokens.specs.Tokens.{tokens_in};
 ghost use Rattle.fn_moves.specs.Meaning.{to_formulas};
 ghost use Rattle.fn_text.specs.Reader.{read_from, first_state};
-ghost use Rattle.fn_text.specs.Made.{Gives};
+ghost use Rattle.fn_text.specs.Made.{GivesView};
 ghost use Rattle.fn_text.specs.Reading.{function_in};
 ghost use Rattle.fn_text.specs.Refusals.{IsAnswerFor};
 
@@ -19,7 +19,7 @@ use std::alloc::Global;
 /// The head and the blocks of a file, which are within the limits.
 fn parts(alloc: Global, bytes: &[u8]) -> Result<(Head, Vec<Block>), TextError>
     requires { length bytes.now < 2 ^ 31 }
-    ensures read { Gives (λ x. (x.0, map block_of x.1.items)) result
+    ensures read { GivesView (λ x. (x.0, map block_of x.1.items)) result
         (read_from to_formulas (first_state to_formulas) (tokens_in bytes.now)) }
     ensures within_limits { IfOk result (λ x. IsTrue (is_buildable x.0 (map block_of x.1.items))) }
 {
@@ -31,7 +31,7 @@ fn parts(alloc: Global, bytes: &[u8]) -> Result<(Head, Vec<Block>), TextError>
 #[tactic(auto, unfolding(crate::specs::Reading::function_in))]
 fn function_read(alloc: Global, bytes: &[u8]) -> Result<Rules, TextError>
     requires { length bytes.now < 2 ^ 31 }
-    ensures { Gives function_of result (function_in bytes.now) }
+    ensures { GivesView function_of result (function_in bytes.now) }
 {
     let (head, blocks) = parts(alloc, bytes)?;
     Ok(Rules::build(head, blocks))
@@ -48,7 +48,7 @@ pub fn read(alloc: Global, bytes: &[u8]) -> Result<Rules, TextError>
     ensures text_or_first_wrong { IsAnswerFor function_of bytes.now result }
 
     // The function or the fault that the reader's definition gives, or want of memory.
-    ensures read { Gives function_of result (function_in bytes.now) }
+    ensures read { GivesView function_of result (function_in bytes.now) }
 {
     function_read(alloc, bytes)
 }

@@ -94,8 +94,8 @@ abbrev pub below : Cursor → Cursor
 below at = record { line = at.line + 1; column = 1; after = false; skip = 0 }
 
 -- the place behind a byte
-abbrev pub place_after : Cursor → ℕ → List ℕ → Cursor
-place_after at byte rest =
+abbrev pub cursor_after : Cursor → ℕ → List ℕ → Cursor
+cursor_after at byte rest =
     if nat_lt 0 at.skip then stepped at at.after (at.skip - 1) else
     (if is_line_end byte then below at else
     (if is_blank byte then stepped at at.after 0 else
@@ -114,7 +114,7 @@ tokens_at at byte rest =
 abbrev pub tokens_from : Cursor → List ℕ → List Placed
 tokens_from at [] = line_end_at at ++ placed_at at FileEnd ∷ []
 tokens_from at (byte ∷ rest) =
-    tokens_at at byte rest ++ tokens_from (place_after at byte rest) rest
+    tokens_at at byte rest ++ tokens_from (cursor_after at byte rest) rest
 
 -- the tokens of a file
 abbrev pub tokens_in : List ℕ → List Placed

@@ -5,7 +5,7 @@ ghost use Rattle.std.specs.Prelude.{option_to_list};
 ghost use Rattle.std.specs.List.{prefix_len};
 ghost use Rattle.fn_tokens.specs.Tokens.{tokens_in, TokensEndFiles, is_letter, is_digit, is_blank, is_in, number_from};
 ghost use Rattle.fn_tokens.specs.Tokens.{sign_token, front_less, front_word, front_number, front_of, tokens_at};
-ghost use Rattle.fn_tokens.specs.Tokens.{place_after, placed_at, line_end_at, stepped, below};
+ghost use Rattle.fn_tokens.specs.Tokens.{cursor_after, placed_at, line_end_at, stepped, below};
 
 use crate::NoMemory;
 use crate::token::{Placed, Sign, Token, word_of};
@@ -238,7 +238,7 @@ fn turn(place: Cursor, bytes: &[u8]) -> (Option<Placed>, Cursor)
     requires line { place.line < 2 ^ 31 }
     requires column { place.column < 2 ^ 31 }
     ensures tokens { option_to_list result.0 ≡ tokens_at place (slice_index bytes.now 0) (drop 1 bytes.now) }
-    ensures place { result.1 ≡ place_after place (slice_index bytes.now 0) (drop 1 bytes.now) }
+    ensures place { result.1 ≡ cursor_after place (slice_index bytes.now 0) (drop 1 bytes.now) }
     ensures line { result.1.line ≤ place.line + 1 }
     ensures column { result.1.column ≤ place.column + 1 }
 {

@@ -24,14 +24,14 @@ front_tree (rust.Deliver o progress) = goals.Deliver o progress.now
 front_tree (rust.Same left right) = goals.Same (cell_tree left) (cell_tree right)
 
 -- the offset that is lowered by one is small
-abbrev pub IsLowered : FormTree → Type 0
-IsLowered forms.True = Unit {0}
-IsLowered (forms.Le x y) = Unit {0}
-IsLowered (forms.Lt x y) = IsNear 999 y.off
-IsLowered (forms.Eq x y) = Unit {0}
-IsLowered (forms.And g h) = Unit {0}
-IsLowered (forms.Or g h) = Unit {0}
-IsLowered (forms.Not g) = Unit {0}
+abbrev pub IsLoweredForm : FormTree → Type 0
+IsLoweredForm forms.True = Unit {0}
+IsLoweredForm (forms.Le x y) = Unit {0}
+IsLoweredForm (forms.Lt x y) = IsNear 999 y.off
+IsLoweredForm (forms.Eq x y) = Unit {0}
+IsLoweredForm (forms.And g h) = Unit {0}
+IsLoweredForm (forms.Or g h) = Unit {0}
+IsLoweredForm (forms.Not g) = Unit {0}
 
 -- one of the cases for the two operations is next, or none is left
 pub record IsChoosable (f : Function) (case : ℕ) (a b : SymOp) : Type 0 where
@@ -42,10 +42,10 @@ pub record IsChoosable (f : Function) (case : ℕ) (a b : SymOp) : Type 0 where
   pub cases : case ≤ length (cases_of_kinds f (sym_kind a) (sym_kind b))
 
 -- what a rule needs of the goal that it rewrites
-abbrev pub IsReady : Function → GoalTree → Type 0
-IsReady f goals.Holds = Unit {0}
-IsReady f (goals.Fails why) = Unit {0}
-IsReady f (goals.If g on_yes on_no) = IsLowered g
-IsReady f (goals.Choose case a b progress) = IsChoosable f case a b
-IsReady f (goals.Deliver o progress) = progress.count < 6
-IsReady f (goals.Same left right) = IsReadable left × IsReadable right
+abbrev pub IsReadyGoal : Function → GoalTree → Type 0
+IsReadyGoal f goals.Holds = Unit {0}
+IsReadyGoal f (goals.Fails why) = Unit {0}
+IsReadyGoal f (goals.If g on_yes on_no) = IsLoweredForm g
+IsReadyGoal f (goals.Choose case a b progress) = IsChoosable f case a b
+IsReadyGoal f (goals.Deliver o progress) = progress.count < 6
+IsReadyGoal f (goals.Same left right) = IsReadable left × IsReadable right

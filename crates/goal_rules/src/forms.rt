@@ -5,7 +5,7 @@ ghost use Rattle.ot_questions.specs.declared.place.Place.{Place};
 ghost use Rattle.ot_terms.specs.Forms as trees;
 ghost use Rattle.ot_terms.specs.Forms.{form_tree};
 ghost use Rattle.ot_terms.specs.Goals.{goal_tree};
-ghost use Rattle.goal_rules.specs.Steps.{front_tree, IsLowered};
+ghost use Rattle.goal_rules.specs.Steps.{front_tree, IsLoweredForm};
 ghost use Rattle.goal_rules.specs.Table.{rewrite_if};
 
 use crate::front::Front;
@@ -113,7 +113,7 @@ pub(crate) fn by_form<'a>(
     yes: &'a Goal<'a>,
     no: &'a Goal<'a>,
 ) -> Result<Option<Front<'a>>, NoMemory>
-    requires { IsLowered (form_tree form) }
+    requires { IsLoweredForm (form_tree form) }
     ensures { IfOk result (λ r. option_map front_tree r
         ≡ rewrite_if (form_tree form.entry) (goal_tree yes.now) (goal_tree no.now)) }
 {

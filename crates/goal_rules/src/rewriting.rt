@@ -1,7 +1,7 @@
 //! A goal after one rule.
 ghost use Rattle.std.specs.Prelude.{◌≡◌, IfOk, option_map};
 ghost use Rattle.fn_rules.specs.Rules.{function_of};
-ghost use Rattle.goal_rules.specs.Steps.{front_tree, IsReady};
+ghost use Rattle.goal_rules.specs.Steps.{front_tree, IsReadyGoal};
 ghost use Rattle.goal_rules.specs.Table.{rewritten};
 
 use crate::choosing::choose;
@@ -25,7 +25,7 @@ pub fn rewrite<'a>(
     rules: &Rules,
     front: Front<'a>,
 ) -> Result<Option<Front<'a>>, NoMemory>
-    requires { IsReady (function_of rules.now) (front_tree front) }
+    requires { IsReadyGoal (function_of rules.now) (front_tree front) }
     ensures { IfOk result (λ r. option_map front_tree r ≡ rewritten (function_of rules.now) (front_tree front.entry)) }
 {
     match front {

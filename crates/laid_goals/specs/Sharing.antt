@@ -31,5 +31,5 @@ laid_form (Or g h) on_yes on_no = laid_form g on_yes (laid_form h on_yes on_no)
 laid_form (Not g) on_yes on_no = laid_form g on_no on_yes
 
 -- the goal that is kept stands for what is left where the result is delivered
-abbrev pub IsKept : Function → Behind → Type 0
-IsKept f known = StandsAlike f (Deliver known.op known.plan.now) (goal_tree known.goal.now)
+abbrev pub IsKeptGoal : Function → Behind → Type 0
+IsKeptGoal f known = StandsAlike f (Deliver known.op known.plan.now) (goal_tree known.goal.now)

@@ -3,7 +3,7 @@ ghost use Rattle.std.specs.Prelude.{◌≡◌, IsTrue, IfSome};
 ghost use Rattle.std.specs.List.{All};
 ghost use Rattle.fn_rules.specs.Functions.{Function};
 ghost use Rattle.ot_terms.specs.Goals.{goal_tree, Deliver};
-ghost use Rattle.laid_goals.specs.Sharing.{StandsAlike, IsKept};
+ghost use Rattle.laid_goals.specs.Sharing.{StandsAlike, IsKeptGoal};
 
 use crate::kept::Behind;
 use ot_terms::{Goal, GoalProgress, SymOp};
@@ -57,7 +57,7 @@ pub(crate) fn found<'a>(
     op: SymOp,
     progress: &GoalProgress,
 ) -> Option<&'a Goal<'a>>
-    ensures { (f : Function) → All (IsKept f) known.now
+    ensures { (f : Function) → All (IsKeptGoal f) known.now
         → IfSome result (λ g. StandsAlike f (Deliver op progress.now) (goal_tree g.now)) }
 {
     for at in 0..known.len() {

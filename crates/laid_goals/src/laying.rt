@@ -10,7 +10,7 @@ ghost use Rattle.ot_terms.specs.Weights.{goal_weight};
 ghost use Rattle.ot_rewrite.specs.Reaching.{IsStep};
 ghost use Rattle.ot_rewrite.specs.Splits.{HasLowOffsets};
 ghost use Rattle.goal_rules.specs.Steps.{front_tree};
-ghost use Rattle.laid_goals.specs.Sharing.{StandsAlike, IsKept, laid_form, laid_order};
+ghost use Rattle.laid_goals.specs.Sharing.{StandsAlike, IsKeptGoal, laid_form, laid_order};
 
 use crate::behind::found;
 use crate::kept::Behind;
@@ -131,9 +131,9 @@ pub fn laid_out<'a>(
     goal: &'a Goal<'a>,
 ) -> Result<&'a Goal<'a>, NoMemory>
     requires goal { (ob : ObName) × IsGoalOf (function_of rules.now) ob (goal_tree goal.now) }
-    requires known { All (IsKept (function_of rules.now)) known.old.items }
+    requires known { All (IsKeptGoal (function_of rules.now)) known.old.items }
     ensures alike { IfOk result (λ r. StandsAlike (function_of rules.now) (goal_tree goal.now) (goal_tree r.now)) }
-    ensures known { IfOk result (λ _. All (IsKept (function_of rules.now)) known.new.items) }
+    ensures known { IfOk result (λ _. All (IsKeptGoal (function_of rules.now)) known.new.items) }
 {
     match first_form(bump, rules, goal)? {
         Front::If { form, yes, no } => {

@@ -17,7 +17,7 @@ use Rattle.ot_questions.specs.declared.place.SymOp.{SymOp}
 use Rattle.ot_questions.specs.declared.place.SymOp.TheVariants.{Nop}
 use Rattle.ot_questions.specs.declared.why.Why.{Why}
 use Rattle.ot_terms.specs.declared.goal.GoalProgress.{GoalProgress}
-use Rattle.ot_terms.specs.Belonging.{IsGoalOf, HasParts, IsProgressOf, AreMade, next_operands}
+use Rattle.ot_terms.specs.Belonging.{IsGoalOf, HasParts, IsProgressOf, AreOperandsOf, next_operands}
 use Rattle.ot_terms.specs.Forms as forms
 use Rattle.ot_terms.specs.Goals.{GoalTree, Holds, Fails, If, Choose, Deliver, Same}
 use Rattle.ot_terms.specs.Standing.{ask_after, results_of}
@@ -39,7 +39,7 @@ none_of (plain.Fails why) = refl
 
 -- another transformation follows while there are fewer results than transformations
 next_there :
-    (ob : ObName) (os got : List SymOp) → AreMade ob os → length got < transforms_of ob → is_some (next_operands ob os got) ≡ true
+    (ob : ObName) (os got : List SymOp) → AreOperandsOf ob os → length got < transforms_of ob → is_some (next_operands ob os got) ≡ true
 next_there (Pair k l) os got made h =
     subst (λ t. is_some (next_operands (Pair k l) t got) ≡ true) (sym made.2) (of_two got h)
   where
@@ -114,7 +114,7 @@ module _ (f : Function) where
   unfolding marked_goal
   start_of-result ob o plan h =
       let left = transforms_of plan.ob - (1 + plan.count) in
-      let made : AreMade plan.ob plan.ops = subst (λ t. AreMade t plan.ops) (sym h.0.same) h.0.made in
+      let made : AreOperandsOf plan.ob plan.ops = subst (λ t. AreOperandsOf t plan.ops) (sym h.0.same) h.0.made in
       let count : length (results_of plan ++ o ∷ []) ≡ 1 + plan.count = count_with plan o (room_for ob plan h.0) in
       start_of-after left (start_after plan (Some o)) (nat_lt (1 + plan.count) (transforms_of plan.ob))
       (same_test plan.count (transforms_of plan.ob))

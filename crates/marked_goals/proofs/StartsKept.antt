@@ -18,13 +18,13 @@ use Rattle.ot_terms.specs.Goals as goals
 use Rattle.ot_terms.specs.Goals.{GoalTree}
 use Rattle.ot_terms.specs.Placing.{guard_form}
 use Rattle.ot_terms.specs.Standing.{ask_after, ask_goal, results_of}
-use Rattle.ot_terms.specs.Starting.{start_of}
+use Rattle.ot_terms.specs.Starting.{start_goal_of}
 use Rattle.ot_terms.specs.Weights.{transforms_of}
 use Rattle.ot_terms.proofs.StartParts.{start_of_belongs}
 use Rattle.start_laws.specs.Begun.{start_after}
 use Rattle.start_laws.specs.Starts.{Start, meaning}
 use Rattle.marked_goals.specs.Marking.{Marked, with_start, marked_le, marked_form, marked_cases, marked_by_kinds, marked_transform, marked_next, marked_after}
-use Rattle.marked_goals.specs.Marking.{marked_with, begun, marked_goal, marked_plan}
+use Rattle.marked_goals.specs.Marking.{marked_with, begun_transform, marked_goal, marked_plan}
 use Rattle.marked_goals.proofs.Unmarked.{unmarked-transform, unmarked-choice, unmarked-after, next_asks}
 
 module _ (f : Function) where
@@ -99,15 +99,15 @@ module _ (f : Function) where
   choice-kept : (case : ℕ) (a b : SymOp) (plan : GoalProgress) → AreLawful (marked_transform f case a b (marked_with f plan))
   choice-kept case a b plan = transform-kept a b (marked_with f plan) (with-kept plan) case
 
-  begun-kept :
+  begun_transform-kept :
       (ob : ObName) (case : ℕ) (a b : SymOp) (plan : GoalProgress) → IsChoiceOf f ob case a b plan
-      → AreLawful (begun case plan (marked_transform f case a b (marked_with f plan)))
-  begun-kept ob zero a b plan h =
+      → AreLawful (begun_transform case plan (marked_transform f case a b (marked_with f plan)))
+  begun_transform-kept ob zero a b plan h =
       with_start-kept (start_after plan None) (marked_transform f 0 a b (marked_with f plan))
       (unmarked-choice f 0 a b plan ∙ next_asks f (start_after plan None) (a, b)
       (subst (λ o. next_operands o plan.ops (results_of plan) ≡ Some (a, b)) (sym h.progress.same) h.next))
       (choice-kept 0 a b plan)
-  begun-kept ob (suc case) a b plan h = choice-kept (suc case) a b plan
+  begun_transform-kept ob (suc case) a b plan h = choice-kept (suc case) a b plan
 
   parts-kept : (ob : ObName) (g : GoalTree) → HasParts f ob g → AreLawful (marked_goal f g)
   unfolding marked_goal
@@ -115,7 +115,7 @@ module _ (f : Function) where
   parts-kept ob (goals.Fails why) h = tt
   parts-kept ob (goals.If g on_yes on_no) h =
       form-kept g (marked_goal f on_yes) (marked_goal f on_no) (parts-kept ob on_yes h.1) (parts-kept ob on_no h.2)
-  parts-kept ob (goals.Choose case a b plan) h = begun-kept ob case a b plan h
+  parts-kept ob (goals.Choose case a b plan) h = begun_transform-kept ob case a b plan h
   parts-kept ob (goals.Deliver o plan) h = with-kept plan o
   parts-kept ob (goals.Same left right) h = IsMarkedBy-startless (meaning f) (ask_goal f (goals.Same left right))
 
@@ -124,4 +124,4 @@ module _ (f : Function) where
 
   pub plan_starts_kept :
       (ob : ObName) → IsTrue (is_obligation f.head ob) → IsMarkedBy (meaning f) (marked_plan f ob)
-  plan_starts_kept ob declared = starts_kept ob (start_of f.head ob) (start_of_belongs f ob declared)
+  plan_starts_kept ob declared = starts_kept ob (start_goal_of f.head ob) (start_of_belongs f ob declared)

@@ -22,13 +22,13 @@ use Rattle.ot_terms.specs.Goals as goals
 use Rattle.ot_terms.specs.Goals.{GoalTree}
 use Rattle.ot_terms.specs.Placing.{guard_form}
 use Rattle.ot_terms.specs.Standing.{ask_form, ask_goal, ask_after, ask_pair_after, ask_second_way_after, ask_triple_after, ask_with, from_case, results_of}
-use Rattle.ot_terms.specs.Starting.{start_of}
+use Rattle.ot_terms.specs.Starting.{start_goal_of}
 use Rattle.ot_terms.specs.Weights.{transforms_of}
 use Rattle.ot_terms.proofs.GuardForms.{ask_form_guard_form}
 use Rattle.ot_terms.proofs.Starts.{ask_goal_start_of}
 use Rattle.start_laws.specs.Starts.{Start}
 use Rattle.marked_goals.specs.Marking.{Marked, with_start, marked_le, marked_form, marked_cases, marked_by_kinds, marked_transform, marked_next, marked_after}
-use Rattle.marked_goals.specs.Marking.{marked_with, begun, marked_goal, marked_plan}
+use Rattle.marked_goals.specs.Marking.{marked_with, begun_transform, marked_goal, marked_plan}
 
 pub unmarked-with_start : (start : Option Start) (p : Marked) → unmarked (with_start start p) ≡ unmarked p
 unmarked-with_start start (Ask other l on_yes on_no) = refl
@@ -139,9 +139,9 @@ module _ (f : Function) where
   unmarked-with plan r =
       unmarked-after (transforms_of plan.ob - (1 + plan.count)) plan.ob plan.ops (results_of plan ++ r ∷ [])
 
-  unmarked-begun : (case : ℕ) (plan : GoalProgress) (p : Marked) → unmarked (begun case plan p) ≡ unmarked p
-  unmarked-begun zero plan p = unmarked-with_start _ p
-  unmarked-begun (suc case) plan p = refl
+  unmarked-begun_transform : (case : ℕ) (plan : GoalProgress) (p : Marked) → unmarked (begun_transform case plan p) ≡ unmarked p
+  unmarked-begun_transform zero plan p = unmarked-with_start _ p
+  unmarked-begun_transform (suc case) plan p = refl
 
   pub unmarked-choice :
       (case : ℕ) (a b : SymOp) (plan : GoalProgress)
@@ -158,9 +158,9 @@ module _ (f : Function) where
       ∙ ap (λ t. ask_form g t (unmarked (marked_goal f on_no))) (unmarked-goal on_yes)
       ∙ ap (λ t. ask_form g (ask_goal f on_yes) t) (unmarked-goal on_no)
   unmarked-goal (goals.Choose case a b plan) =
-      unmarked-begun case plan (marked_transform f case a b (marked_with f plan)) ∙ unmarked-choice case a b plan
+      unmarked-begun_transform case plan (marked_transform f case a b (marked_with f plan)) ∙ unmarked-choice case a b plan
   unmarked-goal (goals.Deliver o plan) = unmarked-with plan o
   unmarked-goal (goals.Same left right) = unmarked-startless Start (ask_goal f (goals.Same left right))
 
   pub unmarked-plan : (ob : ObName) → unmarked (marked_plan f ob) ≡ plan_of f ob
-  unmarked-plan ob = unmarked-goal (start_of f.head ob) ∙ ask_goal_start_of f ob
+  unmarked-plan ob = unmarked-goal (start_goal_of f.head ob) ∙ ask_goal_start_of f ob

@@ -20,7 +20,7 @@ use Rattle.ot_terms.specs.Goals as goals
 use Rattle.ot_terms.specs.Goals.{GoalTree}
 use Rattle.ot_terms.specs.Placing.{guard_form}
 use Rattle.ot_terms.specs.Standing.{ask_after, ask_goal, results_of}
-use Rattle.ot_terms.specs.Starting.{start_of}
+use Rattle.ot_terms.specs.Starting.{start_goal_of}
 use Rattle.ot_terms.specs.Weights.{transforms_of}
 use Rattle.start_laws.specs.Begun.{start_after}
 use Rattle.start_laws.specs.Starts.{Start}
@@ -85,9 +85,9 @@ marked_with f progress r =
     (results_of progress ++ r ∷ [])
 
 -- a transformation begins with its first case
-abbrev pub begun : ℕ → GoalProgress → Marked → Marked
-begun zero progress p = with_start (Some (start_after progress None)) p
-begun (suc case) progress p = p
+abbrev pub begun_transform : ℕ → GoalProgress → Marked → Marked
+begun_transform zero progress p = with_start (Some (start_after progress None)) p
+begun_transform (suc case) progress p = p
 
 -- the plan that a goal stands for, with its starts
 unfoldable pub marked_goal : Function → GoalTree → Marked
@@ -95,10 +95,10 @@ marked_goal f goals.Holds = Holds None
 marked_goal f (goals.Fails why) = Fails None why
 marked_goal f (goals.If g on_yes on_no) = marked_form g (marked_goal f on_yes) (marked_goal f on_no)
 marked_goal f (goals.Choose case a b progress) =
-    begun case progress (marked_transform f case a b (marked_with f progress))
+    begun_transform case progress (marked_transform f case a b (marked_with f progress))
 marked_goal f (goals.Deliver o progress) = marked_with f progress o
 marked_goal f (goals.Same left right) = startless (ask_goal f (goals.Same left right))
 
 -- the plan of an obligation, with its starts
 abbrev pub marked_plan : Function → ObName → Marked
-marked_plan f ob = marked_goal f (start_of f.head ob)
+marked_plan f ob = marked_goal f (start_goal_of f.head ob)

@@ -42,6 +42,6 @@ pub record StandsMarked (f : Function) (old new : GoalTree) : Type 0 where
   pub belongs : (ob : ObName) → IsGoalOf f ob old → IsGoalOf f ob new
 
 -- the same but for the start at the front
-pub record Opens (f : Function) (old new : GoalTree) : Type 0 where
+pub record OpensStart (f : Function) (old new : GoalTree) : Type 0 where
   pub marked : with_start None (marked_goal f new) ≡ with_start None (marked_goal f old)
   pub belongs : (ob : ObName) → IsGoalOf f ob old → IsGoalOf f ob new

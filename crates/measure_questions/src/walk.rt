@@ -2,7 +2,7 @@
 ghost use Rattle.std.specs.Prelude.{◌≡◌, IsTrue, IfOk};
 ghost use Rattle.fn_rules.specs.Obligations.{is_obligation};
 ghost use Rattle.fn_rules.specs.Rules.{function_of};
-ghost use Rattle.measure_questions.specs.Walks.{GoesOn};
+ghost use Rattle.measure_questions.specs.Walks.{WalkGoesOn};
 
 use ask_core::{Asker, Turn};
 use bumpalo::Bump;
@@ -35,7 +35,7 @@ fn next_node<N: Copy, W: Copy>(
     turn: Turn<N, W>,
     waiting: &mut Vec<N>,
 ) -> Result<Option<N>, NoMemory>
-    ensures { IfOk result (λ r. GoesOn turn waiting.old.items waiting.new.items r) }
+    ensures { IfOk result (λ r. WalkGoesOn turn waiting.old.items waiting.new.items r) }
 {
     match turn {
         Turn::Ask { yes, no, .. } => {

@@ -18,14 +18,14 @@ use Rattle.ot_questions.specs.declared.place.SymOp.{SymOp}
 use Rattle.ot_questions.specs.declared.place.Place.{Place}
 use Rattle.ot_questions.specs.declared.why.Why.{Why}
 use Rattle.ot_questions.specs.declared.why.Why.TheVariants.{Operations}
-use Rattle.ot_questions.specs.Instances.{StandsFor, GoesOnWith}
+use Rattle.ot_questions.specs.Instances.{StandsForOperation, GoesOnWith}
 use Rattle.ot_questions.specs.Names.{zero_name}
 use Rattle.ot_questions.specs.Obligation.{ask_same_form, ask_one_place}
 use Rattle.ot_questions.specs.Places.{sym_op, sym_kind, sym_at, sym_result}
 use Rattle.ot_questions.specs.Questions.{ask_first_result, ask_guard, ask_result}
 use Rattle.ot_terms.specs.Goals.{GoalTree}
 use Rattle.ot_terms.specs.Standing.{ask_form, ask_goal}
-use Rattle.ot_audit.specs.Goals.{with_result, unless_one_place, unless_same, unless_agreed, difference_goal}
+use Rattle.ot_audit.specs.Goals.{with_first_result, unless_one_place, unless_same, unless_agreed, difference_goal}
 use Rattle.ot_audit.specs.Reached.{AreMeant, Agree}
 use Rattle.ot_audit.specs.Searches.{NamesTwo, Differs}
 use Rattle.ot_audit.proofs.Ends.{EndsAtMost, EndsGuard, EndsAllowed, AsksGuard, AsksAllowed, TestsAllowed, kind_named, meant_pass, passed_meant}
@@ -33,12 +33,12 @@ use Rattle.ot_audit.proofs.Ends.{EndsAtMost, EndsGuard, EndsAllowed, AsksGuard, 
 -- what the laws of questions and functions say
 abbrev pub EndsResult : Type 0
 EndsResult =
-    (f : Function) (v : ℕ → ℤ) (x y : SymOp) (a b : Op) → v zero_name ≡ pos 0 → StandsFor v x a → StandsFor v y b
+    (f : Function) (v : ℕ → ℤ) (x y : SymOp) (a b : Op) → v zero_name ≡ pos 0 → StandsForOperation v x a → StandsForOperation v y b
     → GoesOnWith v (ask_result f x y) (transform_of f a b)
 
 abbrev pub EndsOneForm : Type 0
 EndsOneForm =
-    (v : ℕ → ℤ) (x y : SymOp) (a b c : Op) → StandsFor v x a → StandsFor v y b → IsFormOf c a → IsFormOf c b
+    (v : ℕ → ℤ) (x y : SymOp) (a b c : Op) → StandsForOperation v x a → StandsForOperation v y b → IsFormOf c a → IsFormOf c b
     → (a ≡ b → end_of (ask_same_form x y) v ≡ None) × (a ≢ b → end_of (ask_same_form x y) v ≡ Some Operations)
 
 abbrev pub KeepsForm : Type 0
@@ -79,14 +79,14 @@ one_form a x y k is (inr moved) (inr other) =
 
 -- the goals ask what the questions ask
 module _ (asks_guard : AsksGuard) (h : Function) where
-  pub ask_goal-with_result :
+  pub ask_goal-with_first_result :
       (cs : List GuardedCase) (a b : SymOp) (go : Option SymOp → GoalTree)
-      → ask_goal h (with_result cs a b go) ≡ ask_first_result cs a b (λ x. ask_goal h (go x))
+      → ask_goal h (with_first_result cs a b go) ≡ ask_first_result cs a b (λ x. ask_goal h (go x))
   unfolding ask_goal
-  ask_goal-with_result [] a b go = refl
-  ask_goal-with_result (c ∷ cs) a b go =
-      asks_guard c.guard a b (ask_goal h (go (Some (sym_result c.res a b)))) (ask_goal h (with_result cs a b go))
-      ∙ ap (λ p. ask_guard c.guard a b (ask_goal h (go (Some (sym_result c.res a b)))) p) (ask_goal-with_result cs a b go)
+  ask_goal-with_first_result [] a b go = refl
+  ask_goal-with_first_result (c ∷ cs) a b go =
+      asks_guard c.guard a b (ask_goal h (go (Some (sym_result c.res a b)))) (ask_goal h (with_first_result cs a b go))
+      ∙ ap (λ p. ask_guard c.guard a b (ask_goal h (go (Some (sym_result c.res a b)))) p) (ask_goal-with_first_result cs a b go)
 
 one_place_asked :
     (h : Function) (j k : Option Kind) (at there : Place) → ask_goal h (unless_one_place j k at there) ≡ ask_one_place j k at there
@@ -126,20 +126,20 @@ module _ (asks_guard : AsksGuard) (h f g : Function) (k l : Kind) where
 
   pub right_asked :
       (x : Option SymOp)
-      → ask_goal h (with_result (cases_of g k l) first_op second_op (λ y. unless_same x y))
+      → ask_goal h (with_first_result (cases_of g k l) first_op second_op (λ y. unless_same x y))
       ≡ ask_result g first_op second_op (λ y. ask_goal h (unless_same x y))
   right_asked x =
-      ask_goal-with_result asks_guard h (cases_of g k l) first_op second_op (λ y. unless_same x y)
+      ask_goal-with_first_result asks_guard h (cases_of g k l) first_op second_op (λ y. unless_same x y)
       ∙ sym (ask_result-named g k l (λ y. ask_goal h (unless_same x y)))
 
   pub left_asked :
       ask_goal h (unless_agreed (cases_of f k l) (cases_of g k l) first_op second_op)
       ≡ ask_result f first_op second_op
-      (λ x. ask_goal h (with_result (cases_of g k l) first_op second_op (λ y. unless_same x y)))
+      (λ x. ask_goal h (with_first_result (cases_of g k l) first_op second_op (λ y. unless_same x y)))
   left_asked =
-      ask_goal-with_result asks_guard h (cases_of f k l) first_op second_op
-      (λ x. with_result (cases_of g k l) first_op second_op (λ y. unless_same x y))
-      ∙ sym (ask_result-named f k l (λ x. ask_goal h (with_result (cases_of g k l) first_op second_op (λ y. unless_same x y))))
+      ask_goal-with_first_result asks_guard h (cases_of f k l) first_op second_op
+      (λ x. with_first_result (cases_of g k l) first_op second_op (λ y. unless_same x y))
+      ∙ sym (ask_result-named f k l (λ x. ask_goal h (with_first_result (cases_of g k l) first_op second_op (λ y. unless_same x y))))
 
 -- the plan holds where they agree, and fails where not; and one of the two is so
 abbrev Decided : Type 0 → Option Why → Type 0
@@ -148,7 +148,7 @@ Decided Agreed end = (Agreed × (end ≡ None)) ⊎ ((Agreed → ⊥) × (end �
 module _ (one : EndsOneForm) (h : Function) (v : ℕ → ℤ) (a : Op) (k : Kind) (is : kind_of a ≡ Some k) where
   -- two results that are there
   both_there :
-      (x y : SymOp) (p q : Op) → StandsFor v x p → StandsFor v y q → IsFormOf a p → IsFormOf a q
+      (x y : SymOp) (p q : Op) → StandsForOperation v x p → StandsForOperation v y q → IsFormOf a p → IsFormOf a q
       → Decided (Some p ≡ Some q) (end_of (ask_goal h (unless_same (Some x) (Some y))) v)
   both_there x y p q sp sq fp fq =
       let law = one v x y p q a sp sq fp fq in
@@ -161,7 +161,7 @@ module _ (one : EndsOneForm) (h : Function) (v : ℕ → ℤ) (a : Op) (k : Kind
 -- what asking for a result comes to
 abbrev pub Comes : (ℕ → ℤ) → (Option SymOp → Plan Why) → Option Why → Option Op → Type 0
 Comes v go end None = end ≡ end_of (go None) v
-Comes v go end (Some r) = (x : SymOp) × StandsFor v x r × (end ≡ end_of (go (Some x)) v)
+Comes v go end (Some r) = (x : SymOp) × StandsForOperation v x r × (end ≡ end_of (go (Some x)) v)
 
 pub goes_to :
     (v : ℕ → ℤ) (ask : (Option SymOp → Plan Why) → Plan Why) (go : Option SymOp → Plan Why) (o : Option Op)
@@ -177,7 +177,7 @@ module _ (at_most : EndsAtMost) (ends_guard : EndsGuard) (ends_allowed : EndsAll
   ended goal = end_of (ask_goal f goal) v
 
   abbrev right_goal : Option SymOp → GoalTree
-  right_goal x = with_result (cases_of g k l) (sym_op k A) (sym_op l B) (λ y. unless_same x y)
+  right_goal x = with_first_result (cases_of g k l) (sym_op k A) (sym_op l B) (λ y. unless_same x y)
 
   right_comes : (x : Option SymOp) → Comes v (λ y. ask_goal f (unless_same x y)) (ended (right_goal x)) (transform_of g a b)
   right_comes x =
@@ -204,7 +204,7 @@ module _ (at_most : EndsAtMost) (ends_guard : EndsGuard) (ends_allowed : EndsAll
   with_right_none (Some r) (y, stands, comes) = inr ((λ e. absurd (cc)), comes)
 
   with_right_some :
-      (x : SymOp) (p : Op) (q : Option Op) → StandsFor v x p → IsFormOf a p → transform_of g a b ≡ q
+      (x : SymOp) (p : Op) (q : Option Op) → StandsForOperation v x p → IsFormOf a p → transform_of g a b ≡ q
       → Comes v (λ y. ask_goal f (unless_same (Some x) y)) (ended (right_goal (Some x))) q
       → Decided (Some p ≡ q) (ended (right_goal (Some x)))
   unfolding ask_goal

@@ -19,7 +19,7 @@ use Rattle.ot_questions.specs.declared.place.Place.{Place}
 use Rattle.ot_questions.specs.declared.place.SymOp.{SymOp}
 use Rattle.ot_questions.specs.declared.why.Why.{Why}
 use Rattle.ot_questions.specs.declared.why.Why.TheVariants.{Operations}
-use Rattle.ot_questions.specs.Instances.{StandsFor}
+use Rattle.ot_questions.specs.Instances.{StandsForOperation}
 use Rattle.ot_questions.specs.Names.{zero_name, position_name}
 use Rattle.ot_questions.specs.Places.{place, zero_place, integer_at, sym_op}
 use Rattle.ot_questions.specs.Questions.{ask_le, ask_guard, ask_allowed}
@@ -30,8 +30,8 @@ use Rattle.ot_terms.specs.Starting.{if_allowed}
 use Rattle.ot_audit.specs.declared.target.Target.{Target}
 use Rattle.ot_audit.specs.declared.target.Target.TheVariants.{Case, Open}
 use Rattle.ot_audit.specs.Goals.{found, if_there, if_meant, unless_true, at_own, at_target, target_goal}
-use Rattle.ot_audit.specs.Reached.{AreMeant, AreFalse, IsTrueOf, IsReachedIn}
-use Rattle.ot_audit.specs.Searches.{NamesTwo, Reaches}
+use Rattle.ot_audit.specs.Reached.{AreMeant, AreFalse, IsTrueCase, IsReachedIn}
+use Rattle.ot_audit.specs.Searches.{NamesTwo, ReachesTarget}
 use Rattle.ot_audit.proofs.Meant.{posed_where_meant, meant_where_posed}
 
 -- what the laws of questions and terms say
@@ -42,12 +42,12 @@ EndsAtMost =
 
 abbrev pub EndsGuard : Type 0
 EndsGuard =
-    (g : Formula) (v : ℕ → ℤ) (x y : SymOp) (a b : Op) (p q : Plan Why) → v zero_name ≡ pos 0 → StandsFor v x a → StandsFor v y b
+    (g : Formula) (v : ℕ → ℤ) (x y : SymOp) (a b : Op) (p q : Plan Why) → v zero_name ≡ pos 0 → StandsForOperation v x a → StandsForOperation v y b
     → end_of (ask_guard g x y p q) v ≡ (if holds_of g a b then end_of p v else end_of q v)
 
 abbrev pub EndsAllowed : Type 0
 EndsAllowed =
-    (f : Function) (v : ℕ → ℤ) (x y : SymOp) (a b : Op) (p : Plan Why) → v zero_name ≡ pos 0 → StandsFor v x a → StandsFor v y b
+    (f : Function) (v : ℕ → ℤ) (x y : SymOp) (a b : Op) (p : Plan Why) → v zero_name ≡ pos 0 → StandsForOperation v x a → StandsForOperation v y b
     → end_of (ask_allowed f.head x y p) v ≡ (if is_allowed f a b then end_of p v else None)
 
 abbrev pub AsksGuard : Type 0
@@ -83,7 +83,7 @@ pub true_le : (x y : ℤ) → x ≤ℤ y → int_le x y ≡ true
 true_le x y h = grind (arith, ints)
 
 -- names stand for an operation of their kind, at its position
-pub kind_named : (v : ℕ → ℤ) (k : Kind) (who : Who) (a : Op) → StandsFor v (sym_op k who) a → kind_of a ≡ Some k
+pub kind_named : (v : ℕ → ℤ) (k : Kind) (who : Who) (a : Op) → StandsForOperation v (sym_op k who) a → kind_of a ≡ Some k
 kind_named v kinds.Ins who a stands = sym stands.kind
 kind_named v kinds.Del who a stands = sym stands.kind
 kind_named v kinds.Upd who a stands = sym stands.kind
@@ -91,7 +91,7 @@ kind_named v kinds.Upd who a stands = sym stands.kind
 without_offset : (x y : ℤ) → (x +ℤ pos 0) ≡ y → x ≡ y
 without_offset x y e = omega (arith, ints)
 
-pub at_named : (v : ℕ → ℤ) (k : Kind) (who : Who) (a : Op) → StandsFor v (sym_op k who) a → v (position_name who) ≡ at_of a
+pub at_named : (v : ℕ → ℤ) (k : Kind) (who : Who) (a : Op) → StandsForOperation v (sym_op k who) a → v (position_name who) ≡ at_of a
 at_named v kinds.Ins who a stands = without_offset (v (position_name who)) (at_of a) stands.at
 at_named v kinds.Del who a stands = without_offset (v (position_name who)) (at_of a) stands.at
 at_named v kinds.Upd who a stands = without_offset (v (position_name who)) (at_of a) stands.at
@@ -183,11 +183,11 @@ module _ (at_most : EndsAtMost) (ends_guard : EndsGuard) (ends_allowed : EndsAll
       let later = passed_all_false cs next why here.1 in
       ((here.0, later.0), later.1)
 
-  own_fails : (o : Option GuardedCase) → IsTrueOf o a b → ended (at_own o first_op second_op) ≡ Some Operations
+  own_fails : (o : Option GuardedCase) → IsTrueCase o a b → ended (at_own o first_op second_op) ≡ Some Operations
   own_fails None is = absurd is
   own_fails (Some c) is = end_own c.guard ∙ by_true (holds_of c.guard a b) (Some Operations) None is
 
-  failed_own : (o : Option GuardedCase) (why : Why) → ended (at_own o first_op second_op) ≡ Some why → IsTrueOf o a b
+  failed_own : (o : Option GuardedCase) (why : Why) → ended (at_own o first_op second_op) ≡ Some why → IsTrueCase o a b
   unfolding ask_goal
   failed_own None why e = absurd (cc)
   failed_own (Some c) why e = (some_passed (holds_of c.guard a b) (Some Operations) why (sym (end_own c.guard) ∙ e)).0
@@ -245,12 +245,12 @@ module _ (at_most : EndsAtMost) (ends_guard : EndsGuard) (ends_allowed : EndsAll
       )
 
   pub target_fails :
-      (target : Target) → Reaches f k l target a b → ended (target_goal f k l target) ≡ Some Operations
+      (target : Target) → ReachesTarget f k l target a b → ended (target_goal f k l target) ≡ Some Operations
   target_fails target (meant, reached) =
       meant_pass (at_target (cases_of f k l) target first_op second_op) meant ∙ reached_fails (cases_of f k l) target reached
 
   pub target_sought :
-      (target : Target) (why : Why) → ended (target_goal f k l target) ≡ Some why → Reaches f k l target a b
+      (target : Target) (why : Why) → ended (target_goal f k l target) ≡ Some why → ReachesTarget f k l target a b
   target_sought target why e =
       let both = passed_meant (at_target (cases_of f k l) target first_op second_op) why e in
       (both.0, failed_reached (cases_of f k l) target why both.1)

@@ -13,7 +13,7 @@ use Rattle.ot_audit.specs.declared.audits.Same.TheVariants.{Everywhere}
 use Rattle.ot_audit.specs.declared.found.Agree.{Agree as Answer}
 use Rattle.ot_audit.specs.declared.found.Agree.TheVariants as agrees
 use Rattle.ot_audit.specs.Answers.{IsAgreedAs}
-use Rattle.ot_audit.specs.Audits.{AreCompared, GoesOn, IsComparedAs}
+use Rattle.ot_audit.specs.Audits.{AreCompared, GoesOnWhereSame, IsComparedAs}
 use Rattle.ot_audit.specs.Reached.{Agree, AreMeant}
 
 -- what holds of all that a test keeps holds of all that passes it
@@ -36,7 +36,7 @@ AgreeOn f g block = (a b : Op) → AreMeant f block.0 block.1 a b → Agree f g 
 
 goes_everywhere :
     (f g : Function) (budget : ℕ) (block : Kind × Kind) (answer : Answer) (Behind : Same → Type 0)
-    → IsAgreedAs f g block.0 block.1 budget answer → GoesOn block answer Behind Everywhere → AgreeOn f g block × Behind Everywhere
+    → IsAgreedAs f g block.0 block.1 budget answer → GoesOnWhereSame block answer Behind Everywhere → AgreeOn f g block × Behind Everywhere
 goes_everywhere f g budget block agrees.Same Behind is goes = (is.tells, goes)
 goes_everywhere f g budget block (agrees.Pair a b left right) Behind is goes = absurd (cc)
 goes_everywhere f g budget block agrees.Spent Behind is goes = absurd (cc)

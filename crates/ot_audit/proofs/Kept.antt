@@ -27,7 +27,7 @@ use Rattle.ot_questions.specs.declared.name.Who.TheVariants.{A, B}
 use Rattle.ot_questions.specs.declared.place.Place.{Place}
 use Rattle.ot_questions.specs.declared.place.SymOp.{SymOp}
 use Rattle.ot_questions.specs.declared.why.Why.{Why}
-use Rattle.ot_questions.specs.Asked.{IsBelow, IsKept, OpStands, Stands}
+use Rattle.ot_questions.specs.Asked.{IsBelow, IsKept, OpStands, PlaceStands}
 use Rattle.ot_questions.specs.Names.{position_name, site_name, char_name}
 use Rattle.ot_questions.specs.Nears.{IsNear}
 use Rattle.ot_questions.specs.Obligation.{ask_same_form}
@@ -39,7 +39,7 @@ use Rattle.ot_terms.specs.Standing.{ask_form, ask_goal}
 use Rattle.ot_terms.specs.Starting.{if_allowed}
 use Rattle.ot_audit.specs.declared.target.Target.{Target}
 use Rattle.ot_audit.specs.declared.target.Target.TheVariants.{Case, Open}
-use Rattle.ot_audit.specs.Goals.{found, if_there, if_meant, unless_true, at_own, at_target, target_goal, with_result, unless_same, unless_agreed}
+use Rattle.ot_audit.specs.Goals.{found, if_there, if_meant, unless_true, at_own, at_target, target_goal, with_first_result, unless_same, unless_agreed}
 use Rattle.ot_audit.specs.Goals.{difference_goal}
 use Rattle.ot_audit.proofs.Ends.{AsksGuard, AsksAllowed}
 use Rattle.ot_audit.proofs.Differences.{ask_goal-unless_one_place, left_asked, right_asked}
@@ -53,8 +53,8 @@ StandsNamed =
 
 abbrev pub KeepsComparison : Type 0
 KeepsComparison =
-    (count m : ℕ) (sort : Sort) (a b : Place) (p q : Plan Why) → 2 < count → Stands (IsBelow count) 500 sort a
-    → Stands (IsBelow count) 500 sort b → IsKept count m p → IsKept count m q → IsKept count (m + 1) (ask_le a b p q)
+    (count m : ℕ) (sort : Sort) (a b : Place) (p q : Plan Why) → 2 < count → PlaceStands (IsBelow count) 500 sort a
+    → PlaceStands (IsBelow count) 500 sort b → IsKept count m p → IsKept count m q → IsKept count (m + 1) (ask_le a b p q)
 
 abbrev pub KeepsGuard : Type 0
 KeepsGuard =
@@ -166,8 +166,8 @@ kind_of_named kinds.Upd who = refl
 -- an operation stands also where it may be further away
 
 stands_wider :
-    (m n : ℕ) (sort : Sort) (p : Place) → ((off : ℤ) → IsNear m off → IsNear n off) → Stands (IsBelow 9) m sort p
-    → Stands (IsBelow 9) n sort p
+    (m n : ℕ) (sort : Sort) (p : Place) → ((off : ℤ) → IsNear m off → IsNear n off) → PlaceStands (IsBelow 9) m sort p
+    → PlaceStands (IsBelow 9) n sort p
 stands_wider m n sort p wider h = record { is = h.is; free = h.free; steady = h.steady; near = wider p.off h.near }
 
 pub op_wider :
@@ -203,7 +203,7 @@ module _ (named : StandsNamed) (comparison : KeepsComparison) (guard : KeepsGuar
   second_stands = named 9 l B (lit< tt) (lit< tt) (lit< tt)
 
   there_kept :
-      (m : ℕ) (who : Who) (next : GoalTree) → Stands (IsBelow 9) 500 Pos (place (position_name who) (pos 0))
+      (m : ℕ) (who : Who) (next : GoalTree) → PlaceStands (IsBelow 9) 500 Pos (place (position_name who) (pos 0))
       → IsKept 9 m (ask_goal f next) → IsKept 9 (m + 1) (ask_goal f (if_there who next))
   unfolding ask_goal ask_form
   there_kept m who next at kept =
@@ -298,7 +298,7 @@ module _ (named : StandsNamed) (comparison : KeepsComparison) (guard : KeepsGuar
 
     right_kept :
         (x : Option SymOp) → is_valid g ≡ true → ((r : SymOp) → x ≡ Some r → OpStands (IsBelow 9) 99 r)
-        → IsKept 9 (2 + 2 * function_atoms g) (ask_goal f (with_result (cases_of g k l) first_op second_op (λ y. unless_same x y)))
+        → IsKept 9 (2 + 2 * function_atoms g) (ask_goal f (with_first_result (cases_of g k l) first_op second_op (λ y. unless_same x y)))
     right_kept x valid hx =
         subst (λ p. IsKept 9 (2 + 2 * function_atoms g) p) (sym (right_asked asks_guard f f g k l x))
         (result 9 2 0 g first_op second_op (λ y. ask_goal f (unless_same x y)) (lit< tt) valid (lit≤ tt) first_stands second_stands
@@ -310,7 +310,7 @@ module _ (named : StandsNamed) (comparison : KeepsComparison) (guard : KeepsGuar
     agreed_kept valid other_valid =
         subst (λ p. IsKept 9 (2 + 2 * function_atoms g + 2 * function_atoms f) p) (sym (left_asked asks_guard f f g k l))
         (result 9 (2 + 2 * function_atoms g) 0 f first_op second_op
-        (λ x. ask_goal f (with_result (cases_of g k l) first_op second_op (λ y. unless_same x y))) (lit< tt) valid (lit≤ tt) first_stands
+        (λ x. ask_goal f (with_first_result (cases_of g k l) first_op second_op (λ y. unless_same x y))) (lit< tt) valid (lit≤ tt) first_stands
         second_stands (right_kept None other_valid none_there) (λ r hr. right_kept (Some r) other_valid (one_there r hr)))
 
     pub difference_kept :

@@ -47,7 +47,7 @@ use Rattle.ot_terms.specs.Starting.{if_differ, if_assumed, if_allowed}
 use Rattle.fn_rules.specs.declared.function.Head.{Head}
 use Rattle.ot_audit.specs.declared.target.Target.{Target}
 use Rattle.ot_audit.specs.declared.target.Target.TheVariants.{Case, Open}
-use Rattle.ot_audit.specs.Goals.{found, if_there, if_meant, unless_true, at_own, at_target, with_result, unless_one_place, unless_same, unless_agreed}
+use Rattle.ot_audit.specs.Goals.{found, if_there, if_meant, unless_true, at_own, at_target, with_first_result, unless_one_place, unless_same, unless_agreed}
 
 abbrev pub PlacesOf : (Place → Type 0) → FormTree → Type 0
 PlacesOf Q True = Unit {0}
@@ -186,7 +186,7 @@ module _ (Q : Place → Type 0) (at_zero : Serves Q zero_place) where
     -- goes on with results of which it holds
     pub with_result_of :
         (cs : List GuardedCase) (go : Option SymOp → GoalTree) → AllByRecursion IsNearCase cs → GoalOf Q (go None)
-        → ((r : SymOp) → Q (sym_at r) → GoalOf Q (go (Some r))) → GoalOf Q (with_result cs a b go)
+        → ((r : SymOp) → Q (sym_at r) → GoalOf Q (go (Some r))) → GoalOf Q (with_first_result cs a b go)
     with_result_of [] go near none goes = none
     with_result_of (c ∷ cs) go near none goes =
         (guard_places c.guard near.0.0, goes (sym_result c.res a b) (result_by c.res near.0.1), with_result_of cs go near.1 none goes)
@@ -200,7 +200,7 @@ module _ (Q : Place → Type 0) (at_zero : Serves Q zero_place) where
     pub agreed_of :
         (cs ds : List GuardedCase) → AllByRecursion IsNearCase cs → AllByRecursion IsNearCase ds → GoalOf Q (unless_agreed cs ds a b)
     agreed_of cs ds near other_near =
-        with_result_of cs (λ x. with_result ds a b (λ y. unless_same x y)) near
+        with_result_of cs (λ x. with_first_result ds a b (λ y. unless_same x y)) near
         (with_result_of ds (λ y. unless_same None y) other_near tt (λ y hy. tt))
         (λ x hx. with_result_of ds (λ y. unless_same (Some x) y) other_near tt (λ y hy. one_place_of (sym_kind x) (sym_kind y) (sym_at x) (sym_at y) hx hy))
 

@@ -30,7 +30,7 @@ use Rattle.ot_audit.specs.declared.found.Found.TheVariants.{Never, Pair, Spent}
 use Rattle.ot_audit.specs.declared.target.Target.{Target}
 use Rattle.ot_audit.specs.declared.target.Target.TheVariants.{Case, Open}
 use Rattle.ot_audit.specs.Answers.{IsAgreedAs, IsReachedAs, TellsFunctions, finding_of}
-use Rattle.ot_audit.specs.Audits.{AreAudits, AreCases, AreCompared, GoesOn, HasLong, IsAuditedAs, IsBlockAudit, IsComparedAs, IsLong, found_of}
+use Rattle.ot_audit.specs.Audits.{AreAudits, AreCases, AreCompared, GoesOnWhereSame, HasLong, IsAuditedAs, IsBlockAudit, IsComparedAs, IsLong, found_of}
 use Rattle.ot_audit.specs.Findings.{AreLeastOps, IsFoundIn, TellsList}
 use Rattle.ot_audit.specs.Goals.{IsTargetOf}
 
@@ -222,7 +222,7 @@ module _ (one_list : OneList) where
 
   goes_once :
       (block : Kind × Kind) (agree : Agree) (Behind : Same → Type 0) → ((one other : Same) → Behind one → Behind other → one ≡ other)
-      → (one other : Same) → GoesOn block agree Behind one → GoesOn block agree Behind other → one ≡ other
+      → (one other : Same) → GoesOnWhereSame block agree Behind one → GoesOnWhereSame block agree Behind other → one ≡ other
   goes_once block agrees.Same Behind once one other is so = once one other is so
   goes_once block (agrees.Pair a b left right) Behind once one other is so = is ∙ sym so
   goes_once block agrees.Spent Behind once one other is so = is ∙ sym so
@@ -234,7 +234,7 @@ module _ (one_list : OneList) where
   blocks_once f g budget (block ∷ blocks) one other (agree, is, goes) (another, so, also) =
       let same : another ≡ agree = agreed_once f g block.0 block.1 budget another agree so is in
       goes_once block agree (AreCompared f g budget blocks) (blocks_once f g budget blocks) one other goes
-      (subst (λ (a : Agree). GoesOn block a (AreCompared f g budget blocks) other) same also)
+      (subst (λ (a : Agree). GoesOnWhereSame block a (AreCompared f g budget blocks) other) same also)
 
   pub compared_once :
       (f g : Function) (budget : ℕ) (one other : Same) → IsComparedAs f g budget one → IsComparedAs f g budget other → one ≡ other

@@ -15,7 +15,7 @@ use Rattle.ot_questions.specs.declared.name.Who.{Who}
 use Rattle.ot_questions.specs.declared.name.Who.TheVariants.{A, B, C}
 use Rattle.ot_questions.specs.declared.why.Why.{Why}
 use Rattle.ot_questions.specs.declared.why.Why.TheVariants.{Operations}
-use Rattle.ot_questions.specs.Instances.{NamesAll, StandsFor}
+use Rattle.ot_questions.specs.Instances.{NamesAll, StandsForOperation}
 use Rattle.ot_questions.specs.Meaning.{op_at}
 use Rattle.ot_questions.specs.Names.{zero_name, site_name, char_name}
 use Rattle.ot_questions.specs.Places.{sym_op}
@@ -28,13 +28,13 @@ use Rattle.ot_audit.specs.Answers.{TellsTarget}
 use Rattle.ot_audit.specs.Findings.{AreLeastOps, IsFoundIn}
 use Rattle.ot_audit.specs.Goals.{target_goal, difference_goal}
 use Rattle.ot_audit.specs.Reached.{Agree, AreMeant}
-use Rattle.ot_audit.specs.Searches.{Differs, NamesTwo, Reaches}
+use Rattle.ot_audit.specs.Searches.{Differs, NamesTwo, ReachesTarget}
 
 -- what the laws of names and of question lists say
 abbrev pub NamesStand : Type 0
 NamesStand =
     (v : ℕ → ℤ) (k : Kind) (who : Who) → v zero_name ≡ pos 0 → pos 0 ≤ℤ v (site_name who) → pos 0 ≤ℤ v (char_name who)
-    → StandsFor v (sym_op k who) (op_at v (sym_op k who))
+    → StandsForOperation v (sym_op k who) (op_at v (sym_op k who))
 
 abbrev pub HaveNames : Type 0
 HaveNames = (n : ℕ) (i : ℤ) (made : Who → Op) → (v : ℕ → ℤ) × NamesAll v n i made
@@ -67,16 +67,16 @@ pub least_named :
 least_named stand k l w a b ops =
     let v = valuation_of ops.values in
     let above = ops.least.above in
-    let first : StandsFor v (sym_op k A) (op_at v (sym_op k A)) =
+    let first : StandsForOperation v (sym_op k A) (op_at v (sym_op k A)) =
     stand v k A ops.least.zero_first (at_least_0 (v 4) (pos 1) (search (arith, ints)) (above 4 (lit< tt)))
     (at_least_0 (v 5) (pos 97) (search (arith, ints)) (above 5 (lit< tt))) in
-    let second : StandsFor v (sym_op l B) (op_at v (sym_op l B)) =
+    let second : StandsForOperation v (sym_op l B) (op_at v (sym_op l B)) =
     stand v l B ops.least.zero_first (at_least_0 (v 7) (pos 2) (search (arith, ints)) (above 7 (lit< tt)))
     (at_least_0 (v 8) (pos 98) (search (arith, ints)) (above 8 (lit< tt))) in
     record {
       zero = ops.least.zero_first;
-      first = subst (λ (o : Op). StandsFor v (sym_op k A) o) (sym ops.first) first;
-      second = subst (λ (o : Op). StandsFor v (sym_op l B) o) (sym ops.second) second;
+      first = subst (λ (o : Op). StandsForOperation v (sym_op k A) o) (sym ops.first) first;
+      second = subst (λ (o : Op). StandsForOperation v (sym_op l B) o) (sym ops.second) second;
     }
 
 -- a list without a failing end is of a plan that holds everywhere, and one with an end of a plan that fails there
@@ -120,12 +120,12 @@ module _ (stand : NamesStand) (names : HaveNames) (tell : ListsTell) (f : Functi
 abbrev pub TargetSought : Type 0
 TargetSought =
     (f : Function) (k l : Kind) (target : Target) (v : ℕ → ℤ) (a b : Op) (why : Why) → is_declared_pair f.head k l ≡ true
-    → NamesTwo k l v a b → end_of (ask_goal f (target_goal f k l target)) v ≡ Some why → Reaches f k l target a b
+    → NamesTwo k l v a b → end_of (ask_goal f (target_goal f k l target)) v ≡ Some why → ReachesTarget f k l target a b
 
 abbrev pub TargetFails : Type 0
 TargetFails =
     (f : Function) (k l : Kind) (target : Target) (v : ℕ → ℤ) (a b : Op) → is_declared_pair f.head k l ≡ true
-    → NamesTwo k l v a b → Reaches f k l target a b → end_of (ask_goal f (target_goal f k l target)) v ≡ Some Operations
+    → NamesTwo k l v a b → ReachesTarget f k l target a b → end_of (ask_goal f (target_goal f k l target)) v ≡ Some Operations
 
 abbrev pub DifferenceSought : Type 0
 DifferenceSought =

@@ -14,12 +14,12 @@ use Rattle.ot_audit.specs.Findings.{IsFoundIn}
 use Rattle.ot_audit.specs.Goals.{target_goal, difference_goal}
 use Rattle.ot_audit.specs.Reached as reached
 use Rattle.ot_audit.specs.Reached.{AreMeant}
-use Rattle.ot_audit.specs.Searches.{Differs, Reaches}
+use Rattle.ot_audit.specs.Searches.{Differs, ReachesTarget}
 
 -- the target is reached at no operations that are meant, or at these two
 abbrev pub TellsTarget : Function → Kind → Kind → Target → Found → Type 0
-TellsTarget f k l target Never = (a b : Op) → Reaches f k l target a b → ⊥
-TellsTarget f k l target (Pair a b) = Reaches f k l target a b
+TellsTarget f k l target Never = (a b : Op) → ReachesTarget f k l target a b → ⊥
+TellsTarget f k l target (Pair a b) = ReachesTarget f k l target a b
 TellsTarget f k l target Spent = Unit {0}
 
 -- what is answered of a target of the block of two kinds by so many questions at the most

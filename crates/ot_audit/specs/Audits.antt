@@ -62,17 +62,17 @@ IsAuditedAs f budget (audits.Blocks xs) = AreAudits f budget (declared_pairs f.h
 IsAuditedAs f budget audits.Spent = HasLong f budget (declared_pairs f.head)
 
 -- by what two functions are on a block: where they agree, what is answered behind it counts
-abbrev pub GoesOn : Kind × Kind → Agree → (Same → Type 0) → Same → Type 0
-GoesOn block agrees.Same Behind same = Behind same
-GoesOn block (agrees.Pair a b left right) Behind same = same ≡ sames.Differ block.0 block.1 a b left right
-GoesOn block agrees.Spent Behind same = same ≡ sames.Spent
+abbrev pub GoesOnWhereSame : Kind × Kind → Agree → (Same → Type 0) → Same → Type 0
+GoesOnWhereSame block agrees.Same Behind same = Behind same
+GoesOnWhereSame block (agrees.Pair a b left right) Behind same = same ≡ sames.Differ block.0 block.1 a b left right
+GoesOnWhereSame block agrees.Spent Behind same = same ≡ sames.Spent
 
 -- what is answered of two functions on blocks, up to the first on which they do not agree
 abbrev pub AreCompared : Function → Function → ℕ → List (Kind × Kind) → Same → Type 0
 AreCompared f g budget [] same = same ≡ sames.Everywhere
 AreCompared f g budget (block ∷ blocks) same =
     (agree : Agree) × IsAgreedAs f g block.0 block.1 budget agree
-    × GoesOn block agree (AreCompared f g budget blocks) same
+    × GoesOnWhereSame block agree (AreCompared f g budget blocks) same
 
 -- what is answered of two functions: that their heads differ, or what they are on the blocks
 abbrev pub IsComparedAs : Function → Function → ℕ → Same → Type 0

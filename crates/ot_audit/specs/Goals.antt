@@ -51,10 +51,10 @@ target_goal f k l target =
     if_meant f.head (sym_op k A) (sym_op l B) (at_target (cases_of f k l) target (sym_op k A) (sym_op l B))
 
 -- goes on with the result of the first case whose guard is true, or with none
-abbrev pub with_result : List GuardedCase → SymOp → SymOp → (Option SymOp → GoalTree) → GoalTree
-with_result [] a b go = go None
-with_result (c ∷ cs) a b go =
-    If (guard_form c.guard a b) (go (Some (sym_result c.res a b))) (with_result cs a b go)
+abbrev pub with_first_result : List GuardedCase → SymOp → SymOp → (Option SymOp → GoalTree) → GoalTree
+with_first_result [] a b go = go None
+with_first_result (c ∷ cs) a b go =
+    If (guard_form c.guard a b) (go (Some (sym_result c.res a b))) (with_first_result cs a b go)
 
 -- by the kinds of two results of one operation, which nop has not: both are nop, or both stand at one place
 abbrev pub unless_one_place : Option Kind → Option Kind → Place → Place → GoalTree
@@ -72,7 +72,7 @@ unless_same (Some x) (Some y) = unless_one_place (sym_kind x) (sym_kind y) (sym_
 
 -- the guards of both lists, the first list first, and then the two results
 abbrev pub unless_agreed : List GuardedCase → List GuardedCase → SymOp → SymOp → GoalTree
-unless_agreed cs ds a b = with_result cs a b (λ x. with_result ds a b (λ y. unless_same x y))
+unless_agreed cs ds a b = with_first_result cs a b (λ x. with_first_result ds a b (λ y. unless_same x y))
 
 -- where two functions of one head do not agree on the block of two kinds
 abbrev pub difference_goal : Function → Function → Kind → Kind → GoalTree

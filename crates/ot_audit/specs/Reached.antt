@@ -25,18 +25,18 @@ abbrev pub AreFalse : List GuardedCase → Op → Op → Type 0
 AreFalse cs a b = AllByRecursion (λ c. holds_of c.guard a b ≡ false) cs
 
 -- there is such a case, and its guard is true there
-abbrev pub IsTrueOf : Option GuardedCase → Op → Op → Type 0
-IsTrueOf None a b = ⊥
-IsTrueOf (Some c) a b = holds_of c.guard a b ≡ true
+abbrev pub IsTrueCase : Option GuardedCase → Op → Op → Type 0
+IsTrueCase None a b = ⊥
+IsTrueCase (Some c) a b = holds_of c.guard a b ≡ true
 
 -- the case of this number is taken: its guard is true, and all earlier guards are false
-pub record IsTaken (cs : List GuardedCase) (i : ℕ) (a b : Op) : Type 0 where
+pub record IsTakenCase (cs : List GuardedCase) (i : ℕ) (a b : Op) : Type 0 where
   pub earlier : AreFalse (take i cs) a b
-  pub own : IsTrueOf (slice_get cs i) a b
+  pub own : IsTrueCase (slice_get cs i) a b
 
 -- the target is reached there: the case is taken, or the block is open, so that all its guards are false
 abbrev pub IsReachedIn : List GuardedCase → Target → Op → Op → Type 0
-IsReachedIn cs (Case i) a b = IsTaken cs i a b
+IsReachedIn cs (Case i) a b = IsTakenCase cs i a b
 IsReachedIn cs Open a b = AreFalse cs a b
 
 -- the same in the block of two kinds

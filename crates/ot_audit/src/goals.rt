@@ -227,7 +227,7 @@ fn with_right<'a>(
     requires a_near { IsNearOp 200 a }
     requires b_near { IsNearOp 200 b }
     requires near { AllByRecursion IsNearCase (map case_of cases.now) }
-    ensures { IfOk result (λ r. goal_tree r.now ≡ goals.with_result (map case_of cases.now) a b
+    ensures { IfOk result (λ r. goal_tree r.now ≡ goals.with_first_result (map case_of cases.now) a b
         (λ y. goals.unless_same left y)) }
 {
     match cases {

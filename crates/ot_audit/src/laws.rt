@@ -26,7 +26,7 @@ ghost use Rattle.ot_audit.specs.Findings.{IsFoundIn, IsSoughtIn};
 ghost use Rattle.ot_audit.specs.Goals.{target_goal, difference_goal};
 ghost use Rattle.ot_audit.specs.Reached.{Agree, AreMeant};
 ghost use Rattle.ot_audit.specs.Searchable.{IsSearchable};
-ghost use Rattle.ot_audit.specs.Searches.{Differs, NamesTwo, Reaches};
+ghost use Rattle.ot_audit.specs.Searches.{Differs, NamesTwo, ReachesTarget};
 
 use ask_core::answers_lead_to_ends;
 use fn_rules::{cases_are_valid, tests_decide_their_facts, transform_keeps_all_but_the_position};
@@ -50,10 +50,10 @@ pub fn meant_operations_are_not_negative()
 pub fn goals_fail_where_it_is_sought()
     ensures target_sought { (f : Function) (k l : Kind) (target : Target) (v : ℕ → ℤ) (a b : Op) (why : Why)
         → IsTrue (is_declared_pair f.head k l) → NamesTwo k l v a b
-        → end_of (ask_goal f (target_goal f k l target)) v ≡ Some why → Reaches f k l target a b }
+        → end_of (ask_goal f (target_goal f k l target)) v ≡ Some why → ReachesTarget f k l target a b }
     ensures target_fails { (f : Function) (k l : Kind) (target : Target) (v : ℕ → ℤ) (a b : Op)
         → IsTrue (is_declared_pair f.head k l) → NamesTwo k l v a b
-        → Reaches f k l target a b → end_of (ask_goal f (target_goal f k l target)) v ≡ Some Operations }
+        → ReachesTarget f k l target a b → end_of (ask_goal f (target_goal f k l target)) v ≡ Some Operations }
     ensures difference_sought { (f g : Function) (k l : Kind) (v : ℕ → ℤ) (a b : Op) (why : Why)
         → IsTrue (is_declared_pair f.head k l) → NamesTwo k l v a b
         → end_of (ask_goal f (difference_goal f g k l)) v ≡ Some why → Differs f g k l a b }

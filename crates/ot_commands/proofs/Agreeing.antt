@@ -7,14 +7,14 @@ use Rattle.std.proofs.lemmas.List.{reverse-append}
 use Rattle.std.proofs.lemmas.Option.{slice_get_within}
 use Rattle.ot_causal.specs.Members.{has, HaveOneSet}
 use Rattle.ot_causal.specs.Sessions.{IsSite}
-use Rattle.ot_session.specs.Sites.{SiteView, document_in, seen_in}
+use Rattle.ot_session.specs.Sites.{SiteView, site_document, site_end_of, seen_in}
 use Rattle.ot_session.specs.declared.ending.SiteEnd.{SiteEnd}
-use Rattle.ot_commands.specs.Replay.{Differ, IsFirstOther, IsFirstPair}
+use Rattle.ot_commands.specs.Replay.{IsFirstOther, IsFirstPair, SiteEndsDiffer}
 
 -- none of the others differs from one
 abbrev AgreesWith : SiteEnd → List SiteEnd → Type 0
 AgreesWith one [] = Unit {0}
-AgreesWith one (other ∷ others) = (¬ (Differ one other)) × AgreesWith one others
+AgreesWith one (other ∷ others) = (¬ (SiteEndsDiffer one other)) × AgreesWith one others
 
 -- no two differ
 abbrev AllAgree : List SiteEnd → Type 0
@@ -61,14 +61,14 @@ has-reverse x (y ∷ l) =
 abbrev Agree : SiteView → SiteView → Type 0
 Agree a b = HaveOneSet a.seen b.seen → a.document ≡ b.document
 
-not_differ : (a b : SiteView) → Agree a b → ¬ (Differ (end_of a) (end_of b))
+not_differ : (a b : SiteView) → Agree a b → ¬ (SiteEndsDiffer (site_end_of a) (site_end_of b))
 not_differ a b agree differ =
     differ.documents
     (agree (record { at = λ x. sym (has-reverse x a.seen) ∙ differ.sets.at x ∙ has-reverse x b.seen }))
 
 agrees_with :
     (a : SiteView) (others : List SiteView) → ((i : ℕ) (b : SiteView) → slice_get others i ≡ Some b → Agree a b)
-    → AgreesWith (end_of a) (map end_of others)
+    → AgreesWith (site_end_of a) (map site_end_of others)
 agrees_with a [] agree = tt
 agrees_with a (b ∷ others) agree =
     (not_differ a b (agree zero b refl), agrees_with a others (λ i other is. agree (suc i) other is))
@@ -76,7 +76,7 @@ agrees_with a (b ∷ others) agree =
 all_agree :
     (sites : List SiteView)
     → ((i j : ℕ) (a b : SiteView) → slice_get sites i ≡ Some a → slice_get sites j ≡ Some b → Agree a b)
-    → AllAgree (map end_of sites)
+    → AllAgree (map site_end_of sites)
 all_agree [] agree = tt
 all_agree (a ∷ sites) agree = (
   agrees_with a sites (λ i b is. agree zero (suc i) a b refl is),
@@ -86,8 +86,8 @@ all_agree (a ∷ sites) agree = (
 seen_there : (o : Option SiteView) (a : SiteView) → o ≡ Some a → seen_in o ≡ a.seen
 seen_there o a is = ap (λ (x : Option SiteView). seen_in x) is
 
-document_there : (o : Option SiteView) (a : SiteView) → o ≡ Some a → document_in o ≡ a.document
-document_there o a is = ap (λ (x : Option SiteView). document_in x) is
+document_there : (o : Option SiteView) (a : SiteView) → o ≡ Some a → site_document o ≡ a.document
+document_there o a is = ap (λ (x : Option SiteView). site_document x) is
 
 there : (sites : List SiteView) (i : ℕ) (a : SiteView) → slice_get sites i ≡ Some a → slice_get sites (i + 1 - 1) ≡ Some a
 there sites i a is = let same : i + 1 - 1 ≡ i = omega arith in ap (λ (n : ℕ). slice_get sites n) same ∙ is
@@ -102,10 +102,10 @@ pub none_differ :
     (sites : List SiteView) (found : Option (ℕ × ℕ))
     → ((s t : ℕ) → IsSite (length sites) s → IsSite (length sites) t
     → HaveOneSet (seen_in (slice_get sites (s - 1))) (seen_in (slice_get sites (t - 1)))
-    → document_in (slice_get sites (s - 1)) ≡ document_in (slice_get sites (t - 1)))
-    → IsFirstPair 1 (map end_of sites) found → found ≡ None
+    → site_document (slice_get sites (s - 1)) ≡ site_document (slice_get sites (t - 1)))
+    → IsFirstPair 1 (map site_end_of sites) found → found ≡ None
 none_differ sites found agree is =
-    none_pair 1 (map end_of sites) found
+    none_pair 1 (map site_end_of sites) found
     (all_agree sites (λ i j a b is_a is_b same.
     let at_a = there sites i a is_a in
     let at_b = there sites j b is_b in

@@ -22,7 +22,7 @@ use Rattle.ot_decide.specs.declared.verdict.Verdict.{Verdict}
 use Rattle.ot_decide.specs.declared.verdict.Verdict.TheVariants as verdicts
 use Rattle.ot_sections.specs.Certificates.{IsCertificate}
 use Rattle.ot_judge.specs.Refusals.{IsWant}
-use Rattle.ot_decide.specs.Verdicts.{ObQuestions, AreAsked, IsDecidedAs, IsWithin, count_in}
+use Rattle.ot_decide.specs.Verdicts.{ObQuestions, AreAsked, IsDecidedAs, IsVerdictWithin, count_in}
 use Rattle.ot_counter.specs.Counters.{Breaks, level_of}
 use Rattle.ask_core.specs.Leading.{LeadTo}
 use Rattle.ot_values.specs.Values.{floors_of, ops_at}
@@ -66,7 +66,7 @@ pub record IsShownBy (f : Function) (bytes : List ℕ) : Type 0 where
 -- where a verdict is told as a proof, its bytes are a short certificate, found within the budget
 shown_verdict :
     (f : Function) (bytes : List ℕ) (verdict : Verdict) → IsDecidedAs f Tp2 most_questions verdict
-    → (most_questions ≤ most_questions → IsWithin (limit_of files.Certificate) verdict) → TellsVerdict f verdict (Proved bytes)
+    → (most_questions ≤ most_questions → IsVerdictWithin (limit_of files.Certificate) verdict) → TellsVerdict f verdict (Proved bytes)
     → IsShownBy f bytes
 shown_verdict f bytes (verdicts.Yes certificate) decided within tells =
     let same : bytes ≡ certificate.items = cc in

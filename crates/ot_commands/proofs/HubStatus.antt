@@ -10,7 +10,7 @@ use Rattle.ot_hub.specs.declared.answer.Moved.{Moved}
 use Rattle.ot_hub.specs.Views.{HubData}
 use Rattle.ot_replies.specs.declared.reply.Reply.{Reply}
 use Rattle.ot_replies.specs.Texts.{status_of}
-use Rattle.ot_commands.specs.Hub.{IsRefused, TellsNotEdited, TellsNotMoved}
+use Rattle.ot_commands.specs.Hub.{IsRefusedHubEvent, TellsNotEdited, TellsNotMoved}
 
 -- an edit that is refused has status 4, or 9
 not_edited_status : (i : ℕ) (reason : Edit) (r : Reply) → TellsNotEdited i reason r → (status_of r ≡ 4) ⊎ (status_of r ≡ 9)
@@ -48,7 +48,7 @@ not_moved-steady i moves.Stuck r never tells = absurd (never refl)
 not_moved-steady i moves.NoMemory r never tells = absurd tells
 
 -- no event that is refused has the status of a refused function
-pub refused_other : (hub : HubData) (i : ℕ) (event : HubEvent) (r : Reply) → IsRefused hub i event r → status_of r ≢ 3
+pub refused_other : (hub : HubData) (i : ℕ) (event : HubEvent) (r : Reply) → IsRefusedHubEvent hub i event r → status_of r ≢ 3
 refused_other hub i (events.Edit c o) r (reason, new, refused, tells) = not_edited-other i reason r tells
 refused_other hub i (events.Up c) r (reason, new, refused, tells) = not_moved-other i reason r tells
 refused_other hub i (events.Down c) r (reason, new, refused, tells) = not_moved-other i reason r tells

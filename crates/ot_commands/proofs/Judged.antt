@@ -13,7 +13,7 @@ use Rattle.ot_sections.specs.declared.refusal.JudgeError.TheVariants as judge
 use Rattle.ot_sections.specs.declared.refusal.Refusal.{Refusal}
 use Rattle.ot_sections.specs.declared.refusal.Refusal.TheVariants as why
 use Rattle.ot_sections.specs.Feeding.{IsTruncated, MayGive}
-use Rattle.ot_least.specs.Judgements.{IsWant}
+use Rattle.ot_least.specs.Judgements.{IsNoJudgement}
 use Rattle.ot_replies.specs.declared.reply.FileKind.TheVariants as files
 use Rattle.ot_replies.specs.declared.reply.Reply.{Reply}
 use Rattle.ot_replies.specs.declared.reply.Reply.TheVariants.{TooLong}
@@ -21,12 +21,12 @@ use Rattle.ot_commands.specs.Certificate.{IsReplyToCertificate, Tells, is_trunca
 use Rattle.ot_replies.specs.Limits.{limit_of}
 
 -- a told judgement is no want
-pub not_want : {T : Type 0} (accepts : T → Reply) (judgement : Result T JudgeError) (r : Reply) → Tells accepts judgement r → IsWant judgement → ⊥
+pub not_want : {T : Type 0} (accepts : T → Reply) (judgement : Result T JudgeError) (r : Reply) → Tells accepts judgement r → IsNoJudgement judgement → ⊥
 not_want accepts judgement r tells (inl failed) = subst (λ j. Tells accepts j r) failed tells
 not_want accepts judgement r tells (inr wanting) = subst (λ j. Tells accepts j r) wanting tells
 
 -- a judgement that rests on the end is no want
-pub sure : {T : Type 0} (judgement : Result T JudgeError) → rests_on_the_end judgement ≡ true → IsWant judgement → ⊥
+pub sure : {T : Type 0} (judgement : Result T JudgeError) → rests_on_the_end judgement ≡ true → IsNoJudgement judgement → ⊥
 sure judgement rests (inl failed) = let clash : false ≡ true = sym (ap (λ j. rests_on_the_end j) failed) ∙ rests in cc
 sure judgement rests (inr wanting) = let clash : false ≡ true = sym (ap (λ j. rests_on_the_end j) wanting) ∙ rests in cc
 
@@ -106,10 +106,10 @@ within_limit (Some known) room contents may shorter =
 module _ {S : Type 0} {shelf : Ghosts S} {T : Type 0} (Judges : List ℕ → Result T JudgeError → Type 0) (accepts : T → Reply)
     (feed : ShelfFeed S shelf) (judgement : Result T JudgeError)
     (whole : room_of feed ≡ limit_of files.Certificate)
-    (judged : IsWant judgement ⊎ ((bytes : List ℕ) × MayGive feed_left room_of feed bytes × Judges bytes judgement)) where
+    (judged : IsNoJudgement judgement ⊎ ((bytes : List ℕ) × MayGive feed_left room_of feed bytes × Judges bytes judgement)) where
   -- the judgement is that of the bytes within the limit
   judged_within :
-      (IsWant judgement → ⊥)
+      (IsNoJudgement judgement → ⊥)
       → (contents : List ℕ) × MayHold (file_left feed) (room_of feed) contents
       × Judges (take (limit_of files.Certificate) contents) judgement
   unfolding MayGive

@@ -8,7 +8,7 @@ use Rattle.ot_outside.specs.Reads.{Reads, after_reading}
 use Rattle.ot_outside.specs.ShelfFeed.{IsAllOfReads, KeepsShelf, feed_left, gave_by, hand_of, room_of, shelf_of, unread_of}
 use Rattle.ot_sections.specs.declared.refusal.JudgeError.{JudgeError}
 use Rattle.ot_sections.specs.Feeding.{IsSpent, MayGiveOf, MayHave, Whole}
-use Rattle.ot_least.specs.Judgements.{IsWant}
+use Rattle.ot_least.specs.Judgements.{IsNoJudgement}
 use Rattle.ot_replies.specs.declared.reply.FileKind.TheVariants as files
 use Rattle.ot_replies.specs.declared.reply.Reply.{Reply}
 use Rattle.ot_replies.specs.declared.reply.Reply.TheVariants.{TooLong}
@@ -32,14 +32,14 @@ none_unread new last (suc n) is same none empty =
 module _ {S : Type 0} {shelf : Ghosts S} {T : Type 0} (Judges : List ℕ → Result T JudgeError → Type 0) (accepts : T → Reply)
     (old new : ShelfFeed S shelf) (judgement : Result T JudgeError)
     (whole : room_of old ≡ limit_of files.Certificate) (begins : gave_by old ≡ []) (all : IsAllOfReads old) (kept : KeepsShelf old new)
-    (judged : IsWant judgement ⊎ ((all : Whole) → MayHave feed_left room_of gave_by hand_of new all
+    (judged : IsNoJudgement judgement ⊎ ((all : Whole) → MayHave feed_left room_of gave_by hand_of new all
     → (bytes : List ℕ) × MayGiveOf feed_left room_of gave_by old all bytes × Judges bytes judgement)) where
   limit_is : length (gave_by new) + room_of new ≡ limit_of files.Certificate
   limit_is =
       let here : length (gave_by old) + room_of old ≡ room_of old = omega (arith, ap length begins) in kept.same_limit ∙ here ∙ whole
 
   -- the bytes that were given and those at hand are judged
-  hand_judged : (IsWant judgement → ⊥) → Judges (gave_by new ++ hand_of new) judgement
+  hand_judged : (IsNoJudgement judgement → ⊥) → Judges (gave_by new ++ hand_of new) judgement
   unfolding MayGiveOf
   hand_judged no_want =
       elim judged [

@@ -16,7 +16,7 @@ use Rattle.ot_replies.specs.declared.reply.EventFault.TheVariants as why
 use Rattle.ot_replies.specs.declared.reply.Reply.{Reply}
 use Rattle.ot_replies.specs.declared.reply.Reply.TheVariants.{EventRefused, CaseRefused, Spent}
 use Rattle.ot_replies.specs.Texts.{status_of}
-use Rattle.ot_commands.specs.Replay.{CannotMake, IsRefused, TellsNotMade, TellsNotTaken}
+use Rattle.ot_commands.specs.Replay.{CannotMake, IsRefusedEvent, TellsNotMade, TellsNotTaken}
 
 -- the answer is this refusal
 abbrev Is : NotMade → NotMade → Type 0
@@ -34,7 +34,7 @@ pub not_made :
     → (Is reason makes.WrongKind → CannotMake v t o makes.WrongKind)
     → (Is reason makes.NotEnabled → CannotMake v t o makes.NotEnabled)
     → (Is reason makes.Full → CannotMake v t o makes.Full)
-    → TellsNotMade i reason r → IsRefused v i (Make t o) r
+    → TellsNotMade i reason r → IsRefusedEvent v i (Make t o) r
 not_made v i t o makes.NoSite r site owner kind enabled full tells = (makes.NoSite, site.0 refl, tells)
 not_made v i t o makes.WrongSite r site owner kind enabled full tells = (makes.WrongSite, owner refl, tells)
 not_made v i t o makes.WrongKind r site owner kind enabled full tells = (makes.WrongKind, kind refl, tells)

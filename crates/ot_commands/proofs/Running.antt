@@ -5,7 +5,7 @@ use Rattle.case_json.specs.declared.script.Event.{Event}
 use Rattle.case_json.specs.declared.script.Event.TheVariants.{Make, Take}
 use Rattle.ot_session.specs.Views.{View}
 use Rattle.ot_replies.specs.declared.reply.Reply.{Reply}
-use Rattle.ot_commands.specs.Replay.{IsDone, IsRefused, Runs}
+use Rattle.ot_commands.specs.Replay.{IsDone, IsRefusedEvent, Runs}
 
 pub done_is_open : (v new : View) (event : Event) → IsDone v event new → v.is_open ≡ true → new.is_open ≡ true
 done_is_open v new (Make t o) done was = done.1.is_open ∙ was
@@ -29,5 +29,5 @@ goes_on v new i events event r is done runs =
 -- an event is refused
 pub stops :
     (v : View) (i : ℕ) (events : List Event) (event : Event) (r : Reply) → drop i events ≡ event ∷ drop (i + 1) events
-    → IsRefused v i event r → Runs v i (drop i events) r
+    → IsRefusedEvent v i event r → Runs v i (drop i events) r
 stops v i events event r is refused = subst (λ (l : List Event). Runs v i l r) (sym is) (inl refused)

@@ -15,7 +15,7 @@ use Rattle.ot_words.specs.Commands.{Asked, Replay, Hub}
 use Rattle.ot_replies.specs.Limits.{IsTooLong}
 use Rattle.ot_commands.specs.Hub.{IsServed}
 use Rattle.ot_commands.specs.Load.{IsFunctionRefusal, IsReadAs}
-use Rattle.ot_commands.specs.Replay.{IsSteady}
+use Rattle.ot_commands.specs.Replay.{IsSteadyReplay}
 use Rattle.ot_commands.specs.Steady.{AreSteady, IsSteadyReply}
 use Rattle.ot_replies.specs.Texts.{status_of}
 
@@ -50,7 +50,7 @@ steady_asked words holds r asked named are =
 pub steady :
     ((bytes : List ℕ) (f : Function) → IsTextOf bytes f → function_in bytes ≡ Ok f)
     → (words : List (List ℕ)) (holds : List ℕ → Option (List ℕ)) (r : Reply) → AreSteady words holds r
-    → IsSteady words holds (status_of r)
+    → IsSteadyReplay words holds (status_of r)
 steady read words holds r are name session bytes f named told text agrees =
     steady_asked words holds r (Replay name session) named are bytes f told (read bytes f text) agrees
 

@@ -5,7 +5,7 @@ use Rattle.fn_rules.specs.Obligations.{obligations_of}
 use Rattle.ot_questions.specs.declared.why.Why.{Why}
 use Rattle.ot_questions.specs.Obligation.{plan_of}
 use Rattle.ot_decide.specs.Verdicts.{ObQuestions, AreAsked, count_in}
-use Rattle.ot_session.specs.Sites.{end_of}
+use Rattle.ot_session.specs.Sites.{site_end_of}
 use Rattle.ot_session.specs.Views.{View, data_in, IsBegun}
 use Rattle.ot_drill.specs.declared.limits.TheConstants.{SITES}
 use Rattle.ot_drill.specs.Events.{drill_events}
@@ -30,7 +30,7 @@ pub record IsDrilled (n : ℕ) (d : Drilled) : Type 0 where
   pub end : View
   pub played : ArePlayed begun (drill_events n) end d.tally
   pub cells : d.cells ≡ length ((data_in end).document 1)
-  pub differ : IsFirstPair 1 (map end_of end.sites) d.differ
+  pub differ : IsFirstPair 1 (map site_end_of end.sites) d.differ
 
 -- the reply to the number of a workload, of whose function these are the questions: there are more than are allowed, or
 -- what came of it

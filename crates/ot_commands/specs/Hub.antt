@@ -19,7 +19,7 @@ use Rattle.ot_hub.specs.declared.answer.Move.{Move}
 use Rattle.ot_hub.specs.declared.answer.Move.TheVariants as moves
 use Rattle.ot_hub.specs.declared.answer.Moved.{Moved}
 use Rattle.ot_hub.specs.declared.client.Client.{Client}
-use Rattle.ot_hub.specs.Views.{HubData, begun, HasEdited, HasMoved, up_step, down_step}
+use Rattle.ot_hub.specs.Views.{HubData, begun_hub, HasEdited, HasMoved, up_step, down_step}
 use Rattle.ot_replies.specs.declared.reply.ClientEnd.{ClientEnd}
 use Rattle.ot_replies.specs.declared.reply.EventFault.TheVariants as why
 use Rattle.ot_replies.specs.declared.reply.FileKind.TheVariants as files
@@ -37,7 +37,7 @@ abbrev pub client_end : Client → ClientEnd
 client_end client = record { received = client.received; pending = length client.pending; doc = client.doc }
 
 -- a client has received a whole log of so many entries, has nothing pending, and holds another document than the server
-pub record IsApart (logged : ℕ) (d : List Cell) (end : ClientEnd) : Type 0 where
+pub record IsApartFromServer (logged : ℕ) (d : List Cell) (end : ClientEnd) : Type 0 where
   pub received : end.received ≡ logged
   pub settled : end.pending ≡ 0
   pub document : end.doc ≢ d
@@ -46,7 +46,8 @@ pub record IsApart (logged : ℕ) (d : List Cell) (end : ClientEnd) : Type 0 whe
 abbrev pub IsFirstApart : ℕ → List Cell → ℕ → List ClientEnd → Option ℕ → Type 0
 IsFirstApart logged d c [] found = found ≡ None
 IsFirstApart logged d c (end ∷ ends) found =
-    (IsApart logged d end × (found ≡ Some c)) ⊎ ((¬ (IsApart logged d end)) × IsFirstApart logged d (c + 1) ends found)
+    (IsApartFromServer logged d end × (found ≡ Some c))
+    ⊎ ((¬ (IsApartFromServer logged d end)) × IsFirstApart logged d (c + 1) ends found)
 
 -- what the server and the clients of a hub hold, and the first client that is apart
 pub record IsEndOf (hub : HubData) (end : HubEnd) : Type 0 where
@@ -76,12 +77,12 @@ TellsNotMoved i moves.Stuck r = r ≡ StuckAt i
 TellsNotMoved i moves.NoMemory r = ⊥
 
 -- the event is refused, and gets this reply
-abbrev pub IsRefused : HubData → ℕ → HubEvent → Reply → Type 0
-IsRefused hub i (events.Edit c op) r = (reason : Edit) × (new : HubData) × HasEdited hub new c op (Err reason)
+abbrev pub IsRefusedHubEvent : HubData → ℕ → HubEvent → Reply → Type 0
+IsRefusedHubEvent hub i (events.Edit c op) r = (reason : Edit) × (new : HubData) × HasEdited hub new c op (Err reason)
     × TellsNotEdited i reason r
-IsRefused hub i (events.Up c) r = (reason : Move) × (new : HubData) × HasMoved hub new c (up_step hub c) (Err reason)
-    × TellsNotMoved i reason r
-IsRefused hub i (events.Down c) r =
+IsRefusedHubEvent hub i (events.Up c) r =
+    (reason : Move) × (new : HubData) × HasMoved hub new c (up_step hub c) (Err reason) × TellsNotMoved i reason r
+IsRefusedHubEvent hub i (events.Down c) r =
     (reason : Move) × (new : HubData) × HasMoved hub new c (down_step hub c) (Err reason) × TellsNotMoved i reason r
 
 -- the event is done: the operation was made, or moved, or there was none to move
@@ -92,12 +93,12 @@ IsDone hub (events.Down c) new = (moved : Moved) × HasMoved hub new c (down_ste
 
 -- what events come to, of which the first has this number
 abbrev pub Runs : HubData → ℕ → List HubEvent → Reply → Type 0
-Runs hub i events r = RunsBy TellsHub IsRefused IsDone hub i events r
+Runs hub i events r = RunsBy TellsHub IsRefusedHubEvent IsDone hub i events r
 
 -- the reply to what a hub's file is read as: its first fault, or what its events come to from a new hub on
 abbrev pub IsReplyToHubScript : Function → Result HubScript CaseFault → Reply → Type 0
 IsReplyToHubScript f (Err fault) r = r ≡ CaseRefused fault
-IsReplyToHubScript f (Ok script) r = Runs (begun f script.doc script.clients) 0 script.events r
+IsReplyToHubScript f (Ok script) r = Runs (begun_hub f script.doc script.clients) 0 script.events r
 
 unfoldable pub IsReplyToHub : Function → List ℕ → Reply → Type 0
 IsReplyToHub f bytes r = IsReplyToHubScript f (hub_script_in bytes) r

@@ -39,6 +39,6 @@ abbrev pub IsReplyToFile : FileKind → Option (List ℕ) → (List ℕ → Type
 IsReplyToFile kind told Gets r = IsTooLong kind told r ⊎ ((bytes : List ℕ) × Holds kind bytes told × Gets bytes)
 
 -- a command goes on behind a function's file: where that is told, it is within its limit and is read as a function
-abbrev pub GoesOn : Option (List ℕ) → Type 0
-GoesOn told = ForSome told (λ contents. (length contents ≤ limit_of files.Function)
+abbrev pub GoesOnBehind : Option (List ℕ) → Type 0
+GoesOnBehind told = ForSome told (λ contents. (length contents ≤ limit_of files.Function)
     × (is_ok (function_in contents) ≡ true))

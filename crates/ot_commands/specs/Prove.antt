@@ -9,7 +9,7 @@ use Rattle.ot_prove.specs.Outcomes.{answered_by}
 use Rattle.ot_questions.specs.declared.why.Why.{Why}
 use Rattle.ot_decide.specs.declared.verdict.Verdict.{Verdict}
 use Rattle.ot_decide.specs.declared.verdict.Verdict.TheVariants as verdicts
-use Rattle.ot_decide.specs.Verdicts.{IsDecidedAs, IsWithin}
+use Rattle.ot_decide.specs.Verdicts.{IsDecidedAs, IsVerdictWithin}
 use Rattle.ot_counter.specs.declared.counter.Counter.{Counter}
 use Rattle.ot_counter.specs.Counters.{IsCounter}
 use Rattle.ot_replies.specs.declared.reply.FileKind.TheVariants as files
@@ -36,7 +36,7 @@ abbrev pub IsReplyToProof : Function → Level → ℕ → Reply → Type 0
 IsReplyToProof f level budget r =
     (verdict : Verdict)
     × IsDecidedAs f level budget verdict
-    × (budget ≤ most_questions → IsWithin (limit_of files.Certificate) verdict)
+    × (budget ≤ most_questions → IsVerdictWithin (limit_of files.Certificate) verdict)
     × TellsVerdict f verdict r
 
 -- the facts of the command

@@ -24,7 +24,7 @@ use Rattle.ot_session.specs.declared.answer.Take.TheVariants as takes
 use Rattle.ot_session.specs.declared.answer.Took.{Took}
 use Rattle.ot_session.specs.declared.ending.SiteEnd.{SiteEnd}
 use Rattle.ot_session.specs.declared.limits.TheConstants.{MAX_MADE}
-use Rattle.ot_session.specs.Sites.{end_of}
+use Rattle.ot_session.specs.Sites.{site_end_of}
 use Rattle.ot_session.specs.Views.{View, data_in, IsBegun, HasMade, HasTaken}
 use Rattle.ot_replies.specs.declared.reply.EventFault.TheVariants as why
 use Rattle.ot_replies.specs.declared.reply.FileKind.TheVariants as files
@@ -36,7 +36,7 @@ use Rattle.ot_commands.specs.Facts.{Facts, FunctionAnd, IsSteadyUnder}
 use Rattle.ot_commands.specs.Load.{IsReplyToFile}
 
 -- the sites have integrated the same operations and hold different documents
-pub record Differ (a b : SiteEnd) : Type 0 where
+pub record SiteEndsDiffer (a b : SiteEnd) : Type 0 where
   pub sets : HaveOneSet a.seen b.seen
   pub documents : a.doc ≢ b.doc
 
@@ -44,7 +44,8 @@ pub record Differ (a b : SiteEnd) : Type 0 where
 abbrev pub IsFirstOther : SiteEnd → ℕ → List SiteEnd → Option ℕ → Type 0
 IsFirstOther one t [] found = found ≡ None
 IsFirstOther one t (other ∷ others) found =
-    (Differ one other × (found ≡ Some t)) ⊎ ((¬ (Differ one other)) × IsFirstOther one (t + 1) others found)
+    (SiteEndsDiffer one other × (found ≡ Some t))
+    ⊎ ((¬ (SiteEndsDiffer one other)) × IsFirstOther one (t + 1) others found)
 
 -- of the sites from this number on, the first two that differ: by the lower number first, and then by the other
 abbrev pub IsFirstPair : ℕ → List SiteEnd → Option (ℕ × ℕ) → Type 0
@@ -55,7 +56,7 @@ IsFirstPair s (one ∷ others) found =
 
 -- the reply to a session that was run to its end
 abbrev pub TellsSites : View → Reply → Type 0
-TellsSites v (Replayed ends differ) = (ends ≡ map end_of v.sites) × IsFirstPair 1 ends differ
+TellsSites v (Replayed ends differ) = (ends ≡ map site_end_of v.sites) × IsFirstPair 1 ends differ
 TellsSites v r = ⊥
 
 -- a site makes no operation for this reason, which is that of the first test that fails
@@ -88,9 +89,9 @@ TellsNotTaken i takes.Spent r = r ≡ Spent
 TellsNotTaken i takes.NoMemory r = ⊥
 
 -- the event is refused, and gets this reply
-abbrev pub IsRefused : View → ℕ → Event → Reply → Type 0
-IsRefused v i (Make site op) r = (reason : NotMade) × CannotMake v site op reason × TellsNotMade i reason r
-IsRefused v i (Take site number) r = (reason : NotTaken) × (new : View) × HasTaken v new site number (Err reason)
+abbrev pub IsRefusedEvent : View → ℕ → Event → Reply → Type 0
+IsRefusedEvent v i (Make site op) r = (reason : NotMade) × CannotMake v site op reason × TellsNotMade i reason r
+IsRefusedEvent v i (Take site number) r = (reason : NotTaken) × (new : View) × HasTaken v new site number (Err reason)
     × TellsNotTaken i reason r
 
 -- the event is done
@@ -103,7 +104,8 @@ IsDone v (Take site number) new = (took : Took) × HasTaken v new site number (O
 -- of them has this number
 abbrev pub Runs : View → ℕ → List Event → Reply → Type 0
 Runs v i [] r = TellsSites v r
-Runs v i (event ∷ events) r = IsRefused v i event r ⊎ ((new : View) × IsDone v event new × Runs new (i + 1) events r)
+Runs v i (event ∷ events) r =
+    IsRefusedEvent v i event r ⊎ ((new : View) × IsDone v event new × Runs new (i + 1) events r)
 
 -- the reply to what a session's file is read as: its first fault, or what its events come to from a new session on
 abbrev pub IsReplyToScript : Function → Result Script CaseFault → Reply → Type 0
@@ -132,8 +134,8 @@ replay_facts function session = record {
 
 -- the words ask to replay a session; where the function's file is told and is the text of a function that makes sites
 -- agree, the status is not 1
-abbrev pub IsSteady : List (List ℕ) → (List ℕ → Option (List ℕ)) → ℕ → Type 0
-IsSteady words holds status =
+abbrev pub IsSteadyReplay : List (List ℕ) → (List ℕ → Option (List ℕ)) → ℕ → Type 0
+IsSteadyReplay words holds status =
     (name session bytes : List ℕ) (f : Function)
     → asked_by words ≡ Some (Replay name session) → holds name ≡ Some bytes
     → IsTextOf bytes f → MakesSitesAgree f → status ≢ 1

@@ -16,7 +16,7 @@ use Rattle.ot_commands.specs.Facts.{Facts, FunctionAnd, NoFile, OneFunction, Ope
 use Rattle.ot_commands.specs.Hub.{hub_facts}
 use Rattle.ot_commands.specs.Integrate.{integrate_facts}
 use Rattle.ot_commands.specs.Least.{least_facts}
-use Rattle.ot_commands.specs.Load.{GoesOn, IsReplyToFunction}
+use Rattle.ot_commands.specs.Load.{GoesOnBehind, IsReplyToFunction}
 use Rattle.ot_commands.specs.Prove.{prove_facts}
 use Rattle.ot_commands.specs.Replay.{replay_facts}
 use Rattle.ot_commands.specs.Reverse.{reverse_facts}
@@ -63,9 +63,9 @@ abbrev pub AreOfferedToOpen : (List ℕ → Option (List ℕ)) → (List ℕ →
 AreOfferedToOpen holds Offered (NoFile Gets) = Unit {0}
 AreOfferedToOpen holds Offered (OneFunction function Gets) = Offered function
 AreOfferedToOpen holds Offered (FunctionAnd function other Gets) = Offered function
-    × (GoesOn (holds function) → Offered other)
+    × (GoesOnBehind (holds function) → Offered other)
 AreOfferedToOpen holds Offered (TwoFunctions function other Gets) = Offered function
-    × (GoesOn (holds function) → Offered other)
+    × (GoesOnBehind (holds function) → Offered other)
 
 -- the names that a command opens are on offer
 abbrev pub AreOffered : (List ℕ → Option (List ℕ)) → (List ℕ → Type 0) → Asked → Type 0

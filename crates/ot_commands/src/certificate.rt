@@ -8,7 +8,7 @@ ghost use Rattle.ot_outside.specs.ShelfFeed.{IsAllOfReads, file_left, gave_by, h
 ghost use Rattle.ot_outside.specs.Unchanged.{Unchanged};
 ghost use Rattle.ot_commands.specs.Certificate.{IsReplyToCertificate, Tells, is_truncated, rests_on_the_end};
 ghost use Rattle.ot_commands.specs.Given.{IsReplyOfBoth};
-ghost use Rattle.ot_commands.specs.Load.{GoesOn, IsReplyToFunction};
+ghost use Rattle.ot_commands.specs.Load.{GoesOnBehind, IsReplyToFunction};
 ghost use Rattle.ot_replies.specs.Limits.{limit_of};
 ghost use Rattle.ot_replies.specs.declared.reply.FileKind.TheVariants as files;
 ghost use Rattle.ot_replies.specs.declared.reply.Subject.TheVariants.{First};
@@ -26,8 +26,8 @@ use std::alloc::Global;
 pub(crate) trait Finding: Copy {
     ghost use Rattle.std.specs.Prelude.{◌⊎◌, ◌^◌, ◌<◌, Result, IfErr};
     ghost use Rattle.fn_rules.specs.Functions.{Function};
-    ghost use Rattle.ot_sections.specs.Feeding.{IsKept, IsSpent, IsTruncated, MayGive, MayGiveOf, MayHave, Whole};
-    ghost use Rattle.ot_least.specs.Judgements.{IsWant};
+    ghost use Rattle.ot_sections.specs.Feeding.{IsKeptFeed, IsSpent, IsTruncated, MayGive, MayGiveOf, MayHave, Whole};
+    ghost use Rattle.ot_least.specs.Judgements.{IsNoJudgement};
     ghost use Rattle.ot_replies.specs.declared.reply.Reply.{Reply};
 
     /// What the judgement of bytes is.
@@ -39,15 +39,15 @@ pub(crate) trait Finding: Copy {
     /// Judges the bytes of a feed.
     fn judge<F: Feed>(alloc: Global, rules: &Rules, feed: &mut F) -> Result<Self, JudgeError>
         requires { F.bound feed.old < 2 ^ 63 }
-        ensures judged { IsWant result ⊎ ((bytes : List ℕ) × MayGive F.left F.bound feed.old bytes
+        ensures judged { IsNoJudgement result ⊎ ((bytes : List ℕ) × MayGive F.left F.bound feed.old bytes
             × judges (function_of rules.now) bytes result) }
-        ensures given { IsWant result ⊎ ((all : Whole) → MayHave F.left F.bound F.gave F.hand feed.new all →
+        ensures given { IsNoJudgement result ⊎ ((all : Whole) → MayHave F.left F.bound F.gave F.hand feed.new all →
             (bytes : List ℕ) × MayGiveOf F.left F.bound F.gave feed.old all bytes
             × judges (function_of rules.now) bytes result) }
         ensures nothing_left { IfOk result (λ _. IsSpent F.left F.hand feed.new) }
         ensures truncated { IfErr result (λ e. IsTruncated e → IsSpent F.left F.hand feed.new) }
         ensures failed { IfErr result (λ e. e ≡ JudgeError.Failed → Rose (F.faults feed.old) (F.faults feed.new)) }
-        ensures kept { IsKept F.faults F.bound F.held F.keeps feed.old feed.new };
+        ensures kept { IsKeptFeed F.faults F.bound F.held F.keeps feed.old feed.new };
 
     /// The reply that says what it shows.
     fn reply(self) -> Reply
@@ -184,7 +184,7 @@ pub(crate) fn reply_to_both<T: Finding, H: Shelf>(
     certificate: &str,
 ) -> Result<Reply, Stop>
     requires function { H.offered shelf.old function.now }
-    requires certificate { GoesOn (H.holds shelf.old function.now) → H.offered shelf.old certificate.now }
+    requires certificate { GoesOnBehind (H.holds shelf.old function.now) → H.offered shelf.old certificate.now }
 
     ensures ok { IfOk result (λ reply. IsReplyToFunction First (H.holds shelf.old function.now)
         (λ f. IsReplyToCertificate (T.judges f) T.accepts (H.holds shelf.old certificate.now) reply) reply) }

@@ -4,7 +4,7 @@ ghost use Rattle.ot_outside.specs.Faults.{Rose};
 ghost use Rattle.ot_outside.specs.Unchanged.{Unchanged};
 ghost use Rattle.ot_words.specs.Commands.{Check};
 ghost use Rattle.ot_commands.specs.Given.{IsReplyOfGiven};
-ghost use Rattle.ot_commands.specs.Load.{GoesOn};
+ghost use Rattle.ot_commands.specs.Load.{GoesOnBehind};
 ghost use Rattle.ot_commands.specs.Replies.{IsReplyTo};
 
 use crate::certificate::reply_to_both;
@@ -22,7 +22,7 @@ pub fn check<H: Shelf>(
     certificate: &str,
 ) -> Result<Reply, Stop>
     requires function { H.offered shelf.old function.now }
-    requires certificate { GoesOn (H.holds shelf.old function.now) → H.offered shelf.old certificate.now }
+    requires certificate { GoesOnBehind (H.holds shelf.old function.now) → H.offered shelf.old certificate.now }
 
     ensures ok { IfOk result (λ reply. IsReplyTo (H.holds shelf.old) (Check function.now certificate.now) reply) }
     ensures given { IfOk result (IsReplyOfGiven (H.reads shelf.old) (H.reads shelf.new)

@@ -7,7 +7,7 @@ ghost use Rattle.ot_outside.specs.Unchanged.{Unchanged};
 ghost use Rattle.ot_words.specs.Commands.{Confirm};
 ghost use Rattle.ot_commands.specs.Confirm.{IsReplyBy, IsReplyToConfirmed, TellsJudgement, ends_early, rests_on_more};
 ghost use Rattle.ot_commands.specs.Given.{IsReplyOfGiven};
-ghost use Rattle.ot_commands.specs.Load.{GoesOn};
+ghost use Rattle.ot_commands.specs.Load.{GoesOnBehind};
 ghost use Rattle.ot_commands.specs.Replies.{IsReplyTo};
 
 use crate::load::{Stop, limit, load_function};
@@ -103,7 +103,7 @@ pub fn confirm<H: Shelf>(
     proof: &str,
 ) -> Result<Reply, Stop>
     requires function { H.offered shelf.old function.now }
-    requires proof { GoesOn (H.holds shelf.old function.now) → H.offered shelf.old proof.now }
+    requires proof { GoesOnBehind (H.holds shelf.old function.now) → H.offered shelf.old proof.now }
 
     ensures ok { IfOk result (λ reply. IsReplyTo (H.holds shelf.old) (Confirm function.now proof.now) reply) }
     ensures given { IfOk result (IsReplyOfGiven (H.reads shelf.old) (H.reads shelf.new)

@@ -5,17 +5,17 @@ ghost use Rattle.case_json.specs.Hubs.{IsHubPlayable};
 ghost use Rattle.case_json.specs.declared.limits.TheConstants.{MAX_EVENTS, MAX_SITES};
 ghost use Rattle.case_json.specs.declared.hub.HubEvent.TheVariants as events;
 ghost use Rattle.fn_rules.specs.Rules.{function_of};
-ghost use Rattle.ot_hub.specs.Views.{IsClient, client_of, view_of};
+ghost use Rattle.ot_hub.specs.Views.{IsClient, client_of, hub_view_of};
 ghost use Rattle.ot_outside.specs.Faults.{Rose};
 ghost use Rattle.ot_outside.specs.Reads.{after_reading};
 ghost use Rattle.ot_outside.specs.Unchanged.{Unchanged};
 ghost use Rattle.ot_words.specs.Commands as commands;
 ghost use Rattle.ot_replies.specs.Texts.{status_of};
 ghost use Rattle.ot_commands.specs.Given.{IsReplyOfGiven};
-ghost use Rattle.ot_commands.specs.Hub.{IsApart, IsDone, IsFirstApart, IsRefused, IsReplyToHub, IsReplyToHubFile};
-ghost use Rattle.ot_commands.specs.Hub.{IsReplyToHubScript, MakesClientsAgree, Runs, TellsHub, TellsNotEdited};
-ghost use Rattle.ot_commands.specs.Hub.{TellsNotMoved, client_end};
-ghost use Rattle.ot_commands.specs.Load.{GoesOn};
+ghost use Rattle.ot_commands.specs.Hub.{IsApartFromServer, IsDone, IsFirstApart, IsRefusedHubEvent, IsReplyToHub};
+ghost use Rattle.ot_commands.specs.Hub.{IsReplyToHubFile, IsReplyToHubScript, MakesClientsAgree, Runs, TellsHub};
+ghost use Rattle.ot_commands.specs.Hub.{TellsNotEdited, TellsNotMoved, client_end};
+ghost use Rattle.ot_commands.specs.Load.{GoesOnBehind};
 ghost use Rattle.ot_commands.specs.Replies.{IsReplyTo};
 ghost use Rattle.ot_commands.specs.Steady.{IsSteadyReply};
 ghost use Rattle.ot_commands.specs.declared.halt.Halt.TheVariants as halts;
@@ -58,10 +58,10 @@ fn not_moved(number: u32, why: Move) -> Halt
 
 // A client makes an operation, in the event with this number.
 fn edit(hub: &mut Hub, number: u32, client: u32, op: Op) -> Result<(), Halt>
-    requires { (view_of hub.old).is_open ≡ true }
-    ensures ok { OnOk result (IsDone (view_of hub.old) (events.Edit client op) (view_of hub.new)) }
+    requires { (hub_view_of hub.old).is_open ≡ true }
+    ensures ok { OnOk result (IsDone (hub_view_of hub.old) (events.Edit client op) (hub_view_of hub.new)) }
     ensures refused { (r : Reply) → result ≡ Err (halts.Refused r)
-        → IsRefused (view_of hub.old) number (events.Edit client op) r }
+        → IsRefusedHubEvent (hub_view_of hub.old) number (events.Edit client op) r }
     ensures steady { (r : Reply) → result ≡ Err (halts.Refused r) → status_of r ≢ 1 }
 {
     match hub.edit(client, op) {
@@ -72,11 +72,11 @@ fn edit(hub: &mut Hub, number: u32, client: u32, op: Op) -> Result<(), Halt>
 
 // The server takes a message of a client.
 fn up(hub: &mut Hub, number: u32, client: u32) -> Result<(), Halt>
-    requires { (view_of hub.old).is_open ≡ true }
-    ensures ok { OnOk result (IsDone (view_of hub.old) (events.Up client) (view_of hub.new)) }
+    requires { (hub_view_of hub.old).is_open ≡ true }
+    ensures ok { OnOk result (IsDone (hub_view_of hub.old) (events.Up client) (hub_view_of hub.new)) }
     ensures refused { (r : Reply) → result ≡ Err (halts.Refused r)
-        → IsRefused (view_of hub.old) number (events.Up client) r }
-    ensures steady { MakesClientsAgree (view_of hub.old).function → (r : Reply) → result ≡ Err (halts.Refused r)
+        → IsRefusedHubEvent (hub_view_of hub.old) number (events.Up client) r }
+    ensures steady { MakesClientsAgree (hub_view_of hub.old).function → (r : Reply) → result ≡ Err (halts.Refused r)
         → status_of r ≢ 1 }
 {
     match hub.up(client) {
@@ -87,11 +87,11 @@ fn up(hub: &mut Hub, number: u32, client: u32) -> Result<(), Halt>
 
 // A client takes an entry of the log.
 fn down(hub: &mut Hub, number: u32, client: u32) -> Result<(), Halt>
-    requires { (view_of hub.old).is_open ≡ true }
-    ensures ok { OnOk result (IsDone (view_of hub.old) (events.Down client) (view_of hub.new)) }
+    requires { (hub_view_of hub.old).is_open ≡ true }
+    ensures ok { OnOk result (IsDone (hub_view_of hub.old) (events.Down client) (hub_view_of hub.new)) }
     ensures refused { (r : Reply) → result ≡ Err (halts.Refused r)
-        → IsRefused (view_of hub.old) number (events.Down client) r }
-    ensures steady { MakesClientsAgree (view_of hub.old).function → (r : Reply) → result ≡ Err (halts.Refused r)
+        → IsRefusedHubEvent (hub_view_of hub.old) number (events.Down client) r }
+    ensures steady { MakesClientsAgree (hub_view_of hub.old).function → (r : Reply) → result ≡ Err (halts.Refused r)
         → status_of r ≢ 1 }
 {
     match hub.down(client) {
@@ -102,10 +102,11 @@ fn down(hub: &mut Hub, number: u32, client: u32) -> Result<(), Halt>
 
 // Runs an event, of which this is the number.
 fn run_event(hub: &mut Hub, number: u32, event: HubEvent) -> Result<(), Halt>
-    requires { (view_of hub.old).is_open ≡ true }
-    ensures ok { OnOk result (IsDone (view_of hub.old) event (view_of hub.new)) }
-    ensures refused { (r : Reply) → result ≡ Err (halts.Refused r) → IsRefused (view_of hub.old) number event r }
-    ensures steady { MakesClientsAgree (view_of hub.old).function → (r : Reply) → result ≡ Err (halts.Refused r)
+    requires { (hub_view_of hub.old).is_open ≡ true }
+    ensures ok { OnOk result (IsDone (hub_view_of hub.old) event (hub_view_of hub.new)) }
+    ensures refused { (r : Reply) → result ≡ Err (halts.Refused r)
+        → IsRefusedHubEvent (hub_view_of hub.old) number event r }
+    ensures steady { MakesClientsAgree (hub_view_of hub.old).function → (r : Reply) → result ≡ Err (halts.Refused r)
         → status_of r ≢ 1 }
 {
     match event {
@@ -117,14 +118,15 @@ fn run_event(hub: &mut Hub, number: u32, event: HubEvent) -> Result<(), Halt>
 
 // Runs events up to the first that is refused.
 fn run_events(hub: &mut Hub, events: &[HubEvent]) -> Result<(), Halt>
-    requires is_open { (view_of hub.old).is_open ≡ true }
+    requires is_open { (hub_view_of hub.old).is_open ≡ true }
     requires few { length events.now ≤ MAX_EVENTS }
-    ensures ok { OnOk result ((r : Reply) → TellsHub (view_of hub.new) r → Runs (view_of hub.old) 0 events.now r) }
-    ensures refused { (r : Reply) → result ≡ Err (halts.Refused r) → Runs (view_of hub.old) 0 events.now r }
-    ensures steady { MakesClientsAgree (view_of hub.old).function → (r : Reply) → result ≡ Err (halts.Refused r)
+    ensures ok { OnOk result ((r : Reply) → TellsHub (hub_view_of hub.new) r
+        → Runs (hub_view_of hub.old) 0 events.now r) }
+    ensures refused { (r : Reply) → result ≡ Err (halts.Refused r) → Runs (hub_view_of hub.old) 0 events.now r }
+    ensures steady { MakesClientsAgree (hub_view_of hub.old).function → (r : Reply) → result ≡ Err (halts.Refused r)
         → status_of r ≢ 1 }
-    ensures clients { OnOk result (length (view_of hub.new).clients ≡ length (view_of hub.old).clients) }
-    ensures function { OnOk result ((view_of hub.new).function ≡ (view_of hub.old).function) }
+    ensures clients { OnOk result (length (hub_view_of hub.new).clients ≡ length (hub_view_of hub.old).clients) }
+    ensures function { OnOk result ((hub_view_of hub.new).function ≡ (hub_view_of hub.old).function) }
 {
     for (number, event) in events.iter().enumerate() {
         run_event(hub, number as u32, *event)?;
@@ -134,8 +136,8 @@ fn run_events(hub: &mut Hub, events: &[HubEvent]) -> Result<(), Halt>
 
 // How much a client has received, how much of it is pending, and its document.
 fn end_at(hub: &Hub, client: u32) -> Result<ClientEnd, NoMemory>
-    requires { IsClient (length (view_of hub.now).clients) client }
-    ensures { IfOk result (λ end. end ≡ client_end (client_of (view_of hub.now) client)) }
+    requires { IsClient (length (hub_view_of hub.now).clients) client }
+    ensures { IfOk result (λ end. end ≡ client_end (client_of (hub_view_of hub.now) client)) }
 {
     Ok(ClientEnd {
         received: hub.received(client),
@@ -146,8 +148,8 @@ fn end_at(hub: &Hub, client: u32) -> Result<ClientEnd, NoMemory>
 
 // The same of each client, of which there are so many.
 fn ends_of(alloc: Global, hub: &Hub, clients: u32) -> Result<List<ClientEnd>, NoMemory>
-    requires { length (view_of hub.now).clients ≡ clients }
-    ensures { IfOk result (λ ends. ends ≡ map client_end (view_of hub.now).clients) }
+    requires { length (hub_view_of hub.now).clients ≡ clients }
+    ensures { IfOk result (λ ends. ends ≡ map client_end (hub_view_of hub.now).clients) }
 {
     let mut ends = List::new(alloc);
     for place in 0..clients {
@@ -158,7 +160,7 @@ fn ends_of(alloc: Global, hub: &Hub, clients: u32) -> Result<List<ClientEnd>, No
 
 // Whether a client has received a whole log of so many entries, has nothing pending, and holds another document.
 fn is_apart(logged: u32, doc: &Doc, end: &ClientEnd) -> bool
-    ensures { IsTrue result ↔ IsApart logged doc.now end.now }
+    ensures { IsTrue result ↔ IsApartFromServer logged doc.now end.now }
 {
     end.received == logged && end.pending == 0 && !end.doc.same(doc)
 }
@@ -178,10 +180,10 @@ fn first_apart(logged: u32, doc: &Doc, ends: &[ClientEnd]) -> Option<u32>
 
 // The reply to a hub whose events were all done.
 fn ended(alloc: Global, hub: &Hub, clients: u32) -> Result<Reply, NoMemory>
-    requires clients { length (view_of hub.now).clients ≡ clients }
+    requires clients { length (hub_view_of hub.now).clients ≡ clients }
     requires few { clients ≤ MAX_SITES }
-    ensures tells { IfOk result (TellsHub (view_of hub.now)) }
-    ensures steady { MakesClientsAgree (view_of hub.now).function → IfOk result (λ r. status_of r ≢ 1) }
+    ensures tells { IfOk result (TellsHub (hub_view_of hub.now)) }
+    ensures steady { MakesClientsAgree (hub_view_of hub.now).function → IfOk result (λ r. status_of r ≢ 1) }
 {
     hub.clients_follow_the_log();
     let logged = hub.logged();
@@ -249,7 +251,7 @@ fn reply_to_hub_file<H: Shelf>(
 /// The reply to the command.
 pub fn hub<H: Shelf>(alloc: Global, shelf: &mut H, function: &str, hub: &str) -> Result<Reply, Stop>
     requires function { H.offered shelf.old function.now }
-    requires hub { GoesOn (H.holds shelf.old function.now) → H.offered shelf.old hub.now }
+    requires hub { GoesOnBehind (H.holds shelf.old function.now) → H.offered shelf.old hub.now }
 
     ensures ok { IfOk result (λ reply. IsReplyTo (H.holds shelf.old) (commands.Hub function.now hub.now) reply) }
     ensures steady { IfOk result (λ reply. IsSteadyReply (H.holds shelf.old) (commands.Hub function.now hub.now)

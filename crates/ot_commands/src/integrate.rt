@@ -1,6 +1,6 @@
 //! `integrate FUNCTION CASE`: the operations of the case, integrated in each of its orders.
 ghost use Rattle.std.specs.Prelude.{◌≡◌, ◌≤◌, ◌↔◌, Some, IfOk, IsErrOf, IsTrue, All, length, map};
-ghost use Rattle.case_json.specs.Tests.{IsReady};
+ghost use Rattle.case_json.specs.Tests.{IsReadyTrial};
 ghost use Rattle.fn_rules.specs.Orders.{integrated, Document};
 ghost use Rattle.fn_rules.specs.Rules.{function_of};
 ghost use Rattle.ot_integrate.specs.Ends.{outcome_of};
@@ -11,7 +11,7 @@ ghost use Rattle.ot_words.specs.Commands.{Integrate};
 ghost use Rattle.ot_replies.specs.Limits.{limit_of};
 ghost use Rattle.ot_commands.specs.Given.{IsReplyOfGiven};
 ghost use Rattle.ot_commands.specs.Integrate.{HaveOneEnd, IsReplyToCase, IsReplyToCaseFile, TellsOutcomes, outcomes_of};
-ghost use Rattle.ot_commands.specs.Load.{GoesOn};
+ghost use Rattle.ot_commands.specs.Load.{GoesOnBehind};
 ghost use Rattle.ot_commands.specs.Replies.{IsReplyTo};
 ghost use Rattle.ot_replies.specs.declared.reply.FileKind.TheVariants as files;
 
@@ -55,7 +55,7 @@ fn have_one_end(ends: &[End]) -> bool
 
 // How an order of a case ends.
 fn end_of(alloc: Global, rules: &Rules, trial: &Trial, order: &[u32]) -> Result<End, NoMemory>
-    requires ready { IsReady (function_of rules.now) trial.now }
+    requires ready { IsReadyTrial (function_of rules.now) trial.now }
     requires places { length order.now ≤ 1000 }
     ensures { IfOk result (λ end. outcome_of end ≡ integrated (function_of rules.now) trial.now.doc trial.now.ops
         order.now) }
@@ -66,7 +66,7 @@ fn end_of(alloc: Global, rules: &Rules, trial: &Trial, order: &[u32]) -> Result<
 
 // How each order of a case ends.
 fn ends_of(alloc: Global, rules: &Rules, trial: &Trial) -> Result<List<End>, NoMemory>
-    requires { IsReady (function_of rules.now) trial.now }
+    requires { IsReadyTrial (function_of rules.now) trial.now }
     ensures { IfOk result (λ ends. map outcome_of ends ≡ outcomes_of (function_of rules.now) trial.now) }
 {
     let mut ends = List::new(alloc);
@@ -78,7 +78,7 @@ fn ends_of(alloc: Global, rules: &Rules, trial: &Trial) -> Result<List<End>, NoM
 
 // How the orders of a case end, as a reply.
 fn outcomes(alloc: Global, rules: &Rules, trial: &Trial) -> Result<Reply, NoMemory>
-    requires { IsReady (function_of rules.now) trial.now }
+    requires { IsReadyTrial (function_of rules.now) trial.now }
     ensures { IfOk result (TellsOutcomes (outcomes_of (function_of rules.now) trial.now)) }
 {
     let ends = ends_of(alloc, rules, trial)?;
@@ -129,7 +129,7 @@ pub fn integrate<H: Shelf>(
     case: &str,
 ) -> Result<Reply, Stop>
     requires function { H.offered shelf.old function.now }
-    requires case { GoesOn (H.holds shelf.old function.now) → H.offered shelf.old case.now }
+    requires case { GoesOnBehind (H.holds shelf.old function.now) → H.offered shelf.old case.now }
 
     ensures ok { IfOk result (λ reply. IsReplyTo (H.holds shelf.old) (Integrate function.now case.now) reply) }
     ensures given { IfOk result (IsReplyOfGiven (H.reads shelf.old) (H.reads shelf.new)

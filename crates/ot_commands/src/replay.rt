@@ -13,10 +13,10 @@ ghost use Rattle.ot_outside.specs.Unchanged.{Unchanged};
 ghost use Rattle.ot_session.specs.Views.{view_of};
 ghost use Rattle.ot_words.specs.Commands.{Replay};
 ghost use Rattle.ot_commands.specs.Given.{IsReplyOfGiven};
-ghost use Rattle.ot_commands.specs.Load.{GoesOn};
-ghost use Rattle.ot_commands.specs.Replay.{Differ, IsDone, IsFirstOther, IsFirstPair, IsRefused, IsReplyToScript};
-ghost use Rattle.ot_commands.specs.Replay.{IsReplyToSession, IsReplyToSessionFile, MakesSitesAgree, Runs, TellsNotMade};
-ghost use Rattle.ot_commands.specs.Replay.{TellsNotTaken, TellsSites};
+ghost use Rattle.ot_commands.specs.Load.{GoesOnBehind};
+ghost use Rattle.ot_commands.specs.Replay.{IsDone, IsFirstOther, IsFirstPair, IsRefusedEvent, IsReplyToScript};
+ghost use Rattle.ot_commands.specs.Replay.{IsReplyToSession, IsReplyToSessionFile, MakesSitesAgree, Runs};
+ghost use Rattle.ot_commands.specs.Replay.{SiteEndsDiffer, TellsNotMade, TellsNotTaken, TellsSites};
 ghost use Rattle.ot_commands.specs.Replies.{IsReplyTo};
 ghost use Rattle.ot_commands.specs.Steady.{IsSteadyReply};
 ghost use Rattle.ot_replies.specs.Texts.{status_of};
@@ -65,7 +65,7 @@ fn make(session: &mut Session, number: u32, site: u32, op: Op) -> Result<(), Hal
     requires { (view_of session.old).is_open ≡ true }
     ensures ok { OnOk result (IsDone (view_of session.old) (events.Make site op) (view_of session.new)) }
     ensures refused { (r : Reply) → result ≡ Err (halts.Refused r)
-        → IsRefused (view_of session.old) number (events.Make site op) r }
+        → IsRefusedEvent (view_of session.old) number (events.Make site op) r }
     ensures steady { (r : Reply) → result ≡ Err (halts.Refused r) → status_of r ≢ 1 }
 {
     match session.make(site, op) {
@@ -79,7 +79,7 @@ fn take(session: &mut Session, number: u32, site: u32, taken: u32) -> Result<(),
     requires { (view_of session.old).is_open ≡ true }
     ensures ok { OnOk result (IsDone (view_of session.old) (events.Take site taken) (view_of session.new)) }
     ensures refused { (r : Reply) → result ≡ Err (halts.Refused r)
-        → IsRefused (view_of session.old) number (events.Take site taken) r }
+        → IsRefusedEvent (view_of session.old) number (events.Take site taken) r }
     ensures steady { MakesSitesAgree (view_of session.old).function → (r : Reply) → result ≡ Err (halts.Refused r)
         → status_of r ≢ 1 }
 {
@@ -93,7 +93,8 @@ fn take(session: &mut Session, number: u32, site: u32, taken: u32) -> Result<(),
 fn run_event(session: &mut Session, number: u32, event: Event) -> Result<(), Halt>
     requires { (view_of session.old).is_open ≡ true }
     ensures ok { OnOk result (IsDone (view_of session.old) event (view_of session.new)) }
-    ensures refused { (r : Reply) → result ≡ Err (halts.Refused r) → IsRefused (view_of session.old) number event r }
+    ensures refused { (r : Reply) → result ≡ Err (halts.Refused r)
+        → IsRefusedEvent (view_of session.old) number event r }
     ensures steady { MakesSitesAgree (view_of session.old).function → (r : Reply) → result ≡ Err (halts.Refused r)
         → status_of r ≢ 1 }
 {
@@ -144,7 +145,7 @@ fn have_one_set(one: &[u32], other: &[u32]) -> bool
 
 // Whether two sites have integrated the same operations and hold different documents.
 fn differ(one: &SiteEnd, other: &SiteEnd) -> bool
-    ensures { IsTrue result ↔ Differ one.now other.now }
+    ensures { IsTrue result ↔ SiteEndsDiffer one.now other.now }
 {
     closed_lists_are_told_by_their_counts();
     have_one_set(one.seen.as_slice(), other.seen.as_slice()) && !one.doc.same(&other.doc)
@@ -248,7 +249,7 @@ pub fn replay<H: Shelf>(
     session: &str,
 ) -> Result<Reply, Stop>
     requires function { H.offered shelf.old function.now }
-    requires session { GoesOn (H.holds shelf.old function.now) → H.offered shelf.old session.now }
+    requires session { GoesOnBehind (H.holds shelf.old function.now) → H.offered shelf.old session.now }
 
     ensures ok { IfOk result (λ reply. IsReplyTo (H.holds shelf.old) (Replay function.now session.now) reply) }
     ensures steady { IfOk result (λ reply. IsSteadyReply (H.holds shelf.old) (Replay function.now session.now) reply) }

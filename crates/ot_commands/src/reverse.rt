@@ -6,7 +6,7 @@ ghost use Rattle.ot_outside.specs.Reads.{after_reading};
 ghost use Rattle.ot_outside.specs.Unchanged.{Unchanged};
 ghost use Rattle.ot_words.specs.Commands as commands;
 ghost use Rattle.ot_commands.specs.Given.{IsReplyOfGiven};
-ghost use Rattle.ot_commands.specs.Load.{GoesOn};
+ghost use Rattle.ot_commands.specs.Load.{GoesOnBehind};
 ghost use Rattle.ot_commands.specs.Replies.{IsReplyTo};
 ghost use Rattle.ot_commands.specs.Reverse.{IsReplyToReversal, IsReplyToReverser};
 
@@ -60,7 +60,7 @@ pub fn reverse<H: Shelf>(
     other: &str,
 ) -> Result<Reply, Stop>
     requires function { H.offered shelf.old function.now }
-    requires other { GoesOn (H.holds shelf.old function.now) → H.offered shelf.old other.now }
+    requires other { GoesOnBehind (H.holds shelf.old function.now) → H.offered shelf.old other.now }
 
     ensures ok { IfOk result (λ reply. IsReplyTo (H.holds shelf.old) (commands.Reverse function.now other.now) reply) }
     ensures given { IfOk result (IsReplyOfGiven (H.reads shelf.old) (H.reads shelf.new)

@@ -18,16 +18,16 @@ use Rattle.cert_text.specs.Spelling as cert_spelling
 use Rattle.proof_trees.specs.declared.token.ProofTok.{ProofTok}
 use Rattle.proof_trees.specs.Starts.{MarkedPlan, Comparison, unmarked}
 use Rattle.proof_trees.specs.Proofs.{ProofTree, Learned, Shows, proof_of}
-use Rattle.proof_trees.specs.Tokens.{tokens_of}
-use Rattle.proof_text.specs.Spelling.{IsSpellable, header_text, newline_text, proof_token, token_text}
+use Rattle.proof_trees.specs.Tokens.{proof_tokens_of}
+use Rattle.proof_text.specs.Spelling.{IsSpellableInProof, proof_header_text, newline_text, proof_token, proof_token_text}
 use Rattle.ot_questions.specs.declared.why.Why.{Why}
 use Rattle.ot_questions.specs.Obligation.{plan_of}
 use Rattle.ot_sections.specs.Certificates.{AreAnswers, IsCertificate}
 use Rattle.start_laws.specs.Starts.{Start, compare_starts}
 use Rattle.marked_goals.specs.Marking.{marked_plan}
-use Rattle.proof_sections.specs.Spelled.{AreShown, AreSpellable, sections_text, tokens_text}
+use Rattle.proof_sections.specs.Spelled.{AreShown, AreSpellableInProof, proof_sections_text, proof_tokens_text}
 use Rattle.ot_confirm.specs.Certified.{after_first_line, under_proof_header}
-use Rattle.ot_confirm.specs.Proofs.{IsProof}
+use Rattle.ot_confirm.specs.Proofs.{IsProofOf}
 
 -- the first line of a certificate ends with the first newline
 after_header : (second : Bool) (level : Level) (rest : List ℕ)
@@ -46,7 +46,7 @@ proof_tokens-append : (ts us : List Tok) → map proof_token (ts ++ us) ≡ map 
 proof_tokens-append [] us = refl
 proof_tokens-append (t ∷ ts) us = ap (λ (l : List ProofTok). proof_token t ∷ l) (proof_tokens-append ts us)
 
-tokens_of-proof_of : (t : AnswerTree) → tokens_of (proof_of t) ≡ map proof_token (answer.tokens_of t)
+tokens_of-proof_of : (t : AnswerTree) → proof_tokens_of (proof_of t) ≡ map proof_token (answer.tokens_of t)
 tokens_of-proof_of (answer.Question t u) =
     rw (tokens_of-proof_of t, tokens_of-proof_of u, proof_tokens-append (answer.tokens_of t) (answer.tokens_of u)) refl
 tokens_of-proof_of answer.End = refl
@@ -56,24 +56,24 @@ abbrev proofs_of : List AnswerTree → List ProofTree
 proofs_of trees = map proof_of trees
 
 module _ (f : Function)
-    (same_text : (tok : Tok) → token_text (proof_token tok) ≡ cert_spelling.token_text tok)
-    (same_spellable : (tok : Tok) → (IsSpellable (proof_token tok) ↔ cert_spelling.IsSpellable tok)) where
-  tokens_alike : (tokens : List Tok) → tokens_text (map proof_token tokens) ≡ cert_spelling.tokens_text tokens
+    (same_text : (tok : Tok) → proof_token_text (proof_token tok) ≡ cert_spelling.token_text tok)
+    (same_spellable : (tok : Tok) → (IsSpellableInProof (proof_token tok) ↔ cert_spelling.IsSpellable tok)) where
+  tokens_alike : (tokens : List Tok) → proof_tokens_text (map proof_token tokens) ≡ cert_spelling.tokens_text tokens
   tokens_alike [] = refl
   tokens_alike (tok ∷ tokens) =
-      ap (λ (x : List ℕ). x ++ tokens_text (map proof_token tokens)) (same_text tok)
+      ap (λ (x : List ℕ). x ++ proof_tokens_text (map proof_token tokens)) (same_text tok)
       ∙ ap (λ (x : List ℕ). cert_spelling.token_text tok ++ x) (tokens_alike tokens)
 
-  spellable_alike : (tokens : List Tok) → cert_spelling.AreSpellable tokens → AreSpellable (map proof_token tokens)
+  spellable_alike : (tokens : List Tok) → cert_spelling.AreSpellable tokens → AreSpellableInProof (map proof_token tokens)
   spellable_alike [] are = tt
   spellable_alike (tok ∷ tokens) are = ((same_spellable tok).1 are.0, spellable_alike tokens are.1)
 
-  tree_alike : (t : AnswerTree) → tokens_text (tokens_of (proof_of t)) ≡ cert_spelling.tokens_text (answer.tokens_of t)
-  tree_alike t = ap (λ (x : List ProofTok). tokens_text x) (tokens_of-proof_of t) ∙ tokens_alike (answer.tokens_of t)
+  tree_alike : (t : AnswerTree) → proof_tokens_text (proof_tokens_of (proof_of t)) ≡ cert_spelling.tokens_text (answer.tokens_of t)
+  tree_alike t = ap (λ (x : List ProofTok). proof_tokens_text x) (tokens_of-proof_of t) ∙ tokens_alike (answer.tokens_of t)
 
-  tree_spellable : (t : AnswerTree) → cert_spelling.AreSpellable (answer.tokens_of t) → AreSpellable (tokens_of (proof_of t))
+  tree_spellable : (t : AnswerTree) → cert_spelling.AreSpellable (answer.tokens_of t) → AreSpellableInProof (proof_tokens_of (proof_of t))
   tree_spellable t are =
-      subst (λ (x : List ProofTok). AreSpellable x) (sym (tokens_of-proof_of t)) (spellable_alike (answer.tokens_of t) are)
+      subst (λ (x : List ProofTok). AreSpellableInProof x) (sym (tokens_of-proof_of t)) (spellable_alike (answer.tokens_of t) are)
 
   module _
       (shows : (compare : Comparison Start) (t : AnswerTree) (p : MarkedPlan Start Why) (w : List Lit) (known : List (Learned Start Why))
@@ -98,23 +98,23 @@ module _ (f : Function)
     -- the sections of a certificate have the text of those of the proof
     sections_alike :
         (names : List ObName) (trees : List AnswerTree) → AreAnswers (plan_of f) names trees
-        → cert.sections_text names trees ≡ sections_text names (proofs_of trees)
+        → cert.sections_text names trees ≡ proof_sections_text names (proofs_of trees)
     sections_alike [] [] are = refl
     sections_alike [] (t ∷ trees) are = absurd are
     sections_alike (name ∷ names) [] are = absurd are
     sections_alike (name ∷ names) (t ∷ trees) are =
         section_alike (ob_text name) (cert_spelling.tokens_text (answer.tokens_of t)) (cert.sections_text names trees)
         ∙ ap (λ (x : List ℕ). ob_text name ++ (x ++ (newline_text ++ cert.sections_text names trees))) (sym (tree_alike t))
-        ∙ ap (λ (x : List ℕ). ob_text name ++ (tokens_text (tokens_of (proof_of t)) ++ (newline_text ++ x)))
+        ∙ ap (λ (x : List ℕ). ob_text name ++ (proof_tokens_text (proof_tokens_of (proof_of t)) ++ (newline_text ++ x)))
         (sections_alike names trees are.2)
 
     -- bytes that are a certificate are a proof under the other header
-    pub certificate_is_proof : (bytes : List ℕ) (level : Level) → IsCertificate bytes f level → IsProof (under_proof_header level bytes) f level
+    pub certificate_is_proof : (bytes : List ℕ) (level : Level) → IsCertificate bytes f level → IsProofOf (under_proof_header level bytes) f level
     certificate_is_proof bytes level (trees, are, text) =
         let names : List ObName = obligations_of f.head level in (
           proofs_of trees,
           answers_shown (obligations_of f.head level) trees are,
-          ap (λ (x : List ℕ). header_text level ++ x)
+          ap (λ (x : List ℕ). proof_header_text level ++ x)
               (ap (λ (x : List ℕ). after_first_line x)
               (text
               ∙ append_assoc (cert_spelling.header_text (obligations_of f.head level) level)

@@ -9,5 +9,5 @@ use Rattle.proof_sections.specs.Spelled as spelled
 
 -- the bytes are a proof of the function at the level: the header, for each obligation in order its line, a tree that
 -- shows its plan with its starts and a newline, and the last line
-abbrev pub IsProof : List ℕ → Function → Level → Type 0
-IsProof bytes f level = spelled.IsProof compare_starts (marked_plan f) (obligations_of f.head) bytes level
+abbrev pub IsProofOf : List ℕ → Function → Level → Type 0
+IsProofOf bytes f level = spelled.IsProof compare_starts (marked_plan f) (obligations_of f.head) bytes level

@@ -5,7 +5,7 @@ ghost use Rattle.fn_rules.specs.Obligations.{is_obligation};
 ghost use Rattle.fn_rules.specs.Rules.{function_of};
 ghost use Rattle.start_laws.specs.Starts.{compare_starts};
 ghost use Rattle.marked_goals.specs.Marking.{marked_plan};
-ghost use Rattle.proof_sections.specs.Judgement.{Judges, opened, section_judged, sections_judged, tree_judged};
+ghost use Rattle.proof_sections.specs.Judgement.{Judges, opened_tree, section_judged, sections_judged, tree_judged};
 
 use bumpalo::Bump;
 use fn_rules::{ObName, Rules};
@@ -25,7 +25,7 @@ fn judge_in<'a>(
     requires listed { IsTrue (is_obligation (function_of rules.now).head name) }
     requires place { at ≤ length bytes.now }
     ensures { Judges bytes.now (tree_judged compare_starts (length bytes.now)
-        (opened (marked_plan (function_of rules.now) name)) (drop at bytes.now)) result }
+        (opened_tree (marked_plan (function_of rules.now) name)) (drop at bytes.now)) result }
 {
     judge_tree(alloc, StartAsker::new(bump, rules, name), bytes, at)
 }

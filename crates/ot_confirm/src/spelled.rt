@@ -6,7 +6,7 @@ ghost use Rattle.fn_rules.specs.Functions.{Function};
 ghost use Rattle.ot_sections.specs.Certificates.{IsCertificate};
 ghost use Rattle.ot_confirm.specs.Certified.{under_proof_header};
 ghost use Rattle.ot_confirm.specs.Judgement.{judgement_of};
-ghost use Rattle.ot_confirm.specs.Proofs.{IsProof};
+ghost use Rattle.ot_confirm.specs.Proofs.{IsProofOf};
 
 use marked_goals::marked_plans_are_plans;
 use ot_questions::Why;
@@ -18,7 +18,7 @@ use proof_text::certificate_tokens_are_spelled_alike;
 /// obligation in order its line, the tokens of a tree that shows its plan and a newline, and the last line.
 pub fn proofs_are_made_of_trees()
     ensures { (f : Function) (bytes : List ℕ) (level : Level)
-        → (judgement_of f bytes ≡ Ok level ↔ IsProof bytes f level) }
+        → (judgement_of f bytes ≡ Ok level ↔ IsProofOf bytes f level) }
 {
     proofs_are_accepted_exactly::<Begun, Why>();
 }

@@ -25,7 +25,7 @@ use Rattle.ot_questions.specs.Names.{site_name, char_name}
 use Rattle.ot_questions.specs.Places.{sym_op}
 use Rattle.ot_questions.specs.Meaning.{op_at}
 use Rattle.ot_questions.specs.Obligation.{plan_of}
-use Rattle.ot_questions.specs.Instances.{StandsFor, NamesPair, NamesTriple, PairFails, TripleFails, Shows}
+use Rattle.ot_questions.specs.Instances.{StandsForOperation, NamesPair, NamesTriple, PairFails, TripleFails, ShowsCause}
 use Rattle.ot_questions.specs.Sorts.{AreLike, AsksLike}
 use Rattle.ot_values.specs.Values.{floors_of, ops_at, IsSmallAt}
 use Rattle.ot_counter.specs.Documents.{document_at}
@@ -35,7 +35,7 @@ use Rattle.ot_counter.proofs.Shown.{IsFresh, fresh_at, length-document_at, docum
 -- what is said of the ends of plans at valuations
 abbrev pub PairFailsBy : Type 0
 PairFailsBy = (f : Function) (k l : Kind) (v : ℕ → ℤ) (d : List Cell) (a b : Op) (why : Why) → NamesPair f k l v (length d) a b
-    → end_of (plan_of f (Pair k l)) v ≡ Some why → Shows d a b (v 2) why
+    → end_of (plan_of f (Pair k l)) v ≡ Some why → ShowsCause d a b (v 2) why
     → AreConcurrent f d (a ∷ b ∷ []) × PairFails f d a b (v 2) why
 
 abbrev pub TripleFailsBy : Type 0
@@ -53,7 +53,7 @@ TripleBreaks = (f : Function) (a b c : Op) (why : Why) → TripleFails f a b c w
 -- and of names that stand for an operation
 abbrev pub NamesStand : Type 0
 NamesStand = (v : ℕ → ℤ) (k : Kind) (who : Who) → v 0 ≡ pos 0 → pos 0 ≤ℤ v (site_name who) → pos 0 ≤ℤ v (char_name who)
-    → StandsFor v (sym_op k who) (op_at v (sym_op k who))
+    → StandsForOperation v (sym_op k who) (op_at v (sym_op k who))
 
 -- the parts of each operation of the obligation are small
 abbrev pub PartsAreSmall : ObName → List ℤ → Type 0
@@ -82,7 +82,7 @@ module _ (stand : NamesStand) (why : Why) (values : List ℤ) (zero : valuation_
   cells_there : v 1 ≡ pos (length document)
   cells_there = cells_counted (v 1) (length document) cells (length-document_at v why)
 
-  stands_there : (k : Kind) (who : Who) → IsSmallAt values who → StandsFor v (sym_op k who) (op_at v (sym_op k who))
+  stands_there : (k : Kind) (who : Who) → IsSmallAt values who → StandsForOperation v (sym_op k who) (op_at v (sym_op k who))
   stands_there k who small = stand v k who zero small.site (from_letter (v (char_name who)) small.ch_low)
 
   fresh_there : (k : Kind) (who : Who) → IsSmallAt values who → IsFresh (char_of (op_at v (sym_op k who)))

@@ -17,7 +17,7 @@ use Rattle.ot_questions.specs.declared.why.Why.TheVariants.{Undefined, OutOfRang
 use Rattle.ot_questions.specs.Names.{char_name}
 use Rattle.ot_questions.specs.Places.{sym_op}
 use Rattle.ot_questions.specs.Meaning.{op_at}
-use Rattle.ot_questions.specs.Instances.{cell_in, TellsApart, Shows}
+use Rattle.ot_questions.specs.Instances.{cell_in, TellsApart, ShowsCause}
 use Rattle.ot_counter.specs.Documents.{is_at, shown_cell, cells_by_place, document_at}
 
 pub length-placed : (n : ℕ) (h : ℕ → Cell) → length (cells_by_place n h) ≡ n
@@ -105,7 +105,7 @@ pub length-document_at : (v : ℕ → ℤ) (why : Why) → length (document_at v
 length-document_at v why = length-placed (unsigned_abs (v 1)) (shown_cell (v 2) why)
 
 pub document_shows :
-    (v : ℕ → ℤ) (a b : Op) (why : Why) → IsFresh (char_of a) → IsFresh (char_of b) → Shows (document_at v why) a b (v 2) why
+    (v : ℕ → ℤ) (a b : Op) (why : Why) → IsFresh (char_of a) → IsFresh (char_of b) → ShowsCause (document_at v why) a b (v 2) why
 document_shows v a b Undefined fa fb = tt
 document_shows v a b OutOfRange fa fb = tt
 document_shows v a b Lengths fa fb = tt

@@ -17,13 +17,13 @@ use Rattle.ot_counter.specs.declared.counter.WayResult.{WayResult}
 use Rattle.ot_counter.specs.declared.counter.WayResult.TheVariants as ways
 
 -- an operation executed where it is enabled
-abbrev pub executed : Mode → List Cell → Op → WayResult
-executed mode d o = if is_enabled o (length d) then ways.Doc (document_after mode o d) else ways.OutOfRange
+abbrev pub executed_way : Mode → List Cell → Op → WayResult
+executed_way mode d o = if is_enabled o (length d) then ways.Doc (document_after mode o d) else ways.OutOfRange
 
 -- a form executed, if there is one
 abbrev pub executed_form : Mode → List Cell → Option Op → WayResult
 executed_form mode d None = ways.Undefined
-executed_form mode d (Some form) = executed mode d form
+executed_form mode d (Some form) = executed_way mode d form
 
 -- one operation executed, and then the form of another behind it
 abbrev pub document_way : Function → List Cell → Op → Op → WayResult

@@ -18,7 +18,7 @@ use ot_model::{Apply, Doc, Mode, Op, apply};
 
 // An operation executed where it is enabled.
 fn executed(mode: Mode, doc: &Doc, op: &Op) -> Result<WayResult, NoMemory>
-    ensures { IfOk result (λ way. way ≡ ways.executed mode doc.now op.now) }
+    ensures { IfOk result (λ way. way ≡ ways.executed_way mode doc.now op.now) }
 {
     let mut current = doc.try_clone()?;
     match apply(mode, op, &mut current) {

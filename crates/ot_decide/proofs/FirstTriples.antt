@@ -10,7 +10,7 @@ use Rattle.fn_rules.specs.Obligations.{declared_kinds, obligations_of, pairs_of,
 use Rattle.ask_core.specs.Plans.{Plan, value}
 use Rattle.ask_core.specs.Questions.{Questions, QuestionList, FailingEnd}
 use Rattle.ot_questions.specs.declared.why.Why.{Why}
-use Rattle.ot_questions.specs.Meaning.{AllHold, HoldsEverywhere}
+use Rattle.ot_questions.specs.Meaning.{AllHold, ObligationHolds}
 use Rattle.ot_questions.specs.Obligation.{plan_of}
 use Rattle.ot_decide.specs.Verdicts.{ObQuestions, FailingOb, AreAsked, failing_in}
 use Rattle.ot_decide.proofs.Lists.{Joins, asked_of, first_failing}
@@ -57,7 +57,7 @@ module _ (lists_show : ListsShow) (f : Function) (k l m : Kind) (end : FailingEn
       (ob : ObName) (obs : List ObName) (q : Questions Why) (failing : Option (FailingEnd Why)) (lists : List (ObQuestions Why))
       → IsPair ob → QuestionList (plan_of f ob) [] q → q.failing ≡ failing → Joins (plan_of f) ob obs q failing lists
       → FailsFirst lists
-      → HoldsEverywhere f ob × ((later : List (ObQuestions Why)) × AreAsked (plan_of f) obs later × FailsFirst later)
+      → ObligationHolds f ob × ((later : List (ObQuestions Why)) × AreAsked (plan_of f) obs later × FailsFirst later)
   pair_holds ob obs q None lists pair listed holds (later, asked, is) first =
       let first_is : FailsFirst (asked_of ob q ∷ later) = subst FailsFirst is first in
       let first_later : FailsFirst later =

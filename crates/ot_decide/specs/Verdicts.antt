@@ -59,7 +59,8 @@ AskTheQuestions plan (t ∷ trees) (l ∷ lists) =
     (l.questions.asked ≡ asked_along t (plan l.ob) []) × AskTheQuestions plan trees lists
 
 -- the bytes are a certificate of the function at the level, with exactly these questions
-pub record IsProof (f : Function) (level : Level) (lists : List (ObQuestions Why)) (bytes : List ℕ) : Type 0 where
+pub record IsCertificateAsking (f : Function) (level : Level) (lists : List (ObQuestions Why))
+    (bytes : List ℕ) : Type 0 where
   pub trees : List AnswerTree
   pub fit : AreAnswers (plan_of f) (obligations_of f.head level) trees
   pub ask : AskTheQuestions (plan_of f) trees lists
@@ -78,7 +79,7 @@ pub record IsRefutation (head : Head) (plan : ObName → Plan Why) (lists : List
 -- end, or the bytes are a certificate
 abbrev pub IsVerdict : Function → Level → ℕ → List (ObQuestions Why) → Verdict → Type 0
 IsVerdict f level budget lists (Yes bytes) =
-    (count_in lists ≤ budget) × (failing_in lists ≡ None) × IsProof f level lists bytes.items
+    (count_in lists ≤ budget) × (failing_in lists ≡ None) × IsCertificateAsking f level lists bytes.items
 IsVerdict f level budget lists (No ob answers why) =
     (count_in lists ≤ budget) × IsRefutation f.head (plan_of f) lists ob answers.items why
 IsVerdict f level budget lists Spent = budget < count_in lists
@@ -90,7 +91,7 @@ IsDecidedAs f level budget verdict =
     × IsVerdict f level budget lists verdict
 
 -- so many bytes at the most, where it is a certificate
-abbrev pub IsWithin : ℕ → Verdict → Type 0
-IsWithin limit (Yes bytes) = length bytes.items ≤ limit
-IsWithin limit (No ob answers why) = Unit {0}
-IsWithin limit Spent = Unit {0}
+abbrev pub IsVerdictWithin : ℕ → Verdict → Type 0
+IsVerdictWithin limit (Yes bytes) = length bytes.items ≤ limit
+IsVerdictWithin limit (No ob answers why) = Unit {0}
+IsVerdictWithin limit Spent = Unit {0}

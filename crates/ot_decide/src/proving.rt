@@ -1,7 +1,7 @@
 //! The search of all obligations of a function.
 ghost use Rattle.std.specs.Prelude.{◌≤◌, IfOk};
 ghost use Rattle.fn_rules.specs.Rules.{function_of};
-ghost use Rattle.ot_decide.specs.Verdicts.{IsDecidedAs, IsWithin};
+ghost use Rattle.ot_decide.specs.Verdicts.{IsDecidedAs, IsVerdictWithin};
 
 use crate::searching::search_all;
 use crate::verdict::{SearchVerdict, Verdict};
@@ -24,7 +24,7 @@ pub fn prove_all(
     ensures decides { IfOk result (IsDecidedAs (function_of rules.now) level budget) }
 
     // A certificate keeps the limit of a file.
-    ensures within { budget ≤ 1000000 → IfOk result (IsWithin 83886080) }
+    ensures within { budget ≤ 1000000 → IfOk result (IsVerdictWithin 83886080) }
 {
     obligations_are_those_of_the_kinds();
     let head = rules.head();

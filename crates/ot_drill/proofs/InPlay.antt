@@ -8,15 +8,15 @@ use Rattle.ot_session.specs.declared.answer.Took.{Took}
 use Rattle.ot_session.specs.declared.answer.Took.TheVariants.{Done, Held, Repeat}
 use Rattle.ot_session.specs.Views.{View}
 use Rattle.ot_drill.specs.declared.tally.Tally.{Tally}
-use Rattle.ot_drill.specs.FineEvents.{CanBeDone, MadeCounts, IsDrillFunction, Stands, are_fine, counts_behind, is_fine, none_made}
-use Rattle.ot_drill.specs.Playing.{ArePlayed, IsPlayed, nothing_done, with_answer}
+use Rattle.ot_drill.specs.FineEvents.{CanBeDone, MadeCounts, IsDrillFunction, SessionStands, are_fine, counts_behind, is_fine, none_made}
+use Rattle.ot_drill.specs.Playing.{ArePlayed, IsPlayed, nothing_done, tally_with_answer}
 use Rattle.ot_drill.specs.Playing.ArePlayed.{start, then}
 use Rattle.ot_drill.proofs.Standing.{can_be_done, function_behind, stands_behind}
 
 -- so many of the events were done, and the others are not refused
 pub record InPlay (begun v : View) (tally : Tally) (events : List Event) (i : ℕ) : Type 0 where
   pub counts : MadeCounts
-  pub stands : Stands v counts
+  pub stands : SessionStands v counts
   pub fine : are_fine counts (drop i events) ≡ true
   pub function : v.function ≡ begun.function
   pub played : ArePlayed begun (take i events) v tally
@@ -25,7 +25,7 @@ pub record InPlay (begun v : View) (tally : Tally) (events : List Event) (i : �
   pub repeated : tally.repeated ≤ i
 
 -- before the first event
-pub in_play-begun : (begun : View) (events : List Event) → Stands begun none_made → are_fine none_made events ≡ true
+pub in_play-begun : (begun : View) (events : List Event) → SessionStands begun none_made → are_fine none_made events ≡ true
     → InPlay begun begun nothing_done events 0
 in_play-begun begun events stands fine = record {
   counts = none_made;
@@ -44,7 +44,7 @@ record CountsOnce (old new : Tally) : Type 0 where
   held : new.held ≤ old.held + 1
   repeated : new.repeated ≤ old.repeated + 1
 
-counts_answer : (tally : Tally) (took : Took) → CountsOnce tally (with_answer tally took)
+counts_answer : (tally : Tally) (took : Took) → CountsOnce tally (tally_with_answer tally took)
 counts_answer tally Held = record { made = omega arith; held = omega arith; repeated = omega arith }
 counts_answer tally Repeat = record { made = omega arith; held = omega arith; repeated = omega arith }
 counts_answer tally (Done numbers) = record { made = omega arith; held = omega arith; repeated = omega arith }

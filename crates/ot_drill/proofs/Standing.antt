@@ -24,7 +24,7 @@ use Rattle.ot_session.specs.declared.made.Made.{Made}
 use Rattle.ot_session.specs.Past.{past_of}
 use Rattle.ot_session.specs.Views.{View, data_in, HasMade, HasTaken}
 use Rattle.ot_drill.specs.declared.tally.Tally.{Tally}
-use Rattle.ot_drill.specs.FineEvents.{CanBeDone, MadeCounts, HasFewForms, IsDrillFunction, Stands, counts_behind, is_at_front, is_fine, is_site}
+use Rattle.ot_drill.specs.FineEvents.{CanBeDone, MadeCounts, HasFewForms, IsDrillFunction, SessionStands, counts_behind, is_front_operation, is_fine, is_site}
 use Rattle.ot_drill.specs.Playing.{IsPlayed}
 use Rattle.ot_drill.specs.Workload.{drill_function}
 use Rattle.ot_drill.proofs.FewForms.{few_forms}
@@ -76,7 +76,7 @@ deletion made s behind = record {
 }
 
 -- an operation that passes the test is one at the front
-front_by : (c : MadeCounts) (s : ℕ) (o : Op) → is_at_front c s o ≡ true → IsFront (c.made s) s o
+front_by : (c : MadeCounts) (s : ℕ) (o : Op) → is_front_operation c s o ≡ true → IsFront (c.made s) s o
 front_by c s (Ins at ch site) h =
     let both : (int_eq at (pos 0) ≡ true) × (nat_eq site s ≡ true) = and_parts (int_eq at (pos 0)) (nat_eq site s) h in
     let front : at ≡ pos 0 = (Decides-int_eq at (pos 0)).0 both.0 in
@@ -107,7 +107,7 @@ may_be_made c s o h =
     let b : Bool = is_site s in
     let d : Bool = nat_lt (c.made s) 16 in
     let e : Bool = nat_lt c.total 48 in
-    let four = and_parts (((a && b) && d) && e) (is_at_front c s o) h in
+    let four = and_parts (((a && b) && d) && e) (is_front_operation c s o) h in
     let three = and_parts ((a && b) && d) e four.0 in
     let two = and_parts (a && b) d three.0 in
     let one = and_parts a b two.0 in
@@ -119,7 +119,7 @@ may_be_made c s o h =
       front = front_by c s o four.1;
     }
 
-module _ (v : View) (c : MadeCounts) (stands : Stands v c) where
+module _ (v : View) (c : MadeCounts) (stands : SessionStands v c) where
   -- a session of three sites
   is_site_of : (s : ℕ) → IsSite 3 s → IsSite (length v.sites) s
   is_site_of s is = let three : length v.sites ≡ 3 = stands.sites in subst (λ n. IsSite n s) (sym three) is
@@ -186,7 +186,7 @@ more_cases s t =
     ]
 
 -- the counts behind an operation that is made
-module _ (v new : View) (c : MadeCounts) (s n : ℕ) (o : Op) (stands : Stands v c) (is : IsDrillFunction v.function)
+module _ (v new : View) (c : MadeCounts) (s n : ℕ) (o : Op) (stands : SessionStands v c) (is : IsDrillFunction v.function)
     (may : MayBeMade c s o) (done : HasMade v new s o n) where
   made_by_site : Makes v.function (data_in v) (data_in new) s o
   made_by_site = done.makes
@@ -233,7 +233,7 @@ module _ (v new : View) (c : MadeCounts) (s n : ℕ) (o : Op) (stands : Stands v
             rw (made_by_site.keeps.documents t (is_site_of v c stands t site) other.0) (stands.filled early t site older))
       ]
 
-  behind_made : Stands new (counts_behind c (Make s o))
+  behind_made : SessionStands new (counts_behind c (Make s o))
   behind_made = record {
     is_open = done.is_open ∙ stands.is_open;
     sites = made_by_site.keeps.sites ∙ stands.sites;
@@ -246,8 +246,8 @@ module _ (v new : View) (c : MadeCounts) (s n : ℕ) (o : Op) (stands : Stands v
   }
 
 -- the counts behind an operation that is taken
-behind_taken : (v new : View) (c : MadeCounts) (s n : ℕ) (took : Took) → Stands v c → HasTaken v new s n (Ok took)
-    → Stands new (counts_behind c (Take s n))
+behind_taken : (v new : View) (c : MadeCounts) (s n : ℕ) (took : Took) → SessionStands v c → HasTaken v new s n (Ok took)
+    → SessionStands new (counts_behind c (Take s n))
 behind_taken v new c s n took stands taken =
     let made : new.made ≡ v.made = ap (λ (w : View). w.made) taken.is in
     let past : past_of new.made ≡ past_of v.made = ap (λ l. past_of l) made in
@@ -264,8 +264,8 @@ behind_taken v new c s n took stands taken =
 
 -- the counts behind an event
 pub stands_behind :
-    (v new : View) (c : MadeCounts) (tally new_tally : Tally) (event : Event) → Stands v c → IsDrillFunction v.function
-    → is_fine c event ≡ true → IsPlayed v tally event new new_tally → Stands new (counts_behind c event)
+    (v new : View) (c : MadeCounts) (tally new_tally : Tally) (event : Event) → SessionStands v c → IsDrillFunction v.function
+    → is_fine c event ≡ true → IsPlayed v tally event new new_tally → SessionStands new (counts_behind c event)
 stands_behind v new c tally new_tally (Make s o) stands is fine played =
     behind_made v new c s played.0 o stands is (may_be_made c s o fine) played.1
 stands_behind v new c tally new_tally (Take s n) stands is fine played = behind_taken v new c s n played.0 stands played.1

@@ -8,12 +8,12 @@ use Rattle.case_json.specs.declared.script.Event.{Event}
 use Rattle.case_json.specs.declared.script.Event.TheVariants.{Make, Take}
 
 -- what a site makes in a round: in every third round a deletion, otherwise an insertion, at the front of the document
-abbrev pub operation_in : ℕ → ℕ → Op
-operation_in round site = if nat_eq (round % 3) 2 then ops.Del (pos 0) site else ops.Ins (pos 0) 97 site
+abbrev pub round_operation : ℕ → ℕ → Op
+round_operation round site = if nat_eq (round % 3) 2 then ops.Del (pos 0) site else ops.Ins (pos 0) 97 site
 
 -- the three sites make their operations of a round
 abbrev pub makes_in : ℕ → List Event
-makes_in round = map (λ site. Make site (operation_in round site)) (1 ∷ 2 ∷ 3 ∷ [])
+makes_in round = map (λ site. Make site (round_operation round site)) (1 ∷ 2 ∷ 3 ∷ [])
 
 -- the operations of the other sites, of so many rounds, in the order in which they were made
 abbrev pub others_of : ℕ → ℕ → List ℕ

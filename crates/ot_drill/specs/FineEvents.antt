@@ -32,16 +32,16 @@ abbrev pub is_site : ℕ → Bool
 is_site s = nat_le 1 s && nat_le s SITES
 
 -- an insertion at the front of a document, or a deletion there behind an insertion at this site
-abbrev pub is_at_front : MadeCounts → ℕ → Op → Bool
-is_at_front c s (Ins at ch site) = int_eq at (pos 0) && nat_eq site s
-is_at_front c s (Del at site) = int_eq at (pos 0) && nat_eq site s && nat_lt 0 (c.made s)
-is_at_front c s (Upd at ch site) = false
-is_at_front c s Nop = false
+abbrev pub is_front_operation : MadeCounts → ℕ → Op → Bool
+is_front_operation c s (Ins at ch site) = int_eq at (pos 0) && nat_eq site s
+is_front_operation c s (Del at site) = int_eq at (pos 0) && nat_eq site s && nat_lt 0 (c.made s)
+is_front_operation c s (Upd at ch site) = false
+is_front_operation c s Nop = false
 
 -- an operation may be made before any is taken, and taken once it was made
 abbrev pub is_fine : MadeCounts → Event → Bool
-is_fine c (Make s op) = not c.taking && is_site s && nat_lt (c.made s) MOST_ROUNDS && nat_lt c.total 48 && is_at_front c
-    s op
+is_fine c (Make s op) =
+    not c.taking && is_site s && nat_lt (c.made s) MOST_ROUNDS && nat_lt c.total 48 && is_front_operation c s op
 is_fine c (Take s number) = is_site s && nat_lt number c.total
 
 abbrev pub counts_behind : MadeCounts → Event → MadeCounts
@@ -56,7 +56,7 @@ are_fine c (event ∷ events) = is_fine c event && are_fine (counts_behind c eve
 
 -- the session is open, and its counts are these, which are small; before an operation is taken, sites that made one
 -- have cells
-pub record Stands (v : View) (c : MadeCounts) : Type 0 where
+pub record SessionStands (v : View) (c : MadeCounts) : Type 0 where
   pub is_open : v.is_open ≡ true
   pub sites : length v.sites ≡ SITES
   pub total : length v.made ≡ c.total

@@ -22,17 +22,17 @@ abbrev pub with_made : Tally → Tally
 with_made tally = record tally { made = tally.made + 1 }
 
 -- the count behind the answer to one that was taken
-abbrev pub with_answer : Tally → Took → Tally
-with_answer tally Held = record tally { held = tally.held + 1 }
-with_answer tally Repeat = record tally { repeated = tally.repeated + 1 }
-with_answer tally (Done numbers) = tally
+abbrev pub tally_with_answer : Tally → Took → Tally
+tally_with_answer tally Held = record tally { held = tally.held + 1 }
+tally_with_answer tally Repeat = record tally { repeated = tally.repeated + 1 }
+tally_with_answer tally (Done numbers) = tally
 
 -- the event is done and counted
 abbrev pub IsPlayed : View → Tally → Event → View → Tally → Type 0
 IsPlayed v tally (Make site op) new new_tally = (number : ℕ) × HasMade v new site op number
     × (new_tally ≡ with_made tally)
 IsPlayed v tally (Take site number) new new_tally =
-    (took : Took) × HasTaken v new site number (Ok took) × (new_tally ≡ with_answer tally took)
+    (took : Took) × HasTaken v new site number (Ok took) × (new_tally ≡ tally_with_answer tally took)
 
 -- the events are done one after the other from a session on, which is this one in the end, and this was counted
 pub data ArePlayed (begun : View) : List Event → View → Tally → Type 0 where

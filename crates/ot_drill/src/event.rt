@@ -1,7 +1,7 @@
 //! The events of a workload.
 ghost use Rattle.std.specs.Prelude.{◌≡◌, ◌≤◌, ◌++◌, ◌*◌, IfOk, OnOk, reverse};
 ghost use Rattle.std.specs.List.{flat_map, range_with_len};
-ghost use Rattle.ot_drill.specs.Events.{drill_events, makes_in, operation_in, others_of, takes_of};
+ghost use Rattle.ot_drill.specs.Events.{drill_events, makes_in, round_operation, others_of, takes_of};
 
 use crate::limits::{MOST_ROUNDS, SITES};
 use case_json::Event;
@@ -10,7 +10,7 @@ use std::alloc::Global;
 
 // What a site makes in a round.
 fn operation_in(round: u32, site: u32) -> Op
-    ensures { result ≡ operation_in round site }
+    ensures { result ≡ round_operation round site }
 {
     if round % 3 == 2 {
         Op::Del { at: 0, site }

@@ -3,7 +3,8 @@ ghost use Rattle.std.specs.Prelude.{◌≡◌, ◌≤◌, ◌<◌, ◌+◌, ◌^
 ghost use Rattle.case_json.specs.declared.script.Event.TheVariants as events;
 ghost use Rattle.fn_rules.specs.Rules.{function_of};
 ghost use Rattle.ot_session.specs.Views.{view_of, HasMade};
-ghost use Rattle.ot_drill.specs.FineEvents.{CanBeDone, HasFewForms, IsDrillFunction, Stands, are_fine, none_made};
+ghost use Rattle.ot_drill.specs.FineEvents.{CanBeDone, HasFewForms, IsDrillFunction, SessionStands, are_fine};
+ghost use Rattle.ot_drill.specs.FineEvents.{none_made};
 ghost use Rattle.ot_drill.specs.Playing.{ArePlayed, CountsFewForms, HasPlayed, IsPlayed};
 ghost use Rattle.ot_drill.specs.Workload.{drill_function};
 
@@ -78,7 +79,7 @@ fn play_event(session: &mut Session, tally: Tally, event: Event) -> Result<Tally
 
 // Does events of which none is refused, and counts them.
 fn play_all(session: &mut Session, events: &[Event]) -> Result<Tally, NoMemory>
-    requires stands { Stands (view_of session.old) none_made }
+    requires stands { SessionStands (view_of session.old) none_made }
     requires function { IsDrillFunction (view_of session.old).function }
     requires fine { are_fine none_made events.now ≡ true }
     ensures played { IfOk result (λ tally. ArePlayed (view_of session.old) events.now (view_of session.new) tally) }

@@ -1,6 +1,6 @@
 //! What is counted of a session.
 ghost use Rattle.std.specs.Prelude.{◌≡◌, ◌<◌, ◌+◌, ◌^◌};
-ghost use Rattle.ot_drill.specs.Playing.{nothing_done, with_answer, with_made};
+ghost use Rattle.ot_drill.specs.Playing.{nothing_done, tally_with_answer, with_made};
 
 use ot_session::Took;
 
@@ -44,7 +44,7 @@ impl Tally {
     pub(crate) fn with_answer(self, answer: &Took) -> Tally
         requires held { self.held + 1 < 2 ^ 64 }
         requires repeated { self.repeated + 1 < 2 ^ 64 }
-        ensures { result ≡ with_answer self answer.now }
+        ensures { result ≡ tally_with_answer self answer.now }
     {
         match answer {
             Took::Held => Tally {

@@ -9,7 +9,7 @@ use Rattle.fn_rules.specs.Conditions.{IsIntegrable}
 use Rattle.fn_rules.specs.Properties.{ConvergesAt}
 use Rattle.fn_rules.specs.Forms.{KeepsForms, ConvergesOnForms}
 use Rattle.ot_hub.specs.declared.placed.PlacedOp.{PlacedOp}
-use Rattle.ot_hub.specs.Carry.{crossed, behind}
+use Rattle.ot_hub.specs.Carry.{crossed, carried_behind}
 use Rattle.ot_hub.specs.Chains.{document_after_all, IsChain, IsAllowedWith, CarriesAcross}
 
 module _ (f : Function) (keeps : KeepsForms f) (converging : ConvergesOnForms f) where
@@ -38,7 +38,7 @@ module _ (f : Function) (keeps : KeepsForms f) (converging : ConvergesOnForms f)
   CarriesAcross-more : (d : List Cell) (o : Op) (b : PlacedOp) (bs : List PlacedOp) → IsIntegrable f (length d) b.op → (converges : ConvergesAt f d o b.op)
       → CarriesAcross f (document_after f.head.mode b.op d) converges.a_after_b bs → CarriesAcross f d o (b ∷ bs)
   CarriesAcross-more d o b bs integrable converges rest = record {
-    carried = behind (record b { op = converges.b_after_a } ∷ []) rest.carried;
+    carried = carried_behind (record b { op = converges.b_after_a } ∷ []) rest.carried;
     is = rw (crossed-converging d o b.op converges, rest.is) refl;
     op = rest.op;
     list = (

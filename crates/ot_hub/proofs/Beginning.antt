@@ -8,7 +8,7 @@ use Rattle.fn_rules.specs.Functions.{Function}
 use Rattle.ot_hub.specs.declared.client.Client.{Client}
 use Rattle.ot_hub.specs.declared.server.Server.{Server}
 use Rattle.ot_hub.specs.Clients.{IsClient, nobody, client_at}
-use Rattle.ot_hub.specs.InStep.{IsClientInStep, AreInStep, AreCounted}
+use Rattle.ot_hub.specs.InStep.{IsClientInStep, AreInStep, AreCountedEdits}
 use Rattle.ot_hub.specs.Steps.{ahead_of}
 use Rattle.ot_hub.proofs.Keeping.{client_at-get_or}
 
@@ -28,11 +28,11 @@ module _ (d : List Cell) (n : ℕ) where
   nothing_ahead : (c : ℕ) → IsClient (length (replicate n fresh)) c → ahead_of server c ≡ []
   nothing_ahead c there = unwrap_or-slice_get server.ahead (c - 1) [] ∙ get_or-replicate n (c - 1) [] [] (inside c there)
 
-  pub AreCounted-begun : AreCounted [] (replicate n fresh)
-  AreCounted-begun = record { each = λ c there. rw (fresh_at c there) refl }
+  pub AreCountedEdits-begun : AreCountedEdits [] (replicate n fresh)
+  AreCountedEdits-begun = record { each = λ c there. rw (fresh_at c there) refl }
 
-  pub AreInStep-begun : (f : Function) → AreInStep f d server (replicate n fresh)
-  AreInStep-begun f = record {
+  pub AreInStep-begun_hub : (f : Function) → AreInStep f d server (replicate n fresh)
+  AreInStep-begun_hub f = record {
     log = record { chain = tt; own = tt; doc = refl };
     each = λ c there. subst (λ (x : Client). IsClientInStep f d server c x (ahead_of server c)) (sym (fresh_at c there))
         (subst (IsClientInStep f d server c fresh) (sym (nothing_ahead c there)) (begun c));

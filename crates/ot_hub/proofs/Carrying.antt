@@ -10,7 +10,7 @@ use Rattle.ot_model.specs.declared.op.Op.TheVariants.{Ins}
 use Rattle.fn_rules.specs.Functions.{Function}
 use Rattle.ot_hub.specs.declared.carry.Crossed.{Crossed}
 use Rattle.ot_hub.specs.declared.placed.PlacedOp.{PlacedOp}
-use Rattle.ot_hub.specs.Carry.{crossed, Carried, behind, carry, from_place, carried_op}
+use Rattle.ot_hub.specs.Carry.{crossed, Carried, carried_behind, carry, from_place, carried_op}
 use Rattle.std.specs.List.{AllByRecursion}
 use Rattle.fn_rules.specs.Transformation.{transform_of}
 
@@ -19,21 +19,22 @@ abbrev pub no_one : PlacedOp
 no_one = record { place = 0; op = Ins (pos 0) 0 0 }
 
 -- what is carried first changes nothing of what the operation becomes
-pub carried_op-behind : (before : List PlacedOp) (carried : Option Carried) → carried_op (option_map (behind before) carried) ≡ carried_op carried
-carried_op-behind before None = refl
-carried_op-behind before (Some carried) = refl
+pub carried_op-carried_behind : (before : List PlacedOp) (carried : Option Carried)
+    → carried_op (option_map (carried_behind before) carried) ≡ carried_op carried
+carried_op-carried_behind before None = refl
+carried_op-carried_behind before (Some carried) = refl
 
 -- others before those that are before a list
-pub behind-behind : (before more : List PlacedOp) (carried : Option Carried)
-    → option_map (behind before) (option_map (behind more) carried) ≡ option_map (behind (before ++ more)) carried
-behind-behind before more None = refl
-behind-behind before more (Some carried) =
+pub carried_behind-carried_behind : (before more : List PlacedOp) (carried : Option Carried)
+    → option_map (carried_behind before) (option_map (carried_behind more) carried) ≡ option_map (carried_behind (before ++ more)) carried
+carried_behind-carried_behind before more None = refl
+carried_behind-carried_behind before more (Some carried) =
     ap (λ (list : List PlacedOp). Some (record { op = carried.op; list = list })) (sym (append_assoc before more carried.list))
 
 -- nothing before a list
-pub behind-nothing : (carried : Option Carried) → option_map (behind []) carried ≡ carried
-behind-nothing None = refl
-behind-nothing (Some carried) = refl
+pub carried_behind-nothing : (carried : Option Carried) → option_map (carried_behind []) carried ≡ carried
+carried_behind-nothing None = refl
+carried_behind-nothing (Some carried) = refl
 
 -- the test of a place
 pub from_true : (place at : ℕ) → place ≤ at → nat_le place at ≡ true
@@ -58,7 +59,7 @@ module _ (f : Function) (list : List PlacedOp) (place i : ℕ) (inside : i < len
 
   -- one that the operation is carried over
   pub carry-next : (o : Op) (both : Crossed) → nat_le place here.place ≡ true → crossed f o here.op ≡ Some both
-      → carry f o (rest i) ≡ option_map (behind (record here { op = both.other } ∷ [])) (carry f both.own (rest (i + 1)))
+      → carry f o (rest i) ≡ option_map (carried_behind (record here { op = both.other } ∷ [])) (carry f both.own (rest (i + 1)))
   carry-next o both kept is = rw (rest-kept kept, is) refl
 
   -- one that it can't be carried over
@@ -74,29 +75,29 @@ pub carry-push : (f : Function) (o : Op) (bs : List PlacedOp) (b : PlacedOp) →
 carry-push f o [] b = by (crossed f o b.op)
   where
     by : (x : Option Crossed)
-        → option_and_then (λ both. option_map (behind (record b { op = both.other } ∷ [])) (Some (record { op = both.own; list = [] }))) x
+        → option_and_then (λ both. option_map (carried_behind (record b { op = both.other } ∷ [])) (Some (record { op = both.own; list = [] }))) x
         ≡ option_map (λ both. record { op = both.own; list = record b { op = both.other } ∷ [] }) x
     by None = refl
     by (Some both) = refl
 carry-push f o (a ∷ bs) b = by (crossed f o a.op) (λ p. carry-push f p bs b)
   where
     moved : (first : List PlacedOp) (c : Option Carried)
-        → option_map (behind first) (option_and_then (carried_on f b) c) ≡ option_and_then (carried_on f b) (option_map (behind first) c)
+        → option_map (carried_behind first) (option_and_then (carried_on f b) c) ≡ option_and_then (carried_on f b) (option_map (carried_behind first) c)
     moved first None = refl
     moved first (Some c) = at (crossed f c.op b.op)
       where
         at : (x : Option Crossed)
-            → option_map (behind first) (option_map (λ both. record { op = both.own; list = c.list ++ record b { op = both.other } ∷ [] }) x)
+            → option_map (carried_behind first) (option_map (λ both. record { op = both.own; list = c.list ++ record b { op = both.other } ∷ [] }) x)
             ≡ option_map (λ both. record { op = both.own; list = (first ++ c.list) ++ record b { op = both.other } ∷ [] }) x
         at None = refl
         at (Some both) = ap (λ (list : List PlacedOp). Some (record { op = both.own; list = list }))
             (sym (append_assoc first c.list (record b { op = both.other } ∷ [])))
 
     by : (x : Option Crossed) → ((p : Op) → carry f p (bs ++ b ∷ []) ≡ option_and_then (carried_on f b) (carry f p bs))
-        → option_and_then (λ both. option_map (behind (record a { op = both.other } ∷ [])) (carry f both.own (bs ++ b ∷ []))) x
-        ≡ option_and_then (carried_on f b) (option_and_then (λ both. option_map (behind (record a { op = both.other } ∷ [])) (carry f both.own bs)) x)
+        → option_and_then (λ both. option_map (carried_behind (record a { op = both.other } ∷ [])) (carry f both.own (bs ++ b ∷ []))) x
+        ≡ option_and_then (carried_on f b) (option_and_then (λ both. option_map (carried_behind (record a { op = both.other } ∷ [])) (carry f both.own bs)) x)
     by None rest = refl
-    by (Some both) rest = ap (option_map (behind (record a { op = both.other } ∷ []))) (rest both.own) ∙ moved (record a { op = both.other } ∷ [])
+    by (Some both) rest = ap (option_map (carried_behind (record a { op = both.other } ∷ []))) (rest both.own) ∙ moved (record a { op = both.other } ∷ [])
         (carry f both.own bs)
 
 -- both transformations of two that crossed
@@ -137,14 +138,14 @@ pub carries_on : (f : Function) (o : Op) (b : PlacedOp) (bs : List PlacedOp) (k 
 carries_on f o b bs k is = by (crossed f o b.op) refl is
   where
     further : (both : Crossed) → crossed f o b.op ≡ Some both → (c : Option Carried) → carry f both.own bs ≡ c
-        → option_map (behind (record b { op = both.other } ∷ [])) c ≡ Some k → CarriesOn f o b bs k
+        → option_map (carried_behind (record b { op = both.other } ∷ [])) c ≡ Some k → CarriesOn f o b bs k
     further both crosses None none is_c = cc
     further both crosses (Some rest) some is_c =
         let same : record { op = rest.op; list = record b { op = both.other } ∷ rest.list } ≡ k = cc in
         record { both = both; is = crosses; rest = rest; rest_is = some; k_is = same }
 
     by : (x : Option Crossed) → crossed f o b.op ≡ x
-        → option_and_then (λ both. option_map (behind (record b { op = both.other } ∷ [])) (carry f both.own bs)) x ≡ Some k
+        → option_and_then (λ both. option_map (carried_behind (record b { op = both.other } ∷ [])) (carry f both.own bs)) x ≡ Some k
         → CarriesOn f o b bs k
     by None none is_x = cc
     by (Some both) some is_x = further both some (carry f both.own bs) refl is_x

@@ -11,7 +11,7 @@ use Rattle.ot_hub.specs.declared.placed.PlacedOp.{PlacedOp}
 use Rattle.ot_hub.specs.Chains.{document_after_all}
 use Rattle.ot_hub.specs.Meeting.{Ups, Downs}
 use Rattle.ot_hub.specs.Steps.{Step, Nothing, Stuck, To, ahead_of}
-use Rattle.ot_hub.specs.Views.{HubData, begun, client_of, after_edit, up_step, down_step}
+use Rattle.ot_hub.specs.Views.{HubData, begun_hub, client_of, after_edit, up_step, down_step}
 
 abbrev a : Cell
 a = live_cell 97
@@ -49,33 +49,33 @@ abbrev all_received : List Event
 all_received =
     Down 1 ∷ Down 1 ∷ Down 1 ∷ Down 2 ∷ Down 2 ∷ Down 2 ∷ Down 3 ∷ Down 3 ∷ Down 3 ∷ []
 
-server_alone : (after (begun sites (y ∷ []) 3) sent_in_turn).server.doc ≡ c ∷ a ∷ []
+server_alone : (after (begun_hub sites (y ∷ []) 3) sent_in_turn).server.doc ≡ c ∷ a ∷ []
 server_alone = refl
 
 -- with the first property alone, each client ends with the server's document
-clients_too : map (λ client. client.doc) (after (after (begun sites (y ∷ []) 3) sent_in_turn) all_received).clients
+clients_too : map (λ client. client.doc) (after (after (begun_hub sites (y ∷ []) 3) sent_in_turn) all_received).clients
     ≡ (c ∷ a ∷ []) ∷ (c ∷ a ∷ []) ∷ (c ∷ a ∷ []) ∷ []
 clients_too = refl
 
-nothing_is_pending : map (λ client. client.pending) (after (after (begun sites (y ∷ []) 3) sent_in_turn) all_received).clients ≡ [] ∷ [] ∷ [] ∷ []
+nothing_is_pending : map (λ client. client.pending) (after (after (begun_hub sites (y ∷ []) 3) sent_in_turn) all_received).clients ≡ [] ∷ [] ∷ [] ∷ []
 nothing_is_pending = refl
 
-nothing_to_take : down_step (after (begun sites [] 2) (Edit 1 (Ins (pos 0) 97 1) ∷ [])) 2 ≡ Nothing
+nothing_to_take : down_step (after (begun_hub sites [] 2) (Edit 1 (Ins (pos 0) 97 1) ∷ [])) 2 ≡ Nothing
 nothing_to_take = refl
 
-nothing_to_send : up_step (begun sites [] 2) 1 ≡ Nothing
+nothing_to_send : up_step (begun_hub sites [] 2) 1 ≡ Nothing
 nothing_to_send = refl
 
 -- an own entry is received before and after another one
 abbrev crossing : List Event
 crossing = Edit 1 (Ins (pos 0) 97 1) ∷ Edit 2 (Ins (pos 0) 99 2) ∷ Up 1 ∷ Up 2 ∷ Down 1 ∷ Down 1 ∷ Down 2 ∷ Down 2 ∷ []
 
-own_entries_are_not_executed_again : map (λ client. client.doc) (after (begun sites [] 2) crossing).clients ≡ (a ∷ c ∷ []) ∷ (a ∷ c ∷ []) ∷ []
+own_entries_are_not_executed_again : map (λ client. client.doc) (after (begun_hub sites [] 2) crossing).clients ≡ (a ∷ c ∷ []) ∷ (a ∷ c ∷ []) ∷ []
 own_entries_are_not_executed_again = refl
 
 -- the server took two of the three messages, and no client received anything
 abbrev waiting : HubData
-waiting = after (begun sites (y ∷ []) 3) (Edit 1 (Ins (pos 1) 97 1) ∷ Edit 2 (Del (pos 0) 2) ∷ Edit 3 (Ins (pos 0) 99 3) ∷ Up 1 ∷ Up 2 ∷ [])
+waiting = after (begun_hub sites (y ∷ []) 3) (Edit 1 (Ins (pos 1) 97 1) ∷ Edit 2 (Del (pos 0) 2) ∷ Edit 3 (Ins (pos 0) 99 3) ∷ Up 1 ∷ Up 2 ∷ [])
 
 -- what the third message becomes at the server, and what its client will take
 abbrev third : PlacedOp

@@ -22,11 +22,11 @@ use Rattle.ot_hub.specs.declared.limits.TheConstants.{MAX_EDITS}
 use Rattle.ot_hub.specs.declared.placed.PlacedOp.{PlacedOp}
 use Rattle.ot_hub.specs.declared.placed.Entry.{Entry}
 use Rattle.ot_hub.specs.declared.server.Server.{Server}
-use Rattle.ot_hub.specs.Clients.{nobody, client_at, sent, CanEdit, CanTake}
+use Rattle.ot_hub.specs.Clients.{nobody, client_at, sent, CanEdit, CanTakeEntry}
 use Rattle.ot_hub.specs.Kept.{IsServerKept, IsClientKept, IsHubKept}
 use Rattle.ot_hub.specs.Carry.{Carried, carry, from_place}
 use Rattle.ot_hub.specs.Steps.{Step, Nothing, Stuck, To, step_map, client_step, edited, goes_on, ahead_of, server_after, client_after, confirmed}
-use Rattle.ot_hub.specs.Usable.{IsUsable, AreUsable, most_cells, reach}
+use Rattle.ot_hub.specs.Usable.{IsUsable, AreUsable, most_hub_cells, reach}
 use Rattle.ot_hub.proofs.Kept.{CanBeCarried-near}
 use Rattle.ot_hub.proofs.Near.{Wider, KeepsNear, IsUsable-wider, AreUsable-wider, IsCarriedNear, carry-near}
 
@@ -85,10 +85,10 @@ module _ (f : Function) (count : ℕ) (s : Server) (all : List Client) (kept : I
         longer : length (one.messages ++ made_here ∷ []) ≡ length one.messages + 1
         longer = length-append one.messages (made_here ∷ [])
 
-        usable : IsUsable f most_cells o
+        usable : IsUsable f most_hub_cells o
         usable = record {
           declared = declared;
-          near = wider (length one.doc) most_cells o
+          near = wider (length one.doc) most_hub_cells o
               (omega (arith, one-kept.cells, one-kept.received, can.few, kept.server.few)) (near (length one.doc) o can.enabled);
         }
 
@@ -97,9 +97,9 @@ module _ (f : Function) (count : ℕ) (s : Server) (all : List Client) (kept : I
           few = omega (arith, can.few);
           received = one-kept.received;
           pending = All-push (λ b. IsUsable f (reach (length s.log + one.received)) b.op) one.pending made_here one-kept.pending
-              (IsUsable-wider wider f most_cells (reach (length s.log + one.received)) o (omega arith) usable);
+              (IsUsable-wider wider f most_hub_cells (reach (length s.log + one.received)) o (omega arith) usable);
           short = omega (arith, one-kept.short, length-append one.pending (made_here ∷ []));
-          messages = All-push (λ b. IsUsable f most_cells b.op) one.messages made_here one-kept.messages usable;
+          messages = All-push (λ b. IsUsable f most_hub_cells b.op) one.messages made_here one-kept.messages usable;
           cells = omega (arith, one-kept.cells, grows mode o one.doc);
         }
 
@@ -121,7 +121,7 @@ goes_on-to {X} (Some it) cells go new is = elim (cases_Bool (is_enabled it.op ce
     to_one same = cc
 
 module _ (f : Function) (has : KeepsNear f) (grows : Grows) (mode : Mode) (c : ℕ) (carried : Carried) (s : Server) (kept : IsServerKept f s)
-    (few : length s.log < MAX_EDITS) (place : ℕ) (message : Op) (usable : IsUsable f most_cells message)
+    (few : length s.log < MAX_EDITS) (place : ℕ) (message : Op) (usable : IsUsable f most_hub_cells message)
     (inside : c - 1 < length s.ahead) (is : carry f message (from_place place (ahead_of s c)) ≡ Some carried) where
   abbrev entries : ℕ
   entries = length s.log
@@ -145,7 +145,7 @@ module _ (f : Function) (has : KeepsNear f) (grows : Grows) (mode : Mode) (c : �
   )
 
   near : IsCarriedNear f (reach entries + 99 * length list) (length list) carried
-  near = carry-near f has (reach entries) message list carried (IsUsable-wider has.wider f most_cells (reach entries) message (omega arith) usable)
+  near = carry-near f has (reach entries) message list carried (IsUsable-wider has.wider f most_hub_cells (reach entries) message (omega arith) usable)
       (All-filter (λ b. nat_le place b.place) (λ b. IsUsable f (reach entries) b.op) (ahead_of s c)
       (rw there (All-get_or (λ one. AreUsable f (reach entries) one) s.ahead (c - 1) [] inside kept.ahead))) is
 
@@ -228,7 +228,7 @@ IsHubKept-up f wider count s new all kept i inside some new_kept longer sides = 
       received = was.received;
       pending = was.pending;
       short = was.short;
-      messages = All-drop (λ b. IsUsable f most_cells b.op) 1 (client_at all i).messages was.messages;
+      messages = All-drop (λ b. IsUsable f most_hub_cells b.op) 1 (client_at all i).messages was.messages;
       cells = was.cells;
     })
 
@@ -247,8 +247,8 @@ module _ (f : Function) (has : KeepsNear f) (grows : Grows) (mode : Mode) (n : �
   }
 
   module _ (o : Op) (usable : IsUsable f (reach n) o) where
-    pub CanTake-kept : CanTake f o client
-    CanTake-kept = record {
+    pub CanTakeEntry-kept : CanTakeEntry f o client
+    CanTakeEntry-kept = record {
       usable = CanBeCarried-near has.wider f (reach (n + client.received)) o client.pending (omega (arith, kept.short, kept.few))
           (omega (arith, kept.short, kept.few, few, more))
           (IsUsable-wider has.wider f (reach n) (reach (n + client.received)) o (omega arith) usable) kept.pending;

@@ -8,7 +8,7 @@ use Rattle.fn_rules.specs.Functions.{Function}
 use Rattle.ot_hub.specs.declared.placed.PlacedOp.{PlacedOp}
 use Rattle.ot_hub.specs.declared.placed.Entry.{Entry}
 use Rattle.ot_hub.specs.Carry.{Carried, carry, crossed, from_place}
-use Rattle.ot_hub.specs.Meeting.{Ups, IsTaken, Downs}
+use Rattle.ot_hub.specs.Meeting.{Ups, IsTakenEntry, Downs}
 use Rattle.ot_hub.proofs.Carrying.{from_true, CarriesOn, carries_on, carried_over_nothing, carry-one_more, crossed-exchanged}
 
 -- an operation with a place
@@ -117,7 +117,7 @@ module _ (f : Function) (c : ℕ) where
         let here : carry f o (item place other.carried.op ∷ other.later) ≡ Some k = subst (λ (l : List PlacedOp). carry f o l ≡ Some k) other.taken_is is in
         let on : CarriesOn f o (item place other.carried.op) other.later k = carries_on f o (item place other.carried.op) other.later k here in
         let back = crossed-exchanged f o other.carried.op on.both on.is in
-        subst (λ (x : Carried). IsTaken f c place entry (pending ++ item n o ∷ []) x.list
+        subst (λ (x : Carried). IsTakenEntry f c place entry (pending ++ item n o ∷ []) x.list
         (λ behind later. Downs f c (place + 1) behind entries (forms ++ item n x.op ∷ []) later)) on.k_is (record {
           other = other.other;
           carried = record { op = on.both.other; list = other.carried.list ++ item n on.both.own ∷ [] };

@@ -10,9 +10,9 @@ use Rattle.fn_rules.specs.Validity.{is_valid}
 use Rattle.fn_rules.specs.Conditions.{IsWithin}
 use Rattle.fn_rules.specs.Forms.{KeepsForms}
 use Rattle.ot_hub.specs.declared.carry.Crossed.{Crossed}
-use Rattle.ot_hub.specs.Carry.{Carried, behind, carry, crossed}
+use Rattle.ot_hub.specs.Carry.{Carried, carried_behind, carry, crossed}
 use Rattle.ot_hub.specs.declared.placed.PlacedOp.{PlacedOp}
-use Rattle.ot_hub.specs.Usable.{IsUsable, AreUsable, farthest}
+use Rattle.ot_hub.specs.Usable.{IsUsable, AreUsable, farthest_carried}
 use Rattle.ot_hub.proofs.Carrying.{no_one}
 
 -- what the layers below promise of positions
@@ -39,8 +39,8 @@ keeps_near f keeps near wider valid = record { keeps = keeps f; near = λ a b c 
 
 -- two operations at positions that can be calculated with
 pub record CanCross (f : Function) (a b : Op) : Type 0 where
-  pub own : IsUsable f (farthest 0) a
-  pub other : IsUsable f (farthest 0) b
+  pub own : IsUsable f (farthest_carried 0) a
+  pub other : IsUsable f (farthest_carried 0) b
 
 module _ (f : Function) (has : KeepsNear f) where
   pub IsUsable-more : (m n : ℕ) (o : Op) → m ≤ n → IsUsable f m o → IsUsable f n o
@@ -81,10 +81,10 @@ module _ (f : Function) (has : KeepsNear f) where
     here-usable = All-get_or (λ x. IsUsable f m x.op) list i no_one inside all
 
     -- the two can cross
-    pub CanCross-next : m + 99 * i ≤ farthest 0 → CanCross f o here
+    pub CanCross-next : m + 99 * i ≤ farthest_carried 0 → CanCross f o here
     CanCross-next small = record {
-      own = IsUsable-more (m + 99 * i) (farthest 0) o small usable;
-      other = IsUsable-more m (farthest 0) here (omega (arith, small)) here-usable;
+      own = IsUsable-more (m + 99 * i) (farthest_carried 0) o small usable;
+      other = IsUsable-more m (farthest_carried 0) here (omega (arith, small)) here-usable;
     }
 
     pub IsUsable-next : (both : Crossed) → crossed f o here ≡ Some both → IsUsable f (m + 99 * (i + 1)) both.own
@@ -119,7 +119,8 @@ carry-near f has m o (b ∷ bs) carried usable all is =
     -- what is carried over the others, put behind the next one of the list, is near too
     rest : (both : Crossed) → AreUsableBoth f has (m + 99) both → (c : Option Carried)
         → ((k : Carried) → c ≡ Some k → IsCarriedNear f (m + 99 + 99 * length bs) (length bs) k)
-        → option_map (behind (record b { op = both.other } ∷ [])) c ≡ Some carried → IsCarriedNear f (m + 99 * length (b ∷ bs)) (length (b ∷ bs)) carried
+        → option_map (carried_behind (record b { op = both.other } ∷ [])) c ≡ Some carried
+        → IsCarriedNear f (m + 99 * length (b ∷ bs)) (length (b ∷ bs)) carried
     rest both near None further is_c = cc
     rest both near (Some k) further is_c =
         let same : record { op = k.op; list = record b { op = both.other } ∷ k.list } ≡ carried = cc in
@@ -136,7 +137,7 @@ carry-near f has m o (b ∷ bs) carried usable all is =
     by : (x : Option Crossed) → crossed f o b.op ≡ x
         → ((both : Crossed) (k : Carried) → IsUsable f (m + 99) both.own → AreUsable f (m + 99) bs → carry f both.own bs ≡ Some k
         → IsCarriedNear f (m + 99 + 99 * length bs) (length bs) k)
-        → option_and_then (λ both. option_map (behind (record b { op = both.other } ∷ [])) (carry f both.own bs)) x ≡ Some carried
+        → option_and_then (λ both. option_map (carried_behind (record b { op = both.other } ∷ [])) (carry f both.own bs)) x ≡ Some carried
         → IsCarriedNear f (m + 99 * length (b ∷ bs)) (length (b ∷ bs)) carried
     by None none further is_c = cc
     by (Some both) some further is_c =

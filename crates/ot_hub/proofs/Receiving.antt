@@ -19,7 +19,7 @@ use Rattle.ot_hub.specs.declared.server.Server.{Server}
 use Rattle.ot_hub.specs.Carry.{Carried, from_place}
 use Rattle.ot_hub.specs.Chains.{document_after_all, IsChain, CarriesAcross}
 use Rattle.ot_hub.specs.InStep.{IsOf, IsOfOthers, operations, IsServerInStep, IsClientInStep}
-use Rattle.ot_hub.specs.Meeting.{IsConfirmed, IsTaken, Downs}
+use Rattle.ot_hub.specs.Meeting.{IsConfirmedEntry, IsTakenEntry, Downs}
 use Rattle.ot_hub.specs.Steps.{To, client_after, client_step, confirmed}
 use Rattle.ot_hub.proofs.Across.{CarriesAcross-tp1}
 use Rattle.ot_hub.proofs.Carrying.{from_false, list-kept}
@@ -63,7 +63,7 @@ module _ (f : Function) (keeps : KeepsForms f) (converging : ConvergesOnForms f)
         from_place-later r (r + 1) s.kept (omega arith) ∙ ap (from_place (r + 1)) s.kept_is ∙ same ∙ from_place-same (r + 1) list places
 
     -- an own one
-    confirmed-case : IsConfirmed c entry client.pending (λ younger. Downs f c (r + 1) younger later s.forms s.taken)
+    confirmed-case : IsConfirmedEntry c entry client.pending (λ younger. Downs f c (r + 1) younger later s.forms s.taken)
         → IsClientInStep f first server c (confirmed client) ahead
     confirmed-case mine =
         let younger_is : drop 1 client.pending ≡ mine.younger = ap (drop 1) mine.pending_is in
@@ -94,7 +94,7 @@ module _ (f : Function) (keeps : KeepsForms f) (converging : ConvergesOnForms f)
         }
 
     -- one of another client
-    module _ (theirs : IsTaken f c r entry client.pending s.taken (λ behind rest. Downs f c (r + 1) behind later s.forms rest)) where
+    module _ (theirs : IsTakenEntry f c r entry client.pending s.taken (λ behind rest. Downs f c (r + 1) behind later s.forms rest)) where
       abbrev form : Op
       form = theirs.carried.op
 

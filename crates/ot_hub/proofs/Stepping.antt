@@ -14,7 +14,7 @@ use Rattle.ot_hub.specs.declared.placed.PlacedOp.{PlacedOp}
 use Rattle.ot_hub.specs.declared.placed.Entry.{Entry}
 use Rattle.ot_hub.specs.Carry.{Carried, carry, from_place, carried_op, carried_list}
 use Rattle.ot_hub.specs.Steps.{Step, Nothing, Stuck, To, step_map, IsTo, HasStepped, goes_on, client_after, confirmed, client_step}
-use Rattle.ot_hub.specs.Views.{HubData, closed, IsClient, HasMoved, client_of, up_with, down_with, down_step}
+use Rattle.ot_hub.specs.Views.{HubData, closed_hub, IsClient, HasMoved, client_of, up_with, down_with, down_step}
 use Rattle.ot_hub.proofs.Carrying.{from_true}
 
 -- what was carried, by its two parts
@@ -92,7 +92,7 @@ some_first (first ∷ others) message is = omega arith
 
 -- a part that refused a step leaves the whole closed, and as it was
 pub HasMoved-refused : {X : Type 0} (hub new_hub : HubData) (c : ℕ) → IsClient (length hub.clients) c → (old new : X) (step : Step X) (whole : X → HubData)
-    (r : Move) → HasStepped {X = X} {R = Unit {0}} old new step (Err r) → (new ≡ old → new_hub ≡ closed hub)
+    (r : Move) → HasStepped {X = X} {R = Unit {0}} old new step (Err r) → (new ≡ old → new_hub ≡ closed_hub hub)
     → HasMoved hub new_hub c (step_map whole step) (Err r)
 HasMoved-refused hub new_hub c there old new step whole moves.NoSite stepped same = absurd stepped
 HasMoved-refused hub new_hub c there old new step whole moves.Stuck stepped same = (there, ap (step_map whole) stepped.0, same stepped.1)

@@ -20,7 +20,7 @@ use Rattle.ot_hub.specs.declared.placed.Entry.{Entry}
 use Rattle.ot_hub.specs.declared.server.Server.{Server}
 use Rattle.ot_hub.specs.Carry.{Carried}
 use Rattle.ot_hub.specs.Clients.{IsClient, nobody, client_at, sent}
-use Rattle.ot_hub.specs.InStep.{IsOf, IsClientInStep, AreInStep, AreCounted}
+use Rattle.ot_hub.specs.InStep.{IsOf, IsClientInStep, AreInStep, AreCountedEdits}
 use Rattle.ot_hub.specs.Meeting.{Ups}
 use Rattle.ot_hub.specs.Steps.{Step, To, Stuck, HasStepped, ahead_of, edited, client_step, server_after, server_step}
 use Rattle.ot_hub.proofs.Keeping.{client_at-get_or}
@@ -68,7 +68,7 @@ module _ (all : List Client) (c : ℕ) (there : IsClient (length all) c) (new : 
   ]
 
 -- what is counted
-module _ (log : List Entry) (all : List Client) (counted : AreCounted log all) (c : ℕ) (there : IsClient (length all) c) where
+module _ (log : List Entry) (all : List Client) (counted : AreCountedEdits log all) (c : ℕ) (there : IsClient (length all) c) where
   abbrev one : Client
   one = client_at all (c - 1)
 
@@ -76,19 +76,19 @@ module _ (log : List Entry) (all : List Client) (counted : AreCounted log all) (
   entries_of d entries = count_by (λ entry. nat_eq entry.client d) entries
 
   -- where as many messages came as edits
-  pub AreCounted-set : (new : Client) → length new.messages + one.edits ≡ length one.messages + new.edits → AreCounted log (slice_set all (c - 1) new)
-  AreCounted-set new same = record {
+  pub AreCountedEdits-set : (new : Client) → length new.messages + one.edits ≡ length one.messages + new.edits → AreCountedEdits log (slice_set all (c - 1) new)
+  AreCountedEdits-set new same = record {
     each = each-set all c there new (λ d client. entries_of d log + length client.messages ≡ client.edits)
         (omega (arith, same, counted.each c there)) (λ d other here. counted.each d here);
   }
 
   -- where neither changed
-  pub AreCounted-same : (new : Client) → new.edits ≡ one.edits → new.messages ≡ one.messages → AreCounted log (slice_set all (c - 1) new)
-  AreCounted-same new edits messages = AreCounted-set new (omega (arith, edits, ap length messages))
+  pub AreCountedEdits-same : (new : Client) → new.edits ≡ one.edits → new.messages ≡ one.messages → AreCountedEdits log (slice_set all (c - 1) new)
+  AreCountedEdits-same new edits messages = AreCountedEdits-set new (omega (arith, edits, ap length messages))
 
   -- where the oldest message went into the log
-  pub AreCounted-up : (o : Op) → 0 < length one.messages → AreCounted (log ++ record { client = c; op = o } ∷ []) (slice_set all (c - 1) (sent one))
-  AreCounted-up o some = record {
+  pub AreCountedEdits-up : (o : Op) → 0 < length one.messages → AreCountedEdits (log ++ record { client = c; op = o } ∷ []) (slice_set all (c - 1) (sent one))
+  AreCountedEdits-up o some = record {
     each = each-set all c there (sent one) (λ d client. entries_of d (log ++ logged ∷ []) + length client.messages ≡ client.edits)
         (omega (arith, some, counted.each c there, length-drop 1 one.messages, more c, own))
         (λ d other here. omega (arith, counted.each d here, more d, others d other));

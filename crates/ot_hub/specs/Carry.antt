@@ -21,15 +21,15 @@ pub record Carried : Type 0 where
   pub list : List PlacedOp
 
 -- the same, with others before the list
-abbrev pub behind : List PlacedOp → Carried → Carried
-behind before carried = record carried { list = before ++ carried.list }
+abbrev pub carried_behind : List PlacedOp → Carried → Carried
+carried_behind before carried = record carried { list = before ++ carried.list }
 
 -- the operation, transformed by each of the list in turn, and each of the list, transformed by the operation as it then
 -- was; none where one of these transformations has no result
 abbrev pub carry : Function → Op → List PlacedOp → Option Carried
 carry f o [] = Some (record { op = o; list = [] })
 carry f o (b ∷ bs) =
-    option_and_then (λ both. option_map (behind (record b { op = both.other } ∷ [])) (carry f both.own bs))
+    option_and_then (λ both. option_map (carried_behind (record b { op = both.other } ∷ [])) (carry f both.own bs))
     (crossed f o b.op)
 
 -- those of a list from a place of the log on

@@ -30,6 +30,6 @@ pub record CanEdit (o : Op) (client : Client) : Type 0 where
   pub few : client.edits < MAX_EDITS
 
 -- a client may take an entry of the log
-pub record CanTake (f : Function) (o : Op) (client : Client) : Type 0 where
+pub record CanTakeEntry (f : Function) (o : Op) (client : Client) : Type 0 where
   pub usable : CanBeCarried f o client.pending
   pub few : client.received < MAX_EDITS

@@ -64,7 +64,7 @@ pub record AreInStep (f : Function) (first : List Cell) (server : Server) (all :
       → IsClientInStep f first server c (client_at all (c - 1)) (ahead_of server c)
 
 -- the entries of each client in the log and its messages together are as many as its edits
-pub record AreCounted (log : List Entry) (all : List Client) : Type 0 where
+pub record AreCountedEdits (log : List Entry) (all : List Client) : Type 0 where
   pub each : (c : ℕ) → IsClient (length all) c
       → count_by (λ entry. nat_eq entry.client c) log + length (client_at all (c - 1)).messages
       ≡ (client_at all (c - 1)).edits

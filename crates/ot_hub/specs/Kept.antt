@@ -6,7 +6,7 @@ use Rattle.fn_rules.specs.Functions.{Function}
 use Rattle.ot_hub.specs.declared.client.Client.{Client}
 use Rattle.ot_hub.specs.declared.limits.TheConstants.{MAX_EDITS, MAX_CLIENTS}
 use Rattle.ot_hub.specs.declared.server.Server.{Server}
-use Rattle.ot_hub.specs.Usable.{IsUsable, AreUsable, most_cells, reach}
+use Rattle.ot_hub.specs.Usable.{IsUsable, AreUsable, most_hub_cells, reach}
 
 -- each entry of the log was carried as often as there are entries, at most
 pub record IsServerKept (f : Function) (server : Server) : Type 0 where
@@ -22,7 +22,7 @@ pub record IsClientKept (f : Function) (entries : ℕ) (client : Client) : Type 
   pub received : client.received ≤ entries
   pub pending : AreUsable f (reach (entries + client.received)) client.pending
   pub short : length client.pending ≤ client.edits
-  pub messages : AreUsable f most_cells client.messages
+  pub messages : AreUsable f most_hub_cells client.messages
   pub cells : length client.doc ≤ MAX_CELLS + client.edits + client.received
 
 -- so much can be on its way: no more than was made

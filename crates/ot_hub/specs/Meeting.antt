@@ -24,7 +24,8 @@ Ups f (message ∷ messages) ahead (form ∷ forms) kept =
     BecomesForm f message ahead form (λ behind. Ups f messages behind forms kept)
 
 -- an entry is the client's own: it is the oldest that is pending, and the rest goes on with the younger ones
-pub record IsConfirmed (c : ℕ) (entry : Entry) (pending : List PlacedOp) (Rest : List PlacedOp → Type 0) : Type 0 where
+pub record IsConfirmedEntry (c : ℕ) (entry : Entry) (pending : List PlacedOp)
+    (Rest : List PlacedOp → Type 0) : Type 0 where
   pub own : entry.client ≡ c
   pub oldest : PlacedOp
   pub younger : List PlacedOp
@@ -34,7 +35,7 @@ pub record IsConfirmed (c : ℕ) (entry : Entry) (pending : List PlacedOp) (Rest
 
 -- an entry is another client's: carried over what is pending it is the first that is taken, and the rest goes on with
 -- what these became
-pub record IsTaken (f : Function) (c place : ℕ) (entry : Entry) (pending taken : List PlacedOp)
+pub record IsTakenEntry (f : Function) (c place : ℕ) (entry : Entry) (pending taken : List PlacedOp)
     (Rest : List PlacedOp → List PlacedOp → Type 0) : Type 0 where
   pub other : entry.client ≢ c
   pub carried : Carried
@@ -48,5 +49,5 @@ pub record IsTaken (f : Function) (c place : ℕ) (entry : Entry) (pending taken
 abbrev pub Downs : Function → ℕ → ℕ → List PlacedOp → List Entry → List PlacedOp → List PlacedOp → Type 0
 Downs f c place pending [] forms taken = (pending ≡ forms) × (taken ≡ [])
 Downs f c place pending (entry ∷ entries) forms taken =
-    IsConfirmed c entry pending (λ younger. Downs f c (place + 1) younger entries forms taken)
-    ⊎ IsTaken f c place entry pending taken (λ behind later. Downs f c (place + 1) behind entries forms later)
+    IsConfirmedEntry c entry pending (λ younger. Downs f c (place + 1) younger entries forms taken)
+    ⊎ IsTakenEntry f c place entry pending taken (λ behind later. Downs f c (place + 1) behind entries forms later)

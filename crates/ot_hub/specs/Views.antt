@@ -32,8 +32,8 @@ pub record HubData : Type 0 where
   pub clients : List Client
   pub is_open : Bool
 
-abbrev pub view_of : Hub → HubData
-view_of hub = record {
+abbrev pub hub_view_of : Hub → HubData
+hub_view_of hub = record {
   function = function_of hub.rules;
   first = hub.first;
   server = hub.server;
@@ -42,16 +42,16 @@ view_of hub = record {
 }
 
 -- the same hub, in which nothing more is made or moved
-abbrev pub closed : HubData → HubData
-closed hub = record hub { is_open = false }
+abbrev pub closed_hub : HubData → HubData
+closed_hub hub = record hub { is_open = false }
 
 -- the client with a number
 abbrev pub client_of : HubData → ℕ → Client
 client_of hub c = client_at hub.clients (c - 1)
 
 -- a new hub: it is open, each of so many clients holds the document, and so does the server
-abbrev pub begun : Function → List Cell → ℕ → HubData
-begun f d clients = record {
+abbrev pub begun_hub : Function → List Cell → ℕ → HubData
+begun_hub f d clients = record {
   function = f;
   first = d;
   server = record { log = []; doc = d; ahead = replicate clients [] };
@@ -93,7 +93,7 @@ HasEdited old new c o (Err edits.WrongKind) = PassesSite old c o × (¬ (HasDecl
 HasEdited old new c o (Err edits.NotEnabled) = PassesKind old c o × (¬ (IsEnabled o (length (client_of old c).doc)))
     × (new ≡ old)
 HasEdited old new c o (Err edits.Full) = PassesAll old c o × (all_edits old ≡ MAX_EDITS) × (new ≡ old)
-HasEdited old new c o (Err edits.NoMemory) = PassesAll old c o × (all_edits old ≢ MAX_EDITS) × (new ≡ closed old)
+HasEdited old new c o (Err edits.NoMemory) = PassesAll old c o × (all_edits old ≢ MAX_EDITS) × (new ≡ closed_hub old)
 
 -- the server takes the oldest message of a client, if there is one
 abbrev pub up_with : HubData → ℕ → List PlacedOp → Step HubData
@@ -124,5 +124,5 @@ abbrev pub HasMoved : HubData → HubData → ℕ → Step HubData → Result Mo
 HasMoved old new c step (Ok Done) = IsClient (length old.clients) c × (step ≡ To new)
 HasMoved old new c step (Ok moved.Nothing) = IsClient (length old.clients) c × (step ≡ Nothing) × (new ≡ old)
 HasMoved old new c step (Err moves.NoSite) = (¬ (IsClient (length old.clients) c)) × (new ≡ old)
-HasMoved old new c step (Err moves.Stuck) = IsClient (length old.clients) c × (step ≡ Stuck) × (new ≡ closed old)
-HasMoved old new c step (Err moves.NoMemory) = IsClient (length old.clients) c × IsTo step × (new ≡ closed old)
+HasMoved old new c step (Err moves.Stuck) = IsClient (length old.clients) c × (step ≡ Stuck) × (new ≡ closed_hub old)
+HasMoved old new c step (Err moves.NoMemory) = IsClient (length old.clients) c × IsTo step × (new ≡ closed_hub old)

@@ -2,7 +2,7 @@
 ghost use Rattle.std.specs.Prelude.{◌≡◌, IfOk, Some, IsSome};
 ghost use Rattle.fn_rules.specs.Rules.{function_of};
 ghost use Rattle.ot_hub.specs.Carry.{crossed, carry, from_place, carried_op, carried_list};
-ghost use Rattle.ot_hub.specs.Usable.{IsUsable, CanBeCarried, farthest};
+ghost use Rattle.ot_hub.specs.Usable.{IsUsable, CanBeCarried, farthest_carried};
 
 use crate::placed::PlacedOp;
 use fn_rules::{
@@ -22,8 +22,8 @@ pub(crate) struct Crossed {
 
 /// Both transformations of two operations that were made on one document. None where one has no result.
 fn cross(rules: &Rules, own: &Op, other: &Op) -> Option<Crossed>
-    requires own { IsUsable (function_of rules.now) (farthest 0) own.now }
-    requires other { IsUsable (function_of rules.now) (farthest 0) other.now }
+    requires own { IsUsable (function_of rules.now) (farthest_carried 0) own.now }
+    requires other { IsUsable (function_of rules.now) (farthest_carried 0) other.now }
     ensures { result ≡ crossed (function_of rules.now) own.now other.now }
 {
     Some(Crossed {

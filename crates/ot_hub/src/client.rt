@@ -4,7 +4,7 @@ ghost use Rattle.ot_model.specs.Effect.{IsEnabled};
 ghost use Rattle.fn_rules.specs.Rules.{function_of};
 ghost use Rattle.ot_hub.specs.Usable.{CanBeCarried};
 ghost use Rattle.ot_hub.specs.declared.limits.TheConstants.{MAX_EDITS};
-ghost use Rattle.ot_hub.specs.Clients.{client_at, CanEdit, CanTake, sent};
+ghost use Rattle.ot_hub.specs.Clients.{client_at, CanEdit, CanTakeEntry, sent};
 ghost use Rattle.ot_hub.specs.Steps.{edited, client_step, step_map, HasStepped};
 ghost use Rattle.ot_hub.specs.declared.limits.TheConstants.{MAX_CLIENTS};
 
@@ -114,7 +114,7 @@ pub(crate) fn take_at(
     entry: &Entry,
 ) -> Result<(), Move>
     requires place { place < length clients.old }
-    requires client { CanTake (function_of rules.now) entry.now.op (client_at clients.old place) }
+    requires client { CanTakeEntry (function_of rules.now) entry.now.op (client_at clients.old place) }
     requires numbered { place < MAX_CLIENTS }
     ensures { HasStepped clients.old clients.new (step_map (slice_set clients.old place)
         (client_step (function_of rules.now) (place + 1) entry.now (client_at clients.old place))) result }

@@ -3,7 +3,7 @@ ghost use Rattle.std.specs.Prelude.{◌≡◌, ◌≢◌, ◌≤◌, length, IfO
 ghost use Rattle.ot_model.specs.declared.limits.TheConstants.{MAX_CELLS};
 ghost use Rattle.fn_rules.specs.Rules.{function_of};
 ghost use Rattle.fn_rules.specs.Properties.{HasTp1};
-ghost use Rattle.ot_hub.specs.InStep.{AreInStep, AreCounted};
+ghost use Rattle.ot_hub.specs.InStep.{AreInStep, AreCountedEdits};
 ghost use Rattle.ot_hub.specs.Kept.{IsHubKept};
 ghost use Rattle.ot_hub.specs.declared.limits.TheConstants.{MAX_CLIENTS};
 
@@ -30,7 +30,7 @@ pub struct Hub {
     is_open: bool,
     ghost small: { length first ≤ MAX_CELLS },
     ghost kept: { IsHubKept (function_of rules) made server clients.items },
-    ghost counted: { AreCounted server.log clients.items },
+    ghost counted: { AreCountedEdits server.log clients.items },
     ghost in_step: { HasTp1 (function_of rules) → (function_of rules).head.chars_differ ≡ false
         → ∥ AreInStep (function_of rules) first server clients.items ∥₁ },
 }
@@ -38,14 +38,15 @@ pub struct Hub {
 impl Hub {
     ghost use Rattle.ot_hub.specs.declared.answer.Move.TheVariants as moves;
     ghost use Rattle.ot_hub.specs.Theorem.{FollowsLog};
-    ghost use Rattle.ot_hub.specs.Views.{view_of, IsClient, begun, client_of, HasEdited, up_step, down_step, HasMoved};
+    ghost use Rattle.ot_hub.specs.Views.{hub_view_of, IsClient, begun_hub, client_of, HasEdited, up_step, down_step};
+    ghost use Rattle.ot_hub.specs.Views.{HasMoved};
 
     /// A new hub with this function, in which the server and so many clients hold the document. Clients are
     /// numbered from 1.
     pub fn new(alloc: Global, rules: &Rules, doc: &Doc, clients: u32) -> Result<Hub, NoMemory>
         requires clients { (1 ≤ clients) × (clients ≤ MAX_CLIENTS) }
         requires cells { length doc.now ≤ MAX_CELLS }
-        ensures { IfOk result (λ hub. view_of hub ≡ begun (function_of rules.now) doc.now clients) }
+        ensures { IfOk result (λ hub. hub_view_of hub ≡ begun_hub (function_of rules.now) doc.now clients) }
     {
         Ok(Hub {
             rules: rules.try_clone()?,
@@ -59,54 +60,54 @@ impl Hub {
 
     /// Whether operations can be made and moved: no call was stuck, or wanted memory.
     pub fn is_open(&self) -> bool
-        ensures { result ≡ (view_of self.now).is_open }
+        ensures { result ≡ (hub_view_of self.now).is_open }
     {
         self.is_open
     }
 
     /// The server's document.
     pub fn server(&self) -> &Doc
-        ensures { result.now ≡ (view_of self.now).server.doc }
+        ensures { result.now ≡ (hub_view_of self.now).server.doc }
     {
         &self.server.doc
     }
 
     /// How many entries the log has.
     pub fn logged(&self) -> u32
-        ensures { result ≡ length (view_of self.now).server.log }
+        ensures { result ≡ length (hub_view_of self.now).server.log }
     {
         self.server.log.len() as u32
     }
 
     /// A client's document.
     pub fn client(&self, client: u32) -> &Doc
-        requires { IsClient (length (view_of self.now).clients) client }
-        ensures { result.now ≡ (client_of (view_of self.now) client).doc }
+        requires { IsClient (length (hub_view_of self.now).clients) client }
+        ensures { result.now ≡ (client_of (hub_view_of self.now) client).doc }
     {
         &self.clients[client as usize - 1].doc
     }
 
     /// How many entries of the log a client received.
     pub fn received(&self, client: u32) -> u32
-        requires { IsClient (length (view_of self.now).clients) client }
-        ensures { result ≡ (client_of (view_of self.now) client).received }
+        requires { IsClient (length (hub_view_of self.now).clients) client }
+        ensures { result ≡ (client_of (hub_view_of self.now) client).received }
     {
         self.clients[client as usize - 1].received
     }
 
     /// How many operations of a client did not come back to it yet.
     pub fn pending(&self, client: u32) -> u32
-        requires { IsClient (length (view_of self.now).clients) client }
-        ensures { result ≡ length (client_of (view_of self.now) client).pending }
+        requires { IsClient (length (hub_view_of self.now).clients) client }
+        ensures { result ≡ length (client_of (hub_view_of self.now) client).pending }
     {
         self.clients[client as usize - 1].pending.len() as u32
     }
 
     /// A client makes an operation, which it executes at once; it is pending and on its way to the server.
     pub fn edit(&mut self, client: u32, op: Op) -> Result<(), Edit>
-        requires { (view_of self.old).is_open ≡ true }
-        ensures edited { HasEdited (view_of self.old) (view_of self.new) client op result }
-        ensures server { (view_of self.new).server ≡ (view_of self.old).server }
+        requires { (hub_view_of self.old).is_open ≡ true }
+        ensures edited { HasEdited (hub_view_of self.old) (hub_view_of self.new) client op result }
+        ensures server { (hub_view_of self.new).server ≡ (hub_view_of self.old).server }
     {
         enabled_operations_are_near();
         functions_keep_forms();
@@ -144,13 +145,13 @@ impl Hub {
     /// The server takes the oldest message of a client: it carries the operation over the entries that the
     /// client had not received when it made it, and puts what it becomes at the end of its log.
     pub fn up(&mut self, client: u32) -> Result<Moved, Move>
-        requires { (view_of self.old).is_open ≡ true }
-        ensures moved { HasMoved (view_of self.old) (view_of self.new) client (up_step (view_of self.old) client)
-            result }
+        requires { (hub_view_of self.old).is_open ≡ true }
+        ensures moved { HasMoved (hub_view_of self.old) (hub_view_of self.new) client
+            (up_step (hub_view_of self.old) client) result }
 
         // Where the function has the first property and characters need not differ, no operation is stuck.
-        ensures never_stuck { HasTp1 (view_of self.old).function → (view_of self.old).function.head.chars_differ ≡ false
-            → result ≢ Err moves.Stuck }
+        ensures never_stuck { HasTp1 (hub_view_of self.old).function
+            → (hub_view_of self.old).function.head.chars_differ ≡ false → result ≢ Err moves.Stuck }
     {
         rules_are_valid(&self.rules);
         tp1_holds_of_forms();
@@ -182,14 +183,14 @@ impl Hub {
     /// A client takes the next entry of the log. Its own one is its oldest pending operation; another
     /// client's is carried over what is pending, and executed.
     pub fn down(&mut self, client: u32) -> Result<Moved, Move>
-        requires { (view_of self.old).is_open ≡ true }
-        ensures moved { HasMoved (view_of self.old) (view_of self.new) client (down_step (view_of self.old) client)
-            result }
-        ensures server { (view_of self.new).server ≡ (view_of self.old).server }
+        requires { (hub_view_of self.old).is_open ≡ true }
+        ensures moved { HasMoved (hub_view_of self.old) (hub_view_of self.new) client
+            (down_step (hub_view_of self.old) client) result }
+        ensures server { (hub_view_of self.new).server ≡ (hub_view_of self.old).server }
 
         // Where the function has the first property and characters need not differ, no operation is stuck.
-        ensures never_stuck { HasTp1 (view_of self.old).function → (view_of self.old).function.head.chars_differ ≡ false
-            → result ≢ Err moves.Stuck }
+        ensures never_stuck { HasTp1 (hub_view_of self.old).function
+            → (hub_view_of self.old).function.head.chars_differ ≡ false → result ≢ Err moves.Stuck }
     {
         rules_are_valid(&self.rules);
         tp1_holds_of_forms();
@@ -219,18 +220,18 @@ impl Hub {
     /// first one after the log, a client's is the first one after the entries that it received and then what is pending
     /// there, and one that received the whole log and has nothing pending holds the server's.
     pub fn clients_follow_the_log(&self)
-        ensures { HasTp1 (view_of self.now).function → (view_of self.now).function.head.chars_differ ≡ false
-            → FollowsLog (view_of self.now) }
+        ensures { HasTp1 (hub_view_of self.now).function → (hub_view_of self.now).function.head.chars_differ ≡ false
+            → FollowsLog (hub_view_of self.now) }
     {}
 
     /// A law: the entries of a client in the log and its messages on their way are together as many as its edits.
     pub fn edits_are_logged_or_on_their_way(&self)
-        ensures { AreCounted (view_of self.now).server.log (view_of self.now).clients }
+        ensures { AreCountedEdits (hub_view_of self.now).server.log (hub_view_of self.now).clients }
     {}
 
     /// Whether there is such a client.
     pub fn has_client(&self, client: u32) -> bool
-        ensures { IsTrue result ↔ IsClient (length (view_of self.now).clients) client }
+        ensures { IsTrue result ↔ IsClient (length (hub_view_of self.now).clients) client }
     {
         1 <= client && client as usize <= self.clients.len()
     }

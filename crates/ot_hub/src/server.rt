@@ -1,7 +1,7 @@
 //! The server of a hub.
 ghost use Rattle.std.specs.Prelude.{◌≡◌, ◌<◌, ◌≤◌, ◌∷◌, [], ◌++◌, length, map, replicate, IfOk};
 ghost use Rattle.fn_rules.specs.Rules.{function_of};
-ghost use Rattle.ot_hub.specs.Usable.{IsUsable, most_cells};
+ghost use Rattle.ot_hub.specs.Usable.{IsUsable, most_hub_cells};
 ghost use Rattle.ot_hub.specs.declared.limits.TheConstants.{MAX_EDITS};
 
 use crate::answer::Move;
@@ -67,7 +67,7 @@ impl Server {
         requires few { length self.old.log < MAX_EDITS }
         requires low { 1 ≤ client }
         requires high { client ≤ length self.old.ahead }
-        requires usable { IsUsable (function_of rules.now) most_cells message.now.op }
+        requires usable { IsUsable (function_of rules.now) most_hub_cells message.now.op }
         ensures { HasStepped self.old self.new (server_step (function_of rules.now) client message.now self.old)
             result }
     {

@@ -20,7 +20,7 @@ use Rattle.ot_questions.specs.Obligation.{plan_of}
 use Rattle.ot_sections.specs.Certificates.{AreAnswers, IsCertificate}
 use Rattle.cert_text.specs.Certificates.{certificate_text, sections_text}
 use Rattle.ot_sections.specs.Parts.{IsJudged}
-use Rattle.ot_judge.specs.Refusals.{IsWhole}
+use Rattle.ot_judge.specs.Refusals.{IsWholeCertificate}
 
 -- where some member passes a test, some are left of the list by it
 first_left :
@@ -68,7 +68,7 @@ behind_header names level trees bytes is = is ∙ append_assoc (header_text name
 module _ (f : Function) where
   -- a certificate of a valid function is judged whole
   pub certificate_is_whole :
-      AreParts → (level : Level) (bytes : List ℕ) → IsTrue (is_valid f) → IsCertificate bytes f level → IsWhole f level bytes
+      AreParts → (level : Level) (bytes : List ℕ) → IsTrue (is_valid f) → IsCertificate bytes f level → IsWholeCertificate f level bytes
   certificate_is_whole are_parts Tp1 bytes valid (trees, answers, is) =
       let judged = are_parts (plan_of f) (obligations_of f.head Tp1) trees 0 (0 + length (header_text (obligations_of f.head Tp1) Tp1)) answers in (
         judged.0,
@@ -112,7 +112,7 @@ module _ (f : Function) where
             ∙ sym (append_assoc (header_text names level) (sections_text names shown.0) end_text),
       )
 
-  pub whole_is_certificate : AreSections → (level : Level) (bytes : List ℕ) → IsWhole f level bytes → IsCertificate bytes f level
+  pub whole_is_certificate : AreSections → (level : Level) (bytes : List ℕ) → IsWholeCertificate f level bytes → IsCertificate bytes f level
   whole_is_certificate are_sections Tp1 bytes (parts, fits) =
       whole_shows are_sections (obligations_of f.head Tp1) Tp1 bytes fits.1.0 fits.1.1 _ fits.1.2 (parts, fits.1.4)
   whole_is_certificate are_sections Tp2 bytes (parts, fits) =

@@ -13,7 +13,7 @@ use Rattle.ot_sections.specs.declared.refusal.JudgeError.{JudgeError}
 use Rattle.ot_sections.specs.declared.refusal.JudgeError.TheVariants as judge
 use Rattle.ot_sections.specs.Certificates.{IsCertificate}
 use Rattle.ot_sections.specs.Parts.{FitThen, IsJudged, Point}
-use Rattle.ot_judge.specs.Refusals.{IsJudgement, IsWhole, start_of}
+use Rattle.ot_judge.specs.Refusals.{IsJudgement, IsWholeCertificate, start_point_of}
 
 -- the bytes behind a point are made of one list of parts, and stop in one way
 abbrev pub IsJudgedOnce : Type 0
@@ -23,7 +23,7 @@ IsJudgedOnce =
 
 -- a certificate is made of parts
 abbrev pub AreWhole : Type 0
-AreWhole = (f : Function) (level : Level) (bytes : List ℕ) → IsTrue (is_valid f) → IsCertificate bytes f level → IsWhole f level bytes
+AreWhole = (f : Function) (level : Level) (bytes : List ℕ) → IsTrue (is_valid f) → IsCertificate bytes f level → IsWholeCertificate f level bytes
 
 module _ (once : IsJudgedOnce) (are_whole : AreWhole) (f : Function) (bytes : List ℕ) where
   same_level : (l m : Level) (parts others : List Part) → part.Header l ∷ parts ≡ part.Header m ∷ others → l ≡ m
@@ -34,17 +34,17 @@ module _ (once : IsJudgedOnce) (are_whole : AreWhole) (f : Function) (bytes : Li
 
   not_both :
       (level : Level) (end : JudgeError) → IsTrue (is_valid f) → IsJudgement f bytes (Ok level)
-      → IsJudged (plan_of f) (Err end) (start_of f) bytes → ⊥
+      → IsJudged (plan_of f) (Err end) (start_point_of f) bytes → ⊥
   not_both level end valid certificate refusal =
       let whole = are_whole f level bytes valid certificate in
       let same : ◌≡◌ {A = Result (Unit {0}) JudgeError} (Ok tt) (Err end) =
-      (once (plan_of f) (start_of f) bytes (part.Header level ∷ whole.0) refusal.0 (Ok tt) (Err end) whole.1 refusal.1).0 in
+      (once (plan_of f) (start_point_of f) bytes (part.Header level ∷ whole.0) refusal.0 (Ok tt) (Err end) whole.1 refusal.1).0 in
       cc
 
-  one_level : (l m : Level) → IsWhole f l bytes → IsWhole f m bytes → l ≡ m
+  one_level : (l m : Level) → IsWholeCertificate f l bytes → IsWholeCertificate f m bytes → l ≡ m
   one_level l m one other =
       same_level l m one.0 other.0
-      (once (plan_of f) (start_of f) bytes (part.Header l ∷ one.0) (part.Header m ∷ other.0) (Ok tt) (Ok tt) one.1 other.1).1
+      (once (plan_of f) (start_point_of f) bytes (part.Header l ∷ one.0) (part.Header m ∷ other.0) (Ok tt) (Ok tt) one.1 other.1).1
 
   -- bytes have one judgement by a valid function
   one_judgement_of :
@@ -66,7 +66,7 @@ module _ (once : IsJudgedOnce) (are_whole : AreWhole) (f : Function) (bytes : Li
   one_judgement_of (Err (judge.Refused offset why)) (Err judge.NoMemory) valid one other = absurd other
   one_judgement_of (Err (judge.Refused offset why)) (Err (judge.Refused at cause)) valid one other =
       same_refusal (judge.Refused offset why) (judge.Refused at cause)
-      (once (plan_of f) (start_of f) bytes one.0 other.0 (Err (judge.Refused offset why)) (Err (judge.Refused at cause)) one.1 other.1).0
+      (once (plan_of f) (start_point_of f) bytes one.0 other.0 (Err (judge.Refused offset why)) (Err (judge.Refused at cause)) one.1 other.1).0
 
 pub one_judgement :
     IsJudgedOnce → AreWhole → (f : Function) (bytes : List ℕ) (one other : Result Level JudgeError) → IsTrue (is_valid f)

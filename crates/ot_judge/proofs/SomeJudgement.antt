@@ -12,7 +12,7 @@ use Rattle.ot_sections.specs.declared.refusal.JudgeError.{JudgeError}
 use Rattle.ot_sections.specs.declared.refusal.JudgeError.TheVariants as judge
 use Rattle.ot_sections.specs.Certificates.{IsCertificate}
 use Rattle.ot_sections.specs.Parts.{FitThen, IsAnswer, IsJudged, Point}
-use Rattle.ot_judge.specs.Refusals.{IsJudgement, IsWhole, start_of}
+use Rattle.ot_judge.specs.Refusals.{IsJudgement, IsWholeCertificate, start_point_of}
 
 -- any bytes behind a point are judged
 abbrev pub AllJudged : Type 0
@@ -22,13 +22,13 @@ AllJudged =
 
 -- parts that fit from the header on are a certificate
 abbrev pub AreCertificates : Type 0
-AreCertificates = (f : Function) (level : Level) (bytes : List ℕ) → IsWhole f level bytes → IsCertificate bytes f level
+AreCertificates = (f : Function) (level : Level) (bytes : List ℕ) → IsWholeCertificate f level bytes → IsCertificate bytes f level
 
 module _ (are_certificates : AreCertificates) (f : Function) (bytes : List ℕ) where
   abbrev HasJudgement : Type 0
   HasJudgement = (judgement : Result Level JudgeError) × IsJudgement f bytes judgement
 
-  whole_judged : (parts : List Part) → FitThen (plan_of f) (Ok tt) (start_of f) bytes parts → HasJudgement
+  whole_judged : (parts : List Part) → FitThen (plan_of f) (Ok tt) (start_point_of f) bytes parts → HasJudgement
   whole_judged [] fits = absurd (let e = fits.0 in cc)
   whole_judged (part.Header level ∷ parts) fits = (Ok level, are_certificates f level bytes (parts, fits))
   whole_judged (part.Ob number ∷ parts) fits = absurd fits.0
@@ -37,7 +37,7 @@ module _ (are_certificates : AreCertificates) (f : Function) (bytes : List ℕ) 
   whole_judged (part.End ∷ parts) fits = absurd fits.0
 
   judgement_of :
-      (end : Result (Unit {0}) JudgeError) → IsAnswer end → IsJudged (plan_of f) end (start_of f) bytes → HasJudgement
+      (end : Result (Unit {0}) JudgeError) → IsAnswer end → IsJudged (plan_of f) end (start_point_of f) bytes → HasJudgement
   judgement_of (Ok done) answer judged = whole_judged judged.0 judged.1
   judgement_of (Err (judge.Refused offset why)) answer judged = (Err (judge.Refused offset why), judged)
   judgement_of (Err judge.Failed) answer judged = absurd answer
@@ -46,5 +46,5 @@ module _ (are_certificates : AreCertificates) (f : Function) (bytes : List ℕ) 
 pub some_judgement :
     AreCertificates → AllJudged → (f : Function) (bytes : List ℕ) → (judgement : Result Level JudgeError) × IsJudgement f bytes judgement
 some_judgement are_certificates all_judged f bytes =
-    let judged = all_judged (plan_of f) (start_of f) bytes in
+    let judged = all_judged (plan_of f) (start_point_of f) bytes in
     judgement_of are_certificates f bytes judged.0 judged.1 judged.2

@@ -20,8 +20,8 @@ use Rattle.ot_sections.specs.declared.refusal.JudgeError.TheVariants as judge
 use Rattle.ot_sections.specs.Feeding.{Fed, Has, MayGive, MayGiveOf, MayHave, Whole, Yields, fed}
 use Rattle.ot_sections.specs.Parts.{FitThen, IsRefused, Point, point_behind}
 use Rattle.ot_sections.specs.Sections.{IsLineWith}
-use Rattle.ot_sections.specs.Stands.{Came, IsJudgedBehind, IsMisspeltBehind, offset_of, place_of, point_of, stand}
-use Rattle.ot_judge.specs.Refusals.{IsJudgement, IsWant, start_of}
+use Rattle.ot_sections.specs.Stands.{Came, IsJudgedBehind, IsMisspeltBehind, reader_offset_of, reader_place_of, point_of, stand}
+use Rattle.ot_judge.specs.Refusals.{IsJudgement, IsWant, start_point_of}
 
 line_of_level :
     (f : Function) (level : Level)
@@ -44,9 +44,9 @@ at_start f head tp1 tp2 r is one two same =
 -- a part that is a header, by its level
 pub came_header :
     {F : Type 0} (feeds : Ghosts F) (was now : Fed F) (item : Item) (level : Level) → item.part ≡ part.Header level → Came feeds was now item
-    → Came feeds was now (record { offset = offset_of was.reader; part = part.Header level })
+    → Came feeds was now (record { offset = reader_offset_of was.reader; part = part.Header level })
 came_header feeds was now item level is came =
-    let make : Part → Item = λ p. record { offset = offset_of was.reader; part = p } in
+    let make : Part → Item = λ p. record { offset = reader_offset_of was.reader; part = p } in
     let here : Came feeds was now (make item.part) = record {
       part = record { offset = refl; stands = came.part.stands; behind = came.part.behind };
       bytes = came.bytes;
@@ -58,7 +58,7 @@ module _ {F : Type 0} (feeds : Ghosts F) (f : Function) (feed new : F) where
   abbrev pub IsMade : Result (Unit {0}) JudgeError → (List Part → List Part) → Type 0
   IsMade end front =
       (all : Whole) → Has feeds new all
-      → (bytes : List ℕ) × Yields feeds feed all bytes × ((parts : List Part) × FitThen (plan_of f) end (start_of f) bytes (front parts))
+      → (bytes : List ℕ) × Yields feeds feed all bytes × ((parts : List Part) × FitThen (plan_of f) end (start_point_of f) bytes (front parts))
 
   -- an answer that is no certificate
   pub answered :
@@ -74,9 +74,9 @@ module _ {F : Type 0} (feeds : Ghosts F) (f : Function) (feed new : F) where
 
   module _ (level : Level) (first : Fed F)
       (header : Came feeds (fed (reader_of f) feed) first (record { offset = 0; part = part.Header level })) where
-    pub first_line : IsLineWith (obligations_of f.head level) (place_of first.reader)
+    pub first_line : IsLineWith (obligations_of f.head level) (reader_place_of first.reader)
     first_line =
-        subst (λ (p : PartPlace). IsLineWith (obligations_of f.head level) p) (sym (ap place_of header.part.behind)) (line_of_level f level)
+        subst (λ (p : PartPlace). IsLineWith (obligations_of f.head level) p) (sym (ap reader_place_of header.part.behind)) (line_of_level f level)
 
     -- what is judged behind the header is judged of it too
     pub behind_header :
@@ -84,10 +84,10 @@ module _ {F : Type 0} (feeds : Ghosts F) (f : Function) (feed new : F) where
         → IsMade end (λ parts. part.Header level ∷ parts)
     behind_header end judged all have =
         let there = judged all have in
-        let here : FitThen (plan_of f) end (point_behind (start_of f) (part.Header level) []) there.0 there.2.0 =
+        let here : FitThen (plan_of f) end (point_behind (start_point_of f) (part.Header level) []) there.0 there.2.0 =
         subst (λ (p : Point Why). FitThen (plan_of f) end p there.0 there.2.0)
         (ap (λ (r : ReaderState). point_of (stand (fed r first.feed) [])) header.part.behind) there.2.1 in (
-          part_text (place_of (reader_of f)) (part.Header level) ++ there.0,
+          part_text (reader_place_of (reader_of f)) (part.Header level) ++ there.0,
           header.bytes all there.0 there.1,
           (there.2.0, (header.part.stands, (there.0, [], refl, refl, here))),
         )

@@ -23,17 +23,18 @@ IsStart (Tree came names branches) = ⊥
 IsStart Finish = ⊥
 
 -- before the header
-abbrev pub start_of : Function → Point Why
-start_of f =
+abbrev pub start_point_of : Function → Point Why
+start_point_of f =
     record { place = Start (obligations_of f.head Tp1) (obligations_of f.head Tp2); offset = 0; branches = [] }
 
 -- the bytes are refused at the offset for the cause: the parts before it fit, and what stands there does not
 abbrev pub IsRefusal : Function → List ℕ → ℕ → Refusal → Type 0
-IsRefusal f bytes offset why = IsJudged (plan_of f) (Err (judge.Refused offset why)) (start_of f) bytes
+IsRefusal f bytes offset why = IsJudged (plan_of f) (Err (judge.Refused offset why)) (start_point_of f) bytes
 
 -- the bytes are made of parts that fit, the header of the level first, and nothing is left behind the last one
-abbrev pub IsWhole : Function → Level → List ℕ → Type 0
-IsWhole f level bytes = (parts : List Part) × FitThen (plan_of f) (Ok tt) (start_of f) bytes (Header level ∷ parts)
+abbrev pub IsWholeCertificate : Function → Level → List ℕ → Type 0
+IsWholeCertificate f level bytes =
+    (parts : List Part) × FitThen (plan_of f) (Ok tt) (start_point_of f) bytes (Header level ∷ parts)
 
 -- the judgement of the bytes: a certificate at a level, or a refusal
 abbrev pub IsJudgement : Function → List ℕ → Result Level JudgeError → Type 0

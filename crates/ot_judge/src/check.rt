@@ -4,7 +4,7 @@ ghost use Rattle.fn_rules.specs.declared.function.Level.{Level};
 ghost use Rattle.fn_rules.specs.Rules.{function_of};
 ghost use Rattle.ot_outside.specs.Faults.{Rose};
 ghost use Rattle.ot_sections.specs.declared.refusal.JudgeError.{JudgeError};
-ghost use Rattle.ot_sections.specs.Feeding.{IsKept, IsSpent, IsTruncated, MayGive, MayGiveOf, MayHave, Whole};
+ghost use Rattle.ot_sections.specs.Feeding.{IsKeptFeed, IsSpent, IsTruncated, MayGive, MayGiveOf, MayHave, Whole};
 ghost use Rattle.ot_judge.specs.Refusals.{IsJudgement, IsWant};
 
 use crate::judge::judge_all;
@@ -35,7 +35,7 @@ pub fn check_all<F: Feed>(alloc: Global, rules: &Rules, feed: &mut F) -> Result<
     ensures nothing_left { IfOk result (λ _. IsSpent F.left F.hand feed.new) }
     ensures truncated { IfErr result (λ e. IsTruncated e → IsSpent F.left F.hand feed.new) }
     ensures failed { IfErr result (λ e. e ≡ JudgeError.Failed → Rose (F.faults feed.old) (F.faults feed.new)) }
-    ensures kept { IsKept F.faults F.bound F.held F.keeps feed.old feed.new }
+    ensures kept { IsKeptFeed F.faults F.bound F.held F.keeps feed.old feed.new }
 {
     bytes_have_one_judgement();
     feeds_have_bytes::<F>();

@@ -5,8 +5,8 @@ ghost use Rattle.fn_rules.specs.Rules.{function_of};
 ghost use Rattle.cert_text.specs.Reading.{fed_to};
 ghost use Rattle.ot_outside.specs.Faults.{Rose};
 ghost use Rattle.ot_sections.specs.declared.refusal.JudgeError.{JudgeError};
-ghost use Rattle.ot_sections.specs.Feeding.{Has, IsKept, IsSpent, IsTruncated, Leaves, Whole, Yields, fed};
-ghost use Rattle.ot_sections.specs.Stands.{Came, IsBetween, IsMisspeltBehind, offset_of, place_of};
+ghost use Rattle.ot_sections.specs.Feeding.{Has, IsKeptFeed, IsSpent, IsTruncated, Leaves, Whole, Yields, fed};
+ghost use Rattle.ot_sections.specs.Stands.{Came, IsBetween, IsMisspeltBehind, reader_offset_of, reader_place_of};
 ghost use Rattle.ot_judge.specs.Refusals.{IsJudgement, IsStart, IsWant};
 
 use crate::laws::certificates_are_parts_that_fit;
@@ -19,10 +19,10 @@ use std::alloc::Global;
 // Takes the first line: its level.
 fn read_header<F: Feed>(reader: &mut Reader, feed: &mut F) -> Result<Level, JudgeError>
     requires between { IsBetween reader.old }
-    requires start { IsStart (place_of reader.old) }
+    requires start { IsStart (reader_place_of reader.old) }
     requires room { fed_to reader.old + F.bound feed.old < 2 ^ 63 }
     ensures header { IfOk result (λ level. Came F.Feed (fed reader.old feed.old) (fed reader.new feed.new)
-        (record { offset = offset_of reader.old; part = Part.Header level })) }
+        (record { offset = reader_offset_of reader.old; part = Part.Header level })) }
     ensures misspelt { IfErr result (IsMisspeltBehind F.Feed (fed reader.old feed.old) feed.new) }
     ensures leaves { Leaves F.Feed (fed reader.old feed.old) (fed reader.new feed.new) result }
 {
@@ -49,7 +49,7 @@ pub(crate) fn judge_all<F: Feed>(
     ensures nothing_left { IfOk result (λ _. IsSpent F.left F.hand feed.new) }
     ensures truncated { IfErr result (λ e. IsTruncated e → IsSpent F.left F.hand feed.new) }
     ensures failed { IfErr result (λ e. e ≡ JudgeError.Failed → Rose (F.faults feed.old) (F.faults feed.new)) }
-    ensures kept { IsKept F.faults F.bound F.held F.keeps feed.old feed.new }
+    ensures kept { IsKeptFeed F.faults F.bound F.held F.keeps feed.old feed.new }
 {
     certificates_are_parts_that_fit();
     obligations_are_those_of_the_kinds();

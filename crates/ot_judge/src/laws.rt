@@ -5,7 +5,7 @@ ghost use Rattle.fn_rules.specs.Functions.{Function};
 ghost use Rattle.fn_rules.specs.Validity.{is_valid};
 ghost use Rattle.ot_sections.specs.declared.refusal.JudgeError.{JudgeError};
 ghost use Rattle.ot_sections.specs.Certificates.{IsCertificate};
-ghost use Rattle.ot_judge.specs.Refusals.{IsWhole, IsJudgement};
+ghost use Rattle.ot_judge.specs.Refusals.{IsWholeCertificate, IsJudgement};
 
 use ot_questions::Why;
 use ot_sections::{all_bytes_are_judged, bytes_are_judged_once, sections_are_parts_that_fit};
@@ -14,8 +14,8 @@ use ot_sections::{all_bytes_are_judged, bytes_are_judged_once, sections_are_part
 /// another, the header of the level first and the last line last.
 pub fn certificates_are_parts_that_fit()
     ensures parts { (f : Function) (level : Level) (bytes : List ℕ) → IsTrue (is_valid f) → IsCertificate bytes f level
-        → IsWhole f level bytes }
-    ensures certificate { (f : Function) (level : Level) (bytes : List ℕ) → IsWhole f level bytes
+        → IsWholeCertificate f level bytes }
+    ensures certificate { (f : Function) (level : Level) (bytes : List ℕ) → IsWholeCertificate f level bytes
         → IsCertificate bytes f level }
 {
     sections_are_parts_that_fit::<Why>();

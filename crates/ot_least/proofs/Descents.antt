@@ -38,7 +38,7 @@ use Rattle.ot_decide.specs.Verdicts.{AreAsked, FailingOb, ObQuestions, failing_i
 use Rattle.ot_least.specs.declared.ending.Ending.{Ending}
 use Rattle.ot_least.specs.declared.short.Short.{Short}
 use Rattle.ot_least.specs.declared.short.Short.TheVariants as short
-use Rattle.ot_least.specs.Endings.{IsEnding, end_of}
+use Rattle.ot_least.specs.Endings.{IsEnding, failing_end_of}
 use Rattle.ot_least.specs.Lows.{HasAt, IsBroken, IsLow, level_of, low_header_text, parts_of}
 use Rattle.ot_least.proofs.Listed.{end_is_listed}
 use Rattle.ot_least.specs.Shortest.{EndHasCells, Falls, IsLeast, behind_first, end_by}
@@ -73,7 +73,7 @@ module _ (f : Function) (budget : ℕ) (e : Ending) (obs : List ObName) (are : o
   plan = plan_below f (Some e.cells)
 
   abbrev pub FallsTo : Short → Type 0
-  FallsTo answer = (turns : List (List (ObQuestions Why))) × Falls f budget (end_of e) e.cells turns answer
+  FallsTo answer = (turns : List (List (ObQuestions Why))) × Falls f budget (failing_end_of e) e.cells turns answer
 
   asked_there : (lists : List (ObQuestions Why)) → AreAsked plan obs lists → AreAsked plan (parts_of f.head (level_of e.ob)) lists
   asked_there lists asked = subst (λ (l : List ObName). AreAsked plan l lists) are asked
@@ -132,9 +132,9 @@ module _ (f : Function) (budget : ℕ) (e : Ending) (obs : List ObName) (are : o
     -- the search goes on from the shorter end that fails
     pub falls_on :
         (next : Ending) (answer : Short) → IsEnding f next → next.ob ≡ ob → next.answers.items ≡ drop 1 answers.items → next.why ≡ why
-        → (turns : List (List (ObQuestions Why))) × Falls f budget (end_of next) next.cells turns answer → FallsTo answer
+        → (turns : List (List (ObQuestions Why))) × Falls f budget (failing_end_of next) next.cells turns answer → FallsTo answer
     falls_on next answer ending same is because (turns, falls) =
-        let there : end_of next ≡ behind_first (end_by ob answers.items why) =
+        let there : failing_end_of next ≡ behind_first (end_by ob answers.items why) =
         end_is ob next.ob answers.items next.answers.items why next.why same is because in (
           settled.0 ∷ turns,
           (

@@ -17,7 +17,7 @@ use Rattle.ot_decide.specs.Verdicts.{AreAsked, FailingOb, ObQuestions, failing_i
 use Rattle.ot_least.specs.declared.short.Short.{Short}
 use Rattle.ot_least.specs.declared.short.Short.TheVariants.{Fine, TooLong, Spent}
 use Rattle.ot_least.proofs.Listed.{IsListed, end_is_listed}
-use Rattle.ot_least.specs.Shortest.{Begins, EndHasCells, Falls, IsShort, TellsLeast, behind_first}
+use Rattle.ot_least.specs.Shortest.{BeginsTurns, EndHasCells, Falls, IsShort, TellsLeast, behind_first}
 
 -- any obligations
 all_any : (obs : List ObName) → AllByRecursion (λ _. Unit {0}) obs
@@ -47,7 +47,7 @@ module _ (f : Function) (budget : ℕ)
   begins_short :
       (lists : List (ObQuestions Why)) (x : FailingOb Why) (cells : ℕ) (short : Short)
       → AreAsked (plan_of f) (obligations_of f.head Tp2) lists → failing_in lists ≡ Some x → EndHasCells x cells
-      → Begins f budget x cells short → short ≡ TooLong → ⊥
+      → BeginsTurns f budget x cells short → short ≡ TooLong → ⊥
   begins_short lists x cells short asked first has (inl (more, _)) is =
       let obs = obligations_of f.head Tp2 in
       few_cells x cells (end_is_listed (λ _. Unit {0}) (plan_of f) x obs lists (all_any obs) asked first) has more

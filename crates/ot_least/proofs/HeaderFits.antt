@@ -5,14 +5,14 @@ use Rattle.fn_rules.specs.declared.function.Level.TheVariants.{Tp1, Tp2}
 use Rattle.ot_sections.specs.declared.premise.TheConstants.{MAX_BOUND}
 use Rattle.ot_least.specs.declared.header.HeaderFit.{HeaderFit}
 use Rattle.ot_least.specs.declared.header.HeaderFit.TheVariants.{Whole, Front, Other}
-use Rattle.ot_least.specs.Headers.{BeginsOtherwise, FitsHeader, FitsLevel}
+use Rattle.ot_least.specs.Headers.{BeginsOtherwise, FitsLevel, FitsLowHeader}
 
 pub none_left : (xs : List ℕ) → length xs < 1 → xs ≡ []
 none_left [] few = refl
 none_left (x ∷ xs) few = absurd (omega arith)
 
 -- where no line of the first level begins with the bytes, those of the second decide
-pub by_second_level : (bytes : List ℕ) → FitsLevel Tp1 bytes Other → (fit : HeaderFit) → FitsLevel Tp2 bytes fit → FitsHeader bytes fit
+pub by_second_level : (bytes : List ℕ) → FitsLevel Tp1 bytes Other → (fit : HeaderFit) → FitsLevel Tp2 bytes fit → FitsLowHeader bytes fit
 by_second_level bytes none (Whole level bound) fits = fits
 by_second_level bytes none Front fits = fits
 by_second_level bytes none Other fits = at

@@ -15,7 +15,7 @@ use Rattle.ot_sections.specs.declared.refusal.JudgeError.TheVariants as judge
 use Rattle.ot_sections.specs.Feeding.{Has, MayGive, MayGiveOf, MayHave, Whole, Yields, fed}
 use Rattle.ot_sections.specs.Parts.{IsJudged, IsRefused, Point}
 use Rattle.ot_sections.specs.Stands.{IsJudgedBehind, point_of, stand}
-use Rattle.ot_least.specs.Judgements.{IsJudgedLow, IsLowJudgement, IsNoHeaderBehind, IsWant, behind_header}
+use Rattle.ot_least.specs.Judgements.{IsJudgedLow, IsLowJudgement, IsNoHeaderBehind, IsNoJudgement, behind_header}
 use Rattle.ot_least.specs.Lows.{low_header_text, parts_of}
 
 module _ {F : Type 0} (feeds : Ghosts F) (f : Function) (feed new : F) where
@@ -25,7 +25,7 @@ module _ {F : Type 0} (feeds : Ghosts F) (f : Function) (feed new : F) where
       (all : Whole) → Has feeds new all → (bytes : List ℕ) × Yields feeds feed all bytes × IsLowJudgement f bytes answer
 
   -- an answer that is no certificate
-  pub answered : (e : JudgeError) → (IsRefused e → HaveJudgement (Err e)) → IsWant {T = Level × ℕ} (Err e) ⊎ HaveJudgement (Err e)
+  pub answered : (e : JudgeError) → (IsRefused e → HaveJudgement (Err e)) → IsNoJudgement {T = Level × ℕ} (Err e) ⊎ HaveJudgement (Err e)
   answered (judge.Refused offset why) refused = inr (refused tt)
   answered judge.Failed refused = inl (inl refl)
   answered judge.NoMemory refused = inl (inr refl)
@@ -84,9 +84,9 @@ module _ {F : Type 0} (left : F → Option (List ℕ)) (bound : F → ℕ) (gave
   pub judged_some :
       (f : Function) (old new : F) (answer : Result (Level × ℕ) JudgeError)
       → (all : Whole) × (all.may ≡ true) × MayHave left bound gave hand new all
-      → IsWant answer ⊎ ((all : Whole) → MayHave left bound gave hand new all
+      → IsNoJudgement answer ⊎ ((all : Whole) → MayHave left bound gave hand new all
       → (bytes : List ℕ) × MayGiveOf left bound gave old all bytes × IsLowJudgement f bytes answer)
-      → IsWant answer ⊎ ((bytes : List ℕ) × MayGive left bound old bytes × IsLowJudgement f bytes answer)
+      → IsNoJudgement answer ⊎ ((bytes : List ℕ) × MayGive left bound old bytes × IsLowJudgement f bytes answer)
   unfolding MayGiveOf
   judged_some f old new answer some (inl none) = inl none
   judged_some f old new answer (all, may, have) (inr judged) =
@@ -97,8 +97,8 @@ module _ {F : Type 0} (left : F → Option (List ℕ)) (bound : F → ℕ) where
       ((f : Function) (bytes : List ℕ) (one other : Result (Level × ℕ) JudgeError) → IsLowJudgement f bytes one
       → IsLowJudgement f bytes other → one ≡ other)
       → (f : Function) (feed : F) (bytes : List ℕ) (one other : Result (Level × ℕ) JudgeError) → left feed ≡ Some bytes
-      → IsWant one ⊎ ((some : List ℕ) × MayGive left bound feed some × IsLowJudgement f some one)
-      → IsLowJudgement f bytes other → IsWant one ⊎ (one ≡ other)
+      → IsNoJudgement one ⊎ ((some : List ℕ) × MayGive left bound feed some × IsLowJudgement f some one)
+      → IsLowJudgement f bytes other → IsNoJudgement one ⊎ (one ≡ other)
   unfolding MayGive
   no_other law f feed bytes one other is (inl none) judged = inl none
   no_other law f feed bytes one other is (inr (some, may, here)) judged =

@@ -15,7 +15,7 @@ use Rattle.ot_least.specs.declared.short.Short.{Short}
 use Rattle.ot_least.specs.declared.short.Short.TheVariants.{Fine, Least, TooLong, Spent}
 use Rattle.ot_least.specs.Lows.{level_of, parts_of}
 use Rattle.ot_least.proofs.Shorter.{has_length}
-use Rattle.ot_least.specs.Shortest.{AreAlike, Begins, Comes, EndHasCells, Falls, HasCells, IsShort, TellsLeast, behind_first}
+use Rattle.ot_least.specs.Shortest.{AreAlikeAnswers, BeginsTurns, Comes, EndHasCells, Falls, HasCells, IsShort, TellsLeast, behind_first}
 
 same_number : (a b : ℤ) (n m : ℕ) → a ≤ℤ b → b ≤ℤ a → a ≡ pos n → b ≡ pos m → n ≡ m
 same_number a b n m low high one other = omega (arith, ints)
@@ -52,19 +52,19 @@ comes_once E D budget lists spends holds ends (inr (inr (few, (end, n, some, e))
     let same : other ≡ end = end_once (failing_in lists) other end also some in
     ends end n m e (subst (λ (x : FailingOb Why). D x m) same d)
 
-alike_self : (a : Short) → AreAlike a a
+alike_self : (a : Short) → AreAlikeAnswers a a
 alike_self Fine = refl
 alike_self (Least ob answers why cells cert) = (refl, refl)
 alike_self TooLong = refl
 alike_self Spent = refl
 
-alike : (a b : Short) → a ≡ b → AreAlike a b
-alike a b same = subst (λ (x : Short). AreAlike a x) same (alike_self a)
+alike : (a b : Short) → a ≡ b → AreAlikeAnswers a b
+alike a b same = subst (λ (x : Short). AreAlikeAnswers a x) same (alike_self a)
 
 -- question lists tell one answer, but for its certificate
 tells_once :
     (f : Function) (end : FailingOb Why) (cells : ℕ) (lists : List (ObQuestions Why)) (a b : Short) → TellsLeast f end cells lists a
-    → TellsLeast f end cells lists b → AreAlike a b
+    → TellsLeast f end cells lists b → AreAlikeAnswers a b
 tells_once f end cells lists (Least ob answers why n cert) (Least other others cause m bytes) one two =
     (one.0 ∙ sym two.0, one.1 ∙ sym two.1)
 tells_once f end cells lists (Least ob answers why n cert) Fine one two = absurd two
@@ -84,7 +84,7 @@ module _ (one_list : OneList) (f : Function) (budget : ℕ) where
   -- from one failing end on there is one answer
   falls_once :
       (turns others : List (List (ObQuestions Why))) (end : FailingOb Why) (cells : ℕ) (a b : Short)
-      → Falls f budget end cells turns a → Falls f budget end cells others b → AreAlike a b
+      → Falls f budget end cells turns a → Falls f budget end cells others b → AreAlikeAnswers a b
   falls_once [] others end cells a b falls also = absurd falls
   falls_once (lists ∷ turns) [] end cells a b falls also = absurd also
   falls_once (lists ∷ turns) (more ∷ others) end cells a b (asked, comes) (asked', comes') =
@@ -103,7 +103,7 @@ module _ (one_list : OneList) (f : Function) (budget : ℕ) where
       (λ next m. EndHasCells (behind_first next) m × Falls f budget (behind_first next) m others b))
       same comes')
 
-  begins_once : (end : FailingOb Why) (cells : ℕ) (a b : Short) → Begins f budget end cells a → Begins f budget end cells b → AreAlike a b
+  begins_once : (end : FailingOb Why) (cells : ℕ) (a b : Short) → BeginsTurns f budget end cells a → BeginsTurns f budget end cells b → AreAlikeAnswers a b
   begins_once end cells a b (inl (long, is)) (inl (_, are)) = alike a b (is ∙ sym are)
   begins_once end cells a b (inl (long, is)) (inr (short, rest)) = absurd (omega (arith, long, short))
   begins_once end cells a b (inr (short, rest)) (inl (long, is)) = absurd (omega (arith, long, short))
@@ -112,16 +112,16 @@ module _ (one_list : OneList) (f : Function) (budget : ℕ) where
   module _ (one_first : (obs : List ObName) (lists others : List (ObQuestions Why)) → AreAsked (plan_of f) obs lists
       → AreAsked (plan_of f) obs others → lists ≡ others) where
     -- a function has one answer on its shortest document, but for its certificate
-    pub short_once : (a b : Short) → IsShort f budget a → IsShort f budget b → AreAlike a b
+    pub short_once : (a b : Short) → IsShort f budget a → IsShort f budget b → AreAlikeAnswers a b
     short_once a b (lists, asked, comes) (more, asked', comes') =
         let same : more ≡ lists = one_first (obligations_of f.head Tp2) more lists asked' asked in
         comes_once
-        (λ end n. EndHasCells end n × Begins f budget end n a) (λ end m. EndHasCells end m × Begins f budget end m b)
+        (λ end n. EndHasCells end n × BeginsTurns f budget end n a) (λ end m. EndHasCells end m × BeginsTurns f budget end m b)
         budget lists (λ s t. alike a b (s ∙ sym t)) (λ s t. alike a b (s ∙ sym t))
         (λ end n m one two.
         let count : m ≡ n = cells_once end.ob end.end.answers m n two.0 one.0 in
-        begins_once end n a b one.1 (subst (λ (k : ℕ). Begins f budget end k b) count two.1))
+        begins_once end n a b one.1 (subst (λ (k : ℕ). BeginsTurns f budget end k b) count two.1))
         comes
         (subst
-        (λ (l : List (ObQuestions Why)). Comes budget l (b ≡ Spent) (b ≡ Fine) (λ end m. EndHasCells end m × Begins f budget end m b))
+        (λ (l : List (ObQuestions Why)). Comes budget l (b ≡ Spent) (b ≡ Fine) (λ end m. EndHasCells end m × BeginsTurns f budget end m b))
         same comes')

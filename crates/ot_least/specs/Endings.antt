@@ -19,5 +19,5 @@ pub record IsEnding (f : Function) (e : Ending) : Type 0 where
   pub possible : IsPossible (answered_by e.answers.items)
   pub length : HasCells e.ob (answered_by e.answers.items) e.cells
 
-abbrev pub end_of : Ending → FailingOb Why
-end_of e = end_by e.ob e.answers.items e.why
+abbrev pub failing_end_of : Ending → FailingOb Why
+failing_end_of e = end_by e.ob e.answers.items e.why

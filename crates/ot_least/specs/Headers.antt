@@ -33,7 +33,7 @@ FitsLevel level bytes Front = IsFrontOfHeader bytes
 FitsLevel level bytes Other = (bound : ℕ) → bound ≤ MAX_BOUND → BeginsOtherwise bytes level bound
 
 -- how all of them do
-abbrev pub FitsHeader : List ℕ → HeaderFit → Type 0
-FitsHeader bytes (Whole level bound) = IsHeader bytes level bound
-FitsHeader bytes Front = IsFrontOfHeader bytes
-FitsHeader bytes Other = (level : Level) (bound : ℕ) → bound ≤ MAX_BOUND → BeginsOtherwise bytes level bound
+abbrev pub FitsLowHeader : List ℕ → HeaderFit → Type 0
+FitsLowHeader bytes (Whole level bound) = IsHeader bytes level bound
+FitsLowHeader bytes Front = IsFrontOfHeader bytes
+FitsLowHeader bytes Other = (level : Level) (bound : ℕ) → bound ≤ MAX_BOUND → BeginsOtherwise bytes level bound

@@ -72,5 +72,5 @@ IsLowJudgement f bytes (Err judge.Failed) = ⊥
 IsLowJudgement f bytes (Err judge.NoMemory) = ⊥
 
 -- the answer is no judgement: the feed failed, or there was no memory
-abbrev pub IsWant : {T : Type 0} → Result T JudgeError → Type 0
-IsWant answer = (answer ≡ Err judge.Failed) ⊎ (answer ≡ Err judge.NoMemory)
+abbrev pub IsNoJudgement : {T : Type 0} → Result T JudgeError → Type 0
+IsNoJudgement answer = (answer ≡ Err judge.Failed) ⊎ (answer ≡ Err judge.NoMemory)

@@ -78,8 +78,8 @@ Falls f budget end cells (lists ∷ turns) short =
     (λ next fewer. EndHasCells (behind_first next) fewer × Falls f budget (behind_first next) fewer turns short)
 
 -- from the first failing end on: its document has too many cells, or there are such turns
-abbrev pub Begins : Function → ℕ → FailingOb Why → ℕ → Short → Type 0
-Begins f budget end cells short =
+abbrev pub BeginsTurns : Function → ℕ → FailingOb Why → ℕ → Short → Type 0
+BeginsTurns f budget end cells short =
     ((MAX_BOUND < cells) × (short ≡ TooLong))
     ⊎ ((cells ≤ MAX_BOUND) × ((turns : List (List (ObQuestions Why))) × Falls f budget end cells turns short))
 
@@ -89,7 +89,7 @@ abbrev pub IsShort : Function → ℕ → Short → Type 0
 IsShort f budget short =
     (lists : List (ObQuestions Why)) × AreAsked (plan_of f) (obligations_of f.head Tp2) lists
     × Comes budget lists (short ≡ Spent) (short ≡ Fine)
-    (λ end cells. EndHasCells end cells × Begins f budget end cells short)
+    (λ end cells. EndHasCells end cells × BeginsTurns f budget end cells short)
 
 -- the property that an obligation is a part of is broken on a document of so many cells and on none of fewer, as the
 -- bytes certify; and the answers lead through the plan of the obligation, without the question whether the document is
@@ -113,14 +113,14 @@ IsTrueOf f TooLong = Unit {0}
 IsTrueOf f Spent = Unit {0}
 
 -- answers that are one but for their certificates
-abbrev pub AreAlike : Short → Short → Type 0
-AreAlike (Least ob answers why cells cert) (Least other others cause count bytes) =
+abbrev pub AreAlikeAnswers : Short → Short → Type 0
+AreAlikeAnswers (Least ob answers why cells cert) (Least other others cause count bytes) =
     (end_by ob answers.items why ≡ end_by other others.items cause) × (cells ≡ count)
-AreAlike one other = one ≡ other
+AreAlikeAnswers one other = one ≡ other
 
 -- so many bytes at the most, where there is a certificate
-abbrev pub IsWithin : ℕ → Short → Type 0
-IsWithin limit (Least ob answers why cells cert) = length cert.items ≤ limit
-IsWithin limit Fine = Unit {0}
-IsWithin limit TooLong = Unit {0}
-IsWithin limit Spent = Unit {0}
+abbrev pub IsShortWithin : ℕ → Short → Type 0
+IsShortWithin limit (Least ob answers why cells cert) = length cert.items ≤ limit
+IsShortWithin limit Fine = Unit {0}
+IsShortWithin limit TooLong = Unit {0}
+IsShortWithin limit Spent = Unit {0}

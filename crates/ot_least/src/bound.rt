@@ -6,9 +6,9 @@ ghost use Rattle.fn_rules.specs.declared.function.Level.{Level};
 ghost use Rattle.fn_rules.specs.Rules.{function_of};
 ghost use Rattle.ot_outside.specs.Faults.{Rose};
 ghost use Rattle.ot_sections.specs.declared.refusal.JudgeError.{JudgeError};
-ghost use Rattle.ot_sections.specs.Feeding.{Has, IsKept, IsSpent, IsTruncated, MayGive, MayGiveOf, MayHave, Whole};
+ghost use Rattle.ot_sections.specs.Feeding.{Has, IsKeptFeed, IsSpent, IsTruncated, MayGive, MayGiveOf, MayHave, Whole};
 ghost use Rattle.ot_sections.specs.Feeding.{Yields};
-ghost use Rattle.ot_least.specs.Judgements.{IsLowJudgement, IsWant};
+ghost use Rattle.ot_least.specs.Judgements.{IsLowJudgement, IsNoJudgement};
 
 use crate::laws::{bytes_have_one_low_judgement, low_certificates_are_sections};
 use crate::leading::read_low_header;
@@ -28,12 +28,12 @@ fn judge_low<F: Feed>(
 ) -> Result<(Level, u32), JudgeError>
     requires head { head.now ≡ (function_of rules.now).head }
     requires room { F.bound feed.old < 2 ^ 63 }
-    ensures judged { IsWant result ⊎ ((all : Whole) → Has F.Feed feed.new all →
+    ensures judged { IsNoJudgement result ⊎ ((all : Whole) → Has F.Feed feed.new all →
         (bytes : List ℕ) × Yields F.Feed feed.old all bytes × IsLowJudgement (function_of rules.now) bytes result) }
     ensures nothing_left { IfOk result (λ _. IsSpent F.left F.hand feed.new) }
     ensures truncated { IfErr result (λ e. IsTruncated e → IsSpent F.left F.hand feed.new) }
     ensures failed { IfErr result (λ e. e ≡ JudgeError.Failed → Rose (F.faults feed.old) (F.faults feed.new)) }
-    ensures kept { IsKept F.faults F.bound F.held F.keeps feed.old feed.new }
+    ensures kept { IsKeptFeed F.faults F.bound F.held F.keeps feed.old feed.new }
 {
     low_certificates_are_sections();
     parts_are_obligations();
@@ -57,19 +57,19 @@ pub fn check_bound<F: Feed>(
     requires { F.bound feed.old < 2 ^ 63 }
 
     // Where the feed tells its bytes, these are the bytes.
-    ensures judged { IsWant result ⊎ ((bytes : List ℕ) × MayGive F.left F.bound feed.old bytes
+    ensures judged { IsNoJudgement result ⊎ ((bytes : List ℕ) × MayGive F.left F.bound feed.old bytes
         × IsLowJudgement (function_of rules.now) bytes result) }
     // Whether or not the feed tells its bytes: of all bytes that begin with those that it gave, and are no more where
     // nothing is left, those that it had not given before the call have this judgement.
-    ensures given { IsWant result ⊎ ((all : Whole) → MayHave F.left F.bound F.gave F.hand feed.new all →
+    ensures given { IsNoJudgement result ⊎ ((all : Whole) → MayHave F.left F.bound F.gave F.hand feed.new all →
         (bytes : List ℕ) × MayGiveOf F.left F.bound F.gave feed.old all bytes
         × IsLowJudgement (function_of rules.now) bytes result) }
     ensures only { (bytes : List ℕ) (other : Result (Level × ℕ) JudgeError) → F.left feed.old ≡ Some bytes
-        → IsLowJudgement (function_of rules.now) bytes other → IsWant result ⊎ (result ≡ other) }
+        → IsLowJudgement (function_of rules.now) bytes other → IsNoJudgement result ⊎ (result ≡ other) }
     ensures nothing_left { IfOk result (λ _. IsSpent F.left F.hand feed.new) }
     ensures truncated { IfErr result (λ e. IsTruncated e → IsSpent F.left F.hand feed.new) }
     ensures failed { IfErr result (λ e. e ≡ JudgeError.Failed → Rose (F.faults feed.old) (F.faults feed.new)) }
-    ensures kept { IsKept F.faults F.bound F.held F.keeps feed.old feed.new }
+    ensures kept { IsKeptFeed F.faults F.bound F.held F.keeps feed.old feed.new }
 {
     bytes_have_one_low_judgement();
     feeds_have_bytes::<F>();

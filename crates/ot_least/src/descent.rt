@@ -4,9 +4,9 @@ ghost use Rattle.fn_rules.specs.Rules.{function_of};
 ghost use Rattle.ot_questions.specs.declared.why.Why.{Why};
 ghost use Rattle.ot_sections.specs.declared.premise.TheConstants.{MAX_BOUND};
 ghost use Rattle.ot_decide.specs.Verdicts.{ObQuestions};
-ghost use Rattle.ot_least.specs.Endings.{IsEnding, end_of};
+ghost use Rattle.ot_least.specs.Endings.{IsEnding, failing_end_of};
 ghost use Rattle.ot_least.specs.Lows.{IsBroken, level_of as part_level};
-ghost use Rattle.ot_least.specs.Shortest.{Begins, Falls, IsShort, IsTrueOf, IsWithin};
+ghost use Rattle.ot_least.specs.Shortest.{BeginsTurns, Falls, IsShort, IsShortWithin, IsTrueOf};
 
 use crate::ending::{Ending, ending_at, shorter_ending};
 use crate::header::write_low_header;
@@ -28,9 +28,9 @@ fn descend(alloc: Global, rules: &Rules, budget: u64, end: Ending) -> Result<Sho
     requires broken { IsBroken (function_of rules.now) (part_level end.ob) }
     requires bounded { end.cells ≤ MAX_BOUND }
     ensures falls { IfOk result (λ short. (turns : List (List (ObQuestions Why)))
-        × Falls (function_of rules.now) budget (end_of end) end.cells turns short) }
+        × Falls (function_of rules.now) budget (failing_end_of end) end.cells turns short) }
     ensures holds { IfOk result (IsTrueOf (function_of rules.now)) }
-    ensures within { budget ≤ 1000000 → IfOk result (IsWithin 83886080) }
+    ensures within { budget ≤ 1000000 → IfOk result (IsShortWithin 83886080) }
 {
     parts_are_obligations();
     low_certificates_show_shorter_documents();
@@ -69,9 +69,9 @@ fn descend(alloc: Global, rules: &Rules, budget: u64, end: Ending) -> Result<Sho
 fn descend_from(alloc: Global, rules: &Rules, budget: u64, end: Ending) -> Result<Short, NoMemory>
     requires ending { IsEnding (function_of rules.now) end }
     requires broken { IsBroken (function_of rules.now) (part_level end.ob) }
-    ensures begins { IfOk result (Begins (function_of rules.now) budget (end_of end) end.cells) }
+    ensures begins { IfOk result (BeginsTurns (function_of rules.now) budget (failing_end_of end) end.cells) }
     ensures holds { IfOk result (IsTrueOf (function_of rules.now)) }
-    ensures within { budget ≤ 1000000 → IfOk result (IsWithin 83886080) }
+    ensures within { budget ≤ 1000000 → IfOk result (IsShortWithin 83886080) }
 {
     if end.cells > MAX_BOUND {
         return Ok(Short::TooLong);
@@ -96,7 +96,7 @@ pub fn shortest(alloc: Global, rules: &Rules, budget: u64) -> Result<Short, NoMe
     ensures holds { IfOk result (IsTrueOf (function_of rules.now)) }
 
     // A certificate keeps the limit of a file.
-    ensures within { budget ≤ 1000000 → IfOk result (IsWithin 83886080) }
+    ensures within { budget ≤ 1000000 → IfOk result (IsShortWithin 83886080) }
 {
     failing_triples_show_tp1();
     failing_ends_break_at_their_length();

@@ -1,7 +1,7 @@
 //! The first line of a low certificate.
 ghost use Rattle.std.specs.Prelude.{◌≡◌, ◌≤◌, [], ◌∷◌, ◌++◌, codes, IfOk, OnOk};
 ghost use Rattle.cert_text.specs.Spelling.{level_text};
-ghost use Rattle.ot_least.specs.Headers.{FitsBound, FitsHeader, FitsLevel};
+ghost use Rattle.ot_least.specs.Headers.{FitsBound, FitsLevel, FitsLowHeader};
 ghost use Rattle.ot_least.specs.Lows.{low_header_text};
 
 use ask_core::NoMemory;
@@ -71,7 +71,7 @@ fn level_fit(alloc: Global, level: Level, front: &[u8]) -> Result<HeaderFit, NoM
 
 /// How the first lines of low certificates begin with the bytes.
 pub(crate) fn header_fit(alloc: Global, front: &[u8]) -> Result<HeaderFit, NoMemory>
-    ensures { IfOk result (FitsHeader front.now) }
+    ensures { IfOk result (FitsLowHeader front.now) }
 {
     match level_fit(alloc, Level::Tp1, front)? {
         HeaderFit::Other => level_fit(alloc, Level::Tp2, front),

@@ -19,7 +19,7 @@ ghost use Rattle.ot_least.specs.declared.short.Short.{Short};
 ghost use Rattle.ot_least.specs.declared.short.Short.TheVariants.{TooLong};
 ghost use Rattle.ot_least.specs.Judgements.{IsJudgedLow, IsLowJudgement};
 ghost use Rattle.ot_least.specs.Lows.{HasAt, IsLow, level_of};
-ghost use Rattle.ot_least.specs.Shortest.{AreAlike, IsShort};
+ghost use Rattle.ot_least.specs.Shortest.{AreAlikeAnswers, IsShort};
 
 use ask_core::{answers_lead_to_ends, fitting_trees_hold};
 use ot_decide::obligations_have_one_question_list;
@@ -96,7 +96,7 @@ pub fn bytes_have_one_low_judgement()
 /// certificates.
 pub fn functions_have_one_shortest_document()
     ensures { (f : Function) (budget : ℕ) (one other : Short) → IsShort f budget one → IsShort f budget other
-        → AreAlike one other }
+        → AreAlikeAnswers one other }
 {
     obligations_have_one_question_list();
 }

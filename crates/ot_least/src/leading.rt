@@ -3,7 +3,7 @@ ghost use Rattle.std.specs.Prelude.{◌≡◌, ◌+◌, ◌≤◌, List, [], ◌
 ghost use Rattle.ot_outside.specs.Faults.{Rose};
 ghost use Rattle.ot_sections.specs.declared.refusal.JudgeError.{JudgeError};
 ghost use Rattle.ot_sections.specs.declared.premise.TheConstants.{MAX_BOUND};
-ghost use Rattle.ot_sections.specs.Feeding.{Has, IsKept, IsSpent, IsTruncated, Whole, Yields};
+ghost use Rattle.ot_sections.specs.Feeding.{Has, IsKeptFeed, IsSpent, IsTruncated, Whole, Yields};
 ghost use Rattle.ot_least.specs.Judgements.{IsNoHeaderBehind};
 ghost use Rattle.ot_least.specs.Lows.{low_header_text};
 
@@ -22,7 +22,7 @@ fn next_byte<F: Feed>(feed: &mut F) -> Result<Option<u8>, Failed>
         → Yields F.Feed feed.old all [])) }
     ensures nothing_left { IfOk result (λ o. IfNone o (IsSpent F.left F.hand feed.new)) }
     ensures failed { OnErr result (Rose (F.faults feed.old) (F.faults feed.new)) }
-    ensures kept { IsKept F.faults F.bound F.held F.keeps feed.old feed.new }
+    ensures kept { IsKeptFeed F.faults F.bound F.held F.keeps feed.old feed.new }
 {
     if !feed.more()? {
         return Ok(None);
@@ -45,7 +45,7 @@ pub(crate) fn read_low_header<F: Feed>(
     ensures refused { IfErr result (IsNoHeaderBehind F.Feed feed.old feed.new) }
     ensures truncated { IfErr result (λ e. IsTruncated e → IsSpent F.left F.hand feed.new) }
     ensures failed { IfErr result (λ e. e ≡ JudgeError.Failed → Rose (F.faults feed.old) (F.faults feed.new)) }
-    ensures kept { IsKept F.faults F.bound F.held F.keeps feed.old feed.new }
+    ensures kept { IsKeptFeed F.faults F.bound F.held F.keeps feed.old feed.new }
 {
     let mut line = Vec::new(alloc);
     while let Some(byte) = next_byte(feed)? {

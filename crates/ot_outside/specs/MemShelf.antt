@@ -11,13 +11,13 @@ abbrev pub shelf_holds : MemShelf → List ℕ → Option (List ℕ)
 shelf_holds shelf name = held shelf.files.items name
 
 -- what is left of the file at a place
-abbrev pub left_at : Files → Option OpenFile → List ℕ
-left_at files None = []
-left_at files (Some place) = drop place.taken (contents_at files place.file)
+abbrev pub left_in_file : Files → Option OpenFile → List ℕ
+left_in_file files None = []
+left_in_file files (Some place) = drop place.taken (contents_at files place.file)
 
 -- what is left of the open file
 abbrev pub shelf_left : MemShelf → List ℕ
-shelf_left shelf = left_at shelf.files.items shelf.opened
+shelf_left shelf = left_in_file shelf.files.items shelf.opened
 
 -- the numbers of the calls that fail
 abbrev pub failing_calls : MemShelf → List ℕ

@@ -14,8 +14,8 @@ use Rattle.ot_questions.specs.declared.place.SymOp.TheVariants as ops
 use Rattle.ot_questions.specs.Names.{name_count}
 use Rattle.ot_questions.specs.Places.{sym_kind}
 use Rattle.ot_terms.specs.declared.goal.GoalProgress.{GoalProgress}
-use Rattle.ot_terms.specs.Belonging.{AreMade, AreResults, HasNames, HasParts, HasPlaces, IsCellOf, IsChoiceOf, IsDocOf}
-use Rattle.ot_terms.specs.Belonging.{IsMade, IsMoved, IsNextResult, IsProgressOf, next_operands, reach_of}
+use Rattle.ot_terms.specs.Belonging.{AreOperandsOf, AreResults, HasNames, HasParts, HasPlaces, IsCellOf, IsChoiceOf}
+use Rattle.ot_terms.specs.Belonging.{IsDocOf, IsMade, IsMoved, IsNextResult, IsProgressOf, next_operands, reach_of}
 use Rattle.ot_terms.specs.Cells as cells
 use Rattle.ot_terms.specs.Cells.{CellTree}
 use Rattle.ot_terms.specs.Documents as documents
@@ -84,8 +84,8 @@ is_list_prop : (os others : List SymOp) → IsProp (os ≡ others)
 is_list_prop os others = hlevel props
 
 -- the list tells the operations of an obligation
-AreMade-prop : (ob : ObName) (os : List SymOp) → IsProp (AreMade ob os)
-AreMade-prop (Pair k l) os =
+AreOperandsOf-prop : (ob : ObName) (os : List SymOp) → IsProp (AreOperandsOf ob os)
+AreOperandsOf-prop (Pair k l) os =
     let count = name_count (Pair k l) in
     seen_prop {B = (a : SymOp) × ((b : SymOp) × ((os ≡ a ∷ b ∷ ops.Nop ∷ []) × IsMade count k a × IsMade count l b))}
     (λ m. (m.0, (m.1, (m.2, m.3, m.4)))) (λ m. (m.0, m.1.0, m.1.1.0, m.1.1.1, m.1.1.2)) (λ m. refl)
@@ -94,7 +94,7 @@ AreMade-prop (Pair k l) os =
     (λ b. hlevel (is_list_prop os (a ∷ b ∷ ops.Nop ∷ []), IsMade-prop count k a, IsMade-prop count l b))
     (λ b other one two. cc (one.0, two.0)))
     (λ a other one two. cc (one.1.0, two.1.0)))
-AreMade-prop (Triple k l m) os =
+AreOperandsOf-prop (Triple k l m) os =
     let count = name_count (Triple k l m) in
     seen_prop
     {B = (a : SymOp)
@@ -130,7 +130,7 @@ AreResults-prop ob os before (r ∷ got) =
 
 IsProgressOf-prop : (ob : ObName) (progress : GoalProgress) → IsProp (IsProgressOf ob progress)
 IsProgressOf-prop ob progress =
-    hlevel (AreMade-prop ob progress.ops, AreResults-prop ob progress.ops [] (results_of progress), props)
+    hlevel (AreOperandsOf-prop ob progress.ops, AreResults-prop ob progress.ops [] (results_of progress), props)
 
 IsChoiceOf-prop :
     (f : Function) (ob : ObName) (case : ℕ) (a b : SymOp) (progress : GoalProgress)

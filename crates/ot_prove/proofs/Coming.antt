@@ -9,8 +9,8 @@ use Rattle.ask_core.specs.Plans.{Plan, Ask, Holds, Fails}
 use Rattle.ask_core.specs.Trees.{Branch, IsCycleAmong, tokens_of}
 use Rattle.ask_core.specs.Questions.{Questions, FailingEnd, QuestionList, no_questions, failing_at}
 use Rattle.ot_prove.specs.declared.outcome.Outcome.TheVariants.{Yes, Spent}
-use Rattle.ot_prove.specs.Outcomes.{IsProof, asked_along}
-use Rattle.ot_prove.specs.Searching.{joined, Listed, Answered, whole, HasCome, AgreesWithLists}
+use Rattle.ot_prove.specs.Outcomes.{IsProofOfPlan, asked_along}
+use Rattle.ot_prove.specs.Searching.{joined_questions, Listed, Answered, whole, HasCome, AgreesWithLists}
 use Rattle.ot_prove.proofs.Listing.{ListedBehind, Listed-impossible, Listed-holds, Listed-fails, Listed-question, parts_of}
 use Rattle.ot_prove.proofs.Answering.{Answered-question, Answered-holds, Answered-cycle}
 
@@ -18,7 +18,7 @@ module _ {W : Type 0} where
   -- a list alone, by its failing end
   listed_alone : (p : Plan W) (q : Questions W) (failing : Option (FailingEnd W)) → q.failing ≡ failing
       → QuestionList p [] q
-      → MatchOption failing ((n : Questions W) × Listed [] n × (q ≡ joined q n)) (λ _. q ≡ q)
+      → MatchOption failing ((n : Questions W) × Listed [] n × (q ≡ joined_questions q n)) (λ _. q ≡ q)
   listed_alone p q None ends list = (
     no_questions,
     refl,
@@ -110,7 +110,7 @@ module _ {W : Type 0} where
   -- nothing is open any more
   answered_whole :
       (root : Plan W) (tokens : List Tok) (asked : List (List Lit)) → Answered (tokens ++ []) (asked ++ []) (whole root)
-      → IsProof root tokens asked
+      → IsProofOfPlan root tokens asked
   answered_whole root tokens asked (t, rest, later, fits, spelled, questions, (no_rest, no_later)) = record {
     tree = t;
     fits = fits;
@@ -134,6 +134,6 @@ module _ {W : Type 0} where
         omega arith,
         ap (λ (x : Questions W). x.failing) is,
         omega arith,
-        subst (λ (x : List (List Lit)). IsProof root tokens x) (sym asked_is)
+        subst (λ (x : List (List Lit)). IsProofOfPlan root tokens x) (sym asked_is)
             (answered_whole root tokens asked (come.trees [] [] (refl, refl))),
       )

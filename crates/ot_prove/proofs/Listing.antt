@@ -5,7 +5,7 @@ use Rattle.diff_graph.specs.Literals.{IsPossible}
 use Rattle.ask_core.specs.Plans.{Plan, Ask, Holds, Fails}
 use Rattle.ask_core.specs.Trees.{Branch, with_answer}
 use Rattle.ask_core.specs.Questions.{Questions, FailingEnd, QuestionList, no_questions, failing_at, asked_with_yes, asked_with_both}
-use Rattle.ot_prove.specs.Searching.{joined, Listed}
+use Rattle.ot_prove.specs.Searching.{joined_questions, Listed}
 
 module _ {W : Type 0} where
   -- one question, and nothing else
@@ -33,7 +33,7 @@ module _ {W : Type 0} where
       → Listed (b ∷ branches) q → Listed branches q
   Listed-none b branches q none (y, list, after) =
       let found =
-      subst (λ (x : Questions W). MatchOption x.failing ((n : Questions W) × Listed branches n × (q ≡ joined x n)) (λ _. q ≡ x))
+      subst (λ (x : Questions W). MatchOption x.failing ((n : Questions W) × Listed branches n × (q ≡ joined_questions x n)) (λ _. q ≡ x))
       (none y list) after in
       subst (λ (x : Questions W). Listed branches x) (sym found.2) found.1
 
@@ -53,11 +53,11 @@ module _ {W : Type 0} where
   fails_there :
       (w : List Lit) (why : W) (branches : List (Branch W)) (q y : Questions W) → IsPossible w
       → QuestionList (Fails why) w y
-      → MatchOption y.failing ((n : Questions W) × Listed branches n × (q ≡ joined y n)) (λ _. q ≡ y)
+      → MatchOption y.failing ((n : Questions W) × Listed branches n × (q ≡ joined_questions y n)) (λ _. q ≡ y)
       → q ≡ failing_at w why
   fails_there w why branches q y possible (inl none) after = absurd (none.0 possible)
   fails_there w why branches q y possible (inr some) after =
-      subst (λ (x : Questions W). MatchOption x.failing ((n : Questions W) × Listed branches n × (q ≡ joined x n)) (λ _. q ≡ x))
+      subst (λ (x : Questions W). MatchOption x.failing ((n : Questions W) × Listed branches n × (q ≡ joined_questions x n)) (λ _. q ≡ x))
       some.1 after
 
   pub Listed-fails :
@@ -78,15 +78,16 @@ module _ {W : Type 0} where
   listed_no :
       (b : Branch W) (branches : List (Branch W)) (w : List Lit) (y n q : Questions W) (failing : Option (FailingEnd W))
       → n.failing ≡ failing → QuestionList b.plan b.answers n
-      → MatchOption failing ((m : Questions W) × Listed branches m × (q ≡ joined (asked_with_both w y n) m))
+      → MatchOption failing ((m : Questions W) × Listed branches m × (q ≡ joined_questions (asked_with_both w y n) m))
       (λ _. q ≡ asked_with_both w y n)
       → (m : Questions W) × Listed (b ∷ branches) m × (q ≡ record { asked = w ∷ (y.asked ++ m.asked); failing = m.failing })
   listed_no b branches w y n q None ends list (m, listed, is) = (
-    joined n m,
+    joined_questions n m,
     (
       n,
       list,
-      subst (λ (x : Option (FailingEnd W)). MatchOption x ((k : Questions W) × Listed branches k × (joined n m ≡ joined n k)) (λ _. joined n m ≡ n))
+      subst (λ (x : Option (FailingEnd W)). MatchOption x
+          ((k : Questions W) × Listed branches k × (joined_questions n m ≡ joined_questions n k)) (λ _. joined_questions n m ≡ n))
           (sym ends) (m, listed, refl),
     ),
     is ∙ ap (λ (x : List (List Lit)). record { asked = w ∷ x; failing = m.failing }) (append_assoc y.asked n.asked m.asked),
@@ -96,7 +97,7 @@ module _ {W : Type 0} where
     (
       n,
       list,
-      subst (λ (x : Option (FailingEnd W)). MatchOption x ((k : Questions W) × Listed branches k × (n ≡ joined n k)) (λ _. n ≡ n))
+      subst (λ (x : Option (FailingEnd W)). MatchOption x ((k : Questions W) × Listed branches k × (n ≡ joined_questions n k)) (λ _. n ≡ n))
           (sym ends) refl,
     ),
     is,
@@ -110,21 +111,21 @@ module _ {W : Type 0} where
       → MatchOption failing
       ((n : Questions W) × QuestionList on_no (with_answer w l false) n × (z ≡ asked_with_both w y n))
       (λ _. z ≡ asked_with_yes w y)
-      → MatchOption z.failing ((n : Questions W) × Listed branches n × (q ≡ joined z n)) (λ _. q ≡ z)
+      → MatchOption z.failing ((n : Questions W) × Listed branches n × (q ≡ joined_questions z n)) (λ _. q ≡ z)
       → ListedBehind (w ∷ []) (parts_of l on_yes on_no w branches) q
   listed_yes l on_yes on_no w branches y z q None ends list (n, of_no, is) after =
       let found =
       listed_no (record { plan = on_no; answers = with_answer w l false }) branches w y n q n.failing refl of_no
-      (subst (λ (x : Questions W). MatchOption x.failing ((m : Questions W) × Listed branches m × (q ≡ joined x m)) (λ _. q ≡ x)) is after) in (
-        joined y found.0,
+      (subst (λ (x : Questions W). MatchOption x.failing ((m : Questions W) × Listed branches m × (q ≡ joined_questions x m)) (λ _. q ≡ x)) is after) in (
+        joined_questions y found.0,
         (
           y,
           list,
           subst (λ (x : Option (FailingEnd W)).
               MatchOption x
               ((k : Questions W) × Listed (record { plan = on_no; answers = with_answer w l false } ∷ branches) k
-              × (joined y found.0 ≡ joined y k))
-              (λ _. joined y found.0 ≡ y))
+              × (joined_questions y found.0 ≡ joined_questions y k))
+              (λ _. joined_questions y found.0 ≡ y))
               (sym ends) (found.0, found.1, refl),
         ),
         found.2,
@@ -132,7 +133,7 @@ module _ {W : Type 0} where
   listed_yes l on_yes on_no w branches y z q (Some end) ends list is after =
       let same : z.failing ≡ Some end = ap (λ (x : Questions W). x.failing) is ∙ ends in
       let q_is =
-      subst (λ (x : Option (FailingEnd W)). MatchOption x ((n : Questions W) × Listed branches n × (q ≡ joined z n)) (λ _. q ≡ z))
+      subst (λ (x : Option (FailingEnd W)). MatchOption x ((n : Questions W) × Listed branches n × (q ≡ joined_questions z n)) (λ _. q ≡ z))
       same after in (
         y,
         (
@@ -141,7 +142,7 @@ module _ {W : Type 0} where
           subst (λ (x : Option (FailingEnd W)).
               MatchOption x
               ((k : Questions W) × Listed (record { plan = on_no; answers = with_answer w l false } ∷ branches) k
-              × (y ≡ joined y k))
+              × (y ≡ joined_questions y k))
               (λ _. y ≡ y))
               (sym ends) refl,
         ),
@@ -151,7 +152,7 @@ module _ {W : Type 0} where
   asks_there :
       (l : Lit) (on_yes on_no : Plan W) (w : List Lit) (branches : List (Branch W)) (z q : Questions W) → IsPossible w
       → QuestionList (Ask l on_yes on_no) w z
-      → MatchOption z.failing ((n : Questions W) × Listed branches n × (q ≡ joined z n)) (λ _. q ≡ z)
+      → MatchOption z.failing ((n : Questions W) × Listed branches n × (q ≡ joined_questions z n)) (λ _. q ≡ z)
       → ListedBehind (w ∷ []) (parts_of l on_yes on_no w branches) q
   asks_there l on_yes on_no w branches z q possible (inl none) after = absurd (none.0 possible)
   asks_there l on_yes on_no w branches z q possible (inr (some, (y, list, parts))) after =

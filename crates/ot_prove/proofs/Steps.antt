@@ -20,7 +20,8 @@ use Rattle.ot_prove.specs.Outcomes.{AreAllPossible, IsDecided}
 use Rattle.ot_prove.specs.declared.split.Room.{Room}
 use Rattle.ot_prove.specs.declared.split.Room.TheVariants.{Both, OnlyYes, OnlyNo}
 use Rattle.ot_prove.specs.Sides.{Rows, IsTableOf, IsAsked, StandsForSome, AreJudged, JudgesSides, cycles_of}
-use Rattle.ot_prove.specs.Searching.{plan_weight, weight_of, HasCome, answers_at, AgreesWithLists, AreShort, LeadsTo, AreReached, IsSearching, known_by, GoesOn}
+use Rattle.ot_prove.specs.Searching.{plan_weight, weight_of, HasCome, answers_at, AgreesWithLists, AreShortBranches, LeadsTo, AreReached, IsSearching, known_by}
+use Rattle.ot_prove.specs.Searching.{GoesOnAfterQuestion}
 use Rattle.ot_prove.proofs.Literals.{fine_question}
 use Rattle.ot_prove.proofs.Coming.{HasCome-begun, HasCome-question, HasCome-holds, HasCome-cycle, AgreesWithLists-spent, fails_here, AgreesWithLists-yes}
 use Rattle.ot_prove.proofs.Possible.{AreNeverMet, IsPossible-by_table, impossible_by_cycle}
@@ -103,7 +104,7 @@ module _ {N W : Type 0} where
       → IsSearching is_own new root budget places cycles tables tree asked
   IsSearching-same {old = old} {root = root} {places = places} {tree = tree} s own branches same_root = record {
     own = own;
-    short = subst (λ (x : List (Branch W)). AreShort x) (sym branches) s.short;
+    short = subst (λ (x : List (Branch W)). AreShortBranches x) (sym branches) s.short;
     reached =
         subst (λ (x : List (Branch W)). AreReached root x) (sym branches)
         (subst (λ (x : Plan W). AreReached x (branches_at old places)) (sym same_root) s.reached);
@@ -322,7 +323,7 @@ module _ {N W : Type 0} where
     pub IsSearching-on :
         (room : Room) (numbers : List ℕ) (places new_places : List (OpenPlace N)) (cycles new_cycles : List (Option (List ℕ)))
         (tables : List Rows) (tree new_tree : List Tok) (asked : ℕ) → 0 < length places → AreNeverMet
-        → GoesOn room numbers places cycles tree new_places new_cycles new_tree
+        → GoesOnAfterQuestion room numbers places cycles tree new_places new_cycles new_tree
         → IsSearching is_own plan root budget places (cycles_of room numbers cycles) tables tree asked
         → IsSearching is_own plan root budget new_places (None ∷ new_cycles) tables new_tree asked
     IsSearching-on Both numbers places new_places cycles new_cycles tables tree new_tree asked some never on s = rw (on.0, on.1, on.2) s
@@ -340,7 +341,7 @@ module _ {N W : Type 0} where
         → IsSearching is_own plan root budget places (None ∷ cycles) (reverse tables) tree asked
         → is_own on_yes × is_own on_no × (first_plan plan places ≡ Ask l (plan on_yes) (plan on_no)) → asked ≢ budget
         → JudgesSides l (length (first_answers places)) cycles (reverse tables) (cycles_of room numbers cycles) new_tables
-        → GoesOn room numbers (after_question l on_yes on_no places) cycles (tree ++ token.Ask ∷ []) new_places new_cycles new_tree
+        → GoesOnAfterQuestion room numbers (after_question l on_yes on_no places) cycles (tree ++ token.Ask ∷ []) new_places new_cycles new_tree
         → IsSearching is_own plan root budget new_places (None ∷ new_cycles) new_tables new_tree (asked + 1)
     IsSearching-asked places new_places cycles new_cycles tables new_tables tree new_tree asked l on_yes on_no room numbers some never
         s begins fits judges on =
@@ -367,7 +368,7 @@ module _ {N W : Type 0} where
 
     weight_of-on :
         (room : Room) (numbers : List ℕ) (places new_places : List (OpenPlace N)) (cycles new_cycles : List (Option (List ℕ)))
-        (tree new_tree : List Tok) → 0 < length places → GoesOn room numbers places cycles tree new_places new_cycles new_tree
+        (tree new_tree : List Tok) → 0 < length places → GoesOnAfterQuestion room numbers places cycles tree new_places new_cycles new_tree
         → weight_of (branches_at plan new_places) ≤ weight_of (branches_at plan places)
     weight_of-on Both numbers places new_places cycles new_cycles tree new_tree some on = rw on.0 (omega arith)
     weight_of-on OnlyYes numbers places new_places cycles new_cycles tree new_tree some on = rw on.0 (omega arith)
@@ -379,7 +380,7 @@ module _ {N W : Type 0} where
         (room : Room) (numbers : List ℕ) (places new_places : List (OpenPlace N)) (cycles new_cycles : List (Option (List ℕ)))
         (tree new_tree : List Tok) (l : Lit) (on_yes on_no : N) → 0 < length places
         → first_plan plan places ≡ Ask l (plan on_yes) (plan on_no)
-        → GoesOn room numbers (after_question l on_yes on_no places) cycles tree new_places new_cycles new_tree
+        → GoesOnAfterQuestion room numbers (after_question l on_yes on_no places) cycles tree new_places new_cycles new_tree
         → weight_of (branches_at plan new_places) < weight_of (branches_at plan places)
     weight_of-asked room numbers places new_places cycles new_cycles tree new_tree l on_yes on_no some asks on =
         let less = weight_of-question places l on_yes on_no asks in

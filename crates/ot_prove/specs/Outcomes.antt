@@ -37,7 +37,7 @@ asked_along End p w = []
 asked_along (Impossible picks) p w = []
 
 -- the tokens are those of a tree that fits the plan, and these are the answers in front of its questions
-pub record IsProof {W : Type 0} (p : Plan W) (tokens : List Tok) (asked : List (List Lit)) : Type 0 where
+pub record IsProofOfPlan {W : Type 0} (p : Plan W) (tokens : List Tok) (asked : List (List Lit)) : Type 0 where
   pub tree : AnswerTree
   pub fits : Fits tree p []
   pub spelled : tokens ≡ tokens_of tree
@@ -47,7 +47,7 @@ pub record IsProof {W : Type 0} (p : Plan W) (tokens : List Tok) (asked : List (
 -- failing end, to which the answers lead, or else is that of a tree which fits the plan
 abbrev pub Decides : {W : Type 0} → Plan W → ℕ → Questions W → Outcome W → Type 0
 Decides p budget q (Yes tree asked) =
-    (length q.asked ≤ budget) × (q.failing ≡ None) × (asked ≡ length q.asked) × IsProof p tree q.asked
+    (length q.asked ≤ budget) × (q.failing ≡ None) × (asked ≡ length q.asked) × IsProofOfPlan p tree q.asked
 Decides p budget q (No answers why) =
     (length q.asked ≤ budget) × (q.failing ≡ Some (record { answers = answered_by answers.items; why = why }))
     × AreAnswersTo p answers.items (Fails why)

@@ -30,15 +30,15 @@ weight_of [] = 0
 weight_of (b ∷ branches) = plan_weight b.plan + weight_of branches
 
 -- the questions of one plan and then those of others
-abbrev pub joined : {W : Type 0} → Questions W → Questions W → Questions W
-joined y n = record { asked = y.asked ++ n.asked; failing = n.failing }
+abbrev pub joined_questions : {W : Type 0} → Questions W → Questions W → Questions W
+joined_questions y n = record { asked = y.asked ++ n.asked; failing = n.failing }
 
 -- `q` is the question lists of the branches one after another, up to the first failing end
 abbrev pub Listed : {W : Type 0} → List (Branch W) → Questions W → Type 0
 Listed [] q = q ≡ no_questions
 Listed {W = W} (b ∷ branches) q =
     (y : Questions W) × QuestionList b.plan b.answers y
-    × MatchOption y.failing ((n : Questions W) × Listed branches n × (q ≡ joined y n)) (λ _. q ≡ y)
+    × MatchOption y.failing ((n : Questions W) × Listed branches n × (q ≡ joined_questions y n)) (λ _. q ≡ y)
 
 -- the tokens are, in order, one fitting tree for each branch, and nothing else; `asked` are the answers in
 -- front of their questions
@@ -63,7 +63,7 @@ pub record HasCome {W : Type 0} (root : Plan W) (tokens : List Tok) (asked : Lis
   pub lists :
       (q : Questions W) → QuestionList root [] q
       → (later : Questions W) × Listed open_ones later
-      × (q ≡ joined (record { asked = asked; failing = later.failing }) later)
+      × (q ≡ joined_questions (record { asked = asked; failing = later.failing }) later)
 
 -- the answers of each place
 abbrev pub answers_at : {N : Type 0} → List (OpenPlace N) → List (List Lit)
@@ -82,11 +82,11 @@ abbrev pub AreReached : {W : Type 0} → Plan W → List (Branch W) → Type 0
 AreReached root branches = AllByRecursion (λ b. LeadsTo root b.answers b.plan) branches
 
 -- the branch's answers and the questions of its plan keep the limit of a path
-abbrev pub IsShort : {W : Type 0} → Branch W → Type 0
-IsShort b = length b.answers + longest_path b.plan ≤ MAX_QUESTIONS
+abbrev pub IsShortBranch : {W : Type 0} → Branch W → Type 0
+IsShortBranch b = length b.answers + longest_path b.plan ≤ MAX_QUESTIONS
 
-abbrev pub AreShort : {W : Type 0} → List (Branch W) → Type 0
-AreShort branches = AllByRecursion IsShort branches
+abbrev pub AreShortBranches : {W : Type 0} → List (Branch W) → Type 0
+AreShortBranches branches = AllByRecursion IsShortBranch branches
 
 -- a search of the asker's plan under way: its open places, what is known of each, the tree so far and how
 -- many questions it has
@@ -94,7 +94,7 @@ pub record IsSearching {N W : Type 0} (is_own : N → Type 0) (plan : N → Plan
     (places : List (OpenPlace N)) (cycles : List (Option (List ℕ))) (tables : List Rows) (tree : List Tok) (asked : ℕ) :
     Type 0 where
   pub own : AreOwn is_own places
-  pub short : AreShort (branches_at plan places)
+  pub short : AreShortBranches (branches_at plan places)
   pub reached : AreReached root (branches_at plan places)
   pub judged : AreJudged (answers_at places) cycles tables
   pub so_far : List (List Lit)
@@ -111,19 +111,19 @@ abbrev pub known_of : {N : Type 0} → PlanSearch N → List (Option (List ℕ))
 known_of s = known_by s.possible s.cycles
 
 -- the same of a search, whose last table is that of the first place that some integers meet
-abbrev pub IsUnderWay : {N W : Type 0} → (N → Type 0) → (N → Plan W) → Plan W → ℕ → PlanSearch N → Type 0
-IsUnderWay is_own plan root budget s =
+abbrev pub IsSearchUnderWay : {N W : Type 0} → (N → Type 0) → (N → Plan W) → Plan W → ℕ → PlanSearch N → Type 0
+IsSearchUnderWay is_own plan root budget s =
     IsSearching is_own plan root budget s.path (known_of s) (reverse s.tables.items) s.tree s.asked
 
 -- behind a question the side for yes is next, or it is closed with a cycle; what is known of the others waits
-abbrev pub GoesOn :
+abbrev pub GoesOnAfterQuestion :
     {N : Type 0} → Room → List ℕ → List (OpenPlace N) → List (Option (List ℕ)) → List Tok
     → List (OpenPlace N) → List (Option (List ℕ)) → List Tok → Type 0
-GoesOn Both numbers places cycles tree new_places new_cycles new_tree =
+GoesOnAfterQuestion Both numbers places cycles tree new_places new_cycles new_tree =
     (new_places ≡ places) × (new_cycles ≡ None ∷ cycles) × (new_tree ≡ tree)
-GoesOn OnlyYes numbers places cycles tree new_places new_cycles new_tree =
+GoesOnAfterQuestion OnlyYes numbers places cycles tree new_places new_cycles new_tree =
     (new_places ≡ places) × (new_cycles ≡ Some numbers ∷ cycles) × (new_tree ≡ tree)
-GoesOn OnlyNo numbers places cycles tree new_places new_cycles new_tree =
+GoesOnAfterQuestion OnlyNo numbers places cycles tree new_places new_cycles new_tree =
     (new_places ≡ drop 1 places) × (new_cycles ≡ cycles) × (new_tree ≡ tree ++ token.Cycle numbers ∷ [])
 
 -- the literal is asked at the first place, and its sides are judged
@@ -132,8 +132,8 @@ HasAsked l on_yes on_no before after =
     (room : Room) × (numbers : List ℕ)
     × JudgesSides l (length (first_answers before.path)) before.cycles (reverse before.tables.items)
     (cycles_of room numbers before.cycles) (reverse after.tables.items)
-    × GoesOn room numbers (after_question l on_yes on_no before.path) before.cycles (before.tree ++ token.Ask ∷ [])
-    after.path after.cycles after.tree
+    × GoesOnAfterQuestion room numbers (after_question l on_yes on_no before.path) before.cycles
+    (before.tree ++ token.Ask ∷ []) after.path after.cycles after.tree
 
 -- the first place had a cycle and is closed with it, or some integers meet its answers
 abbrev pub HasClosed : {N : Type 0} → PlanSearch N → PlanSearch N → Bool → Type 0
@@ -153,7 +153,7 @@ AgreesWithLists {W = W} p budget o = (q : Questions W) → QuestionList p [] q �
 abbrev pub IsUnderWayOr : {N W : Type 0} → (N → Type 0) → (N → Plan W) → Plan W → ℕ → PlanSearch N → Option (Outcome W)
     → Type 0
 IsUnderWayOr is_own plan root budget s r =
-    MatchOption r (IsUnderWay is_own plan root budget s) (λ o. AgreesWithLists root budget o)
+    MatchOption r (IsSearchUnderWay is_own plan root budget s) (λ o. AgreesWithLists root budget o)
 
 -- where it leaves a search, the plans that are open weigh less than before
 abbrev pub WeighsLess : {N W : Type 0} → (N → Plan W) → (N → Plan W) → PlanSearch N → PlanSearch N

@@ -55,19 +55,19 @@ AddsAnswer number l said before after =
 
 -- the table has room for both sides, or it stands for the answers with the side that is named, and the other one
 -- closes the cycle
-abbrev pub HasRoom : Rows → ℕ → Lit → List ℕ → Room → Type 0
-HasRoom rows number l numbers Both =
+abbrev pub HasRoomForSides : Rows → ℕ → Lit → List ℕ → Room → Type 0
+HasRoomForSides rows number l numbers Both =
     (has_room (kept_of rows) (answered_of l true) ≡ true) × (has_room (kept_of rows) (answered_of l false) ≡ true)
-HasRoom rows number l numbers OnlyYes =
+HasRoomForSides rows number l numbers OnlyYes =
     AddsAnswer number l true rows rows × ClosesCycle (kept_of rows) number (answered_of l false) numbers
-HasRoom rows number l numbers OnlyNo =
+HasRoomForSides rows number l numbers OnlyNo =
     AddsAnswer number l false rows rows × ClosesCycle (kept_of rows) number (answered_of l true) numbers
 
 -- where there is a cycle, its numbers are no more than a token may have
-abbrev pub HasFew : List ℕ → Room → Type 0
-HasFew numbers Both = Unit {0}
-HasFew numbers OnlyYes = length numbers ≤ MAX_PICKS
-HasFew numbers OnlyNo = length numbers ≤ MAX_PICKS
+abbrev pub HasFewNumbers : List ℕ → Room → Type 0
+HasFewNumbers numbers Both = Unit {0}
+HasFewNumbers numbers OnlyYes = length numbers ≤ MAX_PICKS
+HasFewNumbers numbers OnlyNo = length numbers ≤ MAX_PICKS
 
 -- what is known of the two sides, that of yes first, and then of other places
 abbrev pub cycles_of : Room → List ℕ → List (Option (List ℕ)) → List (Option (List ℕ))

@@ -6,10 +6,11 @@ use Rattle.ask_core.specs.declared.tree.Tok.{Tok}
 use Rattle.ask_core.specs.declared.tree.Tok.TheVariants as token
 
 -- a cycle has the numbers from its start on, and the places outside of its own have those before it
-abbrev pub cycles_at : List (Option ℕ) → List ℕ → List (Option (List ℕ))
-cycles_at [] numbers = []
-cycles_at (None ∷ starts) numbers = None ∷ cycles_at starts numbers
-cycles_at (Some start ∷ starts) numbers = Some (drop start numbers) ∷ cycles_at starts (take start numbers)
+abbrev pub cycles_of_starts : List (Option ℕ) → List ℕ → List (Option (List ℕ))
+cycles_of_starts [] numbers = []
+cycles_of_starts (None ∷ starts) numbers = None ∷ cycles_of_starts starts numbers
+cycles_of_starts (Some start ∷ starts) numbers =
+    Some (drop start numbers) ∷ cycles_of_starts starts (take start numbers)
 
 -- each cycle starts within the numbers, and has no more than a token may have
 abbrev pub HaveCycles : List (Option ℕ) → List ℕ → Type 0
@@ -19,7 +20,7 @@ HaveCycles (Some start ∷ starts) numbers =
     (start ≤ length numbers) × (length numbers - start ≤ MAX_PICKS) × HaveCycles starts (take start numbers)
 
 -- what was known of the innermost place is taken: its cycle is put behind the tree, or there is none
-abbrev pub IsTaken : List (Option (List ℕ)) → List (Option (List ℕ)) → List Tok → List Tok → Bool → Type 0
-IsTaken before after tree new_tree true =
+abbrev pub IsTakenCycle : List (Option (List ℕ)) → List (Option (List ℕ)) → List Tok → List Tok → Bool → Type 0
+IsTakenCycle before after tree new_tree true =
     (picks : List ℕ) × (before ≡ Some picks ∷ after) × (new_tree ≡ tree ++ token.Cycle picks ∷ [])
-IsTaken before after tree new_tree false = (before ≡ None ∷ after) × (new_tree ≡ tree)
+IsTakenCycle before after tree new_tree false = (before ≡ None ∷ after) × (new_tree ≡ tree)

@@ -1,7 +1,7 @@
 //! What is known of places that wait.
 ghost use Rattle.std.specs.Prelude.{◌≡◌, ◌-◌, ◌<◌, ◌≤◌, ◌∷◌, [], None, Some, length, slice_index_or, IfOk, OnOk};
 ghost use Rattle.ask_core.specs.declared.picks.TheConstants.{MAX_PICKS};
-ghost use Rattle.ot_prove.specs.Waiting.{IsTaken};
+ghost use Rattle.ot_prove.specs.Waiting.{IsTakenCycle};
 
 use crate::NoMemory;
 use ask_core::{Tree, append_few};
@@ -19,11 +19,11 @@ pub struct Cycles {
 
 impl Model for Cycles {
     ghost use Rattle.std.specs.Prelude.{ℕ, List, Option, reverse};
-    ghost use Rattle.ot_prove.specs.Waiting.{cycles_at, HaveCycles};
+    ghost use Rattle.ot_prove.specs.Waiting.{cycles_of_starts, HaveCycles};
 
     ghost Value = { List (Option (List ℕ)) };
 
-    ghost view = { λ c. cycles_at (reverse c.starts.items) c.numbers.items };
+    ghost view = { λ c. cycles_of_starts (reverse c.starts.items) c.numbers.items };
 
     ghost invariant = { λ c. HaveCycles (reverse c.starts.items) c.numbers.items };
 }
@@ -74,7 +74,7 @@ impl Cycles {
     #[inline(always)]
     pub fn take(&mut self, tree: &mut Tree) -> Result<bool, NoMemory>
         requires { 0 < length self.old }
-        ensures { IfOk result (IsTaken self.old self.new tree.old tree.new) }
+        ensures { IfOk result (IsTakenCycle self.old self.new tree.old tree.new) }
     {
         match last_start(&self.starts) {
             None => {

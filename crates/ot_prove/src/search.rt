@@ -8,7 +8,7 @@ ghost use Rattle.ask_core.specs.Paths.{OpenPlace, first_answers};
 ghost use Rattle.ask_core.specs.declared.tree.Tok.TheVariants.{Holds};
 ghost use Rattle.ot_prove.specs.declared.split.TheConstants.{MAX_NAMES};
 ghost use Rattle.ot_prove.specs.Sides.{IsAsked, StandsForSome, last_rows};
-ghost use Rattle.ot_prove.specs.Searching.{HasAsked, HasClosed, IsUnderWay, IsUnderWayOr, WeighsLess, known_of};
+ghost use Rattle.ot_prove.specs.Searching.{HasAsked, HasClosed, IsSearchUnderWay, IsUnderWayOr, WeighsLess, known_of};
 
 use crate::NoMemory;
 use crate::answers::answers_along;
@@ -138,7 +138,7 @@ fn take_turn<A: Asker>(
     requires names { A.name_count asker.old ≤ MAX_NAMES }
     requires opened { 0 < length search.old.path }
     requires possible { search.old.possible ≡ true }
-    requires searching { IsUnderWay (A.is_own asker.old) (A.plan asker.old) (A.root asker.old) budget search.old }
+    requires searching { IsSearchUnderWay (A.is_own asker.old) (A.plan asker.old) (A.root asker.old) budget search.old }
     ensures step { IfOk result (λ r. IsUnderWayOr (A.is_own asker.new) (A.plan asker.new) (A.root asker.new) budget
         search.new r) }
     ensures falls { IfOk result (λ r. WeighsLess (A.plan asker.old) (A.plan asker.new) search.old search.new r) }
@@ -178,7 +178,7 @@ pub fn step<A: Asker>(
 ) -> Result<Option<Outcome<A::Why>>, NoMemory>
     requires names { A.name_count asker.old ≤ MAX_NAMES }
     requires opened { 0 < length search.old.path }
-    requires searching { IsUnderWay (A.is_own asker.old) (A.plan asker.old) (A.root asker.old) budget search.old }
+    requires searching { IsSearchUnderWay (A.is_own asker.old) (A.plan asker.old) (A.root asker.old) budget search.old }
     ensures step { IfOk result (λ r. IsUnderWayOr (A.is_own asker.new) (A.plan asker.new) (A.root asker.new) budget
         search.new r) }
     ensures falls { IfOk result (λ r. WeighsLess (A.plan asker.old) (A.plan asker.new) search.old search.new r) }

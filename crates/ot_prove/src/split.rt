@@ -3,8 +3,8 @@ ghost use Rattle.std.specs.Prelude.{◌≡◌, ℕ, ◌<◌, true, false, List, 
 ghost use Rattle.diff_graph.specs.Literals.{answered_of};
 ghost use Rattle.diff_graph.specs.Tables.{IsNamed, kept_of};
 ghost use Rattle.diff_bounds.specs.Kept.{has_room};
-ghost use Rattle.ot_prove.specs.Sides.{AddsAnswer, HasFew, HasRoom, HasSplit, IsAsked, JudgesSides, StandsForSome};
-ghost use Rattle.ot_prove.specs.Sides.{cycles_of, last_rows};
+ghost use Rattle.ot_prove.specs.Sides.{AddsAnswer, HasFewNumbers, HasRoomForSides, HasSplit, IsAsked, JudgesSides};
+ghost use Rattle.ot_prove.specs.Sides.{StandsForSome, cycles_of, last_rows};
 
 use crate::NoMemory;
 use diff_bounds::Bounds;
@@ -38,7 +38,7 @@ fn room_of(
     requires named { IsNamed MAX_NAMES lit }
     requires asked { IsAsked lit }
     requires stands { StandsForSome MAX_NAMES table.now }
-    ensures { IfOk result (HasRoom table.now number lit numbers.new.items) }
+    ensures { IfOk result (HasRoomForSides table.now number lit numbers.new.items) }
 {
     tables_tell_what_is_possible();
     tables_stand_for_what_is_added();
@@ -100,7 +100,7 @@ pub fn judge_sides(
     ensures judged { IfOk result (λ room. (cycles : List (Option (List ℕ)))
         → JudgesSides lit number cycles (reverse tables.old.items) (cycles_of room numbers.new.items cycles)
         (reverse tables.new.items)) }
-    ensures few { IfOk result (HasFew numbers.new.items) }
+    ensures few { IfOk result (HasFewNumbers numbers.new.items) }
 {
     let last = tables.len() - 1;
     match room_of(&tables[last], numbers, lit, number)? {

@@ -18,7 +18,7 @@ use Rattle.ot_questions.specs.declared.why.Why.{Why}
 use Rattle.ot_questions.specs.Names.{site_name, char_name}
 use Rattle.ot_questions.specs.Places.{sym_op}
 use Rattle.ot_questions.specs.Meaning.{op_at}
-use Rattle.ot_questions.specs.Instances.{StandsFor}
+use Rattle.ot_questions.specs.Instances.{StandsForOperation}
 use Rattle.ot_questions.specs.Obligation.{plan_of}
 use Rattle.ot_questions.specs.Sorts.{sort_name, IsStill, IsLike, AreLike, AsksLike, HasNoNegativePosition}
 use Rattle.ot_questions.specs.Asked.{AllAsked}
@@ -77,5 +77,5 @@ counted v kinds.Upd who site ch = record { site = natural (v (site_name who)) si
 
 pub natural_names_stand :
     (v : ℕ → ℤ) (k : Kind) (who : Who) → v 0 ≡ pos 0 → pos 0 ≤ℤ v (site_name who) → pos 0 ≤ℤ v (char_name who)
-    → StandsFor v (sym_op k who) (op_at v (sym_op k who))
+    → StandsForOperation v (sym_op k who) (op_at v (sym_op k who))
 natural_names_stand v k who z site ch = standing-op_at v (sym_op k who) z (counted v k who site ch)

@@ -21,7 +21,7 @@ use Rattle.ot_questions.specs.declared.why.Why.{Why}
 use Rattle.ot_questions.specs.Names.{site_name, char_name}
 use Rattle.ot_questions.specs.Places.{sym_op}
 use Rattle.ot_questions.specs.Meaning.{op_at}
-use Rattle.ot_questions.specs.Instances.{StandsFor, NamesAll}
+use Rattle.ot_questions.specs.Instances.{StandsForOperation, NamesAll}
 use Rattle.ot_questions.proofs.Tests.{int_le-like}
 use Rattle.ot_questions.proofs.Operations.{IsCount, IsCounted}
 use Rattle.ot_questions.specs.Sorts.{sort_name}
@@ -55,7 +55,7 @@ all_named n i made =
   where
     stand :
         (who : Who) (k : Kind) → kind_of (made who) ≡ Some k
-        → StandsFor (valued n i (made A) (made B) (made C)) (sym_op k who) (made who)
+        → StandsForOperation (valued n i (made A) (made B) (made C)) (sym_op k who) (made who)
     stand A k e = standing-named (valued n i (made A) (made B) (made C)) k A (made A) e refl refl refl
     stand B k e = standing-named (valued n i (made A) (made B) (made C)) k B (made B) e refl refl refl
     stand C k e = standing-named (valued n i (made A) (made B) (made C)) k C (made C) e refl refl refl

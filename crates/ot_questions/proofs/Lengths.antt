@@ -11,7 +11,7 @@ use Rattle.ot_questions.specs.declared.why.Why.{Why}
 use Rattle.ot_questions.specs.Places.{zero_place, length_and}
 use Rattle.ot_questions.specs.Questions.{ask_le}
 use Rattle.ot_questions.specs.Obligation.{ask_pair, ask_triple, plan_of, plan_below}
-use Rattle.ot_questions.specs.Meaning.{HoldsAtLength, AlwaysHolds, HoldsEverywhere, AllHold, AllHoldAtLength}
+use Rattle.ot_questions.specs.Meaning.{HoldsAtLength, AlwaysHolds, ObligationHolds, AllHold, AllHoldAtLength}
 use Rattle.ot_questions.proofs.Tests.{Decides-int_le}
 use Rattle.ot_questions.proofs.Values.{by_test, end-le}
 use Rattle.ot_questions.proofs.Answered.{int_cases, negative_length}
@@ -39,7 +39,7 @@ holds_if_counted f ob v z h =
       | inr found ↦ value_from_none (end_of (plan_of f ob) v) (ends_at_negative_length f ob v found.0 z found.1)
     ]
 
-holds_everywhere : (f : Function) (ob : ObName) → ((n : ℕ) → HoldsAtLength f ob n) → HoldsEverywhere f ob
+holds_everywhere : (f : Function) (ob : ObName) → ((n : ℕ) → HoldsAtLength f ob n) → ObligationHolds f ob
 holds_everywhere f ob h v z = holds_if_counted f ob v z (λ n e. h n v z e)
 
 -- plans that hold at each length hold everywhere, and those that hold everywhere do at each length

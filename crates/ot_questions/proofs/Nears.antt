@@ -1,6 +1,6 @@
 -- Offsets stay small.
 use Rattle.std.proofs.Common.{◌≡◌, ℕ, ◌+◌, ℤ, pos, negsuc, ◌+ℤ◌, ◌≤ℤ◌, Bool, true, false, ◌&&◌, IsTrue, nat_le, int_le, List, [], ◌∷◌, length, arith, rules}
-use Rattle.std.proofs.Common.{refl, ◌≤◌}
+use Rattle.std.proofs.Common.{refl, sym, subst, ◌≤◌}
 use Rattle.std.specs.Ordering.{int_eq}
 use Rattle.std.specs.List.{AllByRecursion, list_all}
 use Rattle.std.proofs.lemmas.Int.{ints}
@@ -16,7 +16,7 @@ use Rattle.fn_rules.specs.declared.limits.TheConstants.{MAX_CASES, MAX_ATOMS, MA
 use Rattle.fn_rules.specs.declared.guard.Tightness.TheVariants.{Loose}
 use Rattle.ot_questions.specs.declared.place.SymOp.{SymOp}
 use Rattle.ot_questions.specs.declared.place.SymOp.TheVariants.{Ins, Del, Upd, Nop}
-use Rattle.ot_questions.specs.Places.{plus, sym_at, sym_result, offset_of}
+use Rattle.ot_questions.specs.Places.{sym_at, sym_thing, sym_result, offset_of}
 use Rattle.ot_questions.specs.Nears.{IsNear, IsNearOp, HasNearAtoms, IsNearCase, IsResultOf}
 
 pub both_true : (a b : Bool) → a && b ≡ true → (a ≡ true) × (b ≡ true)

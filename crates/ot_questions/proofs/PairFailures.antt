@@ -12,7 +12,7 @@ use Rattle.fn_rules.specs.Transformation.{transform_of, IsAllowed}
 use Rattle.fn_rules.specs.Properties.{ConvergesAt}
 use Rattle.ot_questions.specs.declared.why.Why.{Why}
 use Rattle.ot_questions.specs.declared.why.Why.TheVariants.{Undefined, OutOfRange, Lengths, Cells, Operations}
-use Rattle.ot_questions.specs.Instances.{Forms, AreEnabledBehind, after_two, EndWith, AgreeAt, cell_in, PairFails, Shows, EndsBy}
+use Rattle.ot_questions.specs.Instances.{Forms, AreEnabledBehind, after_two, EndWith, AgreeAt, cell_in, PairFails, ShowsCause, EndsBy}
 use Rattle.ot_questions.proofs.TellingDocument.{telling, length-made, telling_tells}
 use Rattle.ot_questions.proofs.PairEnds.{PairSays}
 use Rattle.ot_questions.proofs.Answered.{Answered}
@@ -87,7 +87,7 @@ module _ (f : Function) (d : List Cell) (a b : Op) where
     fails_breaks why fails converges = fails_or_agrees why fails (agrees_at_each i converges)
 
     -- on a document that shows it, a cause in which a plan ends is a failure
-    pub says_fails : (why : Why) → PairSays f d a b i (Some why) → Shows d a b i why → PairFails f d a b i why
+    pub says_fails : (why : Why) → PairSays f d a b i (Some why) → ShowsCause d a b i why → PairFails f d a b i why
     says_fails Undefined says shows = says
     says_fails OutOfRange says shows = says
     says_fails Lengths says shows = says
@@ -137,7 +137,7 @@ dead_of Lengths = None
 dead_of (Cells left dead) = dead
 dead_of Operations = None
 
-shown : (n : ℕ) (a b : Op) (i : ℤ) (why : Why) → Shows (telling n a b i (left_of why) (dead_of why)) a b i why
+shown : (n : ℕ) (a b : Op) (i : ℤ) (why : Why) → ShowsCause (telling n a b i (left_of why) (dead_of why)) a b i why
 unfolding left_of dead_of
 shown n a b i Undefined = tt
 shown n a b i OutOfRange = tt

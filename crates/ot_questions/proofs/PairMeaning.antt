@@ -23,7 +23,7 @@ use Rattle.ot_questions.specs.Names.{site_name, char_name}
 use Rattle.ot_questions.specs.Places.{sym_op}
 use Rattle.ot_questions.specs.Obligation.{ask_converge, ask_pair, plan_of}
 use Rattle.ot_questions.specs.Meaning.{op_at, HasPair, HoldsAtLength, AllHold, AllHoldAtLength}
-use Rattle.ot_questions.specs.Instances.{StandsFor, EndWith, AgreeAt}
+use Rattle.ot_questions.specs.Instances.{StandsForOperation, EndWith, AgreeAt}
 use Rattle.ot_questions.proofs.Tests.{plus-zero}
 use Rattle.ot_questions.proofs.Values.{sym_allowed}
 use Rattle.ot_questions.proofs.Operations.{IsCounted}
@@ -56,8 +56,8 @@ answered_at v f x y d z e cx cy =
 
 -- and so of any operations that the names stand for
 pub pair_answered :
-    (f : Function) (x y : SymOp) (v : ℕ → ℤ) (d : List Cell) (a b : Op) → v 0 ≡ pos 0 → v 1 ≡ pos (length d) → StandsFor v x
-    a → StandsFor v y b
+    (f : Function) (x y : SymOp) (v : ℕ → ℤ) (d : List Cell) (a b : Op) → v 0 ≡ pos 0 → v 1 ≡ pos (length d) → StandsForOperation v x
+    a → StandsForOperation v y b
     → Answered (PairPosed f (length d) a b) (PairSays f d a b (v 2)) (end_of (ask_pair f x y) v)
 pair_answered f x y v d a b z e sx sy =
     subst (λ o. Answered (PairPosed f (length d) o b) (PairSays f d o b (v 2)) (end_of (ask_pair f x y) v)) (op_at-standing v x a z sx)
@@ -67,8 +67,8 @@ pair_answered f x y v d a b z e sx sy =
 
 -- where the plan holds, both ways agree at the index
 pub pair_agrees :
-    (f : Function) (x y : SymOp) (v : ℕ → ℤ) (d : List Cell) (a b : Op) → v 0 ≡ pos 0 → v 1 ≡ pos (length d) → StandsFor v x
-    a → StandsFor v y b
+    (f : Function) (x y : SymOp) (v : ℕ → ℤ) (d : List Cell) (a b : Op) → v 0 ≡ pos 0 → v 1 ≡ pos (length d) → StandsForOperation v x
+    a → StandsForOperation v y b
     → end_of (ask_pair f x y) v ≡ None → PairPosed f (length d) a b → EndWith f d a b (AgreeAt (v 2))
 pair_agrees f x y v d a b z e sx sy h posed =
     elim (pair_answered f x y v d a b z e sx sy) [
@@ -78,7 +78,7 @@ pair_agrees f x y v d a b z e sx sy h posed =
 
 -- where both ways agree at the index on every document of the length, the plan holds
 pub pair_none :
-    (f : Function) (x y : SymOp) (v : ℕ → ℤ) (n : ℕ) (a b : Op) → v 0 ≡ pos 0 → v 1 ≡ pos n → StandsFor v x a → StandsFor v y b
+    (f : Function) (x y : SymOp) (v : ℕ → ℤ) (n : ℕ) (a b : Op) → v 0 ≡ pos 0 → v 1 ≡ pos n → StandsForOperation v x a → StandsForOperation v y b
     → ((d : List Cell) → length d ≡ n → PairPosed f n a b → EndWith f d a b (AgreeAt (v 2))) → end_of (ask_pair f x y) v ≡ None
 pair_none f x y v n a b z e sx sy agrees =
     no_cause_left f n a b (v 2) (end_of (ask_pair f x y) v)

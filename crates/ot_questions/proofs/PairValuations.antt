@@ -18,7 +18,7 @@ use Rattle.ot_questions.specs.declared.why.Why.TheVariants.{Cells}
 use Rattle.ot_questions.specs.Names.{index_name}
 use Rattle.ot_questions.specs.Places.{sym_op, sym_kind}
 use Rattle.ot_questions.specs.Obligation.{plan_of}
-use Rattle.ot_questions.specs.Instances.{StandsFor, NamesPair, EndWith, AgreeAt, cell_in, PairFails, Shows, EndsBy}
+use Rattle.ot_questions.specs.Instances.{StandsForOperation, NamesPair, EndWith, AgreeAt, cell_in, PairFails, ShowsCause, EndsBy}
 use Rattle.ot_questions.proofs.PairEnds.{PairSays}
 use Rattle.ot_questions.proofs.Answered.{Answered}
 use Rattle.ot_questions.proofs.PairFailures.{PairPosed, says_fails, one_cause}
@@ -31,7 +31,7 @@ sym_kind-sym_op kinds.Upd who = refl
 
 -- an operation that the names of a declared kind stand for is of a declared kind
 pub declared_by_standing :
-    (f : Function) (v : ℕ → ℤ) (k : Kind) (who : Who) (a : Op) → is_declared f.head k ≡ true → StandsFor v (sym_op k who) a
+    (f : Function) (v : ℕ → ℤ) (k : Kind) (who : Who) (a : Op) → is_declared f.head k ≡ true → StandsForOperation v (sym_op k who) a
     → HasDeclaredKind f.head (kind_of a)
 declared_by_standing f v k who a declared h = declared_from f.head (kind_of a) k (sym h.kind ∙ sym_kind-sym_op k who) declared
 
@@ -60,7 +60,7 @@ module _ (f : Function) (k l : Kind) (v : ℕ → ℤ) (d : List Cell) (a b : Op
       ]
 
   pub pair_fails :
-      (why : Why) → end_of (plan_of f (Pair k l)) v ≡ Some why → Shows d a b (v index_name) why
+      (why : Why) → end_of (plan_of f (Pair k l)) v ≡ Some why → ShowsCause d a b (v index_name) why
       → AreConcurrent f d (a ∷ b ∷ []) × PairFails f d a b (v index_name) why
   pair_fails why e shows = let said = cause why e in (concurrent_from said.0, says_fails f d a b (v 2) why said.1 shows)
 

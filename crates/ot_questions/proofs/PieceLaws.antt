@@ -13,7 +13,7 @@ use Rattle.ot_questions.specs.declared.place.Place.{Place}
 use Rattle.ot_questions.specs.declared.place.SymOp.{SymOp}
 use Rattle.ot_questions.specs.declared.why.Why.{Why}
 use Rattle.ot_questions.specs.Sorts.{AsksLike}
-use Rattle.ot_questions.specs.Asked.{IsBelow, IsKept, OpStands, Stands}
+use Rattle.ot_questions.specs.Asked.{IsBelow, IsKept, OpStands, PlaceStands}
 use Rattle.ot_questions.specs.Nears.{IsNear}
 use Rattle.ot_questions.specs.Obligation.{ask_same_form}
 use Rattle.ot_questions.specs.Places.{sym_kind}
@@ -57,7 +57,7 @@ module _ (count : ℕ) (names : 2 < count) where
   length_below = omega arith
 
   pub kept_comparison :
-      (m : ℕ) (sort : Sort) (a b : Place) (p q : Plan Why) → Stands (IsBelow count) 500 sort a → Stands (IsBelow count) 500 sort b
+      (m : ℕ) (sort : Sort) (a b : Place) (p q : Plan Why) → PlaceStands (IsBelow count) 500 sort a → PlaceStands (IsBelow count) 500 sort b
       → IsKept count m p → IsKept count m q → IsKept count (m + 1) (ask_le a b p q)
   kept_comparison m sort a b p q ha hb hp hq =
       (walk_le count all_known (IsBelow count) (below count) (known count) zero_below length_below m sort a b p q ha hb

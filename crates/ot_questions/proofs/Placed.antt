@@ -23,7 +23,7 @@ use Rattle.ot_questions.specs.declared.place.SymOp.TheVariants.{Ins, Del, Upd, N
 use Rattle.ot_questions.specs.Names.{position_name, site_name, char_name}
 use Rattle.ot_questions.specs.Nears.{IsNear}
 use Rattle.ot_questions.specs.Sorts.{sort_name}
-use Rattle.ot_questions.specs.Asked.{IsSteady, Stands, OpStands}
+use Rattle.ot_questions.specs.Asked.{IsSteady, PlaceStands, OpStands}
 use Rattle.ot_questions.specs.Places.{place, plus, sym_op, sym_at, sym_kind, sym_site, sym_char, sym_placed, sym_result, sym_thing, place_of_name}
 use Rattle.ot_questions.proofs.Nears.{IsNear-more, IsNear-plus, IsNear-zero, IsNear-res}
 
@@ -93,35 +93,35 @@ steady-offset chars Site k e = (Decides-int_eq k (pos 0)).0 e
 steady-offset chars Char k e = (Decides-int_eq k (pos 0)).0 (and_parts chars (int_eq k (pos 0)) e).1
 
 module _ (Free : ℕ → Type 0) where
-  pub Stands-more : (m n : ℕ) (sort : Sort) (p : Place) → m ≤ n → Stands Free m sort p → Stands Free n sort p
-  Stands-more m n sort p h g = record { is = g.is; free = g.free; steady = g.steady; near = IsNear-more m n p.off h g.near }
+  pub PlaceStands-more : (m n : ℕ) (sort : Sort) (p : Place) → m ≤ n → PlaceStands Free m sort p → PlaceStands Free n sort p
+  PlaceStands-more m n sort p h g = record { is = g.is; free = g.free; steady = g.steady; near = IsNear-more m n p.off h g.near }
 
-  pub Stands-plus :
-      (m n : ℕ) (sort : Sort) (p : Place) (off : ℤ) → Stands Free m sort p → IsSteady sort off → IsNear n off
-      → Stands Free (m + n) sort (plus p off)
-  Stands-plus m n sort p off g still h =
+  pub PlaceStands-plus :
+      (m n : ℕ) (sort : Sort) (p : Place) (off : ℤ) → PlaceStands Free m sort p → IsSteady sort off → IsNear n off
+      → PlaceStands Free (m + n) sort (plus p off)
+  PlaceStands-plus m n sort p off g still h =
       record { is = g.is; free = g.free; steady = steady-plus sort p.off off g.steady still; near = IsNear-plus m n p.off off g.near h }
 
   -- a name itself has no offset
-  pub Stands-name : (m n : ℕ) (sort : Sort) (x : ℕ) → Stands Free m sort (place x (pos 0)) → Stands Free n sort (place x (pos 0))
-  Stands-name m n sort x h = record { is = h.is; free = h.free; steady = steady-zero sort; near = IsNear-zero n }
+  pub PlaceStands-name : (m n : ℕ) (sort : Sort) (x : ℕ) → PlaceStands Free m sort (place x (pos 0)) → PlaceStands Free n sort (place x (pos 0))
+  PlaceStands-name m n sort x h = record { is = h.is; free = h.free; steady = steady-zero sort; near = IsNear-zero n }
 
   pub OpStands-more : (m n : ℕ) (o : SymOp) → m ≤ n → OpStands Free m o → OpStands Free n o
   OpStands-more m n o h g = record {
-    at = Stands-more m n Pos (sym_at o) h g.at;
-    site = λ s e. Stands-name m n Site s (g.site s e);
-    ch = λ c e. Stands-name m n Char c (g.ch c e);
+    at = PlaceStands-more m n Pos (sym_at o) h g.at;
+    site = λ s e. PlaceStands-name m n Site s (g.site s e);
+    ch = λ c e. PlaceStands-name m n Char c (g.ch c e);
   }
 
-  Stands-some :
-      (n : ℕ) (sort : Sort) (o : Option ℕ) (x : ℕ) → o ≡ Some x → Stands Free n sort (place x (pos 0))
-      → Stands Free n sort (place_of_name o)
-  Stands-some n sort o x e h = subst (λ r. Stands Free n sort (place_of_name r)) (sym e) h
+  PlaceStands-some :
+      (n : ℕ) (sort : Sort) (o : Option ℕ) (x : ℕ) → o ≡ Some x → PlaceStands Free n sort (place x (pos 0))
+      → PlaceStands Free n sort (place_of_name o)
+  PlaceStands-some n sort o x e h = subst (λ r. PlaceStands Free n sort (place_of_name r)) (sym e) h
 
-  pub Stands-thing : (n : ℕ) (sort : Sort) (o : SymOp) → OpStands Free n o → HasThing sort o → Stands Free n sort (sym_thing sort o)
-  Stands-thing n Pos o h there = h.at
-  Stands-thing n Site o h there = Stands-some n Site (sym_site o) there.0 there.1 (h.site there.0 there.1)
-  Stands-thing n Char o h there = Stands-some n Char (sym_char o) there.0 there.1 (h.ch there.0 there.1)
+  pub PlaceStands-thing : (n : ℕ) (sort : Sort) (o : SymOp) → OpStands Free n o → HasThing sort o → PlaceStands Free n sort (sym_thing sort o)
+  PlaceStands-thing n Pos o h there = h.at
+  PlaceStands-thing n Site o h there = PlaceStands-some n Site (sym_site o) there.0 there.1 (h.site there.0 there.1)
+  PlaceStands-thing n Char o h there = PlaceStands-some n Char (sym_char o) there.0 there.1 (h.ch there.0 there.1)
 
   pub OpStands-nop : (n : ℕ) → Free 0 → OpStands Free n Nop
   OpStands-nop n low = record {
@@ -132,13 +132,13 @@ module _ (Free : ℕ → Type 0) where
 
   -- an operation that stands, at another place that does
   OpStands-placed :
-      (n m : ℕ) (o : SymOp) (p : Place) → Free 0 → OpStands Free n o → Stands Free m Pos p → OpStands Free m (sym_placed o p)
+      (n m : ℕ) (o : SymOp) (p : Place) → Free 0 → OpStands Free n o → PlaceStands Free m Pos p → OpStands Free m (sym_placed o p)
   OpStands-placed n m (Ins q c s) p low h g =
-      record { at = g; site = λ t e. Stands-name n m Site t (h.site t e); ch = λ t e. Stands-name n m Char t (h.ch t e) }
+      record { at = g; site = λ t e. PlaceStands-name n m Site t (h.site t e); ch = λ t e. PlaceStands-name n m Char t (h.ch t e) }
   OpStands-placed n m (Del q s) p low h g =
-      record { at = g; site = λ t e. Stands-name n m Site t (h.site t e); ch = λ t e. absurd (cc) }
+      record { at = g; site = λ t e. PlaceStands-name n m Site t (h.site t e); ch = λ t e. absurd (cc) }
   OpStands-placed n m (Upd q c s) p low h g =
-      record { at = g; site = λ t e. Stands-name n m Site t (h.site t e); ch = λ t e. Stands-name n m Char t (h.ch t e) }
+      record { at = g; site = λ t e. PlaceStands-name n m Site t (h.site t e); ch = λ t e. PlaceStands-name n m Char t (h.ch t e) }
   OpStands-placed n m Nop p low h g = OpStands-nop m low
 
   pub OpStands-result :
@@ -146,17 +146,17 @@ module _ (Free : ℕ → Type 0) where
       → OpStands Free (n + 99) (sym_result res a b)
   OpStands-result n (results.Keep First off) a b low h ha hb =
       OpStands-placed n (n + 99) a (plus (sym_at a) off) low ha
-      (Stands-plus n 99 Pos (sym_at a) off ha.at tt (IsNear-res (results.Keep First off) h))
+      (PlaceStands-plus n 99 Pos (sym_at a) off ha.at tt (IsNear-res (results.Keep First off) h))
   OpStands-result n (results.Keep Second off) a b low h ha hb =
       OpStands-placed n (n + 99) a (plus (sym_at b) off) low ha
-      (Stands-plus n 99 Pos (sym_at b) off hb.at tt (IsNear-res (results.Keep Second off) h))
+      (PlaceStands-plus n 99 Pos (sym_at b) off hb.at tt (IsNear-res (results.Keep Second off) h))
   OpStands-result n results.Nop a b low h ha hb = OpStands-nop (n + 99) low
 
-  name_stands : (sort : Sort) (x : ℕ) → sort_name x ≡ sort → Free x → Stands Free 0 sort (place x (pos 0))
+  name_stands : (sort : Sort) (x : ℕ) → sort_name x ≡ sort → Free x → PlaceStands Free 0 sort (place x (pos 0))
   name_stands sort x e h = record { is = e; free = h; steady = steady-zero sort; near = IsNear-zero 0 }
 
-  name_of : (sort : Sort) (x y : ℕ) → Some x ≡ Some y → Stands Free 0 sort (place x (pos 0)) → Stands Free 0 sort (place y (pos 0))
-  name_of sort x y e h = subst (λ z. Stands Free 0 sort (place z (pos 0))) (some_equal x y e) h
+  name_of : (sort : Sort) (x y : ℕ) → Some x ≡ Some y → PlaceStands Free 0 sort (place x (pos 0)) → PlaceStands Free 0 sort (place y (pos 0))
+  name_of sort x y e h = subst (λ z. PlaceStands Free 0 sort (place z (pos 0))) (some_equal x y e) h
 
   -- the operations of an obligation
   pub OpStands-sym_op :
@@ -180,14 +180,14 @@ module _ (Free : ℕ → Type 0) where
 
 -- where more names may be used
 module _ (Free Freer : ℕ → Type 0) (more : (x : ℕ) → Free x → Freer x) where
-  Stands-freer : (n : ℕ) (sort : Sort) (p : Place) → Stands Free n sort p → Stands Freer n sort p
-  Stands-freer n sort p h = record { is = h.is; free = more p.var h.free; steady = h.steady; near = h.near }
+  PlaceStands-freer : (n : ℕ) (sort : Sort) (p : Place) → PlaceStands Free n sort p → PlaceStands Freer n sort p
+  PlaceStands-freer n sort p h = record { is = h.is; free = more p.var h.free; steady = h.steady; near = h.near }
 
   OpStands-freer : (n : ℕ) (o : SymOp) → OpStands Free n o → OpStands Freer n o
   OpStands-freer n o h = record {
-    at = Stands-freer n Pos (sym_at o) h.at;
-    site = λ s e. Stands-freer n Site (place s (pos 0)) (h.site s e);
-    ch = λ c e. Stands-freer n Char (place c (pos 0)) (h.ch c e);
+    at = PlaceStands-freer n Pos (sym_at o) h.at;
+    site = λ s e. PlaceStands-freer n Site (place s (pos 0)) (h.site s e);
+    ch = λ c e. PlaceStands-freer n Char (place c (pos 0)) (h.ch c e);
   }
 
   pub AllStand-freer : (n : ℕ) (os : List SymOp) → AllByRecursion (OpStands Free n) os → AllByRecursion (OpStands Freer n) os

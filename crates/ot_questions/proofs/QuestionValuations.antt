@@ -16,7 +16,7 @@ use Rattle.ot_questions.specs.Questions.{ask_guard, ask_result, or_undefined, as
 use Rattle.ot_questions.specs.declared.why.Why.TheVariants.{Operations}
 use Rattle.ot_questions.specs.Obligation.{ask_same_form}
 use Rattle.ot_questions.specs.Meaning.{op_at}
-use Rattle.ot_questions.specs.Instances.{StandsFor, GoesOnWith, ComesTo}
+use Rattle.ot_questions.specs.Instances.{StandsForOperation, GoesOnWith, ComesTo}
 use Rattle.ot_questions.proofs.Values.{by_test, end-guard, end-result, end-enabled, end-allowed, sym_transformed, sym_allowed, enabled_to}
 use Rattle.ot_questions.proofs.Operations.{IsCounted, holds_of-op_at, transform_of-op_at}
 use Rattle.ot_questions.proofs.Forms.{counted_form}
@@ -26,13 +26,13 @@ use Rattle.ot_questions.proofs.Triples.{FoundAs, same_form_found}
 
 -- a fact about what two symbolic operations stand for
 at_both :
-    (v : ℕ → ℤ) (x y : SymOp) (a b : Op) (P : Op → Op → Type 0) → v 0 ≡ pos 0 → StandsFor v x a → StandsFor v y b
+    (v : ℕ → ℤ) (x y : SymOp) (a b : Op) (P : Op → Op → Type 0) → v 0 ≡ pos 0 → StandsForOperation v x a → StandsForOperation v y b
     → P (op_at v x) (op_at v y) → P a b
 at_both v x y a b P z sx sy h =
     subst (λ o. P o b) (op_at-standing v x a z sx) (subst (λ o. P (op_at v x) o) (op_at-standing v y b z sy) h)
 
 pub guard_ends :
-    (g : Formula) (v : ℕ → ℤ) (x y : SymOp) (a b : Op) (p q : Plan Why) → v 0 ≡ pos 0 → StandsFor v x a → StandsFor v y b
+    (g : Formula) (v : ℕ → ℤ) (x y : SymOp) (a b : Op) (p q : Plan Why) → v 0 ≡ pos 0 → StandsForOperation v x a → StandsForOperation v y b
     → end_of (ask_guard g x y p q) v ≡ (if holds_of g a b then end_of p v else end_of q v)
 guard_ends g v x y a b p q z sx sy =
     at_both v x y a b (λ c d. end_of (ask_guard g x y p q) v ≡ by_test (holds_of g c d) p q v) z sx sy
@@ -50,7 +50,7 @@ goes_on_with v f x y (Some r) z cx e = (
 )
 
 pub result_goes_on :
-    (f : Function) (v : ℕ → ℤ) (x y : SymOp) (a b : Op) → v 0 ≡ pos 0 → StandsFor v x a → StandsFor v y b
+    (f : Function) (v : ℕ → ℤ) (x y : SymOp) (a b : Op) → v 0 ≡ pos 0 → StandsForOperation v x a → StandsForOperation v y b
     → GoesOnWith v (ask_result f x y) (transform_of f a b)
 result_goes_on f v x y a b z sx sy =
     at_both v x y a b (λ c d. GoesOnWith v (ask_result f x y) (transform_of f c d)) z sx sy
@@ -67,7 +67,7 @@ comes_to v f x y None h = λ go. h (or_undefined go)
 comes_to v f x y (Some r) h = (h.0, h.1, λ go. h.2 (or_undefined go))
 
 pub transform_comes_to :
-    (f : Function) (v : ℕ → ℤ) (x y : SymOp) (a b : Op) → v 0 ≡ pos 0 → StandsFor v x a → StandsFor v y b
+    (f : Function) (v : ℕ → ℤ) (x y : SymOp) (a b : Op) → v 0 ≡ pos 0 → StandsForOperation v x a → StandsForOperation v y b
     → ComesTo v (ask_transform f x y) (transform_of f a b)
 transform_comes_to f v x y a b z sx sy = comes_to v f x y (transform_of f a b) (result_goes_on f v x y a b z sx sy)
 
@@ -78,7 +78,7 @@ enabled_to-is_enabled (ops.Upd at ch site) n = refl
 enabled_to-is_enabled ops.Nop n = refl
 
 pub enabled_ends :
-    (v : ℕ → ℤ) (x : SymOp) (a : Op) (off : ℤ) (n : ℕ) (p q : Plan Why) → v 0 ≡ pos 0 → v 1 +ℤ off ≡ pos n → StandsFor v x a
+    (v : ℕ → ℤ) (x : SymOp) (a : Op) (off : ℤ) (n : ℕ) (p q : Plan Why) → v 0 ≡ pos 0 → v 1 +ℤ off ≡ pos n → StandsForOperation v x a
     → end_of (ask_enabled x off p q) v ≡ (if is_enabled a n then end_of p v else end_of q v)
 enabled_ends v x a off n p q z e sx =
     end-enabled x off p q v z
@@ -87,7 +87,7 @@ enabled_ends v x a off n p q z e sx =
 
 pub allowed_ends :
     (f : Function) (v : ℕ → ℤ) (x y : SymOp) (a b : Op) (p : Plan Why) → ((c d : Op) → Decides (is_allowed f c d) (IsAllowed f c d))
-    → v 0 ≡ pos 0 → StandsFor v x a → StandsFor v y b
+    → v 0 ≡ pos 0 → StandsForOperation v x a → StandsForOperation v y b
     → end_of (ask_allowed f.head x y p) v ≡ (if is_allowed f a b then end_of p v else None)
 allowed_ends f v x y a b p decides z sx sy =
     at_both v x y a b (λ c d. end_of (ask_allowed f.head x y p) v ≡ (if is_allowed f c d then end_of p v else None)) z sx sy
@@ -101,6 +101,6 @@ found_as Same end (inl one) = (λ same. one.1, λ other. absurd (other one.0))
 found_as Same end (inr two) = (λ same. absurd (two.0 same), λ other. two.1)
 
 pub one_form_found :
-    (v : ℕ → ℤ) (x y : SymOp) (a b c : Op) → StandsFor v x a → StandsFor v y b → IsFormOf c a → IsFormOf c b
+    (v : ℕ → ℤ) (x y : SymOp) (a b c : Op) → StandsForOperation v x a → StandsForOperation v y b → IsFormOf c a → IsFormOf c b
     → (a ≡ b → end_of (ask_same_form x y) v ≡ None) × (a ≢ b → end_of (ask_same_form x y) v ≡ Some Operations)
 one_form_found v x y a b c sx sy fa fb = found_as (a ≡ b) (end_of (ask_same_form x y) v) (same_form_found v x y a b c sx sy fa fb)

@@ -14,7 +14,7 @@ use Rattle.ot_questions.specs.declared.place.SymOp.{SymOp}
 use Rattle.ot_questions.specs.Names.{position_name, site_name, char_name}
 use Rattle.ot_questions.specs.Places.{sym_op, sym_site, sym_char}
 use Rattle.ot_questions.specs.Meaning.{op_at}
-use Rattle.ot_questions.specs.Instances.{StandsFor}
+use Rattle.ot_questions.specs.Instances.{StandsForOperation}
 use Rattle.ot_questions.proofs.Tests.{plus-zero}
 use Rattle.ot_questions.proofs.Operations.{IsCount, IsCounted, IsCountedName, named, at_of-op_at, kind_of-op_at, site_of-op_at, char_of-op_at}
 
@@ -45,19 +45,19 @@ number_named : (v : ℕ → ℤ) (x : Option ℕ) → IsCountedName v x → opti
 number_named v None h = refl
 number_named v (Some x) h = ap Some h
 
-pub counted_by_standing : (v : ℕ → ℤ) (x : SymOp) (a : Op) → StandsFor v x a → IsCounted v x
+pub counted_by_standing : (v : ℕ → ℤ) (x : SymOp) (a : Op) → StandsForOperation v x a → IsCounted v x
 counted_by_standing v x a h = record {
   site = counted_name v (sym_site x) (site_of a) h.site;
   ch = counted_name v (sym_char x) (char_of a) h.ch;
 }
 
-pub op_at-standing : (v : ℕ → ℤ) (x : SymOp) (a : Op) → v 0 ≡ pos 0 → StandsFor v x a → op_at v x ≡ a
+pub op_at-standing : (v : ℕ → ℤ) (x : SymOp) (a : Op) → v 0 ≡ pos 0 → StandsForOperation v x a → op_at v x ≡ a
 op_at-standing v x a z h =
     by_parts (op_at v x) a (kind_of-op_at v x ∙ h.kind) (at_of-op_at v x z ∙ h.at)
     (site_of-op_at v x ∙ named_number v (sym_site x) (site_of a) h.site)
     (char_of-op_at v x ∙ named_number v (sym_char x) (char_of a) h.ch)
 
-pub standing-op_at : (v : ℕ → ℤ) (x : SymOp) → v 0 ≡ pos 0 → IsCounted v x → StandsFor v x (op_at v x)
+pub standing-op_at : (v : ℕ → ℤ) (x : SymOp) → v 0 ≡ pos 0 → IsCounted v x → StandsForOperation v x (op_at v x)
 standing-op_at v x z h = record {
   kind = sym (kind_of-op_at v x);
   at = sym (at_of-op_at v x z);
@@ -69,7 +69,7 @@ standing-op_at v x z h = record {
 pub standing-named :
     (v : ℕ → ℤ) (k : Kind) (who : Who) (a : Op) → kind_of a ≡ Some k
     → v (position_name who) ≡ at_of a → v (site_name who) ≡ thing_of Site a → v (char_name who) ≡ thing_of Char a
-    → StandsFor v (sym_op k who) a
+    → StandsForOperation v (sym_op k who) a
 standing-named v kinds.Ins who (ops.Ins at ch site) e p q r =
     record { kind = refl; at = plus-zero (v (position_name who)) ∙ p; site = ap Some q; ch = ap Some r }
 standing-named v kinds.Del who (ops.Del at site) e p q r =

@@ -20,8 +20,8 @@ use Rattle.ot_questions.specs.declared.why.Why.{Why}
 use Rattle.ot_questions.specs.Names.{site_name, char_name}
 use Rattle.ot_questions.specs.Places.{sym_op}
 use Rattle.ot_questions.specs.Obligation.{ask_commute, ask_triple, plan_of}
-use Rattle.ot_questions.specs.Meaning.{op_at, HasTriple, HoldsAtLength, HoldsEverywhere, AllHold, AllHoldAtLength}
-use Rattle.ot_questions.specs.Instances.{StandsFor}
+use Rattle.ot_questions.specs.Meaning.{op_at, HasTriple, HoldsAtLength, ObligationHolds, AllHold, AllHoldAtLength}
+use Rattle.ot_questions.specs.Instances.{StandsForOperation}
 use Rattle.ot_questions.proofs.Tests.{plus-zero}
 use Rattle.ot_questions.proofs.Operations.{IsCounted}
 use Rattle.ot_questions.proofs.Standing.{counted_by_standing, op_at-standing, standing-op_at, standing-named}
@@ -79,8 +79,8 @@ answered_at v f x y w n z e cx cy cw =
 
 -- and so of any operations that the names stand for
 pub triple_answered :
-    (f : Function) (x y w : SymOp) (v : ℕ → ℤ) (n : ℕ) (a b c : Op) → v 0 ≡ pos 0 → v 1 ≡ pos n → StandsFor v x a → StandsFor v y
-    b → StandsFor v w c
+    (f : Function) (x y w : SymOp) (v : ℕ → ℤ) (n : ℕ) (a b c : Op) → v 0 ≡ pos 0 → v 1 ≡ pos n → StandsForOperation v x a → StandsForOperation v y
+    b → StandsForOperation v w c
     → Answered (TriplePosed f n a b c) (TripleSays f a b c) (end_of (ask_triple f x y w) v)
 triple_answered f x y w v n a b c z e sx sy sw =
     subst (λ o. Answered (TriplePosed f n o b c) (TripleSays f o b c) (end_of (ask_triple f x y w) v)) (op_at-standing v x a z sx)
@@ -189,7 +189,7 @@ all_plans_mean_at f enough n h =
 pub all_plans_mean : (f : Function) → AreTriplesEnough f → AllHold f (obligations_of f.head Tp2) → HasTp1 f × HasTp2 f
 all_plans_mean f enough h =
     let kinds = declared_kinds f.head in
-    let both = each_of_both (HoldsEverywhere f) (pairs_of kinds) (triples_of kinds) h in
+    let both = each_of_both (ObligationHolds f) (pairs_of kinds) (triples_of kinds) h in
     (all_pairs_mean f enough.pairs both.0, triples_mean f enough both.1)
 
 -- where a valid function has TP2 at a length, each triple of declared kinds holds there
@@ -233,5 +233,5 @@ tp2_holds_all_at f n valid has =
 
 pub tp2_holds_all : (f : Function) → is_valid f ≡ true → HasTp1 f × HasTp2 f → AllHold f (obligations_of f.head Tp2)
 tp2_holds_all f valid has =
-    each_appended (HoldsEverywhere f) (pairs_of (declared_kinds f.head)) (triples_of (declared_kinds f.head))
+    each_appended (ObligationHolds f) (pairs_of (declared_kinds f.head)) (triples_of (declared_kinds f.head))
     (tp1_holds_all_pairs f valid has.0) (tp2_holds_triples f valid has.1)

@@ -23,7 +23,7 @@ use Rattle.ot_questions.specs.Places.{zero_place, length_and, integer_at, sym_ki
 use Rattle.ot_questions.specs.Questions.{ask_eq, ask_transform, ask_allowed}
 use Rattle.ot_questions.specs.Obligation.{ask_all_enabled, ask_one_place, ask_same_form, ask_behind, ask_commute, ask_triple}
 use Rattle.ot_questions.specs.Meaning.{op_at}
-use Rattle.ot_questions.specs.Instances.{StandsFor, form_behind, TripleFails}
+use Rattle.ot_questions.specs.Instances.{StandsForOperation, form_behind, TripleFails}
 use Rattle.ot_questions.proofs.Tests.{if_and}
 use Rattle.ot_questions.proofs.Values.{by_test, end-le, end-eq, end-transform, end-allowed, sym_transformed, sym_allowed, goes_on}
 use Rattle.ot_questions.proofs.Operations.{IsCounted, transform_of-op_at}
@@ -64,7 +64,7 @@ nop_by_kind_of : (a : Op) → kind_of a ≡ None → a ≡ ops.Nop
 nop_by_kind_of ops.Nop e = refl
 nop_by_kind_of a e = absurd (cc)
 
-module _ (v : ℕ → ℤ) (x y : SymOp) (a b c : Op) (sx : StandsFor v x a) (sy : StandsFor v y b) (fa : IsFormOf c a) (fb : IsFormOf c b) where
+module _ (v : ℕ → ℤ) (x y : SymOp) (a b c : Op) (sx : StandsForOperation v x a) (sy : StandsForOperation v y b) (fa : IsFormOf c a) (fb : IsFormOf c b) where
   two_kinds : (j k : Option Kind) → sym_kind x ≡ j → sym_kind y ≡ k → a ≡ b → j ≡ k
   two_kinds j k ex ey same = sym ex ∙ (sx.kind ∙ (ap kind_of same ∙ (sym sy.kind ∙ ey)))
 

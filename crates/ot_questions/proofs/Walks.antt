@@ -45,8 +45,9 @@ use Rattle.ot_questions.specs.Reading.{base_cell, put_cell, buried_cell, replace
 use Rattle.ot_questions.specs.Obligation.{ask_documents, ask_lengths, ask_ways, ask_converge, ask_one_place, ask_same_form, ask_behind, ask_commute}
 use Rattle.ot_questions.proofs.Nears.{IsNear-more, IsNear-plus, IsNear-zero, IsNear-offset_for}
 use Rattle.ot_questions.specs.Sorts.{sort_name, IsStill}
-use Rattle.ot_questions.specs.Asked.{IsSteady, Stands, OpStands, IsGood, IsKept}
-use Rattle.ot_questions.proofs.Placed.{HasThing, things_there, steady-offset, Stands-more, Stands-plus, Stands-name, OpStands-more, Stands-thing, OpStands-nop}
+use Rattle.ot_questions.specs.Asked.{IsSteady, PlaceStands, OpStands, IsGood, IsKept}
+use Rattle.ot_questions.proofs.Placed.{HasThing, things_there, steady-offset, PlaceStands-more, PlaceStands-plus, PlaceStands-name, OpStands-more}
+use Rattle.ot_questions.proofs.Placed.{PlaceStands-thing, OpStands-nop}
 use Rattle.ot_questions.proofs.Placed.{OpStands-result}
 use Rattle.ot_questions.proofs.Found.{AsksOfKnown}
 
@@ -125,7 +126,7 @@ module _ (count : ℕ) (known : ℕ → Bool) (Free : ℕ → Type 0) (below : (
   Kept m p = IsWalked count known m p
 
   abbrev pub At : ℕ → Sort → Place → Type 0
-  At n sort p = Stands Free n sort p
+  At n sort p = PlaceStands Free n sort p
 
   pub kept_more : (m n : ℕ) (p : Plan Why) → m ≤ n → Kept m p → Kept n p
   kept_more m n p h g = walked_more count known m n p h g
@@ -195,9 +196,9 @@ module _ (count : ℕ) (known : ℕ → Bool) (Free : ℕ → Type 0) (below : (
   walk_compared m sort Lt a b p q ha hb hp hq = kept_more (m + 1) (m + 2) _ (omega arith) (walk_lt m sort a b p q ha hb hp hq)
   walk_compared m sort Le a b p q ha hb hp hq =
       kept_more (m + 1) (m + 2) _ (omega arith)
-      (walk_le m sort a b p q (Stands-more Free 499 500 sort a (lit≤ tt) ha) (Stands-more Free 499 500 sort b (lit≤ tt) hb) hp hq)
+      (walk_le m sort a b p q (PlaceStands-more Free 499 500 sort a (lit≤ tt) ha) (PlaceStands-more Free 499 500 sort b (lit≤ tt) hb) hp hq)
   walk_compared m sort Eq a b p q ha hb hp hq =
-      walk_eq m sort a b p q (Stands-more Free 499 500 sort a (lit≤ tt) ha) (Stands-more Free 499 500 sort b (lit≤ tt) hb) hp hq
+      walk_eq m sort a b p q (PlaceStands-more Free 499 500 sort a (lit≤ tt) ha) (PlaceStands-more Free 499 500 sort b (lit≤ tt) hb) hp hq
 
   -- of two operations of these kinds, in whose block the guard may stand
   module _ (k l : Kind) (a b : SymOp) (ea : sym_kind a ≡ Some k) (eb : sym_kind b ≡ Some l) (ha : OpStands Free 200 a)
@@ -210,14 +211,14 @@ module _ (count : ℕ) (known : ℕ → Bool) (Free : ℕ → Type 0) (below : (
         (plus (sym_thing atom.sort (of_side (other_side side) a b)) atom.k) p q)
     by_side m atom First p q ta tb still near hp hq =
         walk_compared m atom.sort atom.cmp (sym_thing atom.sort a) (plus (sym_thing atom.sort b) atom.k) p q
-        (Stands-more Free 200 499 atom.sort _ (lit≤ tt) (Stands-thing Free 200 atom.sort a ha ta))
-        (Stands-more Free 299 499 atom.sort _ (lit≤ tt)
-        (Stands-plus Free 200 99 atom.sort _ atom.k (Stands-thing Free 200 atom.sort b hb tb) still near)) hp hq
+        (PlaceStands-more Free 200 499 atom.sort _ (lit≤ tt) (PlaceStands-thing Free 200 atom.sort a ha ta))
+        (PlaceStands-more Free 299 499 atom.sort _ (lit≤ tt)
+        (PlaceStands-plus Free 200 99 atom.sort _ atom.k (PlaceStands-thing Free 200 atom.sort b hb tb) still near)) hp hq
     by_side m atom Second p q ta tb still near hp hq =
         walk_compared m atom.sort atom.cmp (sym_thing atom.sort b) (plus (sym_thing atom.sort a) atom.k) p q
-        (Stands-more Free 200 499 atom.sort _ (lit≤ tt) (Stands-thing Free 200 atom.sort b hb tb))
-        (Stands-more Free 299 499 atom.sort _ (lit≤ tt)
-        (Stands-plus Free 200 99 atom.sort _ atom.k (Stands-thing Free 200 atom.sort a ha ta) still near)) hp hq
+        (PlaceStands-more Free 200 499 atom.sort _ (lit≤ tt) (PlaceStands-thing Free 200 atom.sort b hb tb))
+        (PlaceStands-more Free 299 499 atom.sort _ (lit≤ tt)
+        (PlaceStands-plus Free 200 99 atom.sort _ atom.k (PlaceStands-thing Free 200 atom.sort a ha ta) still near)) hp hq
 
     -- a guard adds at most two questions for each of its atoms
     pub walk_guard :
@@ -272,7 +273,7 @@ module _ (count : ℕ) (known : ℕ → Bool) (Free : ℕ → Type 0) (below : (
       → Kept (m + 2) (ask_le zero_place at (ask_lt at (length_and off) p q) q)
   walk_has_cell m at off p q near ha hp hq =
       kept_more (m + 1 + 1) (m + 2) _ (omega arith)
-      (walk_le (m + 1) Pos zero_place at (ask_lt at (length_and off) p q) q (zero_at 500) (Stands-more Free 499 500 Pos at (lit≤ tt) ha)
+      (walk_le (m + 1) Pos zero_place at (ask_lt at (length_and off) p q) q (zero_at 500) (PlaceStands-more Free 499 500 Pos at (lit≤ tt) ha)
       (walk_lt m Pos at (length_and off) p q ha (length_at 499 off near) hp hq)
       (kept_more m (m + 1) q (omega arith) hq))
 
@@ -283,8 +284,8 @@ module _ (count : ℕ) (known : ℕ → Bool) (Free : ℕ → Type 0) (below : (
   unfolding ask_enabled
   walk_enabled m (Ins at c s) off p q near ho hp hq =
       kept_more (m + 1 + 1) (m + 2) _ (omega arith)
-      (walk_le (m + 1) Pos zero_place at (ask_le at (length_and off) p q) q (zero_at 500) (Stands-more Free 499 500 Pos at (lit≤ tt) ho.at)
-      (walk_le m Pos at (length_and off) p q (Stands-more Free 499 500 Pos at (lit≤ tt) ho.at)
+      (walk_le (m + 1) Pos zero_place at (ask_le at (length_and off) p q) q (zero_at 500) (PlaceStands-more Free 499 500 Pos at (lit≤ tt) ho.at)
+      (walk_le m Pos at (length_and off) p q (PlaceStands-more Free 499 500 Pos at (lit≤ tt) ho.at)
       (length_at 500 off (IsNear-more 499 500 off (lit≤ tt) near)) hp hq)
       (kept_more m (m + 1) q (omega arith) hq))
   walk_enabled m (Del at s) off p q near ho hp hq = walk_has_cell m at off p q near ho.at hp hq
@@ -298,8 +299,8 @@ module _ (count : ℕ) (known : ℕ → Bool) (Free : ℕ → Type 0) (below : (
   walk_differ m n sort None y p hx hy hp = kept_more m (m + 2) p (omega arith) hp
   walk_differ m n sort (Some x) None p hx hy hp = kept_more m (m + 2) p (omega arith) hp
   walk_differ m n sort (Some x) (Some y) p hx hy hp =
-      walk_eq m sort (place x (pos 0)) (place y (pos 0)) Holds p (Stands-name Free n 500 sort x (hx x refl))
-      (Stands-name Free n 500 sort y (hy y refl)) (kept_holds m) hp
+      walk_eq m sort (place x (pos 0)) (place y (pos 0)) Holds p (PlaceStands-name Free n 500 sort x (hx x refl))
+      (PlaceStands-name Free n 500 sort y (hy y refl)) (kept_holds m) hp
 
   walk_if_differ :
       (m n : ℕ) (assumed : Bool) (sort : Sort) (x y : Option ℕ) (p : Plan Why) → ((i : ℕ) → x ≡ Some i → At n sort (place i (pos 0)))
@@ -338,9 +339,9 @@ module _ (count : ℕ) (known : ℕ → Bool) (Free : ℕ → Type 0) (below : (
         kept_more (m + 1 + 1) (m + 2) _ (omega arith)
         (walk_lt (m + 1) Pos (index_and off) p before (ask_le (index_and off) p at behind)
         (index_at 499 off (IsNear-more 400 499 off (lit≤ tt) near))
-        (Stands-more Free 400 499 Pos p (lit≤ tt) hp) (kept_more m (m + 1) before (omega arith) hb)
+        (PlaceStands-more Free 400 499 Pos p (lit≤ tt) hp) (kept_more m (m + 1) before (omega arith) hb)
         (walk_le m Pos (index_and off) p at behind (index_at 500 off (IsNear-more 400 500 off (lit≤ tt) near))
-        (Stands-more Free 400 500 Pos p (lit≤ tt) hp) ha hd))
+        (PlaceStands-more Free 400 500 Pos p (lit≤ tt) hp) ha hd))
 
     -- an inserted character
     walk_put :
@@ -353,7 +354,7 @@ module _ (count : ℕ) (known : ℕ → Bool) (Free : ℕ → Type 0) (below : (
         kept_more (m + 2 * length ops + 2) (m + 2 * suc (length ops)) _ (omega arith)
         (walk_two (m + 2 * length ops) p off (ask_cell mode ops off go) (go (put_cell c)) (ask_cell mode ops (off +ℤ negsuc 0) go)
         h.at (IsNear-more n 400 off few near) here
-        (kept_more m (m + 2 * length ops) _ (omega arith) (hg (put_cell c) (Stands-name Free 400 0 Char c (h.ch c refl)))) behind)
+        (kept_more m (m + 2 * length ops) _ (omega arith) (hg (put_cell c) (PlaceStands-name Free 400 0 Char c (h.ch c refl)))) behind)
 
     -- a tombstone, or a character that was replaced
     walk_changed :
@@ -382,7 +383,7 @@ module _ (count : ℕ) (known : ℕ → Bool) (Free : ℕ → Type 0) (below : (
     walk_cell m n Plain (Del p s ∷ ops) off go near few h hg =
         kept_more (m + 2 * length ops + 1) (m + 2 * suc (length ops)) _ (omega arith)
         (walk_lt (m + 2 * length ops) Pos (index_and off) p (ask_cell Plain ops off go) (ask_cell Plain ops (off +ℤ pos 1) go)
-        (index_at 499 off (IsNear-more n 499 off (omega arith) near)) (Stands-more Free 400 499 Pos p (lit≤ tt) h.0.at)
+        (index_at 499 off (IsNear-more n 499 off (omega arith) near)) (PlaceStands-more Free 400 499 Pos p (lit≤ tt) h.0.at)
         (walk_cell m n Plain ops off go near (omega arith) h.1 hg)
         (walk_cell m (n + 1) Plain ops (off +ℤ pos 1) go (IsNear-plus n 1 off (pos 1) near one_more) (omega arith) h.1 hg))
     walk_cell m n Tomb (Del p s ∷ ops) off go near few h hg =
@@ -392,12 +393,12 @@ module _ (count : ℕ) (known : ℕ → Bool) (Free : ℕ → Type 0) (below : (
         walk_changed m n Plain (replaced_cell c) p ops off go near (omega arith) h.0.at
         (walk_cell m n Plain ops off go near (omega arith) h.1 hg)
         (walk_cell m n Plain ops off (λ cell. go (replaced_cell c cell)) near (omega arith) h.1
-        (λ x hx. hg (replaced_cell c x) (Stands-name Free 400 0 Char c (h.0.ch c refl))))
+        (λ x hx. hg (replaced_cell c x) (PlaceStands-name Free 400 0 Char c (h.0.ch c refl))))
     walk_cell m n Tomb (Upd p c s ∷ ops) off go near few h hg =
         walk_changed m n Tomb (replaced_cell c) p ops off go near (omega arith) h.0.at
         (walk_cell m n Tomb ops off go near (omega arith) h.1 hg)
         (walk_cell m n Tomb ops off (λ cell. go (replaced_cell c cell)) near (omega arith) h.1
-        (λ x hx. hg (replaced_cell c x) (Stands-name Free 400 0 Char c (h.0.ch c refl))))
+        (λ x hx. hg (replaced_cell c x) (PlaceStands-name Free 400 0 Char c (h.0.ch c refl))))
     walk_cell m n Plain (Nop ∷ ops) off go near few h hg =
         kept_more (m + 2 * length ops) (m + 2 * suc (length ops)) _ (omega arith) (walk_cell m n Plain ops off go near (omega arith) h.1 hg)
     walk_cell m n Tomb (Nop ∷ ops) off go near few h hg =
@@ -409,8 +410,8 @@ module _ (count : ℕ) (known : ℕ → Bool) (Free : ℕ → Type 0) (below : (
     walk_same_source (Base i) (Named d) why hs ht = kept_fails 2 why
     walk_same_source (Named c) (Base j) why hs ht = kept_fails 2 why
     walk_same_source (Named c) (Named d) why hs ht =
-        walk_eq 0 Char (place c (pos 0)) (place d (pos 0)) Holds (Fails why) (Stands-name Free 0 500 Char c hs)
-        (Stands-name Free 0 500 Char d ht)
+        walk_eq 0 Char (place c (pos 0)) (place d (pos 0)) Holds (Fails why) (PlaceStands-name Free 0 500 Char c hs)
+        (PlaceStands-name Free 0 500 Char d ht)
         (kept_holds 0) (kept_fails 0 why)
 
     walk_same : (x y : Finished) → SourceStands x.source → SourceStands y.source → Kept 2 (ask_same x y)

@@ -18,7 +18,7 @@ use Rattle.ot_questions.specs.Places.{place, zero_place, length_and, sym_op}
 use Rattle.ot_questions.specs.Questions.{ask_le, ask_lt, ask_enabled}
 use Rattle.ot_questions.specs.Obligation.{ask_documents, ask_all_enabled, ask_pair, ask_triple, plan_of}
 use Rattle.ot_questions.specs.Sorts.{sort_name}
-use Rattle.ot_questions.specs.Asked.{Stands, OpStands}
+use Rattle.ot_questions.specs.Asked.{PlaceStands, OpStands}
 use Rattle.ot_questions.proofs.Nears.{IsNear-zero}
 use Rattle.ot_questions.proofs.Placed.{position_sort, AllStand-freer, OpStands-sym_op}
 use Rattle.ot_questions.proofs.Found.{known_at_first}
@@ -87,11 +87,11 @@ module _ (count : ℕ) (known : ℕ → Bool) (who : Who) (zero : IsUsable count
   then_cells : Then 1
   then_cells = (cells.0, known_still known (position_name who) 1 cells.1)
 
-  stands_there : (n : ℕ) → Stands Then n Pos (place (position_name who) (pos 0))
+  stands_there : (n : ℕ) → PlaceStands Then n Pos (place (position_name who) (pos 0))
   stands_there n =
       record { is = position_sort who; free = (below, known_now known (position_name who)); steady = tt; near = IsNear-zero n }
 
-  length_there : (n : ℕ) → Stands Then n Pos (length_and (pos 0))
+  length_there : (n : ℕ) → PlaceStands Then n Pos (length_and (pos 0))
   length_there n = record { is = refl; free = then_cells; steady = tt; near = IsNear-zero n }
 
   holds_there : (m : ℕ) → IsWalked count then_known m Holds

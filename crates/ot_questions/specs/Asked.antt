@@ -24,7 +24,7 @@ IsSteady Site k = k ≡ pos 0
 IsSteady Char k = k ≡ pos 0
 
 -- a place of a sort, whose name may be used, with an offset of at most n either way
-pub record Stands (Free : ℕ → Type 0) (n : ℕ) (sort : Sort) (p : Place) : Type 0 where
+pub record PlaceStands (Free : ℕ → Type 0) (n : ℕ) (sort : Sort) (p : Place) : Type 0 where
   pub is : sort_name p.var ≡ sort
   pub free : Free p.var
   pub steady : IsSteady sort p.off
@@ -32,9 +32,9 @@ pub record Stands (Free : ℕ → Type 0) (n : ℕ) (sort : Sort) (p : Place) : 
 
 -- an operation whose parts are so
 pub record OpStands (Free : ℕ → Type 0) (n : ℕ) (o : SymOp) : Type 0 where
-  pub at : Stands Free n Pos (sym_at o)
-  pub site : (s : ℕ) → sym_site o ≡ Some s → Stands Free n Site (place s (pos 0))
-  pub ch : (c : ℕ) → sym_char o ≡ Some c → Stands Free n Char (place c (pos 0))
+  pub at : PlaceStands Free n Pos (sym_at o)
+  pub site : (s : ℕ) → sym_site o ≡ Some s → PlaceStands Free n Site (place s (pos 0))
+  pub ch : (c : ℕ) → sym_char o ≡ Some c → PlaceStands Free n Char (place c (pos 0))
 
 -- what is shown of each question
 pub record IsGood (count : ℕ) (l : Lit) : Type 0 where

@@ -21,7 +21,7 @@ use Rattle.ot_questions.specs.Names.{zero_name, length_name, index_name}
 use Rattle.ot_questions.specs.Places.{integer_at, sym_op, sym_kind, sym_at, sym_site, sym_char}
 
 -- the parts of a symbolic operation stand for those of an operation
-pub record StandsFor (v : ℕ → ℤ) (x : SymOp) (a : Op) : Type 0 where
+pub record StandsForOperation (v : ℕ → ℤ) (x : SymOp) (a : Op) : Type 0 where
   pub kind : sym_kind x ≡ kind_of a
   pub at : integer_at v (sym_at x) ≡ at_of a
   pub site : option_map v (sym_site x) ≡ option_map pos (site_of a)
@@ -32,36 +32,37 @@ pub record NamesPair (f : Function) (k l : Kind) (v : ℕ → ℤ) (n : ℕ) (a 
   pub declared : IsTrue (is_obligation f.head (Pair k l))
   pub zero : v zero_name ≡ pos 0
   pub cells : v length_name ≡ pos n
-  pub first : StandsFor v (sym_op k A) a
-  pub second : StandsFor v (sym_op l B) b
+  pub first : StandsForOperation v (sym_op k A) a
+  pub second : StandsForOperation v (sym_op l B) b
 
 -- a triple of the function, whose names stand for three operations and for a length
 pub record NamesTriple (f : Function) (k l m : Kind) (v : ℕ → ℤ) (n : ℕ) (a b c : Op) : Type 0 where
   pub declared : IsTrue (is_obligation f.head (Triple k l m))
   pub zero : v zero_name ≡ pos 0
   pub cells : v length_name ≡ pos n
-  pub first : StandsFor v (sym_op k A) a
-  pub second : StandsFor v (sym_op l B) b
-  pub third : StandsFor v (sym_op m C) c
+  pub first : StandsForOperation v (sym_op k A) a
+  pub second : StandsForOperation v (sym_op l B) b
+  pub third : StandsForOperation v (sym_op m C) c
 
 -- the names stand for a length, an index and three operations, each by its kind
 pub record NamesAll (v : ℕ → ℤ) (n : ℕ) (i : ℤ) (made : Who → Op) : Type 0 where
   pub zero : v zero_name ≡ pos 0
   pub cells : v length_name ≡ pos n
   pub index : v index_name ≡ i
-  pub operations : (who : Who) (k : Kind) → kind_of (made who) ≡ Some k → StandsFor v (sym_op k who) (made who)
+  pub operations : (who : Who) (k : Kind) → kind_of (made who) ≡ Some k → StandsForOperation v (sym_op k who) (made who)
 
 -- asking for a form comes to a symbolic operation that stands for it, or to the cause that there is none
 abbrev pub ComesTo : (ℕ → ℤ) → ((SymOp → Plan Why) → Plan Why) → Option Op → Type 0
 ComesTo v ask None = (go : SymOp → Plan Why) → end_of (ask go) v ≡ Some Undefined
 ComesTo v ask (Some r) =
-    (z : SymOp) × StandsFor v z r × ((go : SymOp → Plan Why) → end_of (ask go) v ≡ end_of (go z) v)
+    (z : SymOp) × StandsForOperation v z r × ((go : SymOp → Plan Why) → end_of (ask go) v ≡ end_of (go z) v)
 
 -- asking for a result comes to a symbolic operation that stands for it, or to none where there is none
 abbrev pub GoesOnWith : (ℕ → ℤ) → ((Option SymOp → Plan Why) → Plan Why) → Option Op → Type 0
 GoesOnWith v ask None = (go : Option SymOp → Plan Why) → end_of (ask go) v ≡ end_of (go None) v
 GoesOnWith v ask (Some r) =
-    (z : SymOp) × StandsFor v z r × ((go : Option SymOp → Plan Why) → end_of (ask go) v ≡ end_of (go (Some z)) v)
+    (z : SymOp) × StandsForOperation v z r
+    × ((go : Option SymOp → Plan Why) → end_of (ask go) v ≡ end_of (go (Some z)) v)
 
 -- the forms of two operations, each behind the other
 pub record Forms (f : Function) (a b : Op) : Type 0 where
@@ -120,12 +121,12 @@ pub record TellsApart (d : List Cell) (a b : Op) (i : ℤ) (left dead : Option �
       → cell.ch ≡ other.ch → j ≡ i +ℤ off
 
 -- the document shows the cause: any document does, but that cells differ is seen on one that tells apart
-abbrev pub Shows : List Cell → Op → Op → ℤ → Why → Type 0
-Shows d a b i Undefined = Unit {0}
-Shows d a b i OutOfRange = Unit {0}
-Shows d a b i Lengths = Unit {0}
-Shows d a b i (Cells left dead) = TellsApart d a b i left dead
-Shows d a b i Operations = Unit {0}
+abbrev pub ShowsCause : List Cell → Op → Op → ℤ → Why → Type 0
+ShowsCause d a b i Undefined = Unit {0}
+ShowsCause d a b i OutOfRange = Unit {0}
+ShowsCause d a b i Lengths = Unit {0}
+ShowsCause d a b i (Cells left dead) = TellsApart d a b i left dead
+ShowsCause d a b i Operations = Unit {0}
 
 -- the plan ends in a cause of this sort; of cells it may be with other offsets
 abbrev pub EndsBy : Why → Option Why → Type 0

@@ -47,12 +47,12 @@ abbrev pub AlwaysHolds : Plan Why → Type 0
 AlwaysHolds p = (v : ℕ → ℤ) → v 0 ≡ pos 0 → IsTrue (value p v)
 
 -- that of an obligation does
-abbrev pub HoldsEverywhere : Function → ObName → Type 0
-HoldsEverywhere f ob = AlwaysHolds (plan_of f ob)
+abbrev pub ObligationHolds : Function → ObName → Type 0
+ObligationHolds f ob = AlwaysHolds (plan_of f ob)
 
 -- each of the plans does
 abbrev pub AllHold : Function → List ObName → Type 0
-AllHold f obs = AllByRecursion (HoldsEverywhere f) obs
+AllHold f obs = AllByRecursion (ObligationHolds f) obs
 
 -- each of the plans holds at every valuation at which the document has so many cells
 abbrev pub AllHoldAtLength : Function → List ObName → ℕ → Type 0

@@ -19,8 +19,8 @@ ghost use Rattle.ot_questions.specs.declared.name.Who.{Who};
 ghost use Rattle.ot_questions.specs.declared.place.Place.{Place};
 ghost use Rattle.ot_questions.specs.declared.place.SymOp.{SymOp};
 ghost use Rattle.ot_questions.specs.declared.why.Why.{Why};
-ghost use Rattle.ot_questions.specs.Asked.{IsBelow, IsKept, OpStands, Stands};
-ghost use Rattle.ot_questions.specs.Instances.{StandsFor};
+ghost use Rattle.ot_questions.specs.Asked.{IsBelow, IsKept, OpStands, PlaceStands};
+ghost use Rattle.ot_questions.specs.Instances.{StandsForOperation};
 ghost use Rattle.ot_questions.specs.Meaning.{op_at};
 ghost use Rattle.ot_questions.specs.Names.{zero_name, position_name, site_name, char_name};
 ghost use Rattle.ot_questions.specs.Nears.{IsNear};
@@ -48,8 +48,8 @@ pub fn questions_keep_limits()
         → char_name who < count
         → OpStands (IsBelow count) 0 (sym_op k who) }
     ensures comparison { (count m : ℕ) (sort : Sort) (a b : Place) (p q : Plan Why) → 2 < count
-        → Stands (IsBelow count) 500 sort a → Stands (IsBelow count) 500 sort b → IsKept count m p → IsKept count m q
-        → IsKept count (m + 1) (ask_le a b p q) }
+        → PlaceStands (IsBelow count) 500 sort a → PlaceStands (IsBelow count) 500 sort b → IsKept count m p
+        → IsKept count m q → IsKept count (m + 1) (ask_le a b p q) }
     ensures guard { (count m : ℕ) (k l : Kind) (g : Formula) (a b : SymOp) (p q : Plan Why) → 2 < count
         → sym_kind a ≡ Some k
         → sym_kind b ≡ Some l → OpStands (IsBelow count) 200 a → OpStands (IsBelow count) 200 b
@@ -80,5 +80,5 @@ pub fn questions_keep_limits()
 pub fn names_stand_for_operations()
     ensures { (v : ℕ → ℤ) (k : Kind) (who : Who) → v zero_name ≡ pos 0 → pos 0 ≤ℤ v (site_name who)
         → pos 0 ≤ℤ v (char_name who)
-        → StandsFor v (sym_op k who) (op_at v (sym_op k who)) }
+        → StandsForOperation v (sym_op k who) (op_at v (sym_op k who)) }
 {}

@@ -22,8 +22,9 @@ ghost use Rattle.ot_questions.specs.Names.{zero_name, length_name, index_name};
 ghost use Rattle.ot_questions.specs.Places.{integer_at};
 ghost use Rattle.ot_questions.specs.Questions.{ask_le, ask_guard, ask_result, ask_transform, ask_enabled, ask_allowed};
 ghost use Rattle.ot_questions.specs.Obligation.{plan_of, ask_same_form};
-ghost use Rattle.ot_questions.specs.Instances.{StandsFor, NamesPair, NamesTriple, NamesAll, GoesOnWith, ComesTo};
-ghost use Rattle.ot_questions.specs.Instances.{EndWith, AgreeAt, cell_in, PairFails, Shows, EndsBy, TripleFails};
+ghost use Rattle.ot_questions.specs.Instances.{StandsForOperation, NamesPair, NamesTriple, NamesAll, GoesOnWith};
+ghost use Rattle.ot_questions.specs.Instances.{ComesTo};
+ghost use Rattle.ot_questions.specs.Instances.{EndWith, AgreeAt, cell_in, PairFails, ShowsCause, EndsBy, TripleFails};
 
 use fn_rules::tests_decide_their_facts;
 
@@ -39,7 +40,7 @@ pub fn pair_ends_at_valuations()
         ↔ ((d : List Cell) → length d ≡ n → AreConcurrent f d (a ∷ b ∷ []) → EndWith f d a b (AgreeAt (v index_name))) }
     ensures fails { (f : Function) (k l : Kind) (v : ℕ → ℤ) (d : List Cell) (a b : Op) (why : Why)
         → NamesPair f k l v (length d) a b
-        → end_of (plan_of f (Pair k l)) v ≡ Some why → Shows d a b (v index_name) why
+        → end_of (plan_of f (Pair k l)) v ≡ Some why → ShowsCause d a b (v index_name) why
         → AreConcurrent f d (a ∷ b ∷ []) × PairFails f d a b (v index_name) why }
     ensures ends { (f : Function) (k l : Kind) (v : ℕ → ℤ) (d : List Cell) (a b : Op) (why : Why)
         → NamesPair f k l v (length d) a b
@@ -73,21 +74,21 @@ pub fn questions_mean_the_interpreter()
     ensures at_most { (v : ℕ → ℤ) (x y : Place) (p q : Plan Why)
         → end_of (ask_le x y p q) v ≡ (if int_le (integer_at v x) (integer_at v y) then end_of p v else end_of q v) }
     ensures guard { (g : Formula) (v : ℕ → ℤ) (x y : SymOp) (a b : Op) (p q : Plan Why) → v zero_name ≡ pos 0
-        → StandsFor v x a
-        → StandsFor v y b → end_of (ask_guard g x y p q) v ≡ (if holds_of g a b then end_of p v else end_of q v) }
-    ensures result { (f : Function) (v : ℕ → ℤ) (x y : SymOp) (a b : Op) → v zero_name ≡ pos 0 → StandsFor v x a
-        → StandsFor v y b → GoesOnWith v (ask_result f x y) (transform_of f a b) }
-    ensures transform { (f : Function) (v : ℕ → ℤ) (x y : SymOp) (a b : Op) → v zero_name ≡ pos 0 → StandsFor v x a
-        → StandsFor v y b
+        → StandsForOperation v x a → StandsForOperation v y b
+        → end_of (ask_guard g x y p q) v ≡ (if holds_of g a b then end_of p v else end_of q v) }
+    ensures result { (f : Function) (v : ℕ → ℤ) (x y : SymOp) (a b : Op) → v zero_name ≡ pos 0
+        → StandsForOperation v x a → StandsForOperation v y b → GoesOnWith v (ask_result f x y) (transform_of f a b) }
+    ensures transform { (f : Function) (v : ℕ → ℤ) (x y : SymOp) (a b : Op) → v zero_name ≡ pos 0
+        → StandsForOperation v x a → StandsForOperation v y b
         → ComesTo v (ask_transform f x y) (transform_of f a b) }
     ensures enabled { (v : ℕ → ℤ) (x : SymOp) (a : Op) (off : ℤ) (n : ℕ) (p q : Plan Why) → v zero_name ≡ pos 0
-        → v length_name +ℤ off ≡ pos n → StandsFor v x a
+        → v length_name +ℤ off ≡ pos n → StandsForOperation v x a
         → end_of (ask_enabled x off p q) v ≡ (if is_enabled a n then end_of p v else end_of q v) }
     ensures allowed { (f : Function) (v : ℕ → ℤ) (x y : SymOp) (a b : Op) (p : Plan Why) → v zero_name ≡ pos 0
-        → StandsFor v x a
-        → StandsFor v y b → end_of (ask_allowed f.head x y p) v ≡ (if is_allowed f a b then end_of p v else None) }
-    ensures one_form { (v : ℕ → ℤ) (x y : SymOp) (a b c : Op) → StandsFor v x a → StandsFor v y b → IsFormOf c a
-        → IsFormOf c b
+        → StandsForOperation v x a → StandsForOperation v y b
+        → end_of (ask_allowed f.head x y p) v ≡ (if is_allowed f a b then end_of p v else None) }
+    ensures one_form { (v : ℕ → ℤ) (x y : SymOp) (a b c : Op) → StandsForOperation v x a → StandsForOperation v y b
+        → IsFormOf c a → IsFormOf c b
         → (a ≡ b → end_of (ask_same_form x y) v ≡ None) × (a ≢ b → end_of (ask_same_form x y) v ≡ Some Operations) }
 {
     tests_decide_their_facts();

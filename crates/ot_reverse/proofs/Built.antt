@@ -13,7 +13,7 @@ use Rattle.ot_terms.specs.Forms.{FormTree}
 use Rattle.ot_terms.specs.Goals.{GoalTree, If}
 use Rattle.ot_terms.specs.Placing.{guard_form}
 use Rattle.ot_terms.specs.Starting.{if_all_enabled, if_allowed, if_length}
-use Rattle.ot_audit.specs.Goals.{with_result}
+use Rattle.ot_audit.specs.Goals.{with_first_result}
 use Rattle.ot_reverse.specs.Goals.{reversal_goal, unless_taken_back}
 
 abbrev Whole : Head → SymOp → SymOp → List GuardedCase → List GuardedCase → GoalTree
@@ -49,11 +49,11 @@ first_and_others (y ∷ ys) x few is =
 pub with_first :
     (xs : List Case) (x : Case) (a b : SymOp) (go : Option SymOp → GoalTree) (r : SymOp) (guard : FormTree) (here behind whole : GoalTree)
     → 1 ≤ length xs → x ≡ get_or xs 0 x → guard ≡ guard_form (formula_of x.guard) a b → r ≡ sym_result x.res a b
-    → here ≡ go (Some r) → behind ≡ with_result (map case_of (take (length xs - 1) (drop 1 xs))) a b go → whole ≡ If guard here behind
-    → whole ≡ with_result (map case_of xs) a b go
+    → here ≡ go (Some r) → behind ≡ with_first_result (map case_of (take (length xs - 1) (drop 1 xs))) a b go → whole ≡ If guard here behind
+    → whole ≡ with_first_result (map case_of xs) a b go
 with_first xs x a b go r guard here behind whole few is placed result goes others tests =
     tests
     ∙ ap (λ (g : FormTree). If g here behind) placed
     ∙ ap (λ (h : GoalTree). If (guard_form (formula_of x.guard) a b) h behind) (goes ∙ ap (λ (o : SymOp). go (Some o)) result)
     ∙ ap (λ (t : GoalTree). If (guard_form (formula_of x.guard) a b) (go (Some (sym_result x.res a b))) t) others
-    ∙ sym (ap (λ (ys : List Case). with_result (map case_of ys) a b go) (first_and_others xs x few is))
+    ∙ sym (ap (λ (ys : List Case). with_first_result (map case_of ys) a b go) (first_and_others xs x few is))

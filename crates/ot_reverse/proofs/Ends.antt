@@ -21,7 +21,7 @@ use Rattle.ot_questions.specs.declared.name.Who.TheVariants.{A, B}
 use Rattle.ot_questions.specs.declared.place.SymOp.{SymOp}
 use Rattle.ot_questions.specs.declared.why.Why.{Why}
 use Rattle.ot_questions.specs.declared.why.Why.TheVariants.{Operations, Undefined}
-use Rattle.ot_questions.specs.Instances.{NamesPair, StandsFor}
+use Rattle.ot_questions.specs.Instances.{NamesPair, StandsForOperation}
 use Rattle.ot_questions.specs.Names.{length_name, zero_name}
 use Rattle.ot_questions.specs.Places.{length_and, sym_kind, sym_op, zero_place}
 use Rattle.ot_questions.specs.Questions.{ask_enabled, ask_first_result, ask_result, ask_result_by_kinds}
@@ -29,18 +29,18 @@ use Rattle.ot_terms.specs.Goals.{GoalTree}
 use Rattle.ot_terms.specs.Standing.{ask_form, ask_goal}
 use Rattle.ot_terms.specs.Starting.{if_all_enabled, if_allowed, if_enabled, if_length}
 use Rattle.ot_terms.proofs.Starts.{ask_form-enabled_form}
-use Rattle.ot_audit.specs.Goals.{with_result}
+use Rattle.ot_audit.specs.Goals.{with_first_result}
 use Rattle.ot_audit.proofs.Asked.{ask_form-guard_form, ask_goal-if_allowed}
-use Rattle.ot_audit.proofs.Differences.{Comes, EndsOneForm, EndsResult, KeepsForm, ask_goal-unless_one_place, ask_goal-with_result, goes_to, one_form}
+use Rattle.ot_audit.proofs.Differences.{Comes, EndsOneForm, EndsResult, KeepsForm, ask_goal-unless_one_place, ask_goal-with_first_result, goes_to, one_form}
 use Rattle.ot_audit.proofs.Ends.{EndsAllowed, EndsAtMost, TestsAllowed, by_true, kind_named, some_passed, true_le}
-use Rattle.ot_reverse.specs.Goals.{reversal_goal, unless_back, unless_same, unless_taken_back, unless_there}
+use Rattle.ot_reverse.specs.Goals.{reversal_goal, unless_back, unless_itself, unless_taken_back, unless_there}
 use Rattle.ot_reverse.specs.Reversal.{IsTakenBack}
 
 -- what the laws of questions and functions say beside those of audits
 abbrev pub EndsEnabled : Type 0
 EndsEnabled =
     (v : ℕ → ℤ) (x : SymOp) (a : Op) (off : ℤ) (n : ℕ) (p q : Plan Why) → v zero_name ≡ pos 0 → v length_name +ℤ off ≡ pos n
-    → StandsFor v x a → end_of (ask_enabled x off p q) v ≡ (if is_enabled a n then end_of p v else end_of q v)
+    → StandsForOperation v x a → end_of (ask_enabled x off p q) v ≡ (if is_enabled a n then end_of p v else end_of q v)
 
 abbrev pub TestsEnabled : Type 0
 TestsEnabled = (cells : ℕ) (o : Op) → ((is_enabled o cells ≡ true) → IsEnabled o cells) × (IsEnabled o cells → (is_enabled o cells ≡ true))
@@ -56,9 +56,9 @@ ask_result-of_kinds f x y k l go first second =
 -- the plan of what comes back, in the words of the questions
 pub back_asked :
     (h e : Function) (x y : SymOp) (k l : Kind) (go : Option SymOp → GoalTree) → sym_kind x ≡ Some k → sym_kind y ≡ Some l
-    → ask_goal h (with_result (cases_of e k l) x y go) ≡ ask_result e x y (λ r. ask_goal h (go r))
+    → ask_goal h (with_first_result (cases_of e k l) x y go) ≡ ask_result e x y (λ r. ask_goal h (go r))
 back_asked h e x y k l go first second =
-    ask_goal-with_result ask_form-guard_form h (cases_of e k l) x y go
+    ask_goal-with_first_result ask_form-guard_form h (cases_of e k l) x y go
     ∙ sym (ask_result-of_kinds e x y k l (λ r. ask_goal h (go r)) first second)
 
 -- an operation is a form of itself, and a form of a form is one
@@ -119,7 +119,7 @@ module _ (at_most : EndsAtMost) (ends_enabled : EndsEnabled) (ends_allowed : End
       (true_le (v 0 +ℤ pos 0) (v 1 +ℤ pos 0) (omega (arith, ints, zero, cells)))
 
   end_enabled :
-      (x : SymOp) (o : Op) (next : GoalTree) → StandsFor v x o
+      (x : SymOp) (o : Op) (next : GoalTree) → StandsForOperation v x o
       → ended (if_enabled x next) ≡ (if is_enabled o (length d) then ended next else None)
   unfolding ask_goal
   end_enabled x o next stands =
@@ -173,9 +173,9 @@ module _ (at_most : EndsAtMost) (ends_enabled : EndsEnabled) (ends_allowed : End
       )
 
   -- what comes back of a form that is not nop
-  module _ (x : SymOp) (p : Op) (stands : StandsFor v x p) (is_form : IsFormOf a p) (there : p ≢ ops.Nop) (made : transform_of f a b ≡ Some p) where
+  module _ (x : SymOp) (p : Op) (stands : StandsForOperation v x p) (is_form : IsFormOf a p) (there : p ≢ ops.Nop) (made : transform_of f a b ≡ Some p) where
     abbrev back_goal : GoalTree
-    back_goal = with_result (cases_of e k l) x second_op (unless_same first_op)
+    back_goal = with_first_result (cases_of e k l) x second_op (unless_itself first_op)
 
     form_kind : IsFormOf a p → sym_kind x ≡ Some k
     form_kind (inl gone) = absurd (there gone)
@@ -186,17 +186,17 @@ module _ (at_most : EndsAtMost) (ends_enabled : EndsEnabled) (ends_allowed : End
         let is : taken.there ≡ p = same_some taken.there p (sym taken.transformed ∙ made) in
         subst (λ (o : Op). transform_of e o b ≡ Some a) is (taken.back (λ gone. there (sym is ∙ gone)))
 
-    back_comes : Comes v (λ y. ask_goal f (unless_same first_op y)) (ended back_goal) (transform_of e p b)
+    back_comes : Comes v (λ y. ask_goal f (unless_itself first_op y)) (ended back_goal) (transform_of e p b)
     back_comes =
-        subst (λ plan. Comes v (λ y. ask_goal f (unless_same first_op y)) (end_of plan v) (transform_of e p b))
-        (sym (back_asked f e x second_op k l (unless_same first_op) (form_kind is_form) (names.second.kind ∙ second_kind)))
-        (goes_to v (ask_result e x second_op) (λ y. ask_goal f (unless_same first_op y)) (transform_of e p b)
+        subst (λ plan. Comes v (λ y. ask_goal f (unless_itself first_op y)) (end_of plan v) (transform_of e p b))
+        (sym (back_asked f e x second_op k l (unless_itself first_op) (form_kind is_form) (names.second.kind ∙ second_kind)))
+        (goes_to v (ask_result e x second_op) (λ y. ask_goal f (unless_itself first_op y)) (transform_of e p b)
         (results e v x second_op p b names.zero stands names.second))
 
     -- what comes back of the form is the operation or another one, and the goal says which
     same_decided :
-        (q : Op) (y : SymOp) → transform_of e p b ≡ Some q → StandsFor v y q
-        → Decided (IsTakenBack f e a b) (ended (unless_same first_op (Some y)))
+        (q : Op) (y : SymOp) → transform_of e p b ≡ Some q → StandsForOperation v y q
+        → Decided (IsTakenBack f e a b) (ended (unless_itself first_op (Some y)))
     same_decided q y back other =
         let form = form_of_form a p q is_form there (keeps e p b q back) in
         let law = one v y first_op q a a other names.first form (itself a) in
@@ -215,7 +215,7 @@ module _ (at_most : EndsAtMost) (ends_enabled : EndsEnabled) (ends_allowed : End
         ]
 
     back_decided :
-        (o : Option Op) → transform_of e p b ≡ o → Comes v (λ y. ask_goal f (unless_same first_op y)) (ended back_goal) o
+        (o : Option Op) → transform_of e p b ≡ o → Comes v (λ y. ask_goal f (unless_itself first_op y)) (ended back_goal) o
         → Decided (IsTakenBack f e a b) (ended back_goal)
     unfolding ask_goal
     back_decided None back comes = inr ((λ taken. clash a (sym back ∙ taken_only taken)), (Undefined, comes))
@@ -227,7 +227,7 @@ module _ (at_most : EndsAtMost) (ends_enabled : EndsEnabled) (ends_allowed : End
 
   -- of a form, by its kind
   there_decided :
-      (x : SymOp) (p : Op) → StandsFor v x p → IsFormOf a p → transform_of f a b ≡ Some p
+      (x : SymOp) (p : Op) → StandsForOperation v x p → IsFormOf a p → transform_of f a b ≡ Some p
       → Decided (IsTakenBack f e a b) (ended (unless_there (cases_of e k l) first_op second_op (Some x)))
   unfolding ask_goal
   there_decided x p stands (inl gone) made =

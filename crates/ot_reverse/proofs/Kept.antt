@@ -22,12 +22,12 @@ use Rattle.ot_terms.specs.Goals.{GoalTree, Holds}
 use Rattle.ot_terms.specs.Standing.{ask_form, ask_goal}
 use Rattle.ot_terms.specs.Starting.{if_allowed, if_enabled, if_length}
 use Rattle.ot_terms.proofs.Starts.{ask_form-enabled_form}
-use Rattle.ot_audit.specs.Goals.{with_result}
+use Rattle.ot_audit.specs.Goals.{with_first_result}
 use Rattle.ot_audit.proofs.Asked.{ask_goal-if_allowed}
 use Rattle.ot_audit.proofs.Differences.{ask_goal-unless_one_place}
 use Rattle.ot_audit.proofs.Kept.{KeepsAllowed, KeepsComparison, KeepsOneForm, KeepsResult, StandsNamed, ValidCases, fails_kept, few_atoms, holds_kept}
 use Rattle.ot_audit.proofs.Kept.{kind_of_named, longer_kept, near_zero, op_wider}
-use Rattle.ot_reverse.specs.Goals.{reversal_goal, undefined, unless_back, unless_same, unless_taken_back, unless_there}
+use Rattle.ot_reverse.specs.Goals.{reversal_goal, undefined, unless_back, unless_itself, unless_taken_back, unless_there}
 use Rattle.ot_reverse.proofs.Ends.{back_asked}
 
 abbrev pub KeepsEnabled : Type 0
@@ -53,7 +53,7 @@ near_499 = record { low = omega (arith, ints); high = omega (arith, ints) }
 -- the same goals by the block of the form's kind, whichever that is
 abbrev back_by : Function → Kind → SymOp → SymOp → SymOp → Option Kind → GoalTree
 back_by e l a b there None = Holds
-back_by e l a b there (Some j) = with_result (cases_of e j l) there b (unless_same a)
+back_by e l a b there (Some j) = with_first_result (cases_of e j l) there b (unless_itself a)
 
 abbrev there_by : Function → Kind → SymOp → SymOp → Option SymOp → GoalTree
 there_by e l a b None = undefined
@@ -72,8 +72,8 @@ module _ (e : Function) (l : Kind) (b : SymOp) where
 
   one_goal :
       (h : Function) (k : Kind) (cs : List GuardedCase)
-      → with_result cs (sym_op k A) b (unless_there (cases_of e k l) (sym_op k A) b)
-      ≡ with_result cs (sym_op k A) b (there_by e l (sym_op k A) b)
+      → with_first_result cs (sym_op k A) b (unless_there (cases_of e k l) (sym_op k A) b)
+      ≡ with_first_result cs (sym_op k A) b (there_by e l (sym_op k A) b)
   one_goal h k [] = refl
   one_goal h k (c ∷ cs) =
       let here = one_back k c.res in
@@ -102,7 +102,7 @@ module _ (named : StandsNamed) (comparison : KeepsComparison) (enabled : KeepsEn
   unfolding ask_goal
   holds_goal_kept m = holds_kept m
 
-  same_kept : (y : SymOp) → OpStands (IsBelow 9) 198 y → IsKept 9 2 (ask_goal f (unless_same first_op (Some y)))
+  same_kept : (y : SymOp) → OpStands (IsBelow 9) 198 y → IsKept 9 2 (ask_goal f (unless_itself first_op (Some y)))
   same_kept y stands =
       subst (λ p. IsKept 9 2 p) (sym (ask_goal-unless_one_place f y first_op))
       (one_form 9 y first_op (lit< tt) (op_wider 198 500 y wider_198_500 stands) (op_wider 0 500 first_op wider_0_500 first_stands))
@@ -113,8 +113,8 @@ module _ (named : StandsNamed) (comparison : KeepsComparison) (enabled : KeepsEn
   back_kept there None is stands = holds_goal_kept (2 + 2 * function_atoms e)
   back_kept there (Some j) is stands =
       subst (λ p. IsKept 9 (2 + 2 * function_atoms e) p)
-      (sym (back_asked f e there second_op j l (unless_same first_op) is (kind_of_named l B)))
-      (result 9 2 99 e there second_op (λ y. ask_goal f (unless_same first_op y)) (lit< tt) other_valid (lit≤ tt) stands
+      (sym (back_asked f e there second_op j l (unless_itself first_op) is (kind_of_named l B)))
+      (result 9 2 99 e there second_op (λ y. ask_goal f (unless_itself first_op y)) (lit< tt) other_valid (lit≤ tt) stands
       (op_wider 0 99 second_op wider_0_99 second_stands) (undefined_kept 2) same_kept)
 
   taken_back_kept :

@@ -23,7 +23,7 @@ use Rattle.ot_terms.specs.Goals.{GoalTree}
 use Rattle.ot_terms.specs.Starting.{if_all_enabled, if_allowed, if_enabled, if_length}
 use Rattle.ot_audit.proofs.Names.{GoalOf, IsSmallPlace, OfName, OpServes, Serves, allowed_of, guard_places, one_place_of, op_serves, small_name, small_moved}
 use Rattle.ot_audit.proofs.Names.{with_result_of}
-use Rattle.ot_reverse.specs.Goals.{unless_back, unless_same, unless_taken_back}
+use Rattle.ot_reverse.specs.Goals.{unless_back, unless_itself, unless_taken_back}
 
 -- it holds of a place, and of the place moved once and twice
 abbrev pub ServesTwice : (Place → Type 0) → Place → Type 0
@@ -66,7 +66,7 @@ module _ (Q : Place → Type 0) (at_zero : Serves Q zero_place) (at_length : Q (
         → GoalOf Q (unless_back ds a b there k)
     back_of ds there None near h = tt
     back_of ds there (Some k) near h =
-        with_result_of Q at_zero there b h (once b hb) ds (unless_same a) near tt
+        with_result_of Q at_zero there b h (once b hb) ds (unless_itself a) near tt
         (λ back at.
         one_place_of Q at_zero there b h (once b hb) (sym_kind back) (sym_kind a) (sym_at back) (sym_at a) at (once a ha Pos).0)
 

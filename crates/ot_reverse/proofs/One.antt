@@ -7,7 +7,7 @@ use Rattle.ot_audit.specs.declared.found.Sought.{Sought}
 use Rattle.ot_audit.specs.declared.found.Sought.TheVariants as sought
 use Rattle.ot_audit.specs.Findings.{IsSoughtIn}
 use Rattle.ot_reverse.specs.declared.back.Back.{Back}
-use Rattle.ot_reverse.specs.Answers.{AreSearched, GoesOn}
+use Rattle.ot_reverse.specs.Answers.{AreSearched, GoesOnUnlessFound}
 use Rattle.ot_reverse.specs.Goals.{reversal_goal}
 
 -- what the law of audits says
@@ -18,7 +18,7 @@ OneSought =
 
 goes_once :
     (f e : Function) (found : Sought) (Behind : Back → Type 0) → ((one other : Back) → Behind one → Behind other → one ≡ other)
-    → (one other : Back) → GoesOn f e found Behind one → GoesOn f e found Behind other → one ≡ other
+    → (one other : Back) → GoesOnUnlessFound f e found Behind one → GoesOnUnlessFound f e found Behind other → one ≡ other
 goes_once f e sought.Nowhere Behind once one other is so = once one other is so
 goes_once f e (sought.At cells a b) Behind once one other is so = is ∙ sym so
 goes_once f e sought.Spent Behind once one other is so = is ∙ sym so
@@ -31,4 +31,4 @@ pairs_once one_sought f e budget (pair ∷ pairs) one other (found, is, goes) (a
     let same : another ≡ found =
     one_sought f pair.0 pair.1 (reversal_goal f e pair.0 pair.1) budget another found so is in
     goes_once f e found (AreSearched f e budget pairs) (pairs_once one_sought f e budget pairs) one other goes
-    (subst (λ (x : Sought). GoesOn f e x (AreSearched f e budget pairs) other) same also)
+    (subst (λ (x : Sought). GoesOnUnlessFound f e x (AreSearched f e budget pairs) other) same also)

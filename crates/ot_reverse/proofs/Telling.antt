@@ -34,7 +34,7 @@ use Rattle.ot_audit.proofs.Everywhere.{of_kept}
 use Rattle.ot_audit.proofs.Telling.{HaveNames, ListsTell, NamesStand, ended, least_named, none_fails}
 use Rattle.ot_reverse.specs.declared.back.Back.{Back}
 use Rattle.ot_reverse.specs.declared.back.Back.TheVariants.{Yes, No, Spent}
-use Rattle.ot_reverse.specs.Answers.{AreSearched, GoesOn, TellsReversal}
+use Rattle.ot_reverse.specs.Answers.{AreSearched, GoesOnUnlessFound, TellsReversal}
 use Rattle.ot_reverse.specs.Goals.{reversal_goal}
 use Rattle.ot_reverse.specs.Reversal.{IsTakenBack, Reverses}
 
@@ -135,7 +135,7 @@ module _ (stand : NamesStand) (names : HaveNames) (tell : ListsTell) (means : Re
       (pair : Kind × Kind) (pairs : List (Kind × Kind)) (found : Sought) (answer : Back) → is_declared_of f.head pair ≡ true
       → IsSoughtIn f pair.0 pair.1 (reversal_goal f e pair.0 pair.1) budget found
       → (AreSearched f e budget pairs answer → TellsOn pairs answer)
-      → GoesOn f e found (AreSearched f e budget pairs) answer → TellsOn (pair ∷ pairs) answer
+      → GoesOnUnlessFound f e found (AreSearched f e budget pairs) answer → TellsOn (pair ∷ pairs) answer
   goes_told pair pairs sought.Nowhere answer declared is others goes =
       one_more pair pairs answer (nowhere_told pair.0 pair.1 declared is) (others goes)
   goes_told pair pairs (sought.At cells a b) answer declared is others goes =

@@ -16,18 +16,18 @@ use Rattle.ot_reverse.specs.Goals.{reversal_goal}
 use Rattle.ot_reverse.specs.Reversal.{IsTakenBack, Reverses, back_of}
 
 -- by what the search of a pair of kinds comes to: where it finds nothing, what is answered behind it counts
-abbrev pub GoesOn : Function → Function → Sought → (Back → Type 0) → Back → Type 0
-GoesOn f e sought.Nowhere Behind answer = Behind answer
-GoesOn f e (sought.At cells a b) Behind answer =
+abbrev pub GoesOnUnlessFound : Function → Function → Sought → (Back → Type 0) → Back → Type 0
+GoesOnUnlessFound f e sought.Nowhere Behind answer = Behind answer
+GoesOnUnlessFound f e (sought.At cells a b) Behind answer =
     answer ≡ No (live_cells cells) a b (transform_of f a b) (back_of e b (transform_of f a b))
-GoesOn f e sought.Spent Behind answer = answer ≡ Spent
+GoesOnUnlessFound f e sought.Spent Behind answer = answer ≡ Spent
 
 -- what is answered of pairs of kinds, up to the first in which something is found, or which has more questions
 abbrev pub AreSearched : Function → Function → ℕ → List (Kind × Kind) → Back → Type 0
 AreSearched f e budget [] answer = answer ≡ Yes
 AreSearched f e budget (pair ∷ pairs) answer =
     (found : Sought) × IsSoughtIn f pair.0 pair.1 (reversal_goal f e pair.0 pair.1) budget found
-    × GoesOn f e found (AreSearched f e budget pairs) answer
+    × GoesOnUnlessFound f e found (AreSearched f e budget pairs) answer
 
 -- the second function reverses the first; or it does not, and here is an instance: what becomes of the first operation,
 -- and what comes back

@@ -3,7 +3,7 @@ ghost use Rattle.std.specs.Prelude.{◌≡◌, ◌∷◌, [], map, IfOk, IfSome,
 ghost use Rattle.std.specs.List.{AllByRecursion};
 ghost use Rattle.fn_rules.specs.Functions.{case_of, cases_of, is_declared_pair};
 ghost use Rattle.fn_rules.specs.Rules.{function_of};
-ghost use Rattle.ot_audit.specs.Goals.{with_result};
+ghost use Rattle.ot_audit.specs.Goals.{with_first_result};
 ghost use Rattle.ot_questions.specs.Nears.{IsNearCase, IsNearOp};
 ghost use Rattle.ot_questions.specs.Places.{sym_kind};
 ghost use Rattle.ot_terms.specs.Goals.{goal_tree};
@@ -52,7 +52,7 @@ fn if_both_enabled<'a>(
 
 // What comes back is to be there, and to be the operation itself.
 fn unless_same<'a>(bump: &'a Bump, a: SymOp, back: Option<SymOp>) -> Result<&'a Goal<'a>, NoMemory>
-    ensures { IfOk result (λ r. goal_tree r.now ≡ goals.unless_same a back) }
+    ensures { IfOk result (λ r. goal_tree r.now ≡ goals.unless_itself a back) }
 {
     match back {
         None => Ok(undefined(bump)?),
@@ -71,8 +71,8 @@ fn with_back<'a>(
     requires b_near { IsNearOp 200 b }
     requires there_near { IsNearOp 200 there }
     requires near { AllByRecursion IsNearCase (map case_of cases.now) }
-    ensures { IfOk result (λ r. goal_tree r.now ≡ with_result (map case_of cases.now) there b
-        (λ back. goals.unless_same a back)) }
+    ensures { IfOk result (λ r. goal_tree r.now ≡ with_first_result (map case_of cases.now) there b
+        (λ back. goals.unless_itself a back)) }
 {
     match cases {
         [] => Ok(unless_same(bump, a, None)?),

@@ -26,8 +26,8 @@ use Rattle.ot_terms.specs.Goals.{GoalTree, Fails, Deliver}
 use Rattle.ot_terms.specs.Changes.{changed, doc_of}
 use Rattle.ot_terms.specs.Starting.{enabled_form}
 use Rattle.ot_terms.specs.Standing.{changes_of, results_of}
-use Rattle.ot_terms.specs.Belonging.{IsPlace, IsLowerable, HasPlaces, HasNames, IsDocOf, IsIndexOf, AreMade, AreResults, IsNextResult, IsProgressOf, HasParts}
-use Rattle.ot_terms.specs.Belonging.{next_operands}
+use Rattle.ot_terms.specs.Belonging.{IsPlace, IsLowerable, HasPlaces, HasNames, IsDocOf, IsIndexOf, AreOperandsOf, AreResults, IsNextResult, IsProgressOf}
+use Rattle.ot_terms.specs.Belonging.{HasParts, next_operands}
 use Rattle.goal_rules.specs.Ends.{same_documents, both_ways, one_place, end_goal}
 use Rattle.goal_rules.specs.Table.{with_result, go_on, rewrite_deliver}
 use Rattle.ot_rewrite.proofs.Rewritings.{IsRewriting}
@@ -217,7 +217,7 @@ module _ (f : Function) where
       (place_of_operand f ob 198 left (omega arith) forms.0) (place_of_operand f ob 198 right (omega arith) forms.1)
 
   end_has_parts :
-      (ob : ObName) (os got : List SymOp) → IsTrue (is_obligation f.head ob) → AreMade ob os → AreResults ob os [] got
+      (ob : ObName) (os got : List SymOp) → IsTrue (is_obligation f.head ob) → AreOperandsOf ob os → AreResults ob os [] got
       → HasParts f ob (end_goal f.head.mode ob os got)
   end_has_parts (Pair k l) os got d made h =
       subst (λ t. AreResults (Pair k l) t [] got → HasParts f (Pair k l) (end_goal f.head.mode (Pair k l) t got)) (sym made.2)

@@ -12,7 +12,7 @@ use Rattle.ot_questions.specs.Obligation.{ask_converge, ask_behind, ask_commute}
 use Rattle.ot_terms.specs.declared.goal.GoalProgress.{GoalProgress}
 use Rattle.ot_terms.specs.Goals.{Deliver}
 use Rattle.ot_terms.specs.Standing.{ask_goal, ask_after, ask_pair_after, ask_second_way_after, ask_triple_after, results_of}
-use Rattle.ot_terms.specs.Belonging.{AreMade, next_operands}
+use Rattle.ot_terms.specs.Belonging.{AreOperandsOf, next_operands}
 use Rattle.goal_rules.specs.Ends.{end_goal}
 use Rattle.goal_rules.specs.Table.{with_result, go_on, rewrite_deliver}
 use Rattle.ot_rewrite.proofs.DeliveredEnds.{one_form_asks, both_ways_ask}
@@ -28,7 +28,7 @@ pub results_of-with_result :
 results_of-with_result plan r h = taken_set plan.got plan.count r h
 
 -- a triple has three operations
-fewer_made : (k l m : Kind) (os : List SymOp) → length os < 3 → AreMade (Triple k l m) os → ⊥
+fewer_made : (k l m : Kind) (os : List SymOp) → length os < 3 → AreOperandsOf (Triple k l m) os → ⊥
 fewer_made k l m os h made = let three : length os ≡ 3 = ap length made.3 in omega arith
 
 module _ (f : Function) where
@@ -46,7 +46,7 @@ module _ (f : Function) where
 
   -- the next transformation, or the end, asks what is left after the results
   next_asks :
-      (ob : ObName) (os got : List SymOp) → AreMade ob os → ask_on ob os got (next_operands ob os got) ≡ ask_after f ob os got
+      (ob : ObName) (os got : List SymOp) → AreOperandsOf ob os → ask_on ob os got (next_operands ob os got) ≡ ask_after f ob os got
   unfolding ask_goal ask_after ask_pair_after ask_triple_after ask_second_way_after ask_converge ask_commute ask_behind
   next_asks (Pair k l) [] got made = refl
   next_asks (Pair k l) (a ∷ []) got made = refl
@@ -65,7 +65,7 @@ module _ (f : Function) where
   next_asks (Triple k l m) (a ∷ b ∷ c ∷ os) (x ∷ y ∷ left ∷ u ∷ v ∷ right ∷ got) made = one_form_asks f left right
 
   pub deliver_asks :
-      (r : SymOp) (plan : GoalProgress) → AreMade plan.ob plan.ops → plan.count < length plan.got
+      (r : SymOp) (plan : GoalProgress) → AreOperandsOf plan.ob plan.ops → plan.count < length plan.got
       → ask_goal f (rewrite_deliver f r plan) ≡ ask_goal f (Deliver r plan)
   unfolding ask_goal
   deliver_asks r plan made h =

@@ -10,7 +10,7 @@ use Rattle.ot_questions.specs.declared.place.SymOp.TheVariants.{Nop}
 use Rattle.ot_questions.specs.Names.{name_count}
 use Rattle.ot_questions.specs.Nears.{IsNear, IsNearOp, IsDeclaredOp}
 use Rattle.ot_questions.proofs.Nears.{IsNear-zero, IsNear-more, both_true}
-use Rattle.ot_terms.specs.Belonging.{HasNames, IsMade, IsMoved, AreMade, AreResults, next_operands, reach_of}
+use Rattle.ot_terms.specs.Belonging.{HasNames, IsMade, IsMoved, AreOperandsOf, AreResults, next_operands, reach_of}
 
 -- the names, the offset and the kind of an operation that may be transformed
 pub record IsOperand (f : Function) (ob : ObName) (n : ℕ) (o : SymOp) : Type 0 where
@@ -116,7 +116,7 @@ module _ (f : Function) where
 
   -- the next two operations of an obligation are operands
   operands :
-      (ob : ObName) (os got : List SymOp) → IsTrue (is_obligation f.head ob) → AreMade ob os → AreResults ob os [] got
+      (ob : ObName) (os got : List SymOp) → IsTrue (is_obligation f.head ob) → AreOperandsOf ob os → AreResults ob os [] got
       → MatchOption (next_operands ob os got) (Unit {0}) (AreOperands f ob (operand_reach ob (length got)))
   operands (Pair k l) os got d made results =
       let both = made_pair k l made.0 made.1 d made.3 made.4 in
@@ -131,7 +131,7 @@ module _ (f : Function) where
 
   -- those of the next transformation
   pub next_are_operands :
-      (ob : ObName) (os got : List SymOp) (a b : SymOp) → IsTrue (is_obligation f.head ob) → AreMade ob os → AreResults ob os [] got
+      (ob : ObName) (os got : List SymOp) (a b : SymOp) → IsTrue (is_obligation f.head ob) → AreOperandsOf ob os → AreResults ob os [] got
       → next_operands ob os got ≡ Some (a, b) → AreOperands f ob (operand_reach ob (length got)) (a, b)
   next_are_operands ob os got a b d made results e =
       subst (λ t. MatchOption t (Unit {0}) (AreOperands f ob (operand_reach ob (length got)))) e (operands ob os got d made results)

@@ -17,10 +17,10 @@ use Rattle.ot_terms.specs.Standing.{changes_of}
 use Rattle.ot_terms.specs.Weights.{transforms_of}
 use Rattle.ot_terms.specs.Belonging.{HasPlaces, IsCellOf, HasParts, IsGoalOf}
 use Rattle.cell_rules.specs.Cells.{IsReadable}
-use Rattle.goal_rules.specs.Steps.{IsLowered, IsReady}
+use Rattle.goal_rules.specs.Steps.{IsLoweredForm, IsReadyGoal}
 
 -- offsets of places are small enough for a literal
-lowered : (count : ℕ) (g : FormTree) → HasPlaces count g → IsLowered g
+lowered : (count : ℕ) (g : FormTree) → HasPlaces count g → IsLoweredForm g
 lowered count forms.True h = tt
 lowered count (forms.Le x y) h = tt
 lowered count (forms.Lt x y) h =
@@ -49,7 +49,7 @@ few : (ob : ObName) (n : ℕ) → n < transforms_of ob → n < 6
 few (Pair k l) n h = omega arith
 few (Triple k l m) n h = h
 
-ready_parts : (f : Function) (ob : ObName) (g : GoalTree) → HasParts f ob g → IsReady f g
+ready_parts : (f : Function) (ob : ObName) (g : GoalTree) → HasParts f ob g → IsReadyGoal f g
 ready_parts f ob goals.Holds h = tt
 ready_parts f ob (goals.Fails why) h = tt
 ready_parts f ob (goals.If g on_yes on_no) h = lowered (name_count ob) g h.0
@@ -59,5 +59,5 @@ ready_parts f ob (goals.Deliver o plan) h = few ob plan.count h.0.awaited
 ready_parts f ob (goals.Same left right) h =
     (readable f.head.mode (name_count ob) left h.0, readable f.head.mode (name_count ob) right h.1)
 
-pub ready : (f : Function) (ob : ObName) (g : GoalTree) → IsGoalOf f ob g → IsReady f g
+pub ready : (f : Function) (ob : ObName) (g : GoalTree) → IsGoalOf f ob g → IsReadyGoal f g
 ready f ob g h = ready_parts f ob g h.parts

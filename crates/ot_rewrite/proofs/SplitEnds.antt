@@ -9,17 +9,17 @@ use Rattle.ot_terms.specs.Forms as forms
 use Rattle.ot_terms.specs.Forms.{FormTree}
 use Rattle.ot_terms.specs.Goals.{GoalTree, Holds, Fails, If}
 use Rattle.goal_rules.specs.Table.{rewritten}
-use Rattle.ot_rewrite.specs.Splits.{SplitTree, Yes, No, Ask, first_question, LeadsTo, there, by_rule, EndsInYes, EndsInNo, EndsAtQuestion, split_of}
+use Rattle.ot_rewrite.specs.Splits.{SplitTree, Yes, No, Ask, first_question, RulesLeadTo, there, by_rule, EndsInYes, EndsInNo, EndsAtQuestion, split_of}
 use Rattle.ot_rewrite.proofs.SplitForms.{EndsAs, split_is}
 
 -- where no rule is left, there is one end
 one_end :
-    (f : Function) (g h k : GoalTree) → LeadsTo f g h → LeadsTo f g k → rewritten f h ≡ None → rewritten f k ≡ None → h ≡ k
+    (f : Function) (g h k : GoalTree) → RulesLeadTo f g h → RulesLeadTo f g k → rewritten f h ≡ None → rewritten f k ≡ None → h ≡ k
 one_end f g h k there there s t = refl
 one_end f g h k there (by_rule e l) s t = absurd (cc)
 one_end f g h k (by_rule e l) there s t = absurd (cc)
 one_end f g h k (by_rule {h = n} e l) (by_rule {h = m} d r) s t =
-    let same : m ≡ n = cc in one_end f n h k l (subst (λ x. LeadsTo f x k) same r) s t
+    let same : m ≡ n = cc in one_end f n h k l (subst (λ x. RulesLeadTo f x k) same r) s t
 
 -- the goals with which a form is tried: they tell the ends apart
 abbrev tried : FormTree → GoalTree

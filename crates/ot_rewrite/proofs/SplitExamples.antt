@@ -8,7 +8,7 @@ use Rattle.ot_questions.specs.Places.{place, plus}
 use Rattle.ot_terms.specs.Forms.{FormTree, True, Le, Lt, Eq, And, Or, Not}
 use Rattle.ot_terms.specs.Belonging.{IsPlace, HasPlaces}
 use Rattle.ot_terms.specs.Goals.{Holds, Fails, If}
-use Rattle.ot_rewrite.specs.Splits.{Yes, No, Ask, split_of, comparisons_left, LeadsTo, there, by_rule}
+use Rattle.ot_rewrite.specs.Splits.{Yes, No, Ask, split_of, comparisons_left, RulesLeadTo, there, by_rule}
 use Rattle.goal_rules.specs.Table.{rewritten}
 
 -- the positions of two operations, the first one also with an offset
@@ -58,7 +58,7 @@ counted : comparisons_left (And (Eq a b) (Not (Or True (Lt b a)))) ≡ 3
 counted = refl
 
 -- the rules for the negation of a comparison of one name with itself lead to the first goal
-led : LeadsTo ties (If (Not (Lt a a)) Holds (Fails Undefined)) Holds
+led : RulesLeadTo ties (If (Not (Lt a a)) Holds (Fails Undefined)) Holds
 unfolding rewritten
 led = by_rule refl (by_rule refl (by_rule refl there))
 

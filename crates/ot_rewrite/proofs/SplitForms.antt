@@ -16,7 +16,7 @@ use Rattle.ot_terms.specs.Goals.{GoalTree, If}
 use Rattle.ot_terms.specs.Standing.{ask_form}
 use Rattle.ot_terms.specs.Belonging.{HasPlaces}
 use Rattle.goal_rules.specs.Table.{rewritten}
-use Rattle.ot_rewrite.specs.Splits.{SplitTree, Yes, No, Ask, LeadsTo, there, by_rule, EndsInYes, EndsInNo, EndsAtQuestion, split_holds, ask_split}
+use Rattle.ot_rewrite.specs.Splits.{SplitTree, Yes, No, Ask, RulesLeadTo, there, by_rule, EndsInYes, EndsInNo, EndsAtQuestion, split_holds, ask_split}
 use Rattle.ot_rewrite.specs.Splits.{comparisons_left, HasFewer, HasSplitPlaces, HasLowOffsets, split_le, split_eq, split_and, split_or, split_not, split_of}
 use Rattle.ot_rewrite.proofs.FormRules.{IsPlace-before}
 
@@ -44,7 +44,7 @@ pub record IsSplit (g : FormTree) (s : SplitTree) : Type 0 where
   pub places : (count : ℕ) → HasPlaces count g → HasSplitPlaces count s
 
 -- rules after rules
-joined : (f : Function) (g h k : GoalTree) → LeadsTo f g h → LeadsTo f h k → LeadsTo f g k
+joined : (f : Function) (g h k : GoalTree) → RulesLeadTo f g h → RulesLeadTo f h k → RulesLeadTo f g k
 joined f g h k there l = l
 joined f g h k (by_rule {h = next} e first) l = by_rule e (joined f next h k first l)
 
@@ -57,7 +57,7 @@ le_rule f x y on_yes on_no same = rw same refl
 
 le_leads :
     (f : Function) (x y : Place) (c : Bool) (on_yes on_no : GoalTree) → nat_eq x.var y.var ≡ true → int_le x.off y.off ≡ c
-    → LeadsTo f (If (forms.Le x y) on_yes on_no) (if c then on_yes else on_no)
+    → RulesLeadTo f (If (forms.Le x y) on_yes on_no) (if c then on_yes else on_no)
 le_leads f x y c on_yes on_no same is =
     by_rule (le_rule f x y on_yes on_no same ∙ ap (λ b. Some (if b then on_yes else on_no)) is) there
 
@@ -114,7 +114,7 @@ le_split x y = le_split_by x y (nat_eq x.var y.var) (int_le x.off y.off) refl re
 -- the rules lead from a form to another one with the same goals
 ends_behind :
     (k h : FormTree)
-    → ((f : Function) (on_yes on_no : GoalTree) → LeadsTo f (If k on_yes on_no) (If h on_yes on_no))
+    → ((f : Function) (on_yes on_no : GoalTree) → RulesLeadTo f (If k on_yes on_no) (If h on_yes on_no))
     → (s : SplitTree) → EndsAs h s → EndsAs k s
 ends_behind k h leads Yes e =
     λ f on_yes on_no. joined f (If k on_yes on_no) (If h on_yes on_no) on_yes (leads f on_yes on_no) (e f on_yes on_no)

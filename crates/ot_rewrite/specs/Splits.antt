@@ -36,24 +36,24 @@ first_question No = None
 first_question (Ask x y if_yes if_no) = Some (x, y)
 
 -- rules lead from one goal to another
-pub data LeadsTo (f : Function) : GoalTree → GoalTree → Type 0 where
-  there : {g : GoalTree} → LeadsTo f g g
-  by_rule : {g h k : GoalTree} → rewritten f g ≡ Some h → LeadsTo f h k → LeadsTo f g k
+pub data RulesLeadTo (f : Function) : GoalTree → GoalTree → Type 0 where
+  there : {g : GoalTree} → RulesLeadTo f g g
+  by_rule : {g h k : GoalTree} → rewritten f g ≡ Some h → RulesLeadTo f h k → RulesLeadTo f g k
 
 -- where the rules end that begin with the form, whatever the two goals are: in the first one
 abbrev pub EndsInYes : FormTree → Type 0
-EndsInYes g = (f : Function) (on_yes on_no : GoalTree) → LeadsTo f (If g on_yes on_no) on_yes
+EndsInYes g = (f : Function) (on_yes on_no : GoalTree) → RulesLeadTo f (If g on_yes on_no) on_yes
 
 -- in the second one
 abbrev pub EndsInNo : FormTree → Type 0
-EndsInNo g = (f : Function) (on_yes on_no : GoalTree) → LeadsTo f (If g on_yes on_no) on_no
+EndsInNo g = (f : Function) (on_yes on_no : GoalTree) → RulesLeadTo f (If g on_yes on_no) on_no
 
 -- or at the question whether one place is at most another, of two different names
 abbrev pub EndsAtQuestion : Place → Place → FormTree → Type 0
 EndsAtQuestion x y g =
     (x.var ≢ y.var)
     × ((f : Function) (on_yes on_no : GoalTree)
-    → (if_yes if_no : GoalTree) × LeadsTo f (If g on_yes on_no) (If (forms.Le x y) if_yes if_no))
+    → (if_yes if_no : GoalTree) × RulesLeadTo f (If g on_yes on_no) (If (forms.Le x y) if_yes if_no))
 
 -- the truth of what a form is split into
 abbrev pub split_holds : (ℕ → ℤ) → SplitTree → Bool

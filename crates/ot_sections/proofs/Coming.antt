@@ -11,13 +11,13 @@ use Rattle.cert_text.specs.declared.item.Part.{Part}
 use Rattle.cert_text.specs.declared.item.CertError.{CertError}
 use Rattle.cert_text.specs.declared.item.CertError.TheVariants as cert
 use Rattle.cert_text.specs.Places.{PartPlace, Finish, Stands, part_text, place_after}
-use Rattle.cert_text.specs.Reading.{ReaderState, Reading, Refused, EndsThere, Gives, Reads, ReadsOn}
+use Rattle.cert_text.specs.Reading.{ReaderState, Reading, Refused, EndsThere, Gives, ReadsParts, ReadsOn}
 use Rattle.cert_text.specs.Pieces.{EndsWithin, GivesOf, GoesOn}
 use Rattle.ot_sections.specs.declared.refusal.JudgeError.{JudgeError}
 use Rattle.ot_sections.specs.Parts.{end_of_spelling}
 use Rattle.ot_outside.specs.declared.feed.Feed.{Ghosts}
 use Rattle.ot_sections.specs.Feeding.{Fed, Has, IsSpent, IsTruncated, MayGive, MayGiveOf, Whole, Yields, fed}
-use Rattle.ot_sections.specs.Stands.{Came, IsBetween, IsMisspeltBehind, IsOver, begun_of, offset_of, place_of}
+use Rattle.ot_sections.specs.Stands.{Came, IsBetween, IsMisspeltBehind, IsOver, begun_of, reader_offset_of, reader_place_of}
 
 -- told bytes begin with those that are given
 told_behind :
@@ -124,7 +124,7 @@ module _ {F : Type 0} (feeds : Ghosts F) where
 
 -- a reader that reads a part, behind an earlier state of it and of its feed
 pub record ReadsAt {F : Type 0} (feeds : Ghosts F) (was now : Fed F) : Type 0 where
-  pub at : now.reader ≡ Reading (place_of was.reader) (offset_of was.reader) (begun_of now.reader)
+  pub at : now.reader ≡ Reading (reader_place_of was.reader) (reader_offset_of was.reader) (begun_of now.reader)
   pub bytes :
       (all : Whole) (rest : List ℕ) → Yields feeds now.feed all rest → Yields feeds was.feed all (begun_of now.reader ++ rest)
 
@@ -133,7 +133,7 @@ pub not_begun : {F : Type 0} (feeds : Ghosts F) (was : Fed F) → IsBetween was.
 not_begun feeds was between =
     let none : begun_of was.reader ≡ [] = ap begun_of between in
     record {
-      at = between ∙ ap (λ (l : List ℕ). Reading (place_of was.reader) (offset_of was.reader) l) (sym none);
+      at = between ∙ ap (λ (l : List ℕ). Reading (reader_place_of was.reader) (reader_offset_of was.reader) l) (sym none);
       bytes = λ all rest may. subst (λ (l : List ℕ). Yields feeds was.feed all (l ++ rest)) (sym none) may;
     }
 
@@ -145,7 +145,7 @@ module _ {F : Type 0} (feeds : Ghosts F) (reader : ReaderState) (old asked : F) 
         part = came.part;
         bytes =
             λ all rest may.
-            same_given feeds old asked same all (part_text (place_of reader) item.part ++ rest) (came.bytes all rest may);
+            same_given feeds old asked same all (part_text (reader_place_of reader) item.part ++ rest) (came.bytes all rest may);
       }
 
   pub misspelt_asked :
@@ -198,11 +198,11 @@ module _ {F : Type 0} (feeds : Ghosts F) (was old now : Fed F) (reads : ReadsAt 
       → GivesOf old.reader piece taken (Ok None) now.reader → ReadsAt feeds was now
   reads_more piece taken took gives =
       let all : take taken piece ≡ piece = rw gives.0 (take-length piece) in
-      let is = goes_on old.reader now.reader (place_of was.reader) (offset_of was.reader) piece reads.at gives.1 in
+      let is = goes_on old.reader now.reader (reader_place_of was.reader) (reader_offset_of was.reader) piece reads.at gives.1 in
       let begun : begun_of now.reader ≡ begun_of old.reader ++ take taken piece =
       ap begun_of is ∙ ap (λ (l : List ℕ). begun_of old.reader ++ l) (sym all) in
       record {
-        at = is ∙ ap (λ (l : List ℕ). Reading (place_of was.reader) (offset_of was.reader) l) (sym (ap begun_of is));
+        at = is ∙ ap (λ (l : List ℕ). Reading (reader_place_of was.reader) (reader_offset_of was.reader) l) (sym (ap begun_of is));
         bytes =
             λ every rest may.
             subst (λ (l : List ℕ). Yields feeds was.feed every l)
@@ -215,23 +215,23 @@ module _ {F : Type 0} (feeds : Ghosts F) (was old now : Fed F) (reads : ReadsAt 
       (piece : List ℕ) (taken : ℕ) (item : Item) → Took feeds old.feed now.feed (take taken piece)
       → EndsWithin old.reader piece taken (Ok (Some item)) now.reader → Came feeds was now item
   part_comes piece taken item took (within, (front, byte, between, text, goes, gives)) =
-      let is = goes_on old.reader between (place_of was.reader) (offset_of was.reader) front reads.at goes in
+      let is = goes_on old.reader between (reader_place_of was.reader) (reader_offset_of was.reader) front reads.at goes in
       let begun : begun_of between ≡ begun_of old.reader ++ front = ap begun_of is in
-      let there : between ≡ Reading (place_of was.reader) (offset_of was.reader) (begun_of between) =
-      is ∙ ap (λ (l : List ℕ). Reading (place_of was.reader) (offset_of was.reader) l) (sym begun) in
-      let given = part_given between now.reader (place_of was.reader) (offset_of was.reader) byte item there gives in
-      let count : length (part_text (place_of was.reader) item.part) ≡ length (begun_of between) + 1 =
+      let there : between ≡ Reading (reader_place_of was.reader) (reader_offset_of was.reader) (begun_of between) =
+      is ∙ ap (λ (l : List ℕ). Reading (reader_place_of was.reader) (reader_offset_of was.reader) l) (sym begun) in
+      let given = part_given between now.reader (reader_place_of was.reader) (reader_offset_of was.reader) byte item there gives in
+      let count : length (part_text (reader_place_of was.reader) item.part) ≡ length (begun_of between) + 1 =
       sym (ap length given.2) ∙ length-append (begun_of between) (byte ∷ []) in
-      let here : offset_of was.reader + length (begun_of between) + 1
-      ≡ offset_of was.reader + length (part_text (place_of was.reader) item.part) = omega (arith, count) in
-      let spelled : begun_of old.reader ++ take taken piece ≡ part_text (place_of was.reader) item.part =
+      let here : reader_offset_of was.reader + length (begun_of between) + 1
+      ≡ reader_offset_of was.reader + length (part_text (reader_place_of was.reader) item.part) = omega (arith, count) in
+      let spelled : begun_of old.reader ++ take taken piece ≡ part_text (reader_place_of was.reader) item.part =
       ap (λ (l : List ℕ). begun_of old.reader ++ l) text ∙ sym (append_assoc (begun_of old.reader) front (byte ∷ []))
       ∙ ap (λ (l : List ℕ). l ++ byte ∷ []) (sym begun) ∙ given.2 in
       record {
         part = record {
           offset = given.0;
           stands = given.1;
-          behind = given.3 ∙ ap (λ (n : ℕ). Reading (place_after (place_of was.reader) item.part) n []) here;
+          behind = given.3 ∙ ap (λ (n : ℕ). Reading (place_after (reader_place_of was.reader) item.part) n []) here;
         };
         bytes =
             λ every rest may.
@@ -251,7 +251,7 @@ came_as feeds was now item p is came =
 -- the bytes that are still to come end there
 ends_there :
     (old : ReaderState) (place : PartPlace) (offset : ℕ) (bytes : List ℕ) (end : Result (Unit {0}) CertError)
-    → old ≡ Reading place offset (begun_of old) → Reads old bytes [] end → EndsThere place offset (begun_of old ++ bytes) end
+    → old ≡ Reading place offset (begun_of old) → ReadsParts old bytes [] end → EndsThere place offset (begun_of old ++ bytes) end
 ends_there (Reading p o begun) place offset bytes end at reads =
     let same_place : p ≡ place = cc in let same_offset : o ≡ offset = cc in
     subst (λ (x : PartPlace). EndsThere x offset (begun ++ bytes) end) same_place
@@ -262,7 +262,7 @@ ends_there (Refused e) place offset bytes end at reads = absurd (cc)
 abbrev pub RefusesBytes : ReaderState → List ℕ → CertError → ReaderState → Type 0
 RefusesBytes old bytes e now =
     (rest : List ℕ) (items : List Item) (end : Result (Unit {0}) CertError)
-    → Reads old (bytes ++ rest) items end ↔ ReadsOn (Err e) now rest items end
+    → ReadsParts old (bytes ++ rest) items end ↔ ReadsOn (Err e) now rest items end
 
 -- bytes do not end too early whatever follows them
 not_truncated :
@@ -285,15 +285,15 @@ not_truncated place offset begun bytes (cert.Truncated n) end there named trunca
 -- at the end of the bytes
 abbrev pub Finishes : ReaderState → Result (Unit {0}) CertError → Type 0
 Finishes old result =
-    (items : List Item) (end : Result (Unit {0}) CertError) → Reads old [] items end ↔ ((items ≡ []) × (end ≡ result))
+    (items : List Item) (end : Result (Unit {0}) CertError) → ReadsParts old [] items end ↔ ((items ≡ []) × (end ≡ result))
 
 module _ {F : Type 0} (feeds : Ghosts F) (was old : Fed F) (reads : ReadsAt feeds was old) where
   -- bytes of which the last one is refused
   module _ (bytes : List ℕ) (e : CertError) (now : ReaderState) (refuses : RefusesBytes old.reader bytes e now) where
     refused_there :
-        (rest : List ℕ) → EndsThere (place_of was.reader) (offset_of was.reader) (begun_of old.reader ++ (bytes ++ rest)) (Err e)
+        (rest : List ℕ) → EndsThere (reader_place_of was.reader) (reader_offset_of was.reader) (begun_of old.reader ++ (bytes ++ rest)) (Err e)
     refused_there rest =
-        ends_there old.reader (place_of was.reader) (offset_of was.reader) (bytes ++ rest) (Err e) reads.at
+        ends_there old.reader (reader_place_of was.reader) (reader_offset_of was.reader) (bytes ++ rest) (Err e) reads.at
         ((refuses rest [] (Err e)).1 (refl, refl))
 
     pub bytes_misspelt :
@@ -306,24 +306,24 @@ module _ {F : Type 0} (feeds : Ghosts F) (was old : Fed F) (reads : ReadsAt feed
 
     pub refused_early : (end : JudgeError) → end ≡ end_of_spelling e → IsTruncated end → ⊥
     refused_early end =
-        not_truncated (place_of was.reader) (offset_of was.reader) (begun_of old.reader) bytes e end refused_there
+        not_truncated (reader_place_of was.reader) (reader_offset_of was.reader) (begun_of old.reader) bytes e end refused_there
 
   -- the end of the bytes
   module _ (result : Result (Unit {0}) CertError) (new : F) (over : IsOver feeds old new) (finishes : Finishes old.reader result) where
-    finished : EndsThere (place_of was.reader) (offset_of was.reader) (begun_of old.reader ++ []) result
+    finished : EndsThere (reader_place_of was.reader) (reader_offset_of was.reader) (begun_of old.reader ++ []) result
     finished =
-        ends_there old.reader (place_of was.reader) (offset_of was.reader) [] result reads.at ((finishes [] result).1 (refl, refl))
+        ends_there old.reader (reader_place_of was.reader) (reader_offset_of was.reader) [] result reads.at ((finishes [] result).1 (refl, refl))
 
-    pub finished_whole : result ≡ Ok tt → (place_of was.reader ≡ Finish) × IsOver feeds was new
+    pub finished_whole : result ≡ Ok tt → (reader_place_of was.reader ≡ Finish) × IsOver feeds was new
     finished_whole ok =
         let end = subst
-        (λ (r : Result (Unit {0}) CertError). EndsThere (place_of was.reader) (offset_of was.reader) (begun_of old.reader ++ []) r)
+        (λ (r : Result (Unit {0}) CertError). EndsThere (reader_place_of was.reader) (reader_offset_of was.reader) (begun_of old.reader ++ []) r)
         ok finished in
         (end.0, λ all have. subst (λ (l : List ℕ). Yields feeds was.feed all l) end.1 (reads.bytes all [] (over all have)))
 
     pub end_misspelt : (e : CertError) (end : JudgeError) → result ≡ Err e → end ≡ end_of_spelling e → IsMisspeltBehind feeds was new end
     end_misspelt e end err named all have refused =
         let stops = subst
-        (λ (r : Result (Unit {0}) CertError). EndsThere (place_of was.reader) (offset_of was.reader) (begun_of old.reader ++ []) r)
+        (λ (r : Result (Unit {0}) CertError). EndsThere (reader_place_of was.reader) (reader_offset_of was.reader) (begun_of old.reader ++ []) r)
         err finished in
         (begun_of old.reader ++ [], reads.bytes all [] (over all have), (e, stops, named))

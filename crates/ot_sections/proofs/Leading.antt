@@ -16,16 +16,17 @@ use Rattle.ot_sections.specs.declared.refusal.JudgeError.{JudgeError}
 use Rattle.ot_sections.specs.Parts.{IsJudged, IsRefused, Point, branches_behind, end_of_token, point_behind}
 use Rattle.ot_outside.specs.declared.feed.Feed.{Ghosts}
 use Rattle.ot_sections.specs.Feeding.{Fed, fed}
-use Rattle.ot_sections.specs.Stands.{Came, IsBetween, IsJudgedBehind, IsMisspeltBehind, IsRefusedAnyway, IsRefusedBehind, IsTreeOf, Leads, Stand, place_of}
-use Rattle.ot_sections.specs.Stands.{offset_of, point_of, stand, tree_with}
+use Rattle.ot_sections.specs.Stands.{Came, IsBetween, IsJudgedBehind, IsMisspeltBehind, IsRefusedAnyway, IsRefusedBehind, IsTreeOf, StandLeads, Stand}
+use Rattle.ot_sections.specs.Stands.{reader_place_of}
+use Rattle.ot_sections.specs.Stands.{reader_offset_of, point_of, stand, tree_with}
 use Rattle.ot_sections.proofs.Fitting.{judged_behind}
 use Rattle.ot_sections.proofs.Tokens.{open_as_counted}
 
 module _ {F W : Type 0} (feeds : Ghosts F) (plan : ObName → Plan W) where
-  pub leads_same : (was : Stand F W) → Leads feeds plan was was
+  pub leads_same : (was : Stand F W) → StandLeads feeds plan was was
   leads_same was all bytes may = (bytes, may, λ end judged. judged)
 
-  pub leads_on : (one two three : Stand F W) → Leads feeds plan one two → Leads feeds plan two three → Leads feeds plan one three
+  pub leads_on : (one two three : Stand F W) → StandLeads feeds plan one two → StandLeads feeds plan two three → StandLeads feeds plan one three
   leads_on one two three first second all rest may =
       let there = second all rest may in
       let here = first all there.0 there.1 in
@@ -34,40 +35,40 @@ module _ {F W : Type 0} (feeds : Ghosts F) (plan : ObName → Plan W) where
   -- a part that comes leads behind it
   pub part_leads :
       (was now : Fed F) (item : Item) (branches next : List (Branch W)) → Came feeds was now item
-      → branches_behind plan (point_of (stand was branches)) item.part ≡ Ok next → Leads feeds plan (stand was branches) (stand now next)
+      → branches_behind plan (point_of (stand was branches)) item.part ≡ Ok next → StandLeads feeds plan (stand was branches) (stand now next)
   part_leads was now item branches next comes opens all rest may =
       let there : point_of (stand now next) ≡ point_behind (point_of (stand was branches)) item.part next =
       ap (λ (r : ReaderState). point_of (stand (fed r now.feed) next)) comes.part.behind in (
-        part_text (place_of was.reader) item.part ++ rest,
+        part_text (reader_place_of was.reader) item.part ++ rest,
         comes.bytes all rest may,
         λ end judged.
-            judged_behind plan end (point_of (stand was branches)) item.part (part_text (place_of was.reader) item.part ++ rest) rest next
+            judged_behind plan end (point_of (stand was branches)) item.part (part_text (reader_place_of was.reader) item.part ++ rest) rest next
             comes.part.stands refl opens
             (subst (λ (p : Point W). IsJudged plan end p rest) there judged),
       )
 
   -- what is judged behind a later stand is judged behind the earlier one
   pub judged_through :
-      (one two : Stand F W) (now : F) (end : Result (Unit {0}) JudgeError) → Leads feeds plan one two
+      (one two : Stand F W) (now : F) (end : Result (Unit {0}) JudgeError) → StandLeads feeds plan one two
       → IsJudgedBehind feeds plan two now end → IsJudgedBehind feeds plan one now end
   judged_through one two now end leads behind all have =
       let later = behind all have in
       let there = leads all later.0 later.1 in (there.0, there.1, there.2 end later.2)
 
   pub refused_through :
-      (one two : Stand F W) (now : F) (e : JudgeError) → Leads feeds plan one two → IsRefusedBehind feeds plan two now e
+      (one two : Stand F W) (now : F) (e : JudgeError) → StandLeads feeds plan one two → IsRefusedBehind feeds plan two now e
       → IsRefusedBehind feeds plan one now e
   refused_through one two now e leads behind refused = judged_through one two now (Err e) leads (behind refused)
 
   -- the same of an answer
   pub answers_through :
-      (one two : Stand F W) (now : F) (answer : Result (Unit {0}) JudgeError) → Leads feeds plan one two
+      (one two : Stand F W) (now : F) (answer : Result (Unit {0}) JudgeError) → StandLeads feeds plan one two
       → OnOk answer (IsJudgedBehind feeds plan two now (Ok tt)) → OnOk answer (IsJudgedBehind feeds plan one now (Ok tt))
   answers_through one two now (Ok done) leads judged = judged_through one two now (Ok tt) leads judged
   answers_through one two now (Err e) leads judged = tt
 
   pub errors_through :
-      (one two : Stand F W) (now : F) (answer : Result (Unit {0}) JudgeError) → Leads feeds plan one two
+      (one two : Stand F W) (now : F) (answer : Result (Unit {0}) JudgeError) → StandLeads feeds plan one two
       → IfErr answer (IsRefusedBehind feeds plan two now) → IfErr answer (IsRefusedBehind feeds plan one now)
   errors_through one two now (Ok done) leads refused = tt
   errors_through one two now (Err e) leads refused = refused_through one two now e leads refused
@@ -98,7 +99,7 @@ module _ {F W : Type 0} (feeds : Ghosts F) (plan : ObName → Plan W) where
   token_refused was now offset t branches why comes (inl memory) refused all have =
       absurd (want_is_no_refusal offset why memory refused)
   token_refused was now offset t branches why comes (inr cause) refused all have = (
-    part_text (place_of was.reader) (part.Tok t) ++ have.0,
+    part_text (reader_place_of was.reader) (part.Tok t) ++ have.0,
     comes.bytes all have.0 have.1,
     ([], inr (t, have.0, why, comes.part.stands, refl, cause, ap (λ (n : ℕ). end_of_token n why) comes.part.offset)),
   )
@@ -118,18 +119,18 @@ module _ {F : Type 0} (feeds : Ghosts F) (was now : Fed F) where
   pub between_parts : (item : Item) → Came feeds was now item → IsBetween now.reader
   between_parts item comes =
       comes.part.behind
-      ∙ ap (λ (r : ReaderState). Reading (place_of r) (offset_of r) []) (sym comes.part.behind)
+      ∙ ap (λ (r : ReaderState). Reading (reader_place_of r) (reader_offset_of r) []) (sym comes.part.behind)
 
   -- behind a token it is where the token leaves it, and in the same tree
   pub behind_token :
       {W : Type 0} (offset : ℕ) (t : Tok) (branches next : List (Branch W))
-      → Came feeds was now (record { offset = offset; part = part.Tok t }) → IsTreeOf (length branches) (place_of was.reader)
+      → Came feeds was now (record { offset = offset; part = part.Tok t }) → IsTreeOf (length branches) (reader_place_of was.reader)
       → after t branches ≡ Ok next
-      → IsTreeOf (length next) (place_of now.reader) × (tree_with 0 (place_of now.reader) ≡ tree_with 0 (place_of was.reader))
+      → IsTreeOf (length next) (reader_place_of now.reader) × (tree_with 0 (reader_place_of now.reader) ≡ tree_with 0 (reader_place_of was.reader))
   behind_token offset t branches next comes is taken =
-      let place = token_place (place_of was.reader) t (length branches) is in
-      let here : place_of now.reader ≡ place_after (place_of was.reader) (part.Tok t) = ap place_of comes.part.behind in (
-        subst (λ (n : ℕ). IsTreeOf n (place_of now.reader)) (sym (open_as_counted t branches next taken))
+      let place = token_place (reader_place_of was.reader) t (length branches) is in
+      let here : reader_place_of now.reader ≡ place_after (reader_place_of was.reader) (part.Tok t) = ap reader_place_of comes.part.behind in (
+        subst (λ (n : ℕ). IsTreeOf n (reader_place_of now.reader)) (sym (open_as_counted t branches next taken))
             (subst (λ (p : PartPlace). IsTreeOf (open_after (length branches) t) p) (sym here) place.0),
         ap (tree_with 0) here ∙ place.1,
       )

@@ -9,7 +9,7 @@ use Rattle.ot_outside.specs.declared.feed.Feed.{Ghosts}
 use Rattle.ot_sections.specs.declared.refusal.JudgeError.{JudgeError}
 use Rattle.ot_sections.specs.declared.refusal.JudgeError.TheVariants as judge
 use Rattle.ot_sections.specs.Parts.{end_of_spelling, end_of_token}
-use Rattle.ot_sections.specs.Feeding.{Fed, IsKept, IsTruncated, Leaves}
+use Rattle.ot_sections.specs.Feeding.{Fed, IsKeptFeed, IsTruncated, Leaves}
 
 -- a refusal by spelling is no failure
 pub spelling_no_failure : (c : CertError) (e : JudgeError) → e ≡ end_of_spelling c → e ≡ judge.Failed → ⊥
@@ -41,7 +41,7 @@ token_not_early offset check.NoMemory (at, is) = cc
 
 module _ {F : Type 0} (feeds : Ghosts F) where
   abbrev pub KeepsFeed : F → F → Type 0
-  KeepsFeed old new = IsKept feeds.faults feeds.bound feeds.held feeds.keeps old new
+  KeepsFeed old new = IsKeptFeed feeds.faults feeds.bound feeds.held feeds.keeps old new
 
   -- what is kept is kept over two calls
   pub kept_on : (one two three : F) → KeepsFeed one two → KeepsFeed two three → KeepsFeed one three

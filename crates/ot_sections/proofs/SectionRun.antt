@@ -12,8 +12,9 @@ use Rattle.ot_sections.specs.declared.refusal.JudgeError.{JudgeError}
 use Rattle.ot_sections.specs.Parts.{IsJudged, branches_behind}
 use Rattle.ot_outside.specs.declared.feed.Feed.{Ghosts}
 use Rattle.ot_sections.specs.Feeding.{Fed, Yields}
-use Rattle.ot_sections.specs.Stands.{Came, IsJudgedBehind, IsMisspeltBehind, IsOver, IsRefusedAnyway, IsRefusedBehind, Leads, LeadsAnyway, opened, offset_of}
-use Rattle.ot_sections.specs.Stands.{place_of, stand, tree_with}
+use Rattle.ot_sections.specs.Stands.{Came, IsJudgedBehind, IsMisspeltBehind, IsOver, IsRefusedAnyway, IsRefusedBehind, StandLeads, LeadsAnyway, opened}
+use Rattle.ot_sections.specs.Stands.{reader_offset_of}
+use Rattle.ot_sections.specs.Stands.{reader_place_of, stand, tree_with}
 use Rattle.ot_sections.specs.Sections.{IsLineWith}
 use Rattle.ot_sections.proofs.Fitting.{last_line_fits}
 use Rattle.ot_sections.proofs.Leading.{leads_on, misspelt_refused, part_leads, refused_through}
@@ -77,21 +78,21 @@ module _ {W : Type 0} (plan : ObName → Plan W) where
 
   -- an obligation's line comes
   pub record LineCame {F : Type 0} (feeds : Ghosts F) (ob : ObName) (others : List ObName) (was first : Fed F) (line : Item) : Type 0 where
-    pub at : IsLineWith (ob ∷ others) (place_of was.reader)
+    pub at : IsLineWith (ob ∷ others) (reader_place_of was.reader)
     pub came : Came feeds was first line
 
   module _ {F : Type 0} (feeds : Ghosts F) (was first : Fed F) (line : Item) (ob : ObName) (others : List ObName)
       (begun : LineCame feeds ob others was first line) where
     -- behind the line
-    pub tree_begins : IsTreeWith others 1 (place_of first.reader)
+    pub tree_begins : IsTreeWith others 1 (reader_place_of first.reader)
     tree_begins =
-        subst (λ (p : PartPlace). IsTreeWith others 1 p) (sym (ap place_of begun.came.part.behind))
-        (line_opens_tree ob others (place_of was.reader) line.part begun.at begun.came.part.stands)
+        subst (λ (p : PartPlace). IsTreeWith others 1 p) (sym (ap reader_place_of begun.came.part.behind))
+        (line_opens_tree ob others (reader_place_of was.reader) line.part begun.at begun.came.part.stands)
 
-    pub line_leads : Leads feeds plan (stand was []) (stand first (opened (plan ob)))
+    pub line_leads : StandLeads feeds plan (stand was []) (stand first (opened (plan ob)))
     line_leads =
         part_leads feeds plan was first line [] (opened (plan ob)) begun.came
-        (line_branches ob others (place_of was.reader) (offset_of was.reader) line.part begun.at begun.came.part.stands)
+        (line_branches ob others (reader_place_of was.reader) (reader_offset_of was.reader) line.part begun.at begun.came.part.stands)
 
     pub tree_refused :
         (now : F) (e : JudgeError) → IsRefusedAnyway feeds (stand first (opened (plan ob))) now e
@@ -100,12 +101,12 @@ module _ {W : Type 0} (plan : ObName → Plan W) where
         refused_through feeds plan (stand was []) (stand first (opened (plan ob))) now e line_leads (refused plan)
 
     module _ (second : Fed F) (judged : LeadsAnyway feeds (stand first (opened (plan ob))) (stand second []))
-        (closed : place_of second.reader ≡ tree_with 0 (place_of first.reader)) where
-      pub tree_ends : IsTreeWith others 0 (place_of second.reader)
+        (closed : reader_place_of second.reader ≡ tree_with 0 (reader_place_of first.reader)) where
+      pub tree_ends : IsTreeWith others 0 (reader_place_of second.reader)
       tree_ends =
-          subst (λ (p : PartPlace). IsTreeWith others 0 p) (sym closed) (closed_tree others 1 (place_of first.reader) tree_begins)
+          subst (λ (p : PartPlace). IsTreeWith others 0 p) (sym closed) (closed_tree others 1 (reader_place_of first.reader) tree_begins)
 
-      pub tree_leads : Leads feeds plan (stand was []) (stand second [])
+      pub tree_leads : StandLeads feeds plan (stand was []) (stand second [])
       tree_leads = leads_on feeds plan (stand was []) (stand first (opened (plan ob))) (stand second []) line_leads (judged plan)
 
       pub newline_refused : (now : F) (e : JudgeError) → IsMisspeltBehind feeds second now e → IsRefusedBehind feeds plan (stand was []) now e
@@ -113,16 +114,16 @@ module _ {W : Type 0} (plan : ObName → Plan W) where
           refused_through feeds plan (stand was []) (stand second []) now e tree_leads (misspelt_refused feeds plan second [] now e misspelt)
 
       module _ (newline : Item) (now : Fed F) (ended : Came feeds second now newline) where
-        pub section_behind : IsLineWith others (place_of now.reader)
+        pub section_behind : IsLineWith others (reader_place_of now.reader)
         section_behind =
-            subst (λ (p : PartPlace). IsLineWith others p) (sym (ap place_of ended.part.behind))
-            (newline_closes others (place_of second.reader) newline.part tree_ends ended.part.stands)
+            subst (λ (p : PartPlace). IsLineWith others p) (sym (ap reader_place_of ended.part.behind))
+            (newline_closes others (reader_place_of second.reader) newline.part tree_ends ended.part.stands)
 
-        pub section_leads : Leads feeds plan (stand was []) (stand now [])
+        pub section_leads : StandLeads feeds plan (stand was []) (stand now [])
         section_leads =
             leads_on feeds plan (stand was []) (stand second []) (stand now []) tree_leads
             (part_leads feeds plan second now newline [] [] ended
-            (newline_branches others (place_of second.reader) (offset_of second.reader) newline.part tree_ends ended.part.stands))
+            (newline_branches others (reader_place_of second.reader) (reader_offset_of second.reader) newline.part tree_ends ended.part.stands))
 
 -- the text of the last line
 end_is : (place : PartPlace) (p : Part) → IsLineWith [] place → Stands place p → part_text place p ≡ end_text
@@ -156,19 +157,19 @@ end_branches plan Finish offset p line stands = absurd line
 
 -- the last line, behind which nothing may stand
 module _ {F W : Type 0} (feeds : Ghosts F) (plan : ObName → Plan W) (was now : Fed F) (item : Item)
-    (at : IsLineWith [] (place_of was.reader)) (came : Came feeds was now item) where
+    (at : IsLineWith [] (reader_place_of was.reader)) (came : Came feeds was now item) where
   pub end_judged : (last : F) → IsOver feeds now last → IsJudgedBehind feeds plan (stand was []) last (Ok tt)
   end_judged last over all have = (
     end_text,
     subst (λ (l : List ℕ). Yields feeds was.feed all l)
-        (append-nil (part_text (place_of was.reader) item.part) ∙ end_is (place_of was.reader) item.part at came.part.stands)
+        (append-nil (part_text (reader_place_of was.reader) item.part) ∙ end_is (reader_place_of was.reader) item.part at came.part.stands)
         (came.bytes all [] (over all have)),
-    last_judged plan (place_of was.reader) (offset_of was.reader) at,
+    last_judged plan (reader_place_of was.reader) (reader_offset_of was.reader) at,
   )
 
   pub trailing_refused : (last : F) (e : JudgeError) → IsMisspeltBehind feeds now last e → IsRefusedBehind feeds plan (stand was []) last e
   trailing_refused last e misspelt =
       refused_through feeds plan (stand was []) (stand now []) last e
       (part_leads feeds plan was now item [] [] came
-      (end_branches plan (place_of was.reader) (offset_of was.reader) item.part at came.part.stands))
+      (end_branches plan (reader_place_of was.reader) (reader_offset_of was.reader) item.part at came.part.stands))
       (misspelt_refused feeds plan now [] last e misspelt)

@@ -21,7 +21,7 @@ use Rattle.ot_outside.specs.declared.feed.Feed.{Ghosts}
 use Rattle.ot_sections.specs.declared.refusal.JudgeError.{JudgeError}
 use Rattle.ot_sections.specs.Feeding.{Fed, fed}
 use Rattle.ot_sections.specs.Parts.{IsJudged, Point}
-use Rattle.ot_sections.specs.Stands.{IsBetween, IsTreeOf, LeadsAnyway, offset_of, place_of, point_of, stand, tree_with}
+use Rattle.ot_sections.specs.Stands.{IsBetween, IsTreeOf, LeadsAnyway, reader_offset_of, reader_place_of, point_of, stand, tree_with}
 use Rattle.cert_check.specs.Questions.{SkipsTo}
 use Rattle.ot_sections.specs.Taking.{AreTaken, AreTakenFront, IsCycleFront, LeaveOpen}
 use Rattle.ot_sections.proofs.Coming.{Consumes, IsAsked, Took, given_of, took_of}
@@ -160,7 +160,7 @@ module _ {W : Type 0} where
       )
 
   pub taken_passed :
-      (reader : ReaderState) (bytes : List ℕ) (old new : List (Branch W)) → IsBetween reader → IsTreeOf (length old) (place_of reader)
+      (reader : ReaderState) (bytes : List ℕ) (old new : List (Branch W)) → IsBetween reader → IsTreeOf (length old) (reader_place_of reader)
       → AreTaken bytes old new → IsPassed reader bytes (length new)
   taken_passed (Reading (Tree came names branches) offset begun) bytes old new between tree (tokens, spellable, text, leave) = (
     (cc),
@@ -173,8 +173,8 @@ module _ {W : Type 0} where
 
 -- a reader that passed tokens is behind them in the same tree
 pub behind_passed :
-    (reader now : ReaderState) (len old new : ℕ) → IsBetween reader → IsTreeOf old (place_of reader) → now ≡ passed reader len new
-    → now ≡ Reading (tree_with new (place_of reader)) (offset_of reader + len) []
+    (reader now : ReaderState) (len old new : ℕ) → IsBetween reader → IsTreeOf old (reader_place_of reader) → now ≡ passed reader len new
+    → now ≡ Reading (tree_with new (reader_place_of reader)) (reader_offset_of reader + len) []
 behind_passed (Reading (Tree came names branches) offset begun) now len old new between tree is =
     let none : begun ≡ [] = cc in is ∙ ap (λ (l : List ℕ). Reading (Tree came names new) (offset + len) l) none
 behind_passed (Reading (Start tp1 tp2) offset begun) now len old new between tree is = absurd tree
@@ -237,14 +237,14 @@ module _ {W : Type 0} (plan : ObName → Plan W) (end : Result (Unit {0}) JudgeE
 module _ {F W : Type 0} (feeds : Ghosts F) (was now : Fed F) (bytes : List ℕ) (old new : List (Branch W)) where
   -- tokens that are taken of a feed lead behind them
   pub leads_taken :
-      IsTreeOf (length old) (place_of was.reader) → Took feeds was.feed now.feed bytes → AreTaken bytes old new
-      → now.reader ≡ Reading (tree_with (length new) (place_of was.reader)) (offset_of was.reader + length bytes) []
+      IsTreeOf (length old) (reader_place_of was.reader) → Took feeds was.feed now.feed bytes → AreTaken bytes old new
+      → now.reader ≡ Reading (tree_with (length new) (reader_place_of was.reader)) (reader_offset_of was.reader + length bytes) []
       → LeadsAnyway feeds (stand was old) (stand now new)
   leads_taken tree took taken there plan all rest may = (
     bytes ++ rest,
     given_of feeds was.feed now.feed bytes took all rest may,
     λ end judged.
-        judged_at plan end (place_of was.reader) (offset_of was.reader) bytes rest old new tree taken
+        judged_at plan end (reader_place_of was.reader) (reader_offset_of was.reader) bytes rest old new tree taken
         (subst (λ (r : ReaderState). IsJudged plan end (point_of (stand (fed r now.feed) new)) rest) there judged),
   )
 
@@ -252,14 +252,14 @@ module _ {F W : Type 0} (feeds : Ghosts F) (was now : Fed F) (old new : List (Br
   -- a reader and its feed behind tokens that were taken at hand
   pub record IsBehindTokens : Type 0 where
     pub between : IsBetween now.reader
-    pub tree : IsTreeOf (length new) (place_of now.reader)
-    pub same_tree : tree_with 0 (place_of now.reader) ≡ tree_with 0 (place_of was.reader)
+    pub tree : IsTreeOf (length new) (reader_place_of now.reader)
+    pub same_tree : tree_with 0 (reader_place_of now.reader) ≡ tree_with 0 (reader_place_of was.reader)
     pub leads : LeadsAnyway feeds (stand was old) (stand now new)
     pub leaves : GoesOn feeds was now
 
   -- behind tokens that were taken from what is at hand, the reader is between parts of the same tree
   pub behind_tokens :
-      (bytes : List ℕ) (count behind : ℕ) → IsBetween was.reader → IsTreeOf (length old) (place_of was.reader)
+      (bytes : List ℕ) (count behind : ℕ) → IsBetween was.reader → IsTreeOf (length old) (reader_place_of was.reader)
       → (bytes ≡ feeds.hand was.feed) × (count ≤ length bytes) → Consumes feeds was.feed now.feed count → KeepsFeed feeds was.feed now.feed
       → AreTaken (take count bytes) old new → behind ≡ length new → now.reader ≡ passed was.reader (length (take count bytes)) behind
       → IsBehindTokens
@@ -269,12 +269,12 @@ module _ {F W : Type 0} (feeds : Ghosts F) (was now : Fed F) (old new : List (Br
       (is ∙ ap (λ (n : ℕ). passed was.reader (length (take count bytes)) n) counted) in
       let same : IsAsked feeds was.feed was.feed = record { left = refl; bound = refl; gave = refl } in
       let took = took_of feeds was.feed was.feed now.feed bytes count at_hand same consumes in
-      let place : place_of now.reader ≡ tree_with (length new) (place_of was.reader) = ap place_of there in
-      let in_tree = tree_there (place_of was.reader) (length old) (length new) tree in
-      let fed_was : fed_to was.reader ≡ offset_of was.reader + 0 = ap fed_to between in
-      let fed_now : fed_to now.reader ≡ (offset_of was.reader + length (take count bytes)) + 0 = ap fed_to there in
+      let place : reader_place_of now.reader ≡ tree_with (length new) (reader_place_of was.reader) = ap reader_place_of there in
+      let in_tree = tree_there (reader_place_of was.reader) (length old) (length new) tree in
+      let fed_was : fed_to was.reader ≡ reader_offset_of was.reader + 0 = ap fed_to between in
+      let fed_now : fed_to now.reader ≡ (reader_offset_of was.reader + length (take count bytes)) + 0 = ap fed_to there in
       record {
-        between = there ∙ ap (λ (r : ReaderState). Reading (place_of r) (offset_of r) []) (sym there);
+        between = there ∙ ap (λ (r : ReaderState). Reading (reader_place_of r) (reader_offset_of r) []) (sym there);
         tree = subst (λ (p : PartPlace). IsTreeOf (length new) p) (sym place) in_tree.0;
         same_tree = ap (tree_with 0) place ∙ in_tree.1;
         leads = leads_taken feeds was now (take count bytes) old new tree took taken there;

@@ -14,7 +14,7 @@ use Rattle.ot_outside.specs.declared.feed.Feed.{Ghosts}
 use Rattle.ot_sections.specs.declared.refusal.JudgeError.{JudgeError}
 use Rattle.ot_sections.specs.Parts.{end_of_token}
 use Rattle.ot_sections.specs.Feeding.{Fed}
-use Rattle.ot_sections.specs.Stands.{Came, IsMisspeltBehind, IsRefusedAnyway, IsTreeOf, Leads, LeadsAnyway, Stand, opened, stand, tree_with}
+use Rattle.ot_sections.specs.Stands.{Came, IsMisspeltBehind, IsRefusedAnyway, IsTreeOf, StandLeads, LeadsAnyway, Stand, opened, stand, tree_with}
 use Rattle.ot_sections.proofs.Leading.{leads_on, leads_same, misspelt_refused, part_leads, refused_through, token_refused}
 
 module _ {N W : Type 0} (plan : N → Plan W) where
@@ -45,7 +45,7 @@ module _ {F W : Type 0} (feeds : Ghosts F) where
   pub leads_first :
       (at : Fed F) (branches first : List (Branch W)) → branches ≡ first → LeadsAnyway feeds (stand at first) (stand at branches)
   leads_first at branches first is plan =
-      subst (λ (b : List (Branch W)). Leads feeds plan (stand at first) (stand at b)) (sym is)
+      subst (λ (b : List (Branch W)). StandLeads feeds plan (stand at first) (stand at b)) (sym is)
       (leads_same feeds plan (stand at first))
 
   module _ (first : Stand F W) (was : Fed F) (branches : List (Branch W)) (leads : LeadsAnyway feeds first (stand was branches)) where

@@ -11,7 +11,7 @@ use Rattle.ot_sections.specs.declared.refusal.JudgeError.TheVariants as judge
 
 -- no call lets the count of a feed's faults fall, or its bound rise, or puts another object in the place of the
 -- one that it holds, or gives up what the feed kept until then
-pub record IsKept {F : Type 0} (faults bound : F → ℕ) (held : F → Option ℕ) (keeps : F → F → Type 0) (old new : F) :
+pub record IsKeptFeed {F : Type 0} (faults bound : F → ℕ) (held : F → Option ℕ) (keeps : F → F → Type 0) (old new : F) :
     Type 0 where
   pub more_faults : faults old ≤ faults new
   pub no_more_bytes : bound new ≤ bound old
@@ -71,7 +71,7 @@ count_of feeds at = fed_to at.reader + feeds.bound at.feed
 -- how a call leaves a reader and its feed, whatever it judges: nothing is given up, what is still to come is no more,
 -- bytes that end too early are all that there are, and it says that the feed failed only where that did
 pub record Leaves {F T : Type 0} (feeds : Ghosts F) (was now : Fed F) (answer : Result T JudgeError) : Type 0 where
-  pub kept : IsKept feeds.faults feeds.bound feeds.held feeds.keeps was.feed now.feed
+  pub kept : IsKeptFeed feeds.faults feeds.bound feeds.held feeds.keeps was.feed now.feed
   pub room : IfOk answer (λ _. count_of feeds now ≤ count_of feeds was)
   pub spent : IfErr answer (λ e. IsTruncated e → IsSpent feeds.left feeds.hand now.feed)
   pub failed : IfErr answer (λ e. e ≡ judge.Failed → Rose (feeds.faults was.feed) (feeds.faults now.feed))

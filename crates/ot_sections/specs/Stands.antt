@@ -13,13 +13,13 @@ use Rattle.ot_sections.specs.Feeding.{Fed, Has, Whole, Yields}
 use Rattle.ot_sections.specs.Parts.{IsJudged, IsRefused, Point, end_of_spelling}
 
 -- the place of a reader, how many bytes stand before the part that it reads, and what came of that part
-abbrev pub place_of : ReaderState → PartPlace
-place_of (Reading place offset begun) = place
-place_of (Refused refusal) = Finish
+abbrev pub reader_place_of : ReaderState → PartPlace
+reader_place_of (Reading place offset begun) = place
+reader_place_of (Refused refusal) = Finish
 
-abbrev pub offset_of : ReaderState → ℕ
-offset_of (Reading place offset begun) = offset
-offset_of (Refused refusal) = 0
+abbrev pub reader_offset_of : ReaderState → ℕ
+reader_offset_of (Reading place offset begun) = offset
+reader_offset_of (Refused refusal) = 0
 
 abbrev pub begun_of : ReaderState → List ℕ
 begun_of (Reading place offset begun) = begun
@@ -27,7 +27,7 @@ begun_of (Refused refusal) = []
 
 -- a reader between two parts
 abbrev pub IsBetween : ReaderState → Type 0
-IsBetween r = r ≡ Reading (place_of r) (offset_of r) []
+IsBetween r = r ≡ Reading (reader_place_of r) (reader_offset_of r) []
 
 -- a place in a tree of which so many branches are open
 abbrev pub IsTreeOf : ℕ → PartPlace → Type 0
@@ -57,22 +57,23 @@ stand at branches = record { at = at; branches = branches }
 
 -- its point of the certificate
 abbrev pub point_of : {F W : Type 0} → Stand F W → Point W
-point_of s = record { place = place_of s.at.reader; offset = offset_of s.at.reader; branches = s.branches }
+point_of s =
+    record { place = reader_place_of s.at.reader; offset = reader_offset_of s.at.reader; branches = s.branches }
 
 -- a part comes of a reader between two parts: it stands there, and the reader is behind it
-pub record Comes (was : ReaderState) (item : Item) (now : ReaderState) : Type 0 where
-  pub offset : item.offset ≡ offset_of was
-  pub stands : Stands (place_of was) item.part
+pub record ComesOfReader (was : ReaderState) (item : Item) (now : ReaderState) : Type 0 where
+  pub offset : item.offset ≡ reader_offset_of was
+  pub stands : Stands (reader_place_of was) item.part
   pub behind :
-      now ≡ Reading (place_after (place_of was) item.part) (offset_of was + length (part_text (place_of was) item.part))
-      []
+      now ≡ Reading (place_after (reader_place_of was) item.part)
+      (reader_offset_of was + length (part_text (reader_place_of was) item.part)) []
 
 -- and its bytes are taken of the feed: before them it might give these and then what it may give behind them
 pub record Came {F : Type 0} (feeds : Ghosts F) (was now : Fed F) (item : Item) : Type 0 where
-  pub part : Comes was.reader item now.reader
+  pub part : ComesOfReader was.reader item now.reader
   pub bytes :
       (all : Whole) (rest : List ℕ) → Yields feeds now.feed all rest
-      → Yields feeds was.feed all (part_text (place_of was.reader) item.part ++ rest)
+      → Yields feeds was.feed all (part_text (reader_place_of was.reader) item.part ++ rest)
 
 -- nothing is left, and nothing was before
 abbrev pub IsOver : {F : Type 0} → Ghosts F → Fed F → F → Type 0
@@ -83,12 +84,13 @@ abbrev pub IsMisspeltBehind : {F : Type 0} → Ghosts F → Fed F → F → Judg
 IsMisspeltBehind feeds was now e =
     (all : Whole) → Has feeds now all → IsRefused e
     → (bytes : List ℕ) × Yields feeds was.feed all bytes
-    × ((c : CertError) × EndsThere (place_of was.reader) (offset_of was.reader) bytes (Err c) × (e ≡ end_of_spelling c))
+    × ((c : CertError) × EndsThere (reader_place_of was.reader) (reader_offset_of was.reader) bytes (Err c)
+    × (e ≡ end_of_spelling c))
 
 -- what is judged at a later stand, of bytes that the feed may give there, is judged at the earlier one, of bytes that
 -- it might give
-abbrev pub Leads : {F W : Type 0} → Ghosts F → (ObName → Plan W) → Stand F W → Stand F W → Type 0
-Leads feeds plan was now =
+abbrev pub StandLeads : {F W : Type 0} → Ghosts F → (ObName → Plan W) → Stand F W → Stand F W → Type 0
+StandLeads feeds plan was now =
     (all : Whole) (rest : List ℕ) → Yields feeds now.at.feed all rest
     → (bytes : List ℕ) × Yields feeds was.at.feed all bytes
     × ((end : Result (Unit {0}) JudgeError) → IsJudged plan end (point_of now) rest
@@ -107,7 +109,7 @@ IsRefusedBehind feeds plan was now e = IsRefused e → IsJudgedBehind feeds plan
 
 -- the same of a part of a certificate in which no obligation's line stands, whatever the plans of the obligations are
 abbrev pub LeadsAnyway : {F W : Type 0} → Ghosts F → Stand F W → Stand F W → Type 0
-LeadsAnyway {W = W} feeds was now = (plan : ObName → Plan W) → Leads feeds plan was now
+LeadsAnyway {W = W} feeds was now = (plan : ObName → Plan W) → StandLeads feeds plan was now
 
 abbrev pub IsRefusedAnyway : {F W : Type 0} → Ghosts F → Stand F W → F → JudgeError → Type 0
 IsRefusedAnyway {W = W} feeds was now e = (plan : ObName → Plan W) → IsRefusedBehind feeds plan was now e

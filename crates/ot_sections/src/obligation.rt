@@ -5,7 +5,8 @@ ghost use Rattle.fn_rules.specs.Rules.{function_of};
 ghost use Rattle.cert_text.specs.Reading.{fed_to};
 ghost use Rattle.ot_questions.specs.Obligation.{plan_below};
 ghost use Rattle.ot_sections.specs.Feeding.{Leaves, fed};
-ghost use Rattle.ot_sections.specs.Stands.{IsBetween, IsRefusedAnyway, IsTreeOf, LeadsAnyway, opened, place_of, stand};
+ghost use Rattle.ot_sections.specs.Stands.{IsBetween, IsRefusedAnyway, IsTreeOf, LeadsAnyway, opened, reader_place_of};
+ghost use Rattle.ot_sections.specs.Stands.{stand};
 ghost use Rattle.ot_sections.specs.Stands.{tree_with};
 
 use crate::premise::{MAX_BOUND, shorter_than};
@@ -32,9 +33,10 @@ pub(crate) fn judge_in<'a, F: Feed>(
     requires bounded { IfSome below (λ bound. bound ≤ MAX_BOUND) }
     requires listed { IsTrue (is_obligation (function_of rules.now).head ob) }
     requires between { IsBetween reader.old }
-    requires tree { IsTreeOf 1 (place_of reader.old) }
+    requires tree { IsTreeOf 1 (reader_place_of reader.old) }
     requires room { fed_to reader.old + F.bound feed.old < 2 ^ 63 }
-    ensures closed { OnOk result (IsBetween reader.new × (place_of reader.new ≡ tree_with 0 (place_of reader.old))) }
+    ensures closed { OnOk result (IsBetween reader.new
+        × (reader_place_of reader.new ≡ tree_with 0 (reader_place_of reader.old))) }
     ensures leads { OnOk result (LeadsAnyway F.Feed
         (stand (fed reader.old feed.old) (opened (plan_below (function_of rules.now) below ob)))
         (stand (fed reader.new feed.new) [])) }

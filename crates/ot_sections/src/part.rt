@@ -3,7 +3,7 @@ ghost use Rattle.std.specs.Prelude.{◌≡◌, ℕ, ◌+◌, ◌^◌, ◌<◌, �
 ghost use Rattle.cert_text.specs.Places.{Finish};
 ghost use Rattle.cert_text.specs.Reading.{fed_to};
 ghost use Rattle.ot_sections.specs.Feeding.{IsSpent, Leaves, fed};
-ghost use Rattle.ot_sections.specs.Stands.{Came, IsBetween, IsMisspeltBehind, IsOver, place_of};
+ghost use Rattle.ot_sections.specs.Stands.{Came, IsBetween, IsMisspeltBehind, IsOver, reader_place_of};
 
 use crate::refusal::JudgeError;
 use cert_text::{Item, Reader};
@@ -22,7 +22,7 @@ pub(crate) fn next_part<F: Feed>(
     ensures fewer { IfOk result (λ o. IfSome o (λ _. F.bound feed.new < F.bound feed.old)) }
 
     // None behind the last part, where nothing is left.
-    ensures finish { IfOk result (λ o. IfNone o (place_of reader.old ≡ Finish)) }
+    ensures finish { IfOk result (λ o. IfNone o (reader_place_of reader.old ≡ Finish)) }
     ensures over { IfOk result (λ o. IfNone o (IsOver F.Feed (fed reader.old feed.old) feed.new)) }
     ensures nothing_left { IfOk result (λ o. IfNone o (IsSpent F.left F.hand feed.new)) }
 
@@ -45,7 +45,7 @@ pub(crate) fn next_part<F: Feed>(
 /// The error is the refusal of bytes by their spelling, or a failure of the feed.
 pub fn expect_part<F: Feed>(reader: &mut Reader, feed: &mut F) -> Result<Item, JudgeError>
     requires between { IsBetween reader.old }
-    requires unfinished { place_of reader.old ≡ Finish → ⊥ }
+    requires unfinished { reader_place_of reader.old ≡ Finish → ⊥ }
     requires room { fed_to reader.old + F.bound feed.old < 2 ^ 63 }
     ensures came { IfOk result (Came F.Feed (fed reader.old feed.old) (fed reader.new feed.new)) }
     ensures fewer { IfOk result (λ _. F.bound feed.new < F.bound feed.old) }

@@ -11,8 +11,8 @@ ghost use Rattle.ot_questions.specs.declared.why.Why.{Why};
 ghost use Rattle.ot_questions.specs.Obligation.{plan_below};
 ghost use Rattle.ot_sections.specs.Feeding.{IsSpent, Leaves, fed};
 ghost use Rattle.ot_sections.specs.Sections.{IsLineWith};
-ghost use Rattle.ot_sections.specs.Stands.{IsBetween, IsJudgedBehind, IsRefusedAnyway, IsRefusedBehind, Leads};
-ghost use Rattle.ot_sections.specs.Stands.{place_of, stand};
+ghost use Rattle.ot_sections.specs.Stands.{IsBetween, IsJudgedBehind, IsRefusedAnyway, IsRefusedBehind, StandLeads};
+ghost use Rattle.ot_sections.specs.Stands.{reader_place_of, stand};
 
 use crate::obligation::judge_in;
 use crate::part::{expect_part, next_part};
@@ -36,12 +36,12 @@ fn judge_section<F: Feed>(
     requires bounded { IfSome below (λ bound. bound ≤ MAX_BOUND) }
     requires listed { IsTrue (is_obligation (function_of rules.now).head ob) }
     requires between { IsBetween reader.old }
-    requires line { (others : List ObName) × IsLineWith (ob ∷ others) (place_of reader.old) }
+    requires line { (others : List ObName) × IsLineWith (ob ∷ others) (reader_place_of reader.old) }
     requires room { fed_to reader.old + F.bound feed.old < 2 ^ 63 }
     ensures behind { OnOk result (IsBetween reader.new
-        × ((others : List ObName) → IsLineWith (ob ∷ others) (place_of reader.old)
-        → IsLineWith others (place_of reader.new))) }
-    ensures leads { OnOk result (Leads F.Feed (plan_below (function_of rules.now) below)
+        × ((others : List ObName) → IsLineWith (ob ∷ others) (reader_place_of reader.old)
+        → IsLineWith others (reader_place_of reader.new))) }
+    ensures leads { OnOk result (StandLeads F.Feed (plan_below (function_of rules.now) below)
         (stand (fed reader.old feed.old) []) (stand (fed reader.new feed.new) [])) }
     ensures refused { IfErr result (IsRefusedBehind F.Feed (plan_below (function_of rules.now) below)
         (stand (fed reader.old feed.old) []) feed.new) }
@@ -66,10 +66,10 @@ fn judge_each<F: Feed>(
     requires bounded { IfSome below (λ bound. bound ≤ MAX_BOUND) }
     requires listed { list_all (is_obligation (function_of rules.now).head) names.now ≡ true }
     requires between { IsBetween reader.old }
-    requires lines { IsLineWith names.now (place_of reader.old) }
+    requires lines { IsLineWith names.now (reader_place_of reader.old) }
     requires room { fed_to reader.old + F.bound feed.old < 2 ^ 63 }
-    ensures behind { OnOk result (IsBetween reader.new × IsLineWith [] (place_of reader.new)) }
-    ensures leads { OnOk result (Leads F.Feed (plan_below (function_of rules.now) below)
+    ensures behind { OnOk result (IsBetween reader.new × IsLineWith [] (reader_place_of reader.new)) }
+    ensures leads { OnOk result (StandLeads F.Feed (plan_below (function_of rules.now) below)
         (stand (fed reader.old feed.old) []) (stand (fed reader.new feed.new) [])) }
     ensures refused { IfErr result (IsRefusedBehind F.Feed (plan_below (function_of rules.now) below)
         (stand (fed reader.old feed.old) []) feed.new) }
@@ -84,7 +84,7 @@ fn judge_each<F: Feed>(
 // Takes the last line, behind which nothing may stand.
 fn read_end<F: Feed>(reader: &mut Reader, feed: &mut F) -> Result<(), JudgeError>
     requires between { IsBetween reader.old }
-    requires line { IsLineWith [] (place_of reader.old) }
+    requires line { IsLineWith [] (reader_place_of reader.old) }
     requires room { fed_to reader.old + F.bound feed.old < 2 ^ 63 }
     ensures whole { OnOk result ((plan : ObName → Plan Why)
         → IsJudgedBehind F.Feed plan (stand (fed reader.old feed.old) []) feed.new (Ok tt)) }
@@ -115,7 +115,7 @@ pub fn judge_sections<F: Feed>(
     requires bounded { IfSome below (λ bound. bound ≤ MAX_BOUND) }
     requires listed { list_all (is_obligation (function_of rules.now).head) names.now ≡ true }
     requires between { IsBetween reader.old }
-    requires lines { IsLineWith names.now (place_of reader.old) }
+    requires lines { IsLineWith names.now (reader_place_of reader.old) }
     requires room { fed_to reader.old + F.bound feed.old < 2 ^ 63 }
 
     // Bytes that the feed might give, and all of them, are sections that fit, or they are refused.

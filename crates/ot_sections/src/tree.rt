@@ -8,7 +8,7 @@ ghost use Rattle.cert_text.specs.Reading.{fed_to};
 ghost use Rattle.ot_sections.specs.Parts.{end_of_token};
 ghost use Rattle.ot_sections.specs.Feeding.{Leaves, fed};
 ghost use Rattle.ot_sections.specs.Stands.{Came, IsBetween, IsMisspeltBehind, IsRefusedAnyway, IsTreeOf, LeadsAnyway};
-ghost use Rattle.ot_sections.specs.Stands.{opened, place_of, stand, tree_with};
+ghost use Rattle.ot_sections.specs.Stands.{opened, reader_place_of, stand, tree_with};
 ghost use Rattle.ot_sections.specs.Taking.{AreTaken, AreTakenFront};
 
 use crate::cycle::cycle_front;
@@ -41,7 +41,7 @@ fn end_at(offset: u64, end: CheckError) -> JudgeError
 #[inline(never)]
 fn split_token<F: Feed>(reader: &mut Reader, feed: &mut F) -> Result<(u64, Tok), JudgeError>
     requires between { IsBetween reader.old }
-    requires still_open { (n : ℕ) × (0 < n) × IsTreeOf n (place_of reader.old) }
+    requires still_open { (n : ℕ) × (0 < n) × IsTreeOf n (reader_place_of reader.old) }
     requires room { fed_to reader.old + F.bound feed.old < 2 ^ 63 }
     ensures token { IfOk result (λ t. Came F.Feed (fed reader.old feed.old) (fed reader.new feed.new)
         (record { offset = t.0; part = Part.Tok t.1 })) }
@@ -60,7 +60,7 @@ fn split_token<F: Feed>(reader: &mut Reader, feed: &mut F) -> Result<(u64, Tok),
 #[inline(always)]
 fn next_token<F: Feed>(reader: &mut Reader, feed: &mut F, tok: &mut Tok) -> Result<u64, JudgeError>
     requires between { IsBetween reader.old }
-    requires still_open { (n : ℕ) × (0 < n) × IsTreeOf n (place_of reader.old) }
+    requires still_open { (n : ℕ) × (0 < n) × IsTreeOf n (reader_place_of reader.old) }
     requires room { fed_to reader.old + F.bound feed.old < 2 ^ 63 }
     ensures token { IfOk result (λ offset. Came F.Feed (fed reader.old feed.old) (fed reader.new feed.new)
         (record { offset = offset; part = Part.Tok tok.new })) }
@@ -193,11 +193,11 @@ fn take_tokens<A: Asker>(checker: &mut Checker<A>, branches: u64, bytes: &[u8]) 
 // Takes the tokens at hand of the feed.
 fn take_at_hand<A: Asker, F: Feed>(checker: &mut Checker<A>, reader: &mut Reader, feed: &mut F)
     requires between { IsBetween reader.old }
-    requires tree { IsTreeOf (length (open_branches A.plan checker.old)) (place_of reader.old) }
+    requires tree { IsTreeOf (length (open_branches A.plan checker.old)) (reader_place_of reader.old) }
     requires room { fed_to reader.old + F.bound feed.old < 2 ^ 63 }
     ensures between { IsBetween reader.new }
-    ensures tree { IsTreeOf (length (open_branches A.plan checker.new)) (place_of reader.new) }
-    ensures same_tree { tree_with 0 (place_of reader.new) ≡ tree_with 0 (place_of reader.old) }
+    ensures tree { IsTreeOf (length (open_branches A.plan checker.new)) (reader_place_of reader.new) }
+    ensures same_tree { tree_with 0 (reader_place_of reader.new) ≡ tree_with 0 (reader_place_of reader.old) }
     ensures leads { LeadsAnyway F.Feed (stand (fed reader.old feed.old) (open_branches A.plan checker.old))
         (stand (fed reader.new feed.new) (open_branches A.plan checker.new)) }
     ensures leaves { Leaves {T = Unit {0}} F.Feed (fed reader.old feed.old) (fed reader.new feed.new) (Ok tt) }
@@ -218,11 +218,12 @@ pub(crate) fn judge_tree<A: Asker, F: Feed>(
 ) -> Result<(), JudgeError>
     requires names { A.name_count asker ≤ MAX_NAMES }
     requires between { IsBetween reader.old }
-    requires tree { IsTreeOf 1 (place_of reader.old) }
+    requires tree { IsTreeOf 1 (reader_place_of reader.old) }
     requires room { fed_to reader.old + F.bound feed.old < 2 ^ 63 }
 
     // What is judged behind the tree is judged of it and what is behind it.
-    ensures closed { OnOk result (IsBetween reader.new × (place_of reader.new ≡ tree_with 0 (place_of reader.old))) }
+    ensures closed { OnOk result (IsBetween reader.new
+        × (reader_place_of reader.new ≡ tree_with 0 (reader_place_of reader.old))) }
     ensures leads { OnOk result (LeadsAnyway F.Feed (stand (fed reader.old feed.old) (opened (A.root asker)))
         (stand (fed reader.new feed.new) [])) }
     ensures refused { IfErr result (IsRefusedAnyway F.Feed (stand (fed reader.old feed.old) (opened (A.root asker)))
@@ -259,9 +260,10 @@ pub(crate) fn judge_tree_behind<A: Asker, F: Feed>(
     requires paths { longest_path (A.root asker) < MAX_QUESTIONS }
     requires names { A.name_count asker ≤ MAX_NAMES }
     requires between { IsBetween reader.old }
-    requires tree { IsTreeOf 1 (place_of reader.old) }
+    requires tree { IsTreeOf 1 (reader_place_of reader.old) }
     requires room { fed_to reader.old + F.bound feed.old < 2 ^ 63 }
-    ensures closed { OnOk result (IsBetween reader.new × (place_of reader.new ≡ tree_with 0 (place_of reader.old))) }
+    ensures closed { OnOk result (IsBetween reader.new
+        × (reader_place_of reader.new ≡ tree_with 0 (reader_place_of reader.old))) }
     ensures leads { OnOk result (LeadsAnyway F.Feed (stand (fed reader.old feed.old)
         (opened (premised premise (A.root asker))))
         (stand (fed reader.new feed.new) [])) }

@@ -22,11 +22,11 @@ use Rattle.ot_session.specs.declared.limits.TheConstants.{MAX_SITES, MAX_FORMS}
 use Rattle.ot_session.specs.declared.made.Made.{Made}
 use Rattle.ot_session.specs.declared.session.Session.{Session}
 use Rattle.ot_session.specs.declared.site.Site.{Site}
-use Rattle.ot_session.specs.Past.{past_of, AreUsable}
-use Rattle.ot_session.specs.Sites.{view_site, data_of, IsSorted, KeepsForms, CanTake, IsKept}
+use Rattle.ot_session.specs.Past.{past_of, IsUsablePast}
+use Rattle.ot_session.specs.Sites.{view_site, data_of, IsSorted, SiteKeepsForms, CanTake, IsKeptSession}
 use Rattle.ot_session.specs.Taking.{TakesAtPlace}
 use Rattle.ot_session.specs.Views.{View, HasTaken, view_of}
-use Rattle.ot_session.proofs.Usable.{GrowByOne, AreUsable-sound}
+use Rattle.ot_session.proofs.Usable.{GrowByOne, IsUsablePast-sound}
 use Rattle.ot_session.proofs.Taken.{counted-most, CanTake-kept, forms-can, length-taken, TakesAt-taken, sound-taken, all-counted-open, never-stuck-taken}
 use Rattle.ot_session.proofs.Taken.{never-spent-taken, HasTaken-at, OnOk-fine, IfSome-from}
 
@@ -38,9 +38,9 @@ module _ (s : Session) where
   past = past_of s.made.items
 
   -- the operations of a session can be transformed
-  usable : GrowByOne → ((l : List ℕ) → IsClosed past l → length l ≤ length s.made.items) → IsKept rules s.first s.made.items s.sites.items
-      → AreUsable rules past
-  usable grow short k = AreUsable-sound rules grow s.made.items s.first s.few s.small short k.sound.past (length (map view_site s.sites.items))
+  usable : GrowByOne → ((l : List ℕ) → IsClosed past l → length l ≤ length s.made.items) → IsKeptSession rules s.first s.made.items s.sites.items
+      → IsUsablePast rules past
+  usable grow short k = IsUsablePast-sound rules grow s.made.items s.first s.few s.small short k.sound.past (length (map view_site s.sites.items))
       (omega (arith, s.most, length-map s.sites.items view_site)) k.sound.sites
 
   -- before a site takes an operation each site can
@@ -98,7 +98,7 @@ module _ (s : Session) where
 
       -- what the sites need to take more they have where the operation was taken
       pub forms-taken : (is_open : Bool) → is_open ≡ is_ok answer → OnOk answer (∥ AllByRecursion (CanTake rules (past_of made)) new_sites ∥₁) → is_open ≡ true
-          → ∥ AllByRecursion (KeepsForms rules past) new_sites ∥₁
+          → ∥ AllByRecursion (SiteKeepsForms rules past) new_sites ∥₁
       forms-taken is_open fine can is = ∥∥₁_map (OnOk-fine (∥ AllByRecursion (CanTake rules past) new_sites ∥₁) answer (sym fine ∙ is)
           (subst (λ (ms : List Made). OnOk answer (∥ AllByRecursion (CanTake rules (past_of ms)) new_sites ∥₁)) made_is can))
           (λ all. forms-can rules past new_sites all)
@@ -107,7 +107,7 @@ module _ (s : Session) where
           (count_law : (old new : SessionData) (u o : ℕ) → IsSound rules old → Integrates rules old new u o
           → all_counted new + length (counted old.past (old.seen u)) ≡ all_counted old + length (counted new.past (new.seen u))) where
         -- what is kept in a session is kept
-        pub kept-taken : ∥ AllByRecursion (IsSorted (length made)) new_sites ∥₁ → ∥ IsKept rules s.first s.made.items new_sites ∥₁
+        pub kept-taken : ∥ AllByRecursion (IsSorted (length made)) new_sites ∥₁ → ∥ IsKeptSession rules s.first s.made.items new_sites ∥₁
         kept-taken sorted = ∥∥₁_map₂ s.kept sorted (λ k all. record {
           sound = sound-taken rules s.first s.made.items s.sites.items new_sites t at n s.counted total answer step sound_law count_law k.sound;
           sorted = subst (λ (ms : List Made). AllByRecursion (IsSorted (length ms)) new_sites) made_is all;

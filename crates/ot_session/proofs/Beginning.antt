@@ -11,7 +11,7 @@ use Rattle.ot_causal.specs.Sessions.{SessionData, IsNew, IsSound, counted_to, al
 use Rattle.ot_session.specs.declared.made.Made.{Made}
 use Rattle.ot_session.specs.declared.site.Site.{Site}
 use Rattle.ot_session.specs.Past.{past_of}
-use Rattle.ot_session.specs.Sites.{SiteView, view_site, document_in, seen_in, data_of, IsSorted, KeepsForms, IsFresh, IsKept}
+use Rattle.ot_session.specs.Sites.{SiteView, view_site, site_document, seen_in, data_of, IsSorted, SiteKeepsForms, IsFresh, IsKeptSession}
 use Rattle.ot_session.specs.Views.{IsFreshView}
 use Rattle.ot_session.proofs.Lists.{AllByRecursion-map}
 
@@ -35,12 +35,12 @@ module _ (d : List Cell) where
   )
 
   -- nothing was counted, and no form is stored
-  pub KeepsForms-fresh : (f : Function) (past : Past) → counted past [] ≡ [] → (sites : List Site) → AllByRecursion (IsFresh d) sites
-      → AllByRecursion (KeepsForms f past) sites
-  KeepsForms-fresh f past none [] fresh = tt
-  KeepsForms-fresh f past none (s ∷ sites) fresh = (
+  pub SiteKeepsForms-fresh : (f : Function) (past : Past) → counted past [] ≡ [] → (sites : List Site) → AllByRecursion (IsFresh d) sites
+      → AllByRecursion (SiteKeepsForms f past) sites
+  SiteKeepsForms-fresh f past none [] fresh = tt
+  SiteKeepsForms-fresh f past none (s ∷ sites) fresh = (
     record { has = rw (fresh.0.seen, fresh.0.table, none) (record { counted = tt; forms = tt; stored = tt }) },
-    KeepsForms-fresh f past none sites fresh.1,
+    SiteKeepsForms-fresh f past none sites fresh.1,
   )
 
   fresh-seen : (sites : List SiteView) (i : ℕ) → AllByRecursion (IsFreshView d) sites → seen_in (slice_get sites i) ≡ []
@@ -48,7 +48,7 @@ module _ (d : List Cell) where
   fresh-seen (s ∷ sites) zero fresh = fresh.0.seen
   fresh-seen (s ∷ sites) (suc i) fresh = fresh-seen sites i fresh.1
 
-  fresh-document : (sites : List SiteView) (i : ℕ) → i < length sites → AllByRecursion (IsFreshView d) sites → document_in (slice_get sites i) ≡ d
+  fresh-document : (sites : List SiteView) (i : ℕ) → i < length sites → AllByRecursion (IsFreshView d) sites → site_document (slice_get sites i) ≡ d
   fresh-document [] i inside fresh = absurd (omega arith)
   fresh-document (s ∷ sites) zero inside fresh = fresh.0.document
   fresh-document (s ∷ sites) (suc i) inside fresh = fresh-document sites i (omega arith) fresh.1
@@ -63,9 +63,9 @@ module _ (d : List Cell) where
   }
 
   -- what is kept in a session is there at first
-  pub IsKept-fresh : (f : Function) (first : List Cell) (made : List Made) (sites : List Site)
-      → ((s : SessionData) → IsNew d s → IsSound f s) → first ≡ d → made ≡ [] → AllByRecursion (IsFresh d) sites → IsKept f first made sites
-  IsKept-fresh f first made sites law same none fresh = record {
+  pub IsKeptSession-fresh : (f : Function) (first : List Cell) (made : List Made) (sites : List Site)
+      → ((s : SessionData) → IsNew d s → IsSound f s) → first ≡ d → made ≡ [] → AllByRecursion (IsFresh d) sites → IsKeptSession f first made sites
+  IsKeptSession-fresh f first made sites law same none fresh = record {
     sound = law (data_of first made (map view_site sites)) (IsNew-fresh first made (map view_site sites) same none (fresh-viewed sites fresh));
     sorted = sorted-fresh (length made) sites fresh;
   }

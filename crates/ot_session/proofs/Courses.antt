@@ -19,8 +19,8 @@ use Rattle.ot_session.specs.declared.answer.Take.{Take}
 use Rattle.ot_session.specs.declared.answer.Take.TheVariants.{NoSite, NoOp, Stuck, Spent, NoMemory}
 use Rattle.ot_session.specs.declared.made.Made.{Made}
 use Rattle.ot_session.specs.Past.{past_of}
-use Rattle.ot_session.specs.Sites.{SiteView, document_in, seen_in, data_of}
-use Rattle.ot_session.specs.Taking.{Standing, HasIntegrated, IsCourse, start, then, Takes}
+use Rattle.ot_session.specs.Sites.{SiteView, site_document, seen_in, data_of}
+use Rattle.ot_session.specs.Taking.{SiteStanding, HasIntegrated, IsCourse, start, then, Takes}
 use Rattle.ot_session.proofs.Lists.{slice_get-set_same, slice_get-set_other}
 
 -- a place that is given what it has
@@ -40,8 +40,8 @@ module _ (f : Function) (first : List Cell) (made : List Made) (sites : List Sit
   pub seen_with : (v : SiteView) → seen_in (slice_get (slice_set sites (t - 1) v) (t - 1)) ≡ v.seen
   seen_with v = ap seen_in (slice_get-set_same sites (t - 1) v inside)
 
-  document_with : (v : SiteView) → document_in (slice_get (slice_set sites (t - 1) v) (t - 1)) ≡ v.document
-  document_with v = ap document_in (slice_get-set_same sites (t - 1) v inside)
+  document_with : (v : SiteView) → site_document (slice_get (slice_set sites (t - 1) v) (t - 1)) ≡ v.document
+  document_with v = ap site_document (slice_get-set_same sites (t - 1) v inside)
 
   other_with : (v : SiteView) (u : ℕ) → IsSite (length (slice_set sites (t - 1) v)) u → u ≢ t
       → slice_get (slice_set sites (t - 1) v) (u - 1) ≡ slice_get sites (u - 1)
@@ -58,14 +58,14 @@ module _ (f : Function) (first : List Cell) (made : List Made) (sites : List Sit
   }
 
   -- integrating is a step of the session
-  Integrates-with : (v w : Standing) (o : ℕ) → HasIntegrated f (past_of made) o v w → Integrates f (with v.site) (with w.site) t o
-  Integrates-with v w o step = record {
+  IntegratesSoFar-with : (v w : SiteStanding) (o : ℕ) → HasIntegrated f (past_of made) o v w → Integrates f (with v.site) (with w.site) t o
+  IntegratesSoFar-with v w o step = record {
     keeps = record {
       first = refl;
       sites = length-set sites (t - 1) w.site ∙ sym (length-set sites (t - 1) v.site);
       seen = λ u is_site differ. ap seen_in (other_with w.site u (as_with v.site w.site u is_site) differ ∙ sym (other_with v.site u is_site differ));
       documents = λ u is_site differ.
-          ap document_in (other_with w.site u (as_with v.site w.site u is_site) differ ∙ sym (other_with v.site u is_site differ));
+          ap site_document (other_with w.site u (as_with v.site w.site u is_site) differ ∙ sym (other_with v.site u is_site differ));
     };
     extends = record { more = omega arith; operations = λ _ _. refl; befores = λ _ _ _. refl };
     count = refl;
@@ -76,7 +76,7 @@ module _ (f : Function) (first : List Cell) (made : List Made) (sites : List Sit
   }
 
   -- a session stays sound, and its count what was counted
-  pub record Follows (v w : Standing) : Type 0 where
+  pub record Follows (v w : SiteStanding) : Type 0 where
     pub sound : IsSound f (with w.site)
     pub counts : all_counted (with w.site) + v.counted ≡ all_counted (with v.site) + w.counted
 
@@ -84,12 +84,12 @@ module _ (f : Function) (first : List Cell) (made : List Made) (sites : List Sit
       (count_law : (old new : SessionData) (s o : ℕ) → IsSound f old → Integrates f old new s o
       → all_counted new + length (counted old.past (old.seen s)) ≡ all_counted old + length (counted new.past (new.seen s))) where
     -- a course from a sound session keeps it sound, and its count grows by what was counted
-    pub Follows-course : (n : ℕ) (v : Standing) (done : List ℕ) (w : Standing) → IsSound f (with v.site) → IsCourse f (past_of made) n v done w
+    pub Follows-course : (n : ℕ) (v : SiteStanding) (done : List ℕ) (w : SiteStanding) → IsSound f (with v.site) → IsCourse f (past_of made) n v done w
         → Follows v w
     Follows-course n v _ _ sound start = record { sound = sound; counts = refl }
     Follows-course n v _ _ sound (then done mid new o course turn step) =
         let before : Follows v mid = Follows-course n v done mid sound course in
-        let integrates : Integrates f (with mid.site) (with new.site) t o = Integrates-with mid new o step in
+        let integrates : Integrates f (with mid.site) (with new.site) t o = IntegratesSoFar-with mid new o step in
         record {
           sound = sound_law (with mid.site) (with new.site) t o before.sound integrates;
           counts = omega (
@@ -120,11 +120,11 @@ module _ (f : Function) (first : List Cell) (made : List Made) (sites : List Sit
               ∙ sym (slice_get-set_other sites (t - 1) (u - 1) v differ))
         ]
 
-        document_same : (u : ℕ) → document_in (slice_get (slice_set sites (t - 1) (record v { held = marks })) (u - 1))
-            ≡ document_in (slice_get (slice_set sites (t - 1) v) (u - 1))
+        document_same : (u : ℕ) → site_document (slice_get (slice_set sites (t - 1) (record v { held = marks })) (u - 1))
+            ≡ site_document (slice_get (slice_set sites (t - 1) v) (u - 1))
         document_same u = elim (cases_eq (u - 1) (t - 1)) [
           | inl same ↦ rw same (document_with (record v { held = marks }) ∙ sym (document_with v))
-          | inr differ ↦ ap document_in (slice_get-set_other sites (t - 1) (u - 1) (record v { held = marks }) differ
+          | inr differ ↦ ap site_document (slice_get-set_other sites (t - 1) (u - 1) (record v { held = marks }) differ
               ∙ sym (slice_get-set_other sites (t - 1) (u - 1) v differ))
         ]
 
@@ -132,12 +132,12 @@ module _ (f : Function) (first : List Cell) (made : List Made) (sites : List Sit
     sound-same v w same sound = subst (λ (x : SiteView). IsSound f (with x)) (sym same) sound
 
     -- what was taken keeps the session sound, whatever the answer
-    pub IsSound-taken : (n : ℕ) (old new : Standing) (answer : Result Took Take) → IsSound f (with old.site)
+    pub IsSound-taken : (n : ℕ) (old new : SiteStanding) (answer : Result Took Take) → IsSound f (with old.site)
         → Takes f (past_of made) n old new answer → IsSound f (with new.site)
     IsSound-taken n old new (Ok Repeat) sound takes =
-        sound-same old.site new.site (ap (λ (s : Standing). s.site) takes.same) sound
+        sound-same old.site new.site (ap (λ (s : SiteStanding). s.site) takes.same) sound
     IsSound-taken n old new (Ok Held) sound takes =
-        subst (λ (s : Standing). IsSound f (with s.site)) (sym takes.is)
+        subst (λ (s : SiteStanding). IsSound f (with s.site)) (sym takes.is)
         (subst (λ (s : SessionData). IsSound f s) (sym (with-held old.site (slice_set old.site.held n true))) sound)
     IsSound-taken n old new (Ok (Done done)) sound takes = (Follows-course n old done new sound takes.integrates.course).sound
     IsSound-taken n old new (Err (Stuck o)) sound takes =
@@ -150,12 +150,12 @@ module _ (f : Function) (first : List Cell) (made : List Made) (sites : List Sit
     IsSound-taken n old new (Err NoOp) sound takes = absurd takes
 
     -- and what was counted is what its sites count
-    pub counts-taken : (n : ℕ) (old new : Standing) (took : Took) → IsSound f (with old.site) → all_counted (with old.site) ≡ old.counted
+    pub counts-taken : (n : ℕ) (old new : SiteStanding) (took : Took) → IsSound f (with old.site) → all_counted (with old.site) ≡ old.counted
         → Takes f (past_of made) n old new (Ok took) → all_counted (with new.site) ≡ new.counted
     counts-taken n old new Repeat sound all takes =
-        subst (λ (s : Standing). all_counted (with s.site) ≡ s.counted) (sym takes.same) all
+        subst (λ (s : SiteStanding). all_counted (with s.site) ≡ s.counted) (sym takes.same) all
     counts-taken n old new Held sound all takes =
-        subst (λ (s : Standing). all_counted (with s.site) ≡ s.counted) (sym takes.is)
+        subst (λ (s : SiteStanding). all_counted (with s.site) ≡ s.counted) (sym takes.is)
         (ap all_counted (with-held old.site (slice_set old.site.held n true)) ∙ all)
     counts-taken n old new (Done done) sound all takes =
         omega (arith, all, (Follows-course n old done new sound takes.integrates.course).counts)
@@ -163,7 +163,7 @@ module _ (f : Function) (first : List Cell) (made : List Made) (sites : List Sit
     -- where the sites converge, no operation is stuck
     pub never-stuck : ((session : SessionData) → IsSound f session → Converges f session)
         → ((n : ℕ) (p : Op) → IsEnabled p n → is_enabled p n ≡ true)
-        → (n o : ℕ) (old new : Standing) → IsSound f (with old.site) → ¬ (Takes f (past_of made) n old new (Err (Stuck o)))
+        → (n o : ℕ) (old new : SiteStanding) → IsSound f (with old.site) → ¬ (Takes f (past_of made) n old new (Err (Stuck o)))
     never-stuck converges tested n o old new sound takes =
         let mid : SiteView = takes.mid.site in
         let all : Converges f (with mid) = converges (with mid) (Follows-course n old takes.done takes.mid sound takes.integrates.course).sound in

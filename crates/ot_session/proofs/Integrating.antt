@@ -23,7 +23,7 @@ use Rattle.ot_session.specs.Past.{is_marked}
 use Rattle.ot_session.specs.declared.form.FormError.{FormError}
 use Rattle.ot_session.specs.declared.form.FormError.TheVariants.{NoForm, Spent}
 use Rattle.ot_session.specs.Entries.{IsFormEntry, HasForms, IsTable, MaySeek, Seeks, HasSought}
-use Rattle.ot_session.specs.Seeking.{Obstacle, Missing, Exhausted, first_obstacle, IsSpent, uncounted, count_at, count_behind}
+use Rattle.ot_session.specs.Seeking.{Obstacle, Missing, Exhausted, first_obstacle, IsCountSpent, uncounted, count_at, count_behind}
 use Rattle.ot_session.specs.Sites.{IsMarked, IsApart, CanTake, Executes}
 use Rattle.ot_session.specs.Taking.{standing, HasIntegrated, IsStuck}
 use Rattle.ot_session.proofs.Marks.{marked-set}
@@ -62,11 +62,11 @@ module _ (f : Function) (past : Past) (seen : List ℕ) (n : ℕ) where
       subst (λ (m : ℕ). first_obstacle f past m (counted past seen) (sought past n seen) ≡ found) (sym same) is
 
   -- nothing in the way: the count is not spent
-  unspent-none : (total : ℕ) → first_obstacle f past total (counted past seen) (sought past n seen) ≡ None → ¬ (IsSpent f past total seen n)
+  unspent-none : (total : ℕ) → first_obstacle f past total (counted past seen) (sought past n seen) ≡ None → ¬ (IsCountSpent f past total seen n)
   unspent-none total none spent = let two : None ≡ Some Exhausted = sym none ∙ spent in cc
 
   unspent-missing : (total more : ℕ) → first_obstacle f past total (counted past seen) (sought past n seen) ≡ Some (Missing more)
-      → ¬ (IsSpent f past total seen n)
+      → ¬ (IsCountSpent f past total seen n)
   unspent-missing total more missing spent = let two : Some (Missing more) ≡ Some Exhausted = sym missing ∙ spent in cc
 
 -- an operation with this form was executed at a site, whose table is this one now
@@ -230,8 +230,8 @@ module _ (f : Function) (past : Past) (site : Site) (n total more : ℕ) (table 
   free : (p : Op) → Answers (Ok p) → first_obstacle f past total (counted past seen) (sought past n seen) ≡ None
   free p clause = first_obstacle-total f past seen n others total None count (seeks p clause).free
 
-  pub IsSpent-sought : (e : FormError) → e ≡ Spent → Answers (Err e) → IsSpent f past total seen n
-  IsSpent-sought e is clause = first_obstacle-total f past seen n others total (Some Exhausted) count
+  pub IsCountSpent-sought : (e : FormError) → e ≡ Spent → Answers (Err e) → IsCountSpent f past total seen n
+  IsCountSpent-sought e is clause = first_obstacle-total f past seen n others total (Some Exhausted) count
       (subst (λ (x : FormError). HasSought f past seen (counted past seen) others n seen table more (Err x)) is (answer (Err e) clause))
 
   -- it is stuck where its form does not exist

@@ -24,12 +24,12 @@ use Rattle.ot_session.specs.declared.limits.TheConstants.{MAX_MADE}
 use Rattle.ot_session.specs.declared.made.Made.{Made}
 use Rattle.ot_session.specs.declared.site.Site.{Site}
 use Rattle.ot_session.specs.declared.table.Key.{Key}
-use Rattle.ot_session.specs.Past.{is_marked, known_in, operation_in, past_of}
+use Rattle.ot_session.specs.Past.{is_marked, known_in, made_operation, past_of}
 use Rattle.ot_session.specs.Entries.{HasForms}
-use Rattle.ot_session.specs.Sites.{SiteView, IsMarked, IsSorted, KeepsForms, IsKept, view_site, document_in, seen_in, data_of, ExecutesAt}
+use Rattle.ot_session.specs.Sites.{SiteView, IsMarked, IsSorted, SiteKeepsForms, IsKeptSession, view_site, site_document, seen_in, data_of, ExecutesAt}
 use Rattle.ot_session.proofs.Extending.{HasForms-extended}
 use Rattle.ot_session.proofs.Marks.{IsMarked-executed}
-use Rattle.ot_session.proofs.Views.{closed-viewed}
+use Rattle.ot_session.proofs.Views.{closed_session-viewed}
 use Rattle.ot_session.proofs.Lists.{AllByRecursion-set, AllByRecursion-at, AllByRecursion-from, slice_get-set_same, slice_get-set_other, slice_get-push_same}
 use Rattle.ot_session.proofs.Lists.{slice_get-push_other}
 
@@ -41,7 +41,7 @@ all-marked count (s ∷ ss) all = (all.0.marked, all-marked count ss all.1)
 Extends-push : (made : List Made) (one : Made) → Extends (past_of made) (past_of (made ++ one ∷ []))
 Extends-push made one = record {
   more = rw (length-append made (one ∷ [])) (omega arith);
-  operations = λ o inside. ap operation_in (slice_get-push_other made one o inside);
+  operations = λ o inside. ap made_operation (slice_get-push_other made one o inside);
   befores = λ x o inside. ap (λ (m : Option Made). known_in m x) (slice_get-push_other made one o inside);
 }
 
@@ -91,11 +91,11 @@ module _ (f : Function) (first : List Cell) (t : ℕ) (o : Op) (made new_made : 
       first = refl;
       sites = length-map new_sites view_site ∙ ap length step.is ∙ length-set sites (t - 1) step.after ∙ sym (length-map sites view_site);
       seen = λ u is_site differ. ap seen_in (other_site u is_site differ);
-      documents = λ u is_site differ. ap document_in (other_site u is_site differ);
+      documents = λ u is_site differ. ap site_document (other_site u is_site differ);
     };
     extends = extends-executed;
     count = ap length step.made ∙ length-append made (record { op = o; known = step.before.integrated } ∷ []);
-    operation = ap operation_in (ap (λ (ms : List Made). slice_get ms (length made)) step.made
+    operation = ap made_operation (ap (λ (ms : List Made). slice_get ms (length made)) step.made
         ∙ slice_get-push_same made (record { op = o; known = step.before.integrated }));
     befores = λ x. ap (λ (m : Option Made). known_in m x) (ap (λ (ms : List Made). slice_get ms (length made)) step.made
         ∙ slice_get-push_same made (record { op = o; known = step.before.integrated }))
@@ -103,8 +103,8 @@ module _ (f : Function) (first : List Cell) (t : ℕ) (o : Op) (made new_made : 
     seen = ap seen_in at_site
         ∙ ap (λ (l : List ℕ). reverse l) step.executes.seen ∙ reverse-append step.before.seen.items (length made ∷ [])
         ∙ ap (λ (l : List ℕ). length made ∷ l) (sym (ap seen_in was_site));
-    document = ap document_in at_site ∙ step.executes.document
-        ∙ ap (λ (d : List Cell). document_after f.head.mode o d) (sym (ap document_in was_site));
+    document = ap site_document at_site ∙ step.executes.document
+        ∙ ap (λ (d : List Cell). document_after f.head.mode o d) (sym (ap site_document was_site));
   }
 
   -- each site holds what it held
@@ -155,11 +155,11 @@ module _ (f : Function) (first : List Cell) (t : ℕ) (o : Op) (made new_made : 
     site = subst (λ (n : ℕ). IsSite n t) (sym (length-map sites view_site)) site;
     own = own;
     declared = declared;
-    enabled = subst (λ (d : List Cell). IsEnabled o (length d)) (sym (ap document_in was_site)) step.executes.enabled;
+    enabled = subst (λ (d : List Cell). IsEnabled o (length d)) (sym (ap site_document was_site)) step.executes.enabled;
   }
 
   module _ (few : length made < MAX_MADE) (own : site_of o ≡ Some t) (declared : HasDeclaredKind f.head (kind_of o))
-      (kept : IsKept f first made sites)
+      (kept : IsKeptSession f first made sites)
       (law : (s s' : SessionData) → IsSound f s → MayMake f s t o → Makes f s s' t o → IsSound f s') where
     pub makes : Makes f old new t o
     makes = Makes-executed (AllByRecursion-at (IsSorted (length made)) sites (t - 1) step.before kept.sorted step.was).marked.marks
@@ -168,8 +168,8 @@ module _ (f : Function) (first : List Cell) (t : ℕ) (o : Op) (made new_made : 
     sound_new = law old new kept.sound (may_make own declared) makes
 
     -- what is kept in a session is kept
-    pub IsKept-executed : IsKept f first new_made new_sites
-    IsKept-executed = record {
+    pub IsKeptSession-executed : IsKeptSession f first new_made new_sites
+    IsKeptSession-executed = record {
       sound = sound_new;
       sorted = subst (λ (ss : List Site). AllByRecursion (IsSorted (length new_made)) ss) (sym step.is)
           (AllByRecursion-set (IsSorted (length new_made)) sites (t - 1) step.after
@@ -188,9 +188,9 @@ module _ (f : Function) (first : List Cell) (t : ℕ) (o : Op) (made new_made : 
         (counted_law : (l : List ℕ) → IsClosed (past_of new_made) l → AreCounted (past_of new_made) l (counted (past_of new_made) l))
         (own_law : counted (past_of new_made) (new.seen t) ≡ counted (past_of made) (old.seen t))
         (same_law : (l : List ℕ) → AreMade (past_of made) l → counted (past_of new_made) l ≡ counted (past_of made) l)
-        (forms : AllByRecursion (KeepsForms f (past_of made)) sites) where
+        (forms : AllByRecursion (SiteKeepsForms f (past_of made)) sites) where
       -- the site itself keeps its forms
-      forms_itself : KeepsForms f (past_of new_made) step.after
+      forms_itself : SiteKeepsForms f (past_of new_made) step.after
       forms_itself = record {
         has = subst (λ (es : List (Key × Op)). HasForms f (past_of new_made) (reverse step.after.seen.items)
             (counted (past_of new_made) (reverse step.after.seen.items)) es) (sym step.executes.table)
@@ -199,32 +199,32 @@ module _ (f : Function) (first : List Cell) (t : ℕ) (o : Op) (made new_made : 
             (λ l part. subst (λ (m : List ℕ). IsSublist l m) (sym seen_after) (skip (length made) l (reverse step.before.seen.items) part))
             (ap (λ (l : List ℕ). counted (past_of new_made) l) (sym (ap seen_in at_site)) ∙ own_law
             ∙ ap (λ (l : List ℕ). counted (past_of made) l) (ap seen_in was_site))
-            (counted_law (reverse step.after.seen.items) (closed-viewed f first new_made new_sites sound_new (t - 1) step.after
+            (counted_law (reverse step.after.seen.items) (closed_session-viewed f first new_made new_sites sound_new (t - 1) step.after
             (ap (λ (ss : List Site). slice_get ss (t - 1)) step.is ∙ slice_get-set_same sites (t - 1) step.after inside)))
             step.before.table
-            (AllByRecursion-at (KeepsForms f (past_of made)) sites (t - 1) step.before forms step.was).has);
+            (AllByRecursion-at (SiteKeepsForms f (past_of made)) sites (t - 1) step.before forms step.was).has);
       }
 
       -- so do the others
-      forms_other : (i : ℕ) (s : Site) → i ≢ t - 1 → slice_get new_sites i ≡ Some s → KeepsForms f (past_of new_made) s
+      forms_other : (i : ℕ) (s : Site) → i ≢ t - 1 → slice_get new_sites i ≡ Some s → SiteKeepsForms f (past_of new_made) s
       forms_other i s differ is =
           let was : slice_get sites i ≡ Some s =
           sym (slice_get-set_other sites (t - 1) i step.after differ) ∙ ap (λ (ss : List Site). slice_get ss i) (sym step.is) ∙ is in
           record {
             has = HasForms-extended f (past_of made) (past_of new_made) extends-executed made_law closed_law forms_law
                 (reverse s.seen.items) (reverse s.seen.items) (λ l part. part)
-                (same_law (reverse s.seen.items) (made_law (reverse s.seen.items) (closed-viewed f first made sites kept.sound i s was)))
-                (counted_law (reverse s.seen.items) (closed-viewed f first new_made new_sites sound_new i s is)) s.table
-                (AllByRecursion-at (KeepsForms f (past_of made)) sites i s forms was).has;
+                (same_law (reverse s.seen.items) (made_law (reverse s.seen.items) (closed_session-viewed f first made sites kept.sound i s was)))
+                (counted_law (reverse s.seen.items) (closed_session-viewed f first new_made new_sites sound_new i s is)) s.table
+                (AllByRecursion-at (SiteKeepsForms f (past_of made)) sites i s forms was).has;
           }
 
-      pub KeepsForms-executed : AllByRecursion (KeepsForms f (past_of new_made)) new_sites
-      KeepsForms-executed = AllByRecursion-from (KeepsForms f (past_of new_made)) new_sites (λ i s is.
+      pub SiteKeepsForms-executed : AllByRecursion (SiteKeepsForms f (past_of new_made)) new_sites
+      SiteKeepsForms-executed = AllByRecursion-from (SiteKeepsForms f (past_of new_made)) new_sites (λ i s is.
           elim (cases_eq i (t - 1)) [
             | inl same ↦ (let here : Some s ≡ Some step.after =
                 sym is ∙ ap (λ (j : ℕ). slice_get new_sites j) same
                 ∙ ap (λ (ss : List Site). slice_get ss (t - 1)) step.is ∙ slice_get-set_same sites (t - 1) step.after inside in
                 let one : s ≡ step.after = cc in
-                subst (λ (x : Site). KeepsForms f (past_of new_made) x) (sym one) forms_itself)
+                subst (λ (x : Site). SiteKeepsForms f (past_of new_made) x) (sym one) forms_itself)
             | inr differ ↦ forms_other i s differ is
           ])

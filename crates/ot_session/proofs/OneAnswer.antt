@@ -14,10 +14,10 @@ use Rattle.ot_session.specs.declared.answer.Take.{Take}
 use Rattle.ot_session.specs.declared.answer.Take.TheVariants.{NoSite, NoOp, Stuck, Spent, NoMemory}
 use Rattle.ot_session.specs.declared.limits.TheConstants.{MAX_FORMS}
 use Rattle.ot_session.specs.Past.{past_of}
-use Rattle.ot_session.specs.Seeking.{IsSpent, count_behind}
+use Rattle.ot_session.specs.Seeking.{IsCountSpent, count_behind}
 use Rattle.ot_session.specs.Sites.{SiteView}
-use Rattle.ot_session.specs.Taking.{Standing, IsKnown, HasAllBefore, IsLeastDue, NoneIsDue, HasIntegrated, IsStuck, IsTurn, IsCourse, start, then, Integrates}
-use Rattle.ot_session.specs.Taking.{Takes}
+use Rattle.ot_session.specs.Taking.{SiteStanding, IsKnown, HasAllBefore, IsLeastDue, NoneIsDue, HasIntegrated, IsStuck, IsTurn, IsCourse, start, then}
+use Rattle.ot_session.specs.Taking.{IntegratesSoFar, Takes}
 use Rattle.ot_session.specs.Views.{View, TakesAt, HasTaken}
 
 -- one operation is the least that is due
@@ -31,7 +31,7 @@ IsLeastDue-one past site o p first second = elim (cases_lt o p) [
 ]
 
 -- what integrating an operation makes of a site and of the count is one
-HasIntegrated-one : (f : Function) (past : Past) (o : ℕ) (old one other : Standing) → HasIntegrated f past o old one
+HasIntegrated-one : (f : Function) (past : Past) (o : ℕ) (old one other : SiteStanding) → HasIntegrated f past o old one
     → HasIntegrated f past o old other → one ≡ other
 HasIntegrated-one f past o old one other first second =
     let both : Some one.site.document ≡ Some other.site.document = sym first.document ∙ second.document in
@@ -58,17 +58,17 @@ module _ (f : Function) (past : Past) (taken : ℕ) where
   IsTurn-none (x ∷ done) site o some none turn = none.none o turn.due
 
   -- where these are done, nothing whose turn it is can be integrated
-  record Stops (done : List ℕ) (at : Standing) : Type 0 where
-    none : (o : ℕ) (new : Standing) → IsTurn past taken done at.site o → ¬ (HasIntegrated f past o at new)
+  record Stops (done : List ℕ) (at : SiteStanding) : Type 0 where
+    none : (o : ℕ) (new : SiteStanding) → IsTurn past taken done at.site o → ¬ (HasIntegrated f past o at new)
 
   -- behind what is done these are integrated, each when it is its turn, and then nothing can be
-  abbrev IsRun : List ℕ → Standing → List ℕ → Standing → Type 0
+  abbrev IsRun : List ℕ → SiteStanding → List ℕ → SiteStanding → Type 0
   IsRun done at [] new = (at ≡ new) × Stops done at
   IsRun done at (o ∷ more) new =
-      (mid : Standing) × IsTurn past taken done at.site o × HasIntegrated f past o at mid × IsRun (done ++ o ∷ []) mid more new
+      (mid : SiteStanding) × IsTurn past taken done at.site o × HasIntegrated f past o at mid × IsRun (done ++ o ∷ []) mid more new
 
   -- a course with what follows it, as one from the start
-  IsRun-course : (old : Standing) (done : List ℕ) (mid : Standing) → IsCourse f past taken old done mid → (rest : List ℕ) (new : Standing)
+  IsRun-course : (old : SiteStanding) (done : List ℕ) (mid : SiteStanding) → IsCourse f past taken old done mid → (rest : List ℕ) (new : SiteStanding)
       → IsRun done mid rest new → IsRun [] old (done ++ rest) new
   IsRun-course old _ _ start rest new run = run
   IsRun-course old _ _ (then done mid next o course turn step) rest new run =
@@ -76,7 +76,7 @@ module _ (f : Function) (past : Past) (taken : ℕ) where
       (IsRun-course old done mid course (o ∷ rest) new (next, turn, step, run))
 
   -- what is done until nothing can be integrated is one, and so is what it leads to
-  IsRun-one : (done one other : List ℕ) (at first second : Standing) → IsRun done at one first → IsRun done at other second
+  IsRun-one : (done one other : List ℕ) (at first second : SiteStanding) → IsRun done at one first → IsRun done at other second
       → (one ≡ other) × (first ≡ second)
   IsRun-one done [] [] at first second here there = (refl, sym here.0 ∙ there.0)
   IsRun-one done [] (p ∷ other) at first second here there = absurd (here.1.none p there.0 there.1 there.2)
@@ -88,19 +88,19 @@ module _ (f : Function) (past : Past) (taken : ℕ) where
       let run : IsRun (done ++ o ∷ []) there.0 other second =
       subst (λ (x : ℕ). IsRun (done ++ x ∷ []) there.0 other second) turn there.3 in
       let rest = IsRun-one (done ++ o ∷ []) one other here.0 first second here.3
-      (subst (λ (s : Standing). IsRun (done ++ o ∷ []) s other second) mid run) in
+      (subst (λ (s : SiteStanding). IsRun (done ++ o ∷ []) s other second) mid run) in
       (ap (λ (l : List ℕ). o ∷ l) rest.0 ∙ ap (λ (x : ℕ). x ∷ other) (sym turn), rest.1)
 
   -- why nothing more was integrated behind these, what was answered, and what is left
-  data IsEnd (done : List ℕ) (at : Standing) (answer : Result Took Take) (left : Standing) : Type 0 where
+  data IsEnd (done : List ℕ) (at : SiteStanding) (answer : Result Took Take) (left : SiteStanding) : Type 0 where
     over : 0 < length done → NoneIsDue past at.site → answer ≡ Ok (Done done) → left ≡ at → IsEnd done at answer left
     stuck : (o : ℕ) → IsTurn past taken done at.site o → IsStuck f past o at → answer ≡ Err (Stuck o)
         → left ≡ record { site = at.site; counted = count_behind f past at.counted at.site.seen o } → IsEnd done at answer left
-    spent : (o : ℕ) → IsTurn past taken done at.site o → IsSpent f past at.counted at.site.seen o → answer ≡ Err Spent
+    spent : (o : ℕ) → IsTurn past taken done at.site o → IsCountSpent f past at.counted at.site.seen o → answer ≡ Err Spent
         → left ≡ record { site = at.site; counted = MAX_FORMS } → IsEnd done at answer left
 
   -- nothing can be integrated there
-  Stops-end : (done : List ℕ) (at : Standing) (answer : Result Took Take) (left : Standing) → IsEnd done at answer left → Stops done at
+  Stops-end : (done : List ℕ) (at : SiteStanding) (answer : Result Took Take) (left : SiteStanding) → IsEnd done at answer left → Stops done at
   Stops-end done at answer left (over some none is _) = record { none = λ o new turn step. IsTurn-none done at.site o some none turn }
   Stops-end done at answer left (stuck p own is_stuck is _) = record {
     none = λ o new turn step.
@@ -111,11 +111,11 @@ module _ (f : Function) (past : Past) (taken : ℕ) where
   }
   Stops-end done at answer left (spent p own is_spent is _) = record {
     none = λ o new turn step.
-        step.unspent (subst (λ (x : ℕ). IsSpent f past at.counted at.site.seen x) (IsTurn-one done at.site p o own turn) is_spent);
+        step.unspent (subst (λ (x : ℕ). IsCountSpent f past at.counted at.site.seen x) (IsTurn-one done at.site p o own turn) is_spent);
   }
 
   -- there is one answer, which leaves one site and one count
-  IsEnd-one : (done : List ℕ) (at : Standing) (a b : Result Took Take) (one other : Standing) → IsEnd done at a one → IsEnd done at b other
+  IsEnd-one : (done : List ℕ) (at : SiteStanding) (a b : Result Took Take) (one other : SiteStanding) → IsEnd done at a one → IsEnd done at b other
       → (a ≡ b) × (one ≡ other)
   IsEnd-one done at a b one other (over some none is left) (over _ _ same right) = (is ∙ sym same, left ∙ sym right)
   IsEnd-one done at a b one other (over some none is left) (stuck o turn _ same right) = absurd (IsTurn-none done at.site o some none turn)
@@ -128,22 +128,22 @@ module _ (f : Function) (past : Past) (taken : ℕ) where
       )
   IsEnd-one done at a b one other (stuck o turn is_stuck is left) (spent p own is_spent same right) =
       absurd (is_stuck.unspent
-      (subst (λ (x : ℕ). IsSpent f past at.counted at.site.seen x) (IsTurn-one done at.site p o own turn) is_spent))
+      (subst (λ (x : ℕ). IsCountSpent f past at.counted at.site.seen x) (IsTurn-one done at.site p o own turn) is_spent))
   IsEnd-one done at a b one other (spent o turn _ is left) (over some none same right) = absurd (IsTurn-none done at.site o some none turn)
   IsEnd-one done at a b one other (spent o turn is_spent is left) (stuck p own is_stuck same right) =
       absurd (is_stuck.unspent
-      (subst (λ (x : ℕ). IsSpent f past at.counted at.site.seen x) (IsTurn-one done at.site o p turn own) is_spent))
+      (subst (λ (x : ℕ). IsCountSpent f past at.counted at.site.seen x) (IsTurn-one done at.site o p turn own) is_spent))
   IsEnd-one done at a b one other (spent o turn _ is left) (spent p own _ same right) = (is ∙ sym same, left ∙ sym right)
 
   -- why there is this answer
-  data IsWhy (old : Standing) (answer : Result Took Take) (left : Standing) : Type 0 where
+  data IsWhy (old : SiteStanding) (answer : Result Took Take) (left : SiteStanding) : Type 0 where
     known : IsKnown old.site taken → answer ≡ Ok Repeat → left ≡ old → IsWhy old answer left
     missing : ¬ (IsKnown old.site taken) → ¬ (HasAllBefore past old.site taken) → answer ≡ Ok Held
         → left ≡ record old { site = record (old.site) { held = slice_set old.site.held taken true } } → IsWhy old answer left
-    ended : (done : List ℕ) (mid : Standing) → Integrates f past taken old done mid → IsEnd done mid answer left → IsWhy old answer left
+    ended : (done : List ℕ) (mid : SiteStanding) → IntegratesSoFar f past taken old done mid → IsEnd done mid answer left → IsWhy old answer left
 
   -- each answer but a want of memory has its cause
-  IsWhy-takes : (old new : Standing) (answer : Result Took Take) → Takes f past taken old new answer → answer ≢ Err NoMemory
+  IsWhy-takes : (old new : SiteStanding) (answer : Result Took Take) → Takes f past taken old new answer → answer ≢ Err NoMemory
       → IsWhy old answer new
   IsWhy-takes old new (Ok Repeat) takes other = known takes.known refl takes.same
   IsWhy-takes old new (Ok Held) takes other = missing takes.unknown takes.missing refl takes.is
@@ -159,17 +159,17 @@ module _ (f : Function) (past : Past) (taken : ℕ) where
   IsWhy-takes old new (Err NoOp) takes other = absurd takes
 
   -- where nothing more was integrated, what was done is one, and so is what it led to
-  Integrates-one : (old : Standing) (done more : List ℕ) (mid last : Standing) → Integrates f past taken old done mid → Stops done mid
-      → Integrates f past taken old more last → Stops more last → (done ≡ more) × (mid ≡ last)
-  Integrates-one old done more mid last first end second other_end =
+  IntegratesSoFar-one : (old : SiteStanding) (done more : List ℕ) (mid last : SiteStanding) → IntegratesSoFar f past taken old done mid → Stops done mid
+      → IntegratesSoFar f past taken old more last → Stops more last → (done ≡ more) × (mid ≡ last)
+  IntegratesSoFar-one old done more mid last first end second other_end =
       IsRun-one [] done more old mid last (run done mid first end) (run more last second other_end)
     where
-      run : (done : List ℕ) (mid : Standing) → Integrates f past taken old done mid → Stops done mid → IsRun [] old done mid
+      run : (done : List ℕ) (mid : SiteStanding) → IntegratesSoFar f past taken old done mid → Stops done mid → IsRun [] old done mid
       run done mid integrates stops = subst (λ (l : List ℕ). IsRun [] old l mid) (append-nil done)
           (IsRun-course old done mid integrates.course [] mid (refl, stops))
 
   -- of one cause there is one answer, which leaves one site and one count
-  IsWhy-one : (old : Standing) (a b : Result Took Take) (one other : Standing) → IsWhy old a one → IsWhy old b other → (a ≡ b) × (one ≡ other)
+  IsWhy-one : (old : SiteStanding) (a b : Result Took Take) (one other : SiteStanding) → IsWhy old a one → IsWhy old b other → (a ≡ b) × (one ≡ other)
   IsWhy-one old a b one other (known have is left) (known _ same right) = (is ∙ sym same, left ∙ sym right)
   IsWhy-one old a b one other (known have is left) (missing lack _ same right) = absurd (lack have)
   IsWhy-one old a b one other (known have is left) (ended done mid integrates end) = absurd (integrates.unknown have)
@@ -179,9 +179,9 @@ module _ (f : Function) (past : Past) (taken : ℕ) where
   IsWhy-one old a b one other (ended done mid integrates end) (known have same right) = absurd (integrates.unknown have)
   IsWhy-one old a b one other (ended done mid integrates end) (missing lack want same right) = absurd (want integrates.ready)
   IsWhy-one old a b one other (ended done mid integrates end) (ended more last second other_end) =
-      let same = Integrates-one old done more mid last integrates (Stops-end done mid a one end) second (Stops-end more last b other other_end) in
+      let same = IntegratesSoFar-one old done more mid last integrates (Stops-end done mid a one end) second (Stops-end more last b other other_end) in
       let moved : IsEnd done last b other = subst (λ (l : List ℕ). IsEnd l last b other) (sym same.0) other_end in
-      IsEnd-one done mid a b one other end (subst (λ (s : Standing). IsEnd done s b other) (sym same.1) moved)
+      IsEnd-one done mid a b one other end (subst (λ (s : SiteStanding). IsEnd done s b other) (sym same.1) moved)
 
 module _ (old one other : View) (t n : ℕ) where
   -- the site that takes the operation is one
@@ -201,15 +201,15 @@ module _ (old one other : View) (t n : ℕ) where
   TakesAt-one : (a b : Result Took Take) (first : TakesAt old one t n a) (second : TakesAt old other t n b) → a ≢ Err NoMemory
       → b ≢ Err NoMemory → (a ≡ b) × (one ≡ other)
   TakesAt-one a b first second fine good =
-      let at : Standing = record { site = first.before; counted = old.counted } in
-      let behind : Standing → Result Took Take → View =
+      let at : SiteStanding = record { site = first.before; counted = old.counted } in
+      let behind : SiteStanding → Result Took Take → View =
       λ s r. record old { sites = slice_set old.sites (t - 1) s.site; counted = s.counted; is_open = is_ok r } in
       let both = IsWhy-one old.function (past_of old.made) n at a b first.after second.after
       (IsWhy-takes old.function (past_of old.made) n at first.after a first.takes fine)
       (IsWhy-takes old.function (past_of old.made) n at second.after b (takes-there a b first second) good) in (
         both.0,
         first.is
-            ∙ ap (λ (s : Standing). behind s a) both.1
+            ∙ ap (λ (s : SiteStanding). behind s a) both.1
             ∙ ap (λ (r : Result Took Take). behind second.after r) both.0
             ∙ sym second.is,
       )

@@ -9,7 +9,7 @@ use Rattle.ot_model.specs.declared.op.Op.{Op}
 use Rattle.fn_rules.specs.Functions.{Function}
 use Rattle.ot_causal.specs.Sessions.{IsSite}
 use Rattle.ot_session.specs.Past.{is_marked}
-use Rattle.ot_session.specs.Sites.{SiteView, document_in, seen_in}
+use Rattle.ot_session.specs.Sites.{SiteView, site_document, seen_in}
 use Rattle.ot_session.specs.Views.{View, IsFreshView, IsBegun, HasMade, data_in}
 
 -- marks of the same numbers are one, where there are as many of them
@@ -58,7 +58,7 @@ IsBegun-one f d sites one other first second =
 
 -- lists of sites are one where at each place the documents, the integrated and the held are
 sites-one : (one other : List SiteView) → length one ≡ length other
-    → ((i : ℕ) → i < length one → document_in (slice_get one i) ≡ document_in (slice_get other i))
+    → ((i : ℕ) → i < length one → site_document (slice_get one i) ≡ site_document (slice_get other i))
     → ((i : ℕ) → i < length one → seen_in (slice_get one i) ≡ seen_in (slice_get other i))
     → map (λ (s : SiteView). s.held) one ≡ map (λ (s : SiteView). s.held) other → one ≡ other
 sites-one [] [] long documents seen held = refl

@@ -9,7 +9,7 @@ use Rattle.fn_rules.specs.Functions.{Function, IsForKind}
 use Rattle.fn_rules.specs.Conditions.{IsWithin, IsInRange, IsFormOf}
 use Rattle.ot_causal.specs.Past.{Past}
 use Rattle.ot_causal.specs.Forms.{form}
-use Rattle.ot_session.specs.Past.{most_cells, AreUsable}
+use Rattle.ot_session.specs.Past.{most_session_cells, IsUsablePast}
 
 pub IsWithin-more : (m n : ℕ) (o : Op) → m ≤ n → IsWithin m o → IsWithin n o
 IsWithin-more m n o more within = (omega (arith, ints), omega (arith, ints))
@@ -22,10 +22,10 @@ IsForKind-form head o p is declared = elim is [
 ]
 
 -- the form of a usable operation can be transformed
-pub form-usable : (f : Function) (past : Past) (o : ℕ) (l : List ℕ) (p : Op) → AreUsable f past → o < past.count → length l ≤ 1024
-    → form f past o l ≡ Some p → IsFormOf (past.operation o) p → IsWithin (most_cells + 99 * length l) p
+pub form-usable : (f : Function) (past : Past) (o : ℕ) (l : List ℕ) (p : Op) → IsUsablePast f past → o < past.count → length l ≤ 1024
+    → form f past o l ≡ Some p → IsFormOf (past.operation o) p → IsWithin (most_session_cells + 99 * length l) p
     → IsForKind f.head (kind_of p) × IsInRange p
 form-usable f past o l p usable made few is kept near = (
   IsForKind-form f.head (past.operation o) p kept (usable.declared o),
-  IsWithin-more (most_cells + 99 * length l) 1099511627776 p (omega (arith, few)) near,
+  IsWithin-more (most_session_cells + 99 * length l) 1099511627776 p (omega (arith, few)) near,
 )

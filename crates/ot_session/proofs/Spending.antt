@@ -16,9 +16,9 @@ use Rattle.ot_session.specs.declared.answer.Take.TheVariants.{Spent}
 use Rattle.ot_session.specs.declared.limits.TheConstants.{MAX_FORMS}
 use Rattle.ot_session.specs.declared.made.Made.{Made}
 use Rattle.ot_session.specs.Past.{is_marked, past_of}
-use Rattle.ot_session.specs.Seeking.{Missing, Exhausted, first_obstacle, IsSpent}
+use Rattle.ot_session.specs.Seeking.{Missing, Exhausted, first_obstacle, IsCountSpent}
 use Rattle.ot_session.specs.Sites.{SiteView}
-use Rattle.ot_session.specs.Taking.{Standing, HasIntegrated, IsTurn, IsCourse, start, then, Takes}
+use Rattle.ot_session.specs.Taking.{SiteStanding, HasIntegrated, IsTurn, IsCourse, start, then, Takes}
 use Rattle.ot_session.proofs.Courses.{with, seen_with, site_with, Follows, Follows-course}
 use Rattle.ot_session.proofs.Turns.{IsNext-unknown}
 
@@ -105,7 +105,7 @@ unmarked-set (b ∷ marks) zero = refl
 unmarked-set (b ∷ marks) (suc o) = unmarked-set marks o
 
 -- what was integrated is not held any more
-HoldsOthers-integrated : (f : Function) (past : Past) (count o : ℕ) (old new : Standing) → HasIntegrated f past o old new → HoldsOthers count old.site
+HoldsOthers-integrated : (f : Function) (past : Past) (count o : ℕ) (old new : SiteStanding) → HasIntegrated f past o old new → HoldsOthers count old.site
     → HoldsOthers count new.site
 HoldsOthers-integrated f past count o old new step holds = record {
   made = λ x is. holds.made x (was x is);
@@ -129,7 +129,7 @@ record Reached (past : Past) (n : ℕ) (done : List ℕ) (site : SiteView) : Typ
   pub holds : HoldsOthers past.count site
   pub first : done ≡ [] → IsNext past site.seen n
 
-Reached-course : (f : Function) (past : Past) (n : ℕ) (old : Standing) (done : List ℕ) (new : Standing) → Reached past n [] old.site
+Reached-course : (f : Function) (past : Past) (n : ℕ) (old : SiteStanding) (done : List ℕ) (new : SiteStanding) → Reached past n [] old.site
     → IsCourse f past n old done new → Reached past n done new.site
 Reached-course f past n old _ _ reached start = reached
 Reached-course f past n old _ _ reached (then done mid new o course turn step) =
@@ -157,7 +157,7 @@ module _ (f : Function)
     → length (count_sought (counted session.past (session.seen s)) names) ≤ most_forms session.past session.sites) where
   -- where as many are allowed as all sites can count, the count is not spent
   unspent : (session : SessionData) (t o : ℕ) → IsSound f session → IsSite session.sites t → IsNext session.past (session.seen t) o
-      → session.sites * most_forms session.past session.sites ≤ MAX_FORMS → ¬ (IsSpent f session.past (all_counted session) (session.seen t) o)
+      → session.sites * most_forms session.past session.sites ≤ MAX_FORMS → ¬ (IsCountSpent f session.past (all_counted session) (session.seen t) o)
   unspent session t o sound site next enough spent =
       let most : ℕ = most_forms session.past session.sites in
       let names : List FormName = counted session.past (session.seen t) in
@@ -174,12 +174,12 @@ module _ (f : Function)
       → ((old new : SessionData) (s o : ℕ) → IsSound f old → Integrates f old new s o → IsSound f new)
       → ((old new : SessionData) (s o : ℕ) → IsSound f old → Integrates f old new s o
       → all_counted new + length (counted old.past (old.seen s)) ≡ all_counted old + length (counted new.past (new.seen s)))
-      → (n : ℕ) (old new : Standing) → n < length made → HoldsOthers (length made) old.site → IsSound f (with f first made sites t site old.site)
+      → (n : ℕ) (old new : SiteStanding) → n < length made → HoldsOthers (length made) old.site → IsSound f (with f first made sites t site old.site)
       → all_counted (with f first made sites t site old.site) ≡ old.counted
       → length sites * most_forms (past_of made) (length sites) ≤ MAX_FORMS → ¬ (Takes f (past_of made) n old new (Err Spent))
   never-spent first made sites t site sound_law count_law n old new there holds sound all enough takes =
       let past : Past = past_of made in
-      let mid : Standing = takes.mid in
+      let mid : SiteStanding = takes.mid in
       let session : SessionData = with f first made sites t site mid.site in
       let follows : Follows f first made sites t site old mid =
       Follows-course f first made sites t site sound_law count_law n old takes.done mid sound takes.integrates.course in
@@ -194,5 +194,5 @@ module _ (f : Function)
       unspent session t takes.o follows.sound (site_with f first made sites t site mid.site)
       (subst (λ (l : List ℕ). IsNext past l takes.o) (sym seen) next)
       (subst (λ (m : ℕ). m * most_forms past m ≤ MAX_FORMS) (sym same) enough)
-      (subst (λ (m : ℕ). IsSpent f past m (session.seen t) takes.o) (sym count)
-      (subst (λ (l : List ℕ). IsSpent f past mid.counted l takes.o) (sym seen) takes.spent))
+      (subst (λ (m : ℕ). IsCountSpent f past m (session.seen t) takes.o) (sym count)
+      (subst (λ (l : List ℕ). IsCountSpent f past mid.counted l takes.o) (sym seen) takes.spent))

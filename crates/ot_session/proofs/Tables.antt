@@ -14,8 +14,8 @@ use Rattle.ot_causal.specs.Counting.{FormName, name_of, is_same_form, is_among, 
 use Rattle.ot_causal.specs.Forms.{form}
 use Rattle.ot_session.specs.declared.table.Key.{Key}
 use Rattle.ot_session.specs.declared.limits.TheConstants.{MAX_SITES}
-use Rattle.ot_session.specs.Past.{AreUsable}
-use Rattle.ot_session.specs.Lists.{clock, IsSought}
+use Rattle.ot_session.specs.Past.{IsUsablePast}
+use Rattle.ot_session.specs.Lists.{clock, CanBeSought}
 use Rattle.ot_session.specs.Entries.{is_same_key, form_under, key_of, IsFormEntry, IsStored, HasForms}
 use Rattle.ot_session.proofs.Clocks.{get_or-clock}
 
@@ -78,7 +78,7 @@ module _ (f : Function) (past : Past) (seen : List ℕ) (names : List FormName) 
       → IsFormEntry f past seen names (other, p) → IsFormEntry f past seen names (key, p)
   rekeyed key other p same entry = record {
     list = entry.list;
-    sought = subst (λ (o : ℕ). IsSought past seen o entry.list) (sym same.0) entry.sought;
+    sought = subst (λ (o : ℕ). CanBeSought past seen o entry.list) (sym same.0) entry.sought;
     counts = same.1 ∙ entry.counts;
     is = subst (λ (o : ℕ). form f past o entry.list ≡ Some p) (sym same.0) entry.is;
     counted = subst (λ (o : ℕ). is_among names (name_of o entry.list) ≡ true) (sym same.0) entry.counted;
@@ -127,12 +127,12 @@ module _ (f : Function) (past : Past) (seen : List ℕ) (names : List FormName) 
   )
 
   -- what is found under the key of a list that is sought is the form behind it, and was counted
-  pub form_under-form : AreUsable f past
+  pub form_under-form : IsUsablePast f past
       → ((l m : List ℕ) → IsClosed past l → IsClosed past m
       → ((o : ℕ) → o < past.count → from_site past (maker past o) l ≡ from_site past (maker past o) m) → HaveOneSet l m)
       → ((l m : List ℕ) → IsSublist l seen → IsSublist m seen → HaveOneSet l m → l ≡ m)
       → (key : Key) (l : List ℕ) (p : Op) (es : List (Key × Op)) → AllByRecursion (IsFormEntry f past seen names) es
-      → form_under key es ≡ Some p → IsSought past seen key.number l → key.counts ≡ clock past l
+      → form_under key es ≡ Some p → CanBeSought past seen key.number l → key.counts ≡ clock past l
       → (form f past key.number l ≡ Some p) × (is_among names (name_of key.number l) ≡ true)
   form_under-form usable told one key l p es forms found sought counts =
       let entry = form_under-entry key p es forms found in
@@ -197,7 +197,7 @@ stored-insert past key p (name ∷ names) es stored =
 -- a table with one form more, which is counted
 pub HasForms-insert : (f : Function) (past : Past) (seen : List ℕ) (names : List FormName) (o : ℕ) (l : List ℕ) (p : Op) (es : List (Key × Op))
     → ((m n : List ℕ) → (have_one_set m n ≡ true) ↔ HaveOneSet m n)
-    → HasForms f past seen names es → IsSought past seen o l → form f past o l ≡ Some p
+    → HasForms f past seen names es → CanBeSought past seen o l → form f past o l ≡ Some p
     → AreCounted past seen (name_of o l ∷ names)
     → HasForms f past seen (name_of o l ∷ names) (insert_entry is_same_key es (record { number = o; counts = clock past l }) p)
 HasForms-insert f past seen names o l p es tested has sought is counted = record {

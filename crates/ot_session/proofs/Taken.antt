@@ -21,14 +21,14 @@ use Rattle.ot_session.specs.declared.answer.Take.TheVariants.{NoSite, NoOp, Stuc
 use Rattle.ot_session.specs.declared.limits.TheConstants.{MAX_FORMS}
 use Rattle.ot_session.specs.declared.made.Made.{Made}
 use Rattle.ot_session.specs.declared.site.Site.{Site}
-use Rattle.ot_session.specs.Past.{past_of, AreUsable}
-use Rattle.ot_session.specs.Sites.{SiteView, view_site, seen_in, data_of, IsSorted, KeepsForms, CanTake, IsKept}
+use Rattle.ot_session.specs.Past.{past_of, IsUsablePast}
+use Rattle.ot_session.specs.Sites.{SiteView, view_site, seen_in, data_of, IsSorted, SiteKeepsForms, CanTake, IsKeptSession}
 use Rattle.ot_session.specs.Taking.{standing, Takes, TakesAtPlace}
 use Rattle.ot_session.specs.Views.{View, TakesAt, HasTaken}
 use Rattle.ot_session.proofs.Courses.{slice_set-same, with, IsSound-taken, counts-taken, never-stuck}
 use Rattle.ot_session.proofs.Lists.{AllByRecursion-at, AllByRecursion-from}
 use Rattle.ot_session.proofs.Spending.{never-spent}
-use Rattle.ot_session.proofs.Views.{closed-viewed}
+use Rattle.ot_session.proofs.Views.{closed_session-viewed}
 
 -- a site counts no more than all do
 counted_to-most : (session : SessionData) (n s : ℕ) → 1 ≤ s → s ≤ n → length (counted session.past (session.seen s)) ≤ counted_to session n
@@ -50,17 +50,17 @@ counted-most first made sites t s site is =
     subst (λ (l : List ℕ). length (counted (past_of made) l) ≤ counted_to session (length (map view_site sites))) (ap seen_in there) most
 
 -- each site of a session can take operations
-pub CanTake-kept : (f : Function) (first : List Cell) (made : List Made) (sites : List Site) → IsOrderly (past_of made) → AreUsable f (past_of made)
-    → IsKept f first made sites → AllByRecursion (KeepsForms f (past_of made)) sites → AllByRecursion (CanTake f (past_of made)) sites
+pub CanTake-kept : (f : Function) (first : List Cell) (made : List Made) (sites : List Site) → IsOrderly (past_of made) → IsUsablePast f (past_of made)
+    → IsKeptSession f first made sites → AllByRecursion (SiteKeepsForms f (past_of made)) sites → AllByRecursion (CanTake f (past_of made)) sites
 CanTake-kept f first made sites orderly usable kept forms = AllByRecursion-from (CanTake f (past_of made)) sites (λ i s is. record {
   orderly = orderly;
   usable = usable;
-  closed = closed-viewed f first made sites kept.sound i s is;
+  closed = closed_session-viewed f first made sites kept.sound i s is;
   sorted = AllByRecursion-at (IsSorted (length made)) sites i s kept.sorted is;
-  forms = AllByRecursion-at (KeepsForms f (past_of made)) sites i s forms is;
+  forms = AllByRecursion-at (SiteKeepsForms f (past_of made)) sites i s forms is;
 })
 
-pub forms-can : (f : Function) (past : Past) (sites : List Site) → AllByRecursion (CanTake f past) sites → AllByRecursion (KeepsForms f past) sites
+pub forms-can : (f : Function) (past : Past) (sites : List Site) → AllByRecursion (CanTake f past) sites → AllByRecursion (SiteKeepsForms f past) sites
 forms-can f past [] all = tt
 forms-can f past (s ∷ sites) all = (all.0.forms, forms-can f past sites all.1)
 

@@ -19,7 +19,7 @@ use Rattle.ot_causal.specs.Forms.{form, executed, state}
 use Rattle.ot_causal.specs.Sessions.{IsSoundPast, IsSite}
 use Rattle.ot_session.specs.declared.limits.TheConstants.{MAX_MADE, MAX_SITES}
 use Rattle.ot_session.specs.declared.made.Made.{Made}
-use Rattle.ot_session.specs.Past.{past_of, most_cells, AreUsable}
+use Rattle.ot_session.specs.Past.{past_of, most_session_cells, IsUsablePast}
 use Rattle.ot_session.proofs.Reaches.{IsWithin-more}
 
 -- no operation makes a document longer by more than one cell
@@ -68,18 +68,18 @@ module _ (f : Function) (grow : GrowByOne) (made : List Made) (first : List Cell
     (short : (l : List ℕ) → IsClosed (past_of made) l → length l ≤ length made)
     (sound : IsSoundPast f (past_of made) first) (sites : ℕ) (most : sites ≤ MAX_SITES)
     (owned : (o : ℕ) → o < length made → IsSite sites (maker (past_of made) o)) where
-  near : (o : ℕ) → IsWithin most_cells ((past_of made).operation o)
+  near : (o : ℕ) → IsWithin most_session_cells ((past_of made).operation o)
   near o = elim (cases_lt o (length made)) [
     | inl inside ↦ (let born = sound.born o inside in
-        IsWithin-more (length born.document) most_cells ((past_of made).operation o)
+        IsWithin-more (length born.document) most_session_cells ((past_of made).operation o)
         (omega (arith, length-state f grow (past_of made) first born.known born.document born.is, short born.known born.closed, few, small))
         (IsWithin-enabled (length born.document) ((past_of made).operation o) born.enabled))
-    | inr outside ↦ subst (λ (p : Op). IsWithin most_cells p) (sym (unmade made o outside)) (omega (arith, ints), omega (arith, ints))
+    | inr outside ↦ subst (λ (p : Op). IsWithin most_session_cells p) (sym (unmade made o outside)) (omega (arith, ints), omega (arith, ints))
   ]
 
   -- the operations of a sound session are usable
-  pub AreUsable-sound : AreUsable f (past_of made)
-  AreUsable-sound = record {
+  pub IsUsablePast-sound : IsUsablePast f (past_of made)
+  IsUsablePast-sound = record {
     declared = λ o. elim (cases_lt o (length made)) [
       | inl inside ↦ for_kind f.head (kind_of ((past_of made).operation o)) (sound.born o inside).declared
       | inr outside ↦ subst (λ (p : Op). IsForKind f.head (kind_of p)) (sym (unmade made o outside)) refl

@@ -34,9 +34,9 @@ view_site-same old new same =
     ∙ ap (λ (marks : List Bool). record { document = old.doc; seen = reverse old.seen.items; held = marks }) same.held
 
 -- what a site of a sound session has integrated is closed
-pub closed-viewed : (f : Function) (first : List Cell) (made : List Made) (sites : List Site) → IsSound f (data_of first made (map view_site sites))
+pub closed_session-viewed : (f : Function) (first : List Cell) (made : List Made) (sites : List Site) → IsSound f (data_of first made (map view_site sites))
     → (i : ℕ) (s : Site) → slice_get sites i ≡ Some s → IsClosed (past_of made) (reverse s.seen.items)
-closed-viewed f first made sites sound i s is =
+closed_session-viewed f first made sites sound i s is =
     let place : i + 1 - 1 ≡ i = omega arith in
     let there : slice_get (map view_site sites) (i + 1 - 1) ≡ Some (view_site s) =
     rw place (slice_get-map view_site sites i ∙ ap (option_map view_site) is) in

@@ -12,8 +12,8 @@ use Rattle.ot_causal.specs.Counting.{FormName, name_of, is_among, sought, count_
 use Rattle.ot_session.specs.declared.table.Key.{Key}
 use Rattle.ot_session.specs.declared.form.FormError.{FormError}
 use Rattle.ot_session.specs.declared.form.FormError.TheVariants.{NoForm, Spent, NoMemory}
-use Rattle.ot_session.specs.Past.{AreUsable}
-use Rattle.ot_session.specs.Lists.{clock, IsSought}
+use Rattle.ot_session.specs.Past.{IsUsablePast}
+use Rattle.ot_session.specs.Lists.{clock, CanBeSought}
 use Rattle.ot_session.specs.Seeking.{Missing, Exhausted, first_obstacle}
 
 -- the keys are one
@@ -32,7 +32,7 @@ key_of past name = record { number = name.of; counts = clock past name.behind }
 pub record IsFormEntry (f : Function) (past : Past) (seen : List ℕ) (names : List FormName) (e : Key × Op) : Type 0
   where
     pub list : List ℕ
-    pub sought : IsSought past seen e.0.number list
+    pub sought : CanBeSought past seen e.0.number list
     pub counts : e.0.counts ≡ clock past list
     pub is : form f past e.0.number list ≡ Some e.1
     pub counted : is_among names (name_of e.0.number list) ≡ true
@@ -59,8 +59,8 @@ pub record IsTable (f : Function) (past : Past) (seen : List ℕ) (entries : Lis
 pub record MaySeek (f : Function) (past : Past) (seen : List ℕ) (o : ℕ) (l : List ℕ) : Type 0 where
   pub orderly : IsOrderly past
   pub closed : IsClosed past seen
-  pub usable : AreUsable f past
-  pub sought : IsSought past seen o l
+  pub usable : IsUsablePast f past
+  pub sought : CanBeSought past seen o l
 
 -- nothing was in the way of a form that was sought: all that it is made from was counted, and stored
 pub record Seeks (f : Function) (past : Past) (seen : List ℕ) (names : List FormName) (others o : ℕ) (l : List ℕ)

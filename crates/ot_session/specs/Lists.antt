@@ -11,6 +11,6 @@ abbrev pub clock : Past → List ℕ → List ℕ
 clock past l = map (λ t. from_site past t l) (range_with_len 1 MAX_SITES)
 
 -- the form of the operation can be sought behind the list, which is part of what a site has integrated
-pub record IsSought (past : Past) (seen : List ℕ) (o : ℕ) (l : List ℕ) : Type 0 where
+pub record CanBeSought (past : Past) (seen : List ℕ) (o : ℕ) (l : List ℕ) : Type 0 where
   pub ready : IsReady past o l
   pub sublist : IsSublist l seen

@@ -17,9 +17,9 @@ abbrev pub is_marked : List Bool → ℕ → Bool
 is_marked marks x = slice_index_or marks x false
 
 -- the operation; nop where none was made
-abbrev pub operation_in : Option Made → Op
-operation_in None = Nop
-operation_in (Some one) = one.op
+abbrev pub made_operation : Option Made → Op
+made_operation None = Nop
+made_operation (Some one) = one.op
 
 -- what its site had integrated
 abbrev pub known_in : Option Made → ℕ → Bool
@@ -29,7 +29,7 @@ known_in (Some one) x = is_marked one.known x
 abbrev pub past_of : List Made → Past
 past_of made = record {
   count = length made;
-  operation = λ o. operation_in (slice_get made o);
+  operation = λ o. made_operation (slice_get made o);
   before = λ x o. known_in (slice_get made o) x;
 }
 
@@ -38,12 +38,12 @@ pub record AreMarkedToo (first second : ℕ → Bool) : Type 0 where
   pub at : (x : ℕ) → first x ≡ true → second x ≡ true
 
 -- the greatest number of cells of a document that can occur: each operation puts in one at most
-abbrev pub most_cells : ℕ
-most_cells = MAX_CELLS + MAX_MADE
+abbrev pub most_session_cells : ℕ
+most_session_cells = MAX_CELLS + MAX_MADE
 
 -- each operation is of a kind that the function is for, or nop, at a position of the documents that can occur,
 -- and was made by a site
-pub record AreUsable (f : Function) (past : Past) : Type 0 where
+pub record IsUsablePast (f : Function) (past : Past) : Type 0 where
   pub declared : (o : ℕ) → IsForKind f.head (kind_of (past.operation o))
-  pub near : (o : ℕ) → IsWithin most_cells (past.operation o)
+  pub near : (o : ℕ) → IsWithin most_session_cells (past.operation o)
   pub makers : (o : ℕ) → o < past.count → (1 ≤ maker past o) × (maker past o ≤ MAX_SITES)

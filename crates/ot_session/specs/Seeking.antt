@@ -27,8 +27,8 @@ first_obstacle f past total names (name ∷ more) =
     (first_obstacle f past (total + 1) (name ∷ names) more)))
 
 -- the count is spent where the form of an operation is sought at a site that has integrated the list
-abbrev pub IsSpent : Function → Past → ℕ → List ℕ → ℕ → Type 0
-IsSpent f past total seen o = first_obstacle f past total (counted past seen) (sought past o seen) ≡ Some Exhausted
+abbrev pub IsCountSpent : Function → Past → ℕ → List ℕ → ℕ → Type 0
+IsCountSpent f past total seen o = first_obstacle f past total (counted past seen) (sought past o seen) ≡ Some Exhausted
 
 -- how many of the forms that are sought for an operation a site that has integrated the list has not counted
 abbrev pub uncounted : Past → List ℕ → ℕ → ℕ

@@ -15,7 +15,7 @@ use Rattle.ot_session.specs.declared.ending.SiteEnd.{SiteEnd}
 use Rattle.ot_session.specs.declared.limits.TheConstants.{MAX_MADE}
 use Rattle.ot_session.specs.declared.made.Made.{Made}
 use Rattle.ot_session.specs.declared.site.Site.{Site}
-use Rattle.ot_session.specs.Past.{is_marked, past_of, AreUsable}
+use Rattle.ot_session.specs.Past.{is_marked, past_of, IsUsablePast}
 use Rattle.ot_session.specs.Entries.{HasForms}
 
 -- a site: its document, what it has integrated, newest first, and which numbers it holds
@@ -28,13 +28,13 @@ abbrev pub view_site : Site → SiteView
 view_site site = record { document = site.doc; seen = reverse site.seen.items; held = site.held }
 
 -- what a site leaves: what it has integrated, in order, and its document
-abbrev pub end_of : SiteView → SiteEnd
-end_of site = record { seen = reverse site.seen; doc = site.document }
+abbrev pub site_end_of : SiteView → SiteEnd
+site_end_of site = record { seen = reverse site.seen; doc = site.document }
 
 -- the document of a site, if there is the site
-abbrev pub document_in : Option SiteView → List Cell
-document_in None = []
-document_in (Some site) = site.document
+abbrev pub site_document : Option SiteView → List Cell
+site_document None = []
+site_document (Some site) = site.document
 
 -- what a site has integrated
 abbrev pub seen_in : Option SiteView → List ℕ
@@ -48,7 +48,7 @@ data_of first made sites = record {
   first = first;
   sites = length sites;
   seen = λ t. seen_in (slice_get sites (t - 1));
-  document = λ t. document_in (slice_get sites (t - 1));
+  document = λ t. site_document (slice_get sites (t - 1));
 }
 
 -- the marks of what a site has integrated, and room for those of all that can be made
@@ -68,16 +68,16 @@ pub record IsSorted (count : ℕ) (site : Site) : Type 0 where
   pub apart : IsApart count site
 
 -- a site's table has the forms that it has counted
-pub record KeepsForms (f : Function) (past : Past) (site : Site) : Type 0 where
+pub record SiteKeepsForms (f : Function) (past : Past) (site : Site) : Type 0 where
   pub has : HasForms f past (reverse site.seen.items) (counted past (reverse site.seen.items)) site.table
 
 -- what is asked of a site that takes an operation, and of what was made
 pub record CanTake (f : Function) (past : Past) (site : Site) : Type 0 where
   pub orderly : IsOrderly past
-  pub usable : AreUsable f past
+  pub usable : IsUsablePast f past
   pub closed : IsClosed past (reverse site.seen.items)
   pub sorted : IsSorted past.count site
-  pub forms : KeepsForms f past site
+  pub forms : SiteKeepsForms f past site
 
 -- a site that holds the document, where nothing is integrated or held
 pub record IsFresh (d : List Cell) (site : Site) : Type 0 where
@@ -114,6 +114,6 @@ pub record ExecutesAt (mode : Mode) (o : Op) (i : ℕ) (old_made new_made : List
     pub made : new_made ≡ old_made ++ record { op = o; known = before.integrated } ∷ []
 
 -- what is kept in a session
-pub record IsKept (f : Function) (first : List Cell) (made : List Made) (sites : List Site) : Type 0 where
+pub record IsKeptSession (f : Function) (first : List Cell) (made : List Made) (sites : List Site) : Type 0 where
   pub sound : IsSound f (data_of first made (map view_site sites))
   pub sorted : AllByRecursion (IsSorted (length made)) sites

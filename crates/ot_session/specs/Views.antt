@@ -16,7 +16,7 @@ use Rattle.ot_session.specs.declared.made.Made.{Made}
 use Rattle.ot_session.specs.declared.session.Session.{Session}
 use Rattle.ot_session.specs.Past.{is_marked, past_of}
 use Rattle.ot_session.specs.Sites.{SiteView, view_site, data_of}
-use Rattle.ot_session.specs.Taking.{Standing, Takes}
+use Rattle.ot_session.specs.Taking.{SiteStanding, Takes}
 
 pub record View : Type 0 where
   pub function : Function
@@ -41,8 +41,8 @@ abbrev pub data_in : View → SessionData
 data_in v = data_of v.first v.made v.sites
 
 -- the same session, in which nothing more can be made or taken
-abbrev pub closed : View → View
-closed v = record v { is_open = false }
+abbrev pub closed_session : View → View
+closed_session v = record v { is_open = false }
 
 -- a site that holds the document, where nothing is integrated or held, with room for the marks of all that can be made
 pub record IsFreshView (d : List Cell) (site : SiteView) : Type 0 where
@@ -84,7 +84,7 @@ pub record TakesAt (old new : View) (t n : ℕ) (answer : Result Took Take) : Ty
   pub there : IsSite (length old.sites) t
   pub made : n < length old.made
   pub before : SiteView
-  pub after : Standing
+  pub after : SiteStanding
   pub site : slice_get old.sites (t - 1) ≡ Some before
   pub takes : Takes old.function (past_of old.made) n (record { site = before; counted = old.counted }) after answer
   pub is : new ≡ record old {

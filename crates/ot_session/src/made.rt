@@ -1,7 +1,7 @@
 //! The operations that were made.
 ghost use Rattle.std.specs.Prelude.{◌≡◌, ◌↔◌, IsTrue};
 ghost use Rattle.ot_causal.specs.Past.{maker};
-ghost use Rattle.ot_session.specs.Past.{is_marked, operation_in, known_in, past_of, AreMarkedToo};
+ghost use Rattle.ot_session.specs.Past.{is_marked, made_operation, known_in, past_of, AreMarkedToo};
 
 use ot_model::Op;
 use plain_list::List;

@@ -6,7 +6,7 @@ ghost use Rattle.ot_model.specs.declared.limits.TheConstants.{MAX_CELLS};
 ghost use Rattle.fn_rules.specs.Rules.{function_of};
 ghost use Rattle.ot_causal.specs.Sessions.{all_counted};
 ghost use Rattle.ot_session.specs.Past.{past_of};
-ghost use Rattle.ot_session.specs.Sites.{view_site, data_of, end_of, KeepsForms, IsKept};
+ghost use Rattle.ot_session.specs.Sites.{view_site, data_of, site_end_of, SiteKeepsForms, IsKeptSession};
 ghost use Rattle.ot_session.specs.declared.limits.TheConstants.{MAX_MADE, MAX_SITES, MAX_FORMS};
 
 use crate::answer::{Make, Take, Took};
@@ -40,9 +40,9 @@ pub struct Session {
     ghost small: { length first ≤ MAX_CELLS },
     ghost most: { length sites.items ≤ MAX_SITES },
     ghost within: { counted ≤ MAX_FORMS },
-    ghost kept: { ∥ IsKept (function_of rules) first made.items sites.items ∥₁ },
-    ghost forms: { is_open ≡ true → ∥ AllByRecursion (KeepsForms (function_of rules) (past_of made.items)) sites.items
-        ∥₁ },
+    ghost kept: { ∥ IsKeptSession (function_of rules) first made.items sites.items ∥₁ },
+    ghost forms: { is_open ≡ true
+        → ∥ AllByRecursion (SiteKeepsForms (function_of rules) (past_of made.items)) sites.items ∥₁ },
     ghost counts: { is_open ≡ true → counted ≡ all_counted (data_of first made.items (map view_site sites.items)) },
 }
 
@@ -57,7 +57,7 @@ impl Session {
     ghost use Rattle.ot_causal.specs.Forms.{state};
     ghost use Rattle.ot_causal.specs.Convergence.{HasOneCourse};
     ghost use Rattle.fn_rules.specs.Properties.{HasTp1, HasTp2};
-    ghost use Rattle.ot_session.specs.Views.{view_of, data_in, closed, IsBegun, HasMade, HasTaken};
+    ghost use Rattle.ot_session.specs.Views.{view_of, data_in, closed_session, IsBegun, HasMade, HasTaken};
     ghost use Rattle.ot_session.specs.declared.answer.Take.TheVariants as takes;
     ghost use Rattle.ot_session.specs.declared.answer.Make.TheVariants as makes;
 
@@ -147,7 +147,7 @@ impl Session {
             → MayMake (view_of self.old).function (data_in (view_of self.old)) site op
             × (length (view_of self.old).made < MAX_MADE) }
         ensures unchanged { IfErr result (λ e. e ≢ makes.NoMemory → view_of self.new ≡ view_of self.old) }
-        ensures closed { result ≡ Err makes.NoMemory → view_of self.new ≡ closed (view_of self.old) }
+        ensures closed { result ≡ Err makes.NoMemory → view_of self.new ≡ closed_session (view_of self.old) }
     {
         steps_keep_sessions_sound();
         steps_count_what_they_seek();
@@ -230,7 +230,7 @@ impl Session {
     /// Ends the session: what each site has integrated and the document that it holds, in the order of the sites. They
     /// are handed over, and nothing of them is copied.
     pub fn into_ends(self) -> Result<List<SiteEnd>, NoMemory>
-        ensures { IfOk result (λ ends. ends ≡ map end_of (view_of self).sites) }
+        ensures { IfOk result (λ ends. ends ≡ map site_end_of (view_of self).sites) }
     {
         let mut ends = List::new(*self.sites.allocator());
         for site in self.sites {

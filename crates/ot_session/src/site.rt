@@ -1,7 +1,7 @@
 //! A site of a session.
 ghost use Rattle.std.specs.Prelude.{◌≡◌, ◌<◌, ◌↔◌, length, replicate, false, IfOk, OnOk, OnErr, Err};
 ghost use Rattle.ot_model.specs.Effect.{IsEnabled};
-ghost use Rattle.ot_session.specs.Sites.{IsFresh, Executes, IsSameSite, end_of, view_site};
+ghost use Rattle.ot_session.specs.Sites.{IsFresh, Executes, IsSameSite, site_end_of, view_site};
 
 use crate::ending::SiteEnd;
 use crate::limits::MAX_MADE;
@@ -68,7 +68,7 @@ impl Site {
 
     /// What the site leaves.
     pub fn into_end(self) -> SiteEnd
-        ensures { result ≡ end_of (view_site self) }
+        ensures { result ≡ site_end_of (view_site self) }
     {
         SiteEnd {
             seen: List::from_vec(self.seen),

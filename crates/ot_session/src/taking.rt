@@ -8,7 +8,7 @@ ghost use Rattle.ot_causal.specs.Counting.{counted};
 ghost use Rattle.ot_session.specs.declared.limits.TheConstants.{MAX_MADE, MAX_FORMS};
 ghost use Rattle.ot_session.specs.declared.form.FormError.TheVariants.{NoForm, Spent};
 ghost use Rattle.ot_session.specs.Past.{is_marked, past_of};
-ghost use Rattle.ot_session.specs.Seeking.{IsSpent, count_behind};
+ghost use Rattle.ot_session.specs.Seeking.{IsCountSpent, count_behind};
 ghost use Rattle.ot_session.specs.Sites.{view_site, IsSameSite, IsSorted, CanTake};
 ghost use Rattle.ot_session.specs.Taking.{standing, IsKnown, HasAllBefore, HasIntegrated, IsStuck, Takes, done_in};
 ghost use Rattle.ot_session.specs.Taking.{TakesAtPlace, IsDueByMarks, IsLeastByMarks};
@@ -167,7 +167,7 @@ fn integrate(
         (standing site.old total.old) }
     ensures stuck_at { result ≡ Err NoForm → total.new
         ≡ count_behind (function_of rules.now) (past_of made.now) total.old (reverse site.old.seen.items) number }
-    ensures spent { result ≡ Err Spent → IsSpent (function_of rules.now) (past_of made.now) total.old
+    ensures spent { result ≡ Err Spent → IsCountSpent (function_of rules.now) (past_of made.now) total.old
         (reverse site.old.seen.items) number }
     ensures spent_at { result ≡ Err Spent → total.new ≡ MAX_FORMS }
     ensures err { OnErr result (IsSameSite site.old site.new) }

@@ -11,7 +11,7 @@ use Rattle.ot_settle.specs.declared.ended.Ended.{Ended}
 use Rattle.ot_settle.specs.declared.ended.Ended.TheVariants.{Shown, Fails, Spent}
 use Rattle.ot_settle.specs.declared.ended.FailingOb.{FailingOb}
 use Rattle.ot_settle.specs.declared.ending.FailingEnd.{FailingEnd}
-use Rattle.ot_settle.specs.Searching.{EndsBy, FailsAmong, IsFailingEnd}
+use Rattle.ot_settle.specs.Searching.{FailsAmong, FailsOnlySo, IsFailingEnd}
 use Rattle.ot_questions.specs.declared.why.Why.{Why}
 
 module _ (f : Function) (names : List ObName) (ob : ObName) (others : List ObName) (are : names ≡ ob ∷ others)
@@ -37,7 +37,7 @@ module _ (f : Function) (names : List ObName) (ob : ObName) (others : List ObNam
       })
 
   -- where one of the others fails, one of all does
-  pub others_fail : (e : Ended FailingOb) → EndsBy (FailsAmong f others) e → EndsBy (FailsAmong f names) e
+  pub others_fail : (e : Ended FailingOb) → FailsOnlySo (FailsAmong f others) e → FailsOnlySo (FailsAmong f names) e
   others_fail Shown fails = tt
   others_fail (Fails e) fails =
       rw are (record {

@@ -6,5 +6,5 @@ use Rattle.ot_prove.specs.declared.outcome.Answer.{Answer}
 use Rattle.ot_prove.specs.Outcomes.{answered_by, AreAnswersTo}
 
 -- the answers lead through the plan to an end that fails with the cause, and some integers meet them
-abbrev pub LeadTo : {W : Type 0} → Plan W → List Answer → W → Type 0
-LeadTo p answers why = AreAnswersTo p answers (Fails why) × IsPossible (answered_by answers)
+abbrev pub AnswersLeadTo : {W : Type 0} → Plan W → List Answer → W → Type 0
+AnswersLeadTo p answers why = AreAnswersTo p answers (Fails why) × IsPossible (answered_by answers)

@@ -11,13 +11,13 @@ use Rattle.ot_prove.specs.declared.outcome.Answer.{Answer}
 use Rattle.ot_questions.specs.declared.why.Why.{Why}
 use Rattle.ot_questions.specs.Obligation.{plan_of}
 use Rattle.ot_confirm.specs.Judgement.{judgement_of}
-use Rattle.ot_settle.specs.Endings.{LeadTo}
+use Rattle.ot_settle.specs.Endings.{AnswersLeadTo}
 use Rattle.ot_settle.specs.declared.settled.TheConstants.{MAX_BYTES}
 use Rattle.ot_settle.specs.declared.settled.Settled.{Settled}
 use Rattle.ot_settle.specs.declared.settled.Settled.TheVariants.{Yes, No, Spent}
 
 -- the bytes are judged to be a proof of the function at the level, and keep the limit of a file
-pub record IsShown (f : Function) (level : Level) (bytes : List ℕ) : Type 0 where
+pub record IsShownByProof (f : Function) (level : Level) (bytes : List ℕ) : Type 0 where
   pub judged : judgement_of f bytes ≡ Ok level
   pub short : length bytes ≤ MAX_BYTES
 
@@ -26,7 +26,7 @@ pub record IsShown (f : Function) (level : Level) (bytes : List ℕ) : Type 0 wh
 pub record IsFailing (f : Function) (obs : List ObName) (ob : ObName) (answers : List Answer) (why : Why) : Type 0 where
   pub asked : Contains obs ob
   pub listed : IsTrue (is_obligation f.head ob)
-  pub leads : LeadTo (plan_of f ob) answers why
+  pub leads : AnswersLeadTo (plan_of f ob) answers why
 
 -- what holds of a function before an obligation is told to fail: triples are looked at where TP1 holds
 abbrev pub HoldsBefore : Function → ObName → Type 0
@@ -35,7 +35,7 @@ HoldsBefore f (Triple k l m) = HasTp1 f
 
 -- what is said of the function: a proof shows it, or an obligation of the level fails, or nothing
 abbrev pub IsSettled : Function → Level → Settled → Type 0
-IsSettled f level (Yes bytes) = IsShown f level bytes.items
+IsSettled f level (Yes bytes) = IsShownByProof f level bytes.items
 IsSettled f level (No ob answers why) =
     IsFailing f (obligations_of f.head level) ob answers.items why × HoldsBefore f ob
 IsSettled f level Spent = Unit {0}

@@ -7,18 +7,18 @@ use Rattle.ot_settle.specs.declared.ended.Ended.TheVariants.{Shown, Fails, Spent
 use Rattle.ot_settle.specs.declared.ended.FailingOb.{FailingOb}
 use Rattle.ask_core.specs.Plans.{Plan}
 use Rattle.ot_settle.specs.declared.ending.FailingEnd.{FailingEnd}
-use Rattle.ot_settle.specs.Endings.{LeadTo}
+use Rattle.ot_settle.specs.Endings.{AnswersLeadTo}
 use Rattle.ot_settle.specs.Outcomes.{IsFailing}
 
 -- the answers of the end lead to it through the plan
 abbrev pub IsFailingEnd : {W : Type 0} → Plan W → FailingEnd W → Type 0
-IsFailingEnd p end = LeadTo p end.answers.items end.why
+IsFailingEnd p end = AnswersLeadTo p end.answers.items end.why
 
 -- where it fails, it fails so
-abbrev pub EndsBy : {E : Type 0} → (E → Type 0) → Ended E → Type 0
-EndsBy FailsSo Shown = Unit {0}
-EndsBy FailsSo (Fails e) = FailsSo e
-EndsBy FailsSo Spent = Unit {0}
+abbrev pub FailsOnlySo : {E : Type 0} → (E → Type 0) → Ended E → Type 0
+FailsOnlySo FailsSo Shown = Unit {0}
+FailsOnlySo FailsSo (Fails e) = FailsSo e
+FailsOnlySo FailsSo Spent = Unit {0}
 
 -- one of these obligations of the function fails
 abbrev pub FailsAmong : Function → List ObName → FailingOb → Type 0

@@ -4,7 +4,7 @@ ghost use Rattle.fn_rules.specs.Obligations.{is_obligation};
 ghost use Rattle.fn_rules.specs.Rules.{function_of};
 ghost use Rattle.ot_questions.specs.Names as names;
 ghost use Rattle.ot_questions.specs.Obligation.{plan_of};
-ghost use Rattle.start_laws.specs.Begun.{IsBegun};
+ghost use Rattle.start_laws.specs.Begun.{IsBegunProgress};
 
 use crate::numbers::{Numbers, Read};
 use ask_core::{Asker, NoMemory, Turn};
@@ -22,7 +22,7 @@ use std::alloc::Global;
 
 // What is read of a start.
 fn read_of(start: &StartAt<'_>, facts: Option<&Facts>) -> Read
-    requires { IsBegun start.now.plan.now start.now.last }
+    requires { IsBegunProgress start.now.plan.now start.now.last }
 {
     let results = start.results();
     let got = results.as_slice();

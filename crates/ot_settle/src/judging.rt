@@ -2,7 +2,7 @@
 ghost use Rattle.std.specs.Prelude.{IsTrue, IfOk};
 ghost use Rattle.fn_rules.specs.Properties.{HasTp1};
 ghost use Rattle.fn_rules.specs.Rules.{function_of};
-ghost use Rattle.ot_settle.specs.Outcomes.{IsShown};
+ghost use Rattle.ot_settle.specs.Outcomes.{IsShownByProof};
 
 use crate::settled::MAX_BYTES;
 use ask_core::NoMemory;
@@ -18,7 +18,7 @@ pub(crate) fn is_proof(
     level: Level,
     bytes: &[u8],
 ) -> Result<bool, NoMemory>
-    ensures { IfOk result (λ shown. IsTrue shown → IsShown (function_of rules.now) level bytes.now) }
+    ensures { IfOk result (λ shown. IsTrue shown → IsShownByProof (function_of rules.now) level bytes.now) }
 {
     if bytes.len() > MAX_BYTES {
         return Ok(false);

@@ -1,7 +1,7 @@
 //! The search of one plan, by any asker that numbers its starts.
 ghost use Rattle.std.specs.Prelude.{◌≤◌, IfOk};
-ghost use Rattle.proof_search.specs.Owning.{AreOwn};
-ghost use Rattle.ot_settle.specs.Searching.{EndsBy, IsFailingEnd};
+ghost use Rattle.proof_search.specs.Owning.{AreOwnLemmas};
+ghost use Rattle.ot_settle.specs.Searching.{FailsOnlySo, IsFailingEnd};
 
 use crate::ended::{Ended, Searched};
 use crate::ending::{FailingEnd, failing_end};
@@ -20,8 +20,8 @@ fn end_of<A: Finder>(
     questions: u64,
     bytes: &mut Vec<u8>,
 ) -> Result<Ended<FailingEnd<A::Why>>, NoMemory>
-    requires own { AreOwn (A.is_own asker.old) lemmas.now }
-    ensures { IfOk result (EndsBy (IsFailingEnd (A.root asker.old))) }
+    requires own { AreOwnLemmas (A.is_own asker.old) lemmas.now }
+    ensures { IfOk result (FailsOnlySo (IsFailingEnd (A.root asker.old))) }
 {
     match outcome {
         SearchOutcome::Shown => {
@@ -45,7 +45,7 @@ pub(crate) fn search_plan<A: Finder>(
     budget: u64,
     bytes: &mut Vec<u8>,
 ) -> Result<Searched<FailingEnd<A::Why>>, NoMemory>
-    ensures ended { IfOk result (λ r. EndsBy (IsFailingEnd (A.root asker.old)) r.ended) }
+    ensures ended { IfOk result (λ r. FailsOnlySo (IsFailingEnd (A.root asker.old)) r.ended) }
     ensures within { IfOk result (λ r. r.asked ≤ budget) }
 {
     let SearchResult {

@@ -4,7 +4,7 @@ ghost use Rattle.std.specs.List.{list_all};
 ghost use Rattle.fn_rules.specs.Obligations.{is_obligation};
 ghost use Rattle.fn_rules.specs.Rules.{function_of};
 ghost use Rattle.ot_questions.specs.Obligation.{plan_of};
-ghost use Rattle.ot_settle.specs.Searching.{EndsBy, FailsAmong, IsFailingEnd};
+ghost use Rattle.ot_settle.specs.Searching.{FailsAmong, FailsOnlySo, IsFailingEnd};
 
 use crate::ended::{Ended, FailingOb, Searched};
 use crate::ending::FailingEnd;
@@ -27,7 +27,7 @@ fn search_in<'a>(
     bytes: &mut Vec<u8>,
 ) -> Result<Searched<FailingEnd<Why>>, NoMemory>
     requires listed { IsTrue (is_obligation (function_of rules.now).head ob) }
-    ensures ended { IfOk result (λ r. EndsBy (IsFailingEnd (plan_of (function_of rules.now) ob)) r.ended) }
+    ensures ended { IfOk result (λ r. FailsOnlySo (IsFailingEnd (plan_of (function_of rules.now) ob)) r.ended) }
     ensures within { IfOk result (λ r. r.asked ≤ budget) }
 {
     let mut asker = FindingStarts::new(alloc, bump, rules, ob);
@@ -43,7 +43,7 @@ fn search_ob(
     text: &mut Text,
 ) -> Result<Searched<FailingEnd<Why>>, NoMemory>
     requires listed { IsTrue (is_obligation (function_of rules.now).head ob) }
-    ensures ended { IfOk result (λ r. EndsBy (IsFailingEnd (plan_of (function_of rules.now) ob)) r.ended) }
+    ensures ended { IfOk result (λ r. FailsOnlySo (IsFailingEnd (plan_of (function_of rules.now) ob)) r.ended) }
     ensures within { IfOk result (λ r. r.asked ≤ budget) }
 {
     text.begin_section(ob)?;
@@ -63,7 +63,7 @@ pub(crate) fn search_all(
     text: &mut Text,
 ) -> Result<Searched<FailingOb>, NoMemory>
     requires listed { list_all (is_obligation (function_of rules.now).head) names.now ≡ true }
-    ensures ended { IfOk result (λ r. EndsBy (FailsAmong (function_of rules.now) names.now) r.ended) }
+    ensures ended { IfOk result (λ r. FailsOnlySo (FailsAmong (function_of rules.now) names.now) r.ended) }
     ensures within { IfOk result (λ r. r.asked ≤ budget) }
 {
     let Some((ob, others)) = names.split_first() else {

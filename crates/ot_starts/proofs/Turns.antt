@@ -26,7 +26,7 @@ use Rattle.ot_terms.specs.Standing.{ask_goal}
 use Rattle.ot_rewrite.specs.Fronts.{is_question}
 use Rattle.ot_paths.specs.Nodes.{IsNode, literal}
 use Rattle.marked_goals.specs.Marking.{Marked, marked_le, marked_form, marked_goal, with_start}
-use Rattle.marked_goals.specs.Settled.{is_settled, StandsMarked, Opens}
+use Rattle.marked_goals.specs.Settled.{is_settled, StandsMarked, OpensStart}
 use Rattle.marked_goals.proofs.Unmarked.{unmarked-goal, unmarked-with_start}
 use Rattle.ot_starts.specs.Nodes.{IsStop}
 
@@ -130,7 +130,7 @@ module _ (f : Function) where
     question_begins t is = subst AsksOn (sym is) asks_at
 
   -- a node after rules is one
-  pub opened_node : (ob : ObName) (g h : GoalTree) → Opens f g h → IsNode f ob g → IsNode f ob h
+  pub opened_node : (ob : ObName) (g h : GoalTree) → OpensStart f g h → IsNode f ob g → IsNode f ob h
   opened_node ob g h opens node = record {
     goal = opens.belongs ob node.goal;
     fine = subst (IsFine (name_count ob))

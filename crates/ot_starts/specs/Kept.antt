@@ -1,9 +1,9 @@
 -- What is kept of goals that were laid out where transformations begin.
 use Rattle.fn_rules.specs.Functions.{Function}
 use Rattle.ot_terms.specs.Goals.{goal_tree}
-use Rattle.marked_goals.specs.Settled.{Opens}
+use Rattle.marked_goals.specs.Settled.{OpensStart}
 use Rattle.ot_starts.specs.declared.kept.Kept.{Kept}
 
 -- the goal that is kept stands for the plan of the goal where the transformation begins, but for the start at its front
-abbrev pub IsKept : Function → Kept → Type 0
-IsKept f kept = Opens f (goal_tree kept.at.now) (goal_tree kept.goal.now)
+abbrev pub IsKeptStart : Function → Kept → Type 0
+IsKeptStart f kept = OpensStart f (goal_tree kept.at.now) (goal_tree kept.goal.now)

@@ -9,7 +9,7 @@ ghost use Rattle.ot_questions.specs.Names as names;
 ghost use Rattle.ot_questions.specs.Obligation.{plan_of};
 ghost use Rattle.ot_terms.specs.Goals.{goal_tree};
 ghost use Rattle.ot_terms.specs.Standing.{ask_goal};
-ghost use Rattle.start_laws.specs.Begun.{IsBegun, start_after};
+ghost use Rattle.start_laws.specs.Begun.{IsBegunProgress, start_after};
 ghost use Rattle.start_laws.specs.Starts.{compare_starts, meaning};
 ghost use Rattle.marked_goals.specs.Marking.{marked_goal};
 ghost use Rattle.ot_starts.specs.Nodes.{IsStop, starts_of};
@@ -58,7 +58,7 @@ impl<'a> StartAsker<'a> {
         requires { IsStop (function_of self.now.laid) self.now.ob (goal_tree node.now) }
         ensures start { option_map (λ s. start_after s.plan.now s.last) result
             ≡ start_of (marked_goal (function_of self.now.laid) (goal_tree node.now)) }
-        ensures begun { IfSome result (λ s. IsBegun s.plan.now s.last) }
+        ensures begun { IfSome result (λ s. IsBegunProgress s.plan.now s.last) }
     {
         rules_keep_starts();
         start_at(node)

@@ -9,7 +9,7 @@ ghost use Rattle.ot_terms.specs.Forms.{form_tree, Le};
 ghost use Rattle.ot_terms.specs.Goals.{goal_tree};
 ghost use Rattle.ot_terms.specs.Weights.{transforms_of};
 ghost use Rattle.ot_rewrite.specs.Fronts as fronts;
-ghost use Rattle.start_laws.specs.Begun.{IsBegun, start_after};
+ghost use Rattle.start_laws.specs.Begun.{IsBegunProgress, start_after};
 ghost use Rattle.start_laws.specs.Starts.{compare_starts};
 ghost use Rattle.marked_goals.specs.Settled as marks;
 
@@ -67,7 +67,7 @@ pub(crate) fn is_at_front(goal: &Goal<'_>) -> bool
 pub(crate) fn start_at<'a>(goal: &Goal<'a>) -> Option<StartAt<'a>>
     ensures start { option_map (λ s. start_after s.plan.now s.last) result ≡ marks.front_start (goal_tree goal.now) }
     ensures begun { (f : Function) (ob : ObName) → IsGoalOf f ob (goal_tree goal.now)
-        → IfSome result (λ s. IsBegun s.plan.now s.last) }
+        → IfSome result (λ s. IsBegunProgress s.plan.now s.last) }
 {
     results_stay_near();
     match *goal {

@@ -3,8 +3,8 @@ ghost use Rattle.std.specs.Prelude.{◌≡◌, IsTrue, IfSome};
 ghost use Rattle.std.specs.List.{All};
 ghost use Rattle.fn_rules.specs.Functions.{Function};
 ghost use Rattle.ot_terms.specs.Goals.{goal_tree};
-ghost use Rattle.marked_goals.specs.Settled.{Opens};
-ghost use Rattle.ot_starts.specs.Kept.{IsKept};
+ghost use Rattle.marked_goals.specs.Settled.{OpensStart};
+ghost use Rattle.ot_starts.specs.Kept.{IsKeptStart};
 
 use laid_goals::is_same_progress;
 use ot_terms::{Goal, SymOp};
@@ -61,8 +61,8 @@ fn is_same_goal(left: &Goal<'_>, right: &Goal<'_>) -> bool
 
 /// What is laid out there, if it is kept. A scan over all that is kept, from what was kept last.
 pub(crate) fn found<'a>(kept: &[Kept<'a>], at: &Goal<'_>) -> Option<&'a Goal<'a>>
-    ensures { (f : Function) → All (IsKept f) kept.now
-        → IfSome result (λ g. Opens f (goal_tree at.now) (goal_tree g.now)) }
+    ensures { (f : Function) → All (IsKeptStart f) kept.now
+        → IfSome result (λ g. OpensStart f (goal_tree at.now) (goal_tree g.now)) }
 {
     for passed in 0..kept.len() {
         let one = &kept[kept.len() - 1 - passed];

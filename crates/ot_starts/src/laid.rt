@@ -34,7 +34,7 @@ impl<'a> Model for Laid<'a> {
     ghost use Rattle.fn_rules.specs.contracts.rules.Rules as row;
     ghost use Rattle.fn_rules.specs.declared.rules.Rules.{Rules};
     ghost use Rattle.fn_rules.specs.Rules.{function_of};
-    ghost use Rattle.ot_starts.specs.Kept.{IsKept};
+    ghost use Rattle.ot_starts.specs.Kept.{IsKeptStart};
 
     ghost Value = { Rules };
 
@@ -42,7 +42,7 @@ impl<'a> Model for Laid<'a> {
 
     ghost view = { λ s. s.rules.now };
 
-    ghost invariant = { λ s. All (IsKept (function_of s.rules.now)) s.entries.items };
+    ghost invariant = { λ s. All (IsKeptStart (function_of s.rules.now)) s.entries.items };
 }
 
 impl<'a> Laid<'a> {

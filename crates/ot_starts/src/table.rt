@@ -5,8 +5,8 @@ ghost use Rattle.fn_rules.specs.declared.function.ObName.{ObName};
 ghost use Rattle.fn_rules.specs.Rules.{function_of};
 ghost use Rattle.ot_terms.specs.Belonging.{IsGoalOf};
 ghost use Rattle.ot_terms.specs.Goals.{goal_tree};
-ghost use Rattle.marked_goals.specs.Settled.{Opens};
-ghost use Rattle.ot_starts.specs.Kept.{IsKept};
+ghost use Rattle.marked_goals.specs.Settled.{OpensStart};
+ghost use Rattle.ot_starts.specs.Kept.{IsKeptStart};
 
 use crate::fronts::is_begun;
 use crate::kept::{Kept, found};
@@ -28,7 +28,7 @@ fn laid_behind<'a>(
     goal: &'a Goal<'a>,
 ) -> Result<&'a Goal<'a>, NoMemory>
     requires { (ob : ObName) × IsGoalOf (function_of rules.now) ob (goal_tree goal.now) }
-    ensures { IfOk result (λ r. Opens (function_of rules.now) (goal_tree goal.now) (goal_tree r.now)) }
+    ensures { IfOk result (λ r. OpensStart (function_of rules.now) (goal_tree goal.now) (goal_tree r.now)) }
 {
     rules_keep_starts();
     rules_are_valid(rules);
@@ -47,9 +47,9 @@ pub(crate) fn laid_at<'a>(
     goal: &'a Goal<'a>,
 ) -> Result<&'a Goal<'a>, NoMemory>
     requires goal { (ob : ObName) × IsGoalOf (function_of rules.now) ob (goal_tree goal.now) }
-    requires kept { All (IsKept (function_of rules.now)) entries.old.items }
-    ensures opens { IfOk result (λ r. Opens (function_of rules.now) (goal_tree goal.now) (goal_tree r.now)) }
-    ensures kept { All (IsKept (function_of rules.now)) entries.new.items }
+    requires kept { All (IsKeptStart (function_of rules.now)) entries.old.items }
+    ensures opens { IfOk result (λ r. OpensStart (function_of rules.now) (goal_tree goal.now) (goal_tree r.now)) }
+    ensures kept { All (IsKeptStart (function_of rules.now)) entries.new.items }
 {
     if !is_begun(goal) {
         return Ok(goal);
@@ -78,9 +78,9 @@ pub(crate) fn laid_on<'a>(
     most: u32,
 ) -> Result<&'a Goal<'a>, NoMemory>
     requires goal { (ob : ObName) × IsGoalOf (function_of rules.now) ob (goal_tree goal.now) }
-    requires kept { All (IsKept (function_of rules.now)) entries.old.items }
-    ensures opens { IfOk result (λ r. Opens (function_of rules.now) (goal_tree goal.now) (goal_tree r.now)) }
-    ensures kept { All (IsKept (function_of rules.now)) entries.new.items }
+    requires kept { All (IsKeptStart (function_of rules.now)) entries.old.items }
+    ensures opens { IfOk result (λ r. OpensStart (function_of rules.now) (goal_tree goal.now) (goal_tree r.now)) }
+    ensures kept { All (IsKeptStart (function_of rules.now)) entries.new.items }
 {
     if most == 0 {
         return Ok(goal);

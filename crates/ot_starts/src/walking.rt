@@ -10,8 +10,8 @@ ghost use Rattle.ot_terms.specs.Goals.{goal_tree, If};
 ghost use Rattle.ot_rewrite.specs.Fronts as fronts;
 ghost use Rattle.goal_rules.specs.Steps.{front_tree};
 ghost use Rattle.ot_paths.specs.Nodes as nodes;
-ghost use Rattle.marked_goals.specs.Settled.{Opens};
-ghost use Rattle.ot_starts.specs.Kept.{IsKept};
+ghost use Rattle.marked_goals.specs.Settled.{OpensStart};
+ghost use Rattle.ot_starts.specs.Kept.{IsKeptStart};
 ghost use Rattle.ot_starts.specs.Turns.{TurnsAs};
 
 use crate::fronts::question;
@@ -93,7 +93,7 @@ pub(crate) fn turn_at<'a>(
 // The goal after rules until a question or an end stands at its front.
 fn opened<'a>(bump: &'a Bump, rules: &Rules, goal: &'a Goal<'a>) -> Result<Front<'a>, NoMemory>
     requires { (ob : ObName) × IsGoalOf (function_of rules.now) ob (goal_tree goal.now) }
-    ensures opens { IfOk result (λ r. Opens (function_of rules.now) (goal_tree goal.now) (front_tree r)) }
+    ensures opens { IfOk result (λ r. OpensStart (function_of rules.now) (goal_tree goal.now) (front_tree r)) }
     ensures at_front { IfOk result (λ r. IsTrue (fronts.is_at_front (front_tree r))) }
 {
     rules_keep_what_is_asked();
@@ -110,9 +110,9 @@ pub(crate) fn turn_of<'a>(
     goal: &'a Goal<'a>,
 ) -> Result<Turn<&'a Goal<'a>, Why>, NoMemory>
     requires goal { (ob : ObName) × IsGoalOf (function_of rules.now) ob (goal_tree goal.now) }
-    requires kept { All (IsKept (function_of rules.now)) entries.old.items }
+    requires kept { All (IsKeptStart (function_of rules.now)) entries.old.items }
     ensures turns { IfOk result (λ t. TurnsAs (function_of rules.now) (goal_tree goal.now) t) }
-    ensures kept { All (IsKept (function_of rules.now)) entries.new.items }
+    ensures kept { All (IsKeptStart (function_of rules.now)) entries.new.items }
 {
     let near = laid_on(bump, rules, entries, goal, MOST_TRANSFORMS)?;
     let front = opened(bump, rules, near)?;

@@ -28,7 +28,7 @@ use Rattle.ot_terms.specs.Goals as goals
 use Rattle.ot_terms.specs.Meaning.{BaseDocument, cell_of, char_cell, killed}
 use Rattle.ot_terms.specs.Placing.{guard_form}
 use Rattle.ot_terms.specs.Standing.{ask_form, ask_read, ask_goal, ask_after, ask_pair_after}
-use Rattle.ot_terms.specs.Starting.{start_of}
+use Rattle.ot_terms.specs.Starting.{start_goal_of}
 use Rattle.ot_terms.specs.Weights.{cell_weight, goal_weight}
 
 -- the literal `x <= y + k`
@@ -133,7 +133,7 @@ comparison_falls : goal_weight marks (goals.Same twice_dead twice_dead) < goal_w
 comparison_falls = lit≤ tt
 
 -- two deletions: the questions of the first goal
-marks_begin : asked_along (ask_goal marks (start_of marks.head (Pair kinds.Del kinds.Del))) (yes_times 11)
+marks_begin : asked_along (ask_goal marks (start_goal_of marks.head (Pair kinds.Del kinds.Del))) (yes_times 11)
     ≡ lit 0 1 (pos 0) ∷ lit 0 3 (pos 0) ∷ lit 3 1 (negsuc 0) ∷ lit 0 6 (pos 0) ∷ lit 6 1 (negsuc 0) ∷ lit 0 6 (pos 0)
     ∷ lit 6 1 (negsuc 0) ∷ lit 0 3 (pos 0) ∷ lit 3 1 (negsuc 0) ∷ lit 0 2 (pos 0) ∷ lit 2 1 (negsuc 0) ∷ []
 unfolding ask_goal ask_form ask_after ask_pair_after ask_converge ask_ways ask_lengths ask_documents ask_le ask_lt ask_eq ask_compared

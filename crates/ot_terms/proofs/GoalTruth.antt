@@ -15,7 +15,7 @@ use Rattle.ot_terms.specs.Goals as goals
 use Rattle.ot_terms.specs.Goals.{GoalTree}
 use Rattle.ot_terms.specs.Standing.{ask_after, ask_with, ask_goal, results_of}
 use Rattle.ot_terms.specs.Weights.{transforms_of}
-use Rattle.ot_terms.specs.Belonging.{AreMade, IsProgressOf, HasParts, IsGoalOf}
+use Rattle.ot_terms.specs.Belonging.{AreOperandsOf, IsProgressOf, HasParts, IsGoalOf}
 use Rattle.ot_terms.specs.Truth.{HoldsAfter, HoldsWith, goal_holds}
 use Rattle.ot_terms.proofs.Forms.{end_form}
 use Rattle.ot_terms.proofs.Comparisons.{compared_over_all}
@@ -26,7 +26,7 @@ use Rattle.ot_terms.proofs.TripleTruth.{triple_after}
 
 module _ (f : Function) (v : ℕ → ℤ) where
   after_holds :
-      (ob : ObName) (os got : List SymOp) → AreMade ob os
+      (ob : ObName) (os got : List SymOp) → AreOperandsOf ob os
       → HoldsAfter (transforms_of ob) f v ob os got ↔ (end_of (ask_after f ob os got) v ≡ None)
   after_holds (Pair k l) os got made =
       subst (λ x. HoldsAfter 2 f v (Pair k l) x got ↔ (end_of (ask_after f (Pair k l) x got) v ≡ None)) (sym made.2)
@@ -36,7 +36,7 @@ module _ (f : Function) (v : ℕ → ℤ) where
       (triple_after v f k l m made.0 made.1 made.2 [] got)
 
   with_holds : (ob : ObName) (plan : GoalProgress) (r : SymOp) → IsProgressOf ob plan → HoldsWith f v plan r ↔ (end_of (ask_with f plan r) v ≡ None)
-  with_holds ob plan r h = after_holds plan.ob plan.ops (results_of plan ++ r ∷ []) (subst (λ o. AreMade o plan.ops) (sym h.same) h.made)
+  with_holds ob plan r h = after_holds plan.ob plan.ops (results_of plan ++ r ∷ []) (subst (λ o. AreOperandsOf o plan.ops) (sym h.same) h.made)
 
   -- a goal with the parts of an obligation is true exactly where its plan ends in `Holds`
   parts_hold : (ob : ObName) (g : GoalTree) → HasParts f ob g → goal_holds f v g ↔ (end_of (ask_goal f g) v ≡ None)

@@ -11,7 +11,7 @@ use Rattle.ot_questions.specs.declared.place.Place.{Place}
 use Rattle.ot_questions.specs.declared.place.SymOp.{SymOp}
 use Rattle.ot_questions.specs.declared.why.Why.{Why}
 use Rattle.ot_questions.specs.declared.why.Why.TheVariants.{Undefined}
-use Rattle.ot_questions.specs.Instances.{StandsFor}
+use Rattle.ot_questions.specs.Instances.{StandsForOperation}
 use Rattle.ot_questions.specs.Questions.{ask_compared, ask_atom, ask_guard}
 use Rattle.ot_questions.proofs.QuestionValuations.{guard_ends}
 use Rattle.ot_terms.specs.Forms.{form_holds}
@@ -50,7 +50,7 @@ same_test false true e = ap is_none e
 same_test false false e = refl
 
 pub guard_form_holds :
-    (g : Formula) (v : ℕ → ℤ) (a b : SymOp) (x y : Op) → v 0 ≡ pos 0 → StandsFor v a x → StandsFor v b y
+    (g : Formula) (v : ℕ → ℤ) (a b : SymOp) (x y : Op) → v 0 ≡ pos 0 → StandsForOperation v a x → StandsForOperation v b y
     → form_holds v (guard_form g a b) ≡ holds_of g x y
 guard_form_holds g v a b x y zero sx sy =
     same_test (form_holds v (guard_form g a b)) (holds_of g x y)

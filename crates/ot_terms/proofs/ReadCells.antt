@@ -22,7 +22,7 @@ use Rattle.ot_terms.specs.Documents as documents
 use Rattle.ot_terms.specs.Documents.{DocTree}
 use Rattle.ot_terms.specs.Cells as cells
 use Rattle.ot_terms.specs.Cells.{CellTree}
-use Rattle.ot_terms.specs.Meaning.{IntegerCell, BaseDocument, base_cell_at, char_cell, killed, rewritten, by_place, cell_of_doc, cell_of}
+use Rattle.ot_terms.specs.Meaning.{IntegerCell, BaseDocument, base_cell_at, char_cell, killed, rewritten_cell, by_place, cell_of_doc, cell_of}
 use Rattle.ot_terms.specs.Changes.{changed, doc_of}
 use Rattle.ot_terms.specs.Standing.{changes_of, ask_read}
 use Rattle.ot_terms.specs.Belonging.{IsDocOf, IsCellOf}
@@ -100,7 +100,7 @@ module _ (base : BaseDocument) (v : ℕ → ℤ) where
       ap (λ x. by_place (v 2 +ℤ off) (integer_at v at) x (killed x) x) (h off)
       ∙ by_place-le (v 2 +ℤ off) (integer_at v at) (seen v Tomb os off) (buried_cell (seen v Tomb os off)) (seen v Tomb os off)
   read_changed mode (ops.Upd at ch site) d os off h =
-      ap (λ x. by_place (v 2 +ℤ off) (integer_at v at) x (rewritten (v ch) x) x) (h off)
+      ap (λ x. by_place (v 2 +ℤ off) (integer_at v at) x (rewritten_cell (v ch) x) x) (h off)
       ∙ by_place-le (v 2 +ℤ off) (integer_at v at) (seen v mode os off) (replaced_cell ch (seen v mode os off)) (seen v mode os off)
   read_changed mode ops.Nop d os off h = h off
 
@@ -135,7 +135,7 @@ module _ (base : BaseDocument) (v : ℕ → ℤ) where
       ap (λ x. cell_of_doc base v d (v x +ℤ at.off)) h.1.name ∙ read_doc mode count d at.off h.0
   read_cell mode count (cells.Char ch) h = refl
   read_cell mode count (cells.Dead cell) h = ap killed (read_cell mode count cell h)
-  read_cell mode count (cells.Over ch cell) h = ap (rewritten (v ch)) (read_cell mode count cell h.1)
+  read_cell mode count (cells.Over ch cell) h = ap (rewritten_cell (v ch)) (read_cell mode count cell h.1)
   read_cell mode count (cells.If g on_yes on_no) h =
       ap (λ x. if form_holds v g then x else cell_of base v on_no) (read_cell mode count on_yes h.1)
       ∙ (ap (λ x. if form_holds v g then finished_at (read_of v mode on_yes) else x) (read_cell mode count on_no h.2)

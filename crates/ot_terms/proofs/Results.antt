@@ -16,7 +16,7 @@ use Rattle.ot_questions.proofs.Values.{end-transform, sym_holds, sym_first, sym_
 use Rattle.ot_terms.specs.Forms.{form_holds}
 use Rattle.ot_terms.specs.Placing.{compared, guard_form}
 use Rattle.ot_terms.specs.Standing.{from_case}
-use Rattle.ot_terms.specs.Truth.{first_result, result_by_kinds, result_from}
+use Rattle.ot_terms.specs.Truth.{first_sym_result, result_by_kinds, result_from}
 use Rattle.ot_terms.proofs.Choices.{along, result_goes_on}
 
 module _ (v : ℕ → ℤ) where
@@ -37,17 +37,17 @@ module _ (v : ℕ → ℤ) where
         ∙ ap (λ t. sym_holds v g a b || t) (form_holds-guard_form h)
     form_holds-guard_form (Not g) = ap not (form_holds-guard_form g)
 
-    first_result-sym_first : (cs : List GuardedCase) → first_result v cs a b ≡ sym_first v cs a b
-    first_result-sym_first [] = refl
-    first_result-sym_first (c ∷ cs) =
-        ap (λ t. if t then Some (sym_result c.res a b) else first_result v cs a b) (form_holds-guard_form c.guard)
-        ∙ ap (λ o. if sym_holds v c.guard a b then Some (sym_result c.res a b) else o) (first_result-sym_first cs)
+    first_sym_result-sym_first : (cs : List GuardedCase) → first_sym_result v cs a b ≡ sym_first v cs a b
+    first_sym_result-sym_first [] = refl
+    first_sym_result-sym_first (c ∷ cs) =
+        ap (λ t. if t then Some (sym_result c.res a b) else first_sym_result v cs a b) (form_holds-guard_form c.guard)
+        ∙ ap (λ o. if sym_holds v c.guard a b then Some (sym_result c.res a b) else o) (first_sym_result-sym_first cs)
 
     result_by_kinds-sym_by_kinds :
         (f : Function) (case : ℕ) (j k : Option Kind) → result_by_kinds f v case a b j k ≡ sym_by_kinds v (from_case case f) a b j k
     result_by_kinds-sym_by_kinds f case None k = refl
     result_by_kinds-sym_by_kinds f case (Some j) None = refl
-    result_by_kinds-sym_by_kinds f case (Some j) (Some k) = first_result-sym_first (drop case (f.cases j k))
+    result_by_kinds-sym_by_kinds f case (Some j) (Some k) = first_sym_result-sym_first (drop case (f.cases j k))
 
     pub result_holds :
         (f : Function) (case : ℕ) (P : SymOp → Type 0) (go : SymOp → Plan Why) → ((r : SymOp) → P r ↔ (end_of (go r) v ≡ None))

@@ -16,7 +16,7 @@ use Rattle.ot_questions.specs.Nears.{IsNearOp, IsDeclaredOp}
 use Rattle.ot_questions.specs.Places.{place, sym_op, sym_site, sym_char}
 use Rattle.ot_questions.proofs.Nears.{IsNear-zero, both_true}
 use Rattle.ot_terms.specs.Goals.{GoalTree}
-use Rattle.ot_terms.specs.Starting.{enabled_form, if_differ, if_assumed, if_allowed, if_all_enabled, if_length, first_choice, start_of}
+use Rattle.ot_terms.specs.Starting.{enabled_form, if_differ, if_assumed, if_allowed, if_all_enabled, if_length, first_choice, start_goal_of}
 use Rattle.ot_terms.specs.Belonging.{IsPlace, IsLowerable, HasPlaces, IsMade, HasParts, IsGoalOf}
 
 IsPlace-name : (count x : ℕ) → x < count → IsPlace count (place x (pos 0))
@@ -182,7 +182,7 @@ module _ (f : Function) where
       }
 
   -- the goal that an obligation begins with is one of its function and of the obligation
-  pub start_of_belongs : (ob : ObName) → IsTrue (is_obligation f.head ob) → IsGoalOf f ob (start_of f.head ob)
+  pub start_of_belongs : (ob : ObName) → IsTrue (is_obligation f.head ob) → IsGoalOf f ob (start_goal_of f.head ob)
   start_of_belongs (Pair k l) h =
       let a = sym_op k A in
       let b = sym_op l B in

@@ -15,7 +15,7 @@ use Rattle.ot_questions.specs.Questions.{ask_le, ask_enabled, ask_differ, ask_al
 use Rattle.ot_questions.specs.Obligation.{ask_converge, ask_all_enabled, ask_pair, ask_behind, ask_commute, ask_triple, plan_of}
 use Rattle.ot_terms.specs.Goals.{GoalTree}
 use Rattle.ot_terms.specs.Standing.{ask_form, ask_goal, ask_after, ask_pair_after, ask_triple_after, ask_second_way_after}
-use Rattle.ot_terms.specs.Starting.{enabled_form, if_differ, if_assumed, if_allowed, if_all_enabled, if_length, first_choice, start_of}
+use Rattle.ot_terms.specs.Starting.{enabled_form, if_differ, if_assumed, if_allowed, if_all_enabled, if_length, first_choice, start_goal_of}
 
 pub ask_form-enabled_form :
     (o : SymOp) (off : ℤ) (p q : Plan Why) → ask_form (enabled_form o off) p q ≡ ask_enabled o off p q
@@ -79,7 +79,7 @@ module _ (f : Function) where
       ∙ ap (λ p. ask_le zero_place (length_and (pos 0)) p plans.Holds) (ask_goal-if_all_enabled os next)
 
   -- the first goal of an obligation asks what its plan asks
-  pub ask_goal_start_of : (ob : ObName) → ask_goal f (start_of f.head ob) ≡ plan_of f ob
+  pub ask_goal_start_of : (ob : ObName) → ask_goal f (start_goal_of f.head ob) ≡ plan_of f ob
   unfolding plan_of ask_pair ask_triple
   ask_goal_start_of (Pair k l) =
       let a = sym_op k A in

@@ -16,7 +16,7 @@ use Rattle.ot_terms.specs.Documents as documents
 use Rattle.ot_terms.specs.Cells as cells
 use Rattle.ot_terms.specs.Goals as goals
 use Rattle.ot_terms.specs.Meaning.{BaseDocument, char_cell, killed}
-use Rattle.ot_terms.specs.Starting.{first_choice, start_of}
+use Rattle.ot_terms.specs.Starting.{first_choice, start_goal_of}
 use Rattle.ot_terms.specs.Truth.{result_from, goal_holds}
 
 -- five cells and the index 2; the first position is 1, the second 3, and all other names are 4
@@ -121,7 +121,7 @@ by_form : goal_holds sites apart (goals.If (forms.Le zero_place (index_and (pos 
 by_form = tt
 
 -- a deletion at the end is not enabled: there is nothing to show
-nothing_to_show : goal_holds sites (λ x. pos 4) (start_of sites.head (Pair kinds.Del kinds.Del))
+nothing_to_show : goal_holds sites (λ x. pos 4) (start_goal_of sites.head (Pair kinds.Del kinds.Del))
 nothing_to_show = tt
 
 -- two ways to read one cell

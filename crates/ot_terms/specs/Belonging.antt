@@ -84,11 +84,11 @@ pub record IsMade (count : ℕ) (k : Kind) (a : SymOp) : Type 0 where
   pub names : HasNames count a
 
 -- the operations of an obligation; a pair has nop in the third place
-abbrev pub AreMade : ObName → List SymOp → Type 0
-AreMade (Pair k l) os =
+abbrev pub AreOperandsOf : ObName → List SymOp → Type 0
+AreOperandsOf (Pair k l) os =
     (a b : SymOp) × (os ≡ a ∷ b ∷ ops.Nop ∷ []) × IsMade (name_count (Pair k l)) k a
     × IsMade (name_count (Pair k l)) l b
-AreMade (Triple k l m) os =
+AreOperandsOf (Triple k l m) os =
     (a b c : SymOp) × (os ≡ a ∷ b ∷ c ∷ []) × IsMade (name_count (Triple k l m)) k a
     × IsMade (name_count (Triple k l m)) l b × IsMade (name_count (Triple k l m)) m c
 
@@ -151,7 +151,7 @@ AreResults ob os before (r ∷ got) = IsNextResult ob os before r × AreResults 
 -- how far an obligation has come; the last result is still to come
 pub record IsProgressOf (ob : ObName) (progress : GoalProgress) : Type 0 where
   pub same : progress.ob ≡ ob
-  pub made : AreMade ob progress.ops
+  pub made : AreOperandsOf ob progress.ops
   pub results : AreResults ob progress.ops [] (results_of progress)
   pub awaited : progress.count < transforms_of ob
   pub room : length progress.got ≡ 6

@@ -33,8 +33,8 @@ char_cell c = record { ch = c; live = true }
 abbrev pub killed : IntegerCell → IntegerCell
 killed cell = record { ch = cell.ch; live = false }
 
-abbrev pub rewritten : ℤ → IntegerCell → IntegerCell
-rewritten c cell = record { ch = c; live = cell.live }
+abbrev pub rewritten_cell : ℤ → IntegerCell → IntegerCell
+rewritten_cell c cell = record { ch = c; live = cell.live }
 
 -- before a place, at it, and behind it
 abbrev pub by_place : {X : Type 0} → ℤ → ℤ → X → X → X → X
@@ -50,7 +50,7 @@ cell_of_doc base v (Cut d at) j =
 cell_of_doc base v (Mark d at) j =
     by_place j (integer_at v at) (cell_of_doc base v d j) (killed (cell_of_doc base v d j)) (cell_of_doc base v d j)
 cell_of_doc base v (Over d at ch) j =
-    by_place j (integer_at v at) (cell_of_doc base v d j) (rewritten (v ch) (cell_of_doc base v d j))
+    by_place j (integer_at v at) (cell_of_doc base v d j) (rewritten_cell (v ch) (cell_of_doc base v d j))
     (cell_of_doc base v d j)
 
 -- the cell that a term is
@@ -58,5 +58,5 @@ abbrev pub cell_of : BaseDocument → (ℕ → ℤ) → CellTree → IntegerCell
 cell_of base v (cells.At d at) = cell_of_doc base v d (integer_at v at)
 cell_of base v (cells.Char ch) = char_cell (v ch)
 cell_of base v (cells.Dead cell) = killed (cell_of base v cell)
-cell_of base v (cells.Over ch cell) = rewritten (v ch) (cell_of base v cell)
+cell_of base v (cells.Over ch cell) = rewritten_cell (v ch) (cell_of base v cell)
 cell_of base v (cells.If g on_yes on_no) = if form_holds v g then cell_of base v on_yes else cell_of base v on_no

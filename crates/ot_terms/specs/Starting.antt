@@ -78,6 +78,6 @@ start_triple head k l m =
     (if_allowed head a b (if_allowed head a c (if_allowed head b c (first_choice (Triple k l m) a b c)))))
 
 -- the goal of an obligation
-abbrev pub start_of : Head → ObName → GoalTree
-start_of head (Pair k l) = start_pair head k l
-start_of head (Triple k l m) = start_triple head k l m
+abbrev pub start_goal_of : Head → ObName → GoalTree
+start_goal_of head (Pair k l) = start_pair head k l
+start_goal_of head (Triple k l m) = start_triple head k l m

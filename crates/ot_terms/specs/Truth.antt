@@ -33,16 +33,16 @@ MatchBool true P Q = P
 MatchBool false P Q = Q
 
 -- the result of the first case whose guard is true at the two operations
-abbrev pub first_result : (ℕ → ℤ) → List GuardedCase → SymOp → SymOp → Option SymOp
-first_result v [] a b = None
-first_result v (c ∷ cs) a b =
-    if form_holds v (guard_form c.guard a b) then Some (sym_result c.res a b) else first_result v cs a b
+abbrev pub first_sym_result : (ℕ → ℤ) → List GuardedCase → SymOp → SymOp → Option SymOp
+first_sym_result v [] a b = None
+first_sym_result v (c ∷ cs) a b =
+    if form_holds v (guard_form c.guard a b) then Some (sym_result c.res a b) else first_sym_result v cs a b
 
 -- by the kinds of the two operations, which nop has not: nop stays nop, and behind nop an operation stays as it is
 abbrev pub result_by_kinds : Function → (ℕ → ℤ) → ℕ → SymOp → SymOp → Option Kind → Option Kind → Option SymOp
 result_by_kinds f v case a b None l = Some Nop
 result_by_kinds f v case a b (Some k) None = Some a
-result_by_kinds f v case a b (Some k) (Some l) = first_result v (drop case (f.cases k l)) a b
+result_by_kinds f v case a b (Some k) (Some l) = first_sym_result v (drop case (f.cases k l)) a b
 
 -- what the first operation becomes behind the second, by the cases of their block from a number on
 abbrev pub result_from : Function → (ℕ → ℤ) → ℕ → SymOp → SymOp → Option SymOp

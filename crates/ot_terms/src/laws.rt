@@ -13,7 +13,7 @@ ghost use Rattle.ot_terms.specs.Goals.{GoalTree, Same};
 ghost use Rattle.ot_terms.specs.Meaning.{BaseDocument, cell_of};
 ghost use Rattle.ot_terms.specs.Standing.{ask_form, ask_goal};
 ghost use Rattle.ot_terms.specs.Belonging.{IsCellOf, IsGoalOf};
-ghost use Rattle.ot_terms.specs.Starting.{start_of};
+ghost use Rattle.ot_terms.specs.Starting.{start_goal_of};
 ghost use Rattle.ot_terms.specs.Truth.{goal_holds, IsTrueEverywhere, IsTrueAtLength, HasInstance};
 
 /// At a valuation what is asked of a form goes on as the form is true.
@@ -51,10 +51,10 @@ pub fn goals_are_true_as_their_plans()
 #[tactic(auto, using(crate::proofs::Starts::ask_goal_start_of, crate::proofs::StartParts::start_of_belongs))]
 pub fn first_goals_stand_for_obligations()
     ensures belongs { (f : Function) (ob : ObName) → IsTrue (is_obligation f.head ob)
-        → IsGoalOf f ob (start_of f.head ob) }
-    ensures plan { (f : Function) (ob : ObName) → ask_goal f (start_of f.head ob) ≡ plan_of f ob }
+        → IsGoalOf f ob (start_goal_of f.head ob) }
+    ensures plan { (f : Function) (ob : ObName) → ask_goal f (start_goal_of f.head ob) ≡ plan_of f ob }
     ensures instance { (f : Function) (ob : ObName) (n : ℕ) → IsTrue (is_valid f) → IsTrue (is_obligation f.head ob)
-        → IsTrueAtLength f (start_of f.head ob) n ↔ HasInstance f ob n }
+        → IsTrueAtLength f (start_goal_of f.head ob) n ↔ HasInstance f ob n }
     ensures whole { (f : Function) (ob : ObName) → IsTrue (is_valid f) → IsTrue (is_obligation f.head ob)
-        → IsTrueEverywhere f (start_of f.head ob) ↔ ((n : ℕ) → HasInstance f ob n) }
+        → IsTrueEverywhere f (start_goal_of f.head ob) ↔ ((n : ℕ) → HasInstance f ob n) }
 {}

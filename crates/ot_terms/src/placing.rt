@@ -4,7 +4,7 @@ ghost use Rattle.ot_model.specs.declared.op.Op.{Op};
 ghost use Rattle.fn_rules.specs.Formulas.{formula_of, holds_of};
 ghost use Rattle.ask_core.specs.Plans.{Plan};
 ghost use Rattle.ot_questions.specs.declared.why.Why.{Why};
-ghost use Rattle.ot_questions.specs.Instances.{StandsFor};
+ghost use Rattle.ot_questions.specs.Instances.{StandsForOperation};
 ghost use Rattle.ot_questions.specs.Names.{zero_name};
 ghost use Rattle.ot_questions.specs.Nears.{IsNear, IsNearOp, HasNearAtoms};
 ghost use Rattle.ot_questions.specs.Questions.{ask_guard};
@@ -93,7 +93,8 @@ pub fn place_form<'a>(
     requires b_near { IsNearOp 200 b }
     requires atoms_near { HasNearAtoms (formula_of guard.now) }
     ensures tree { IfOk result (λ r. form_tree r.now ≡ guard_form (formula_of guard.now) a b) }
-    ensures truth { IfOk result (λ r. (v : ℕ → ℤ) (x y : Op) → v zero_name ≡ pos 0 → StandsFor v a x → StandsFor v b y
+    ensures truth { IfOk result (λ r. (v : ℕ → ℤ) (x y : Op) → v zero_name ≡ pos 0
+        → StandsForOperation v a x → StandsForOperation v b y
         → form_holds v (form_tree r.now) ≡ holds_of (formula_of guard.now) x y) }
     ensures places { IfOk result (λ r. (count : ℕ) → 0 < count → HasNames count a → HasNames count b → IsNearOp 99 a
         → IsNearOp 99 b

@@ -29,7 +29,7 @@ use Rattle.ot_least.specs.declared.short.Short.TheVariants as shorts
 use Rattle.ot_least.specs.Judgements.{IsLowJudgement}
 use Rattle.ot_least.specs.Lows.{HasAt, IsBroken, IsLow}
 use Rattle.ot_least.specs.Lows.{level_of as part_level}
-use Rattle.ot_least.specs.Shortest.{HasCells, IsLeast, IsTrueOf, IsWithin}
+use Rattle.ot_least.specs.Shortest.{HasCells, IsLeast, IsShortWithin, IsTrueOf}
 use Rattle.ot_replies.specs.declared.reply.FileKind.TheVariants as files
 use Rattle.ot_replies.specs.declared.reply.Reply.{Reply}
 use Rattle.ot_replies.specs.declared.reply.Reply.TheVariants as replies
@@ -39,7 +39,7 @@ use Rattle.ot_replies.specs.Texts.{status_of, text_of}
 use Rattle.ot_words.specs.Commands.{Bound, Least}
 use Rattle.ot_top.specs.Bounded.{IsBoundJudgedAs, IsBounded, IsBoundedAt, IsCertifiedWritten, IsShortestWritten, IsSought, ShowsLeast, ShowsShort}
 use Rattle.ot_commands.specs.Bound.{IsReplyToBound, at_least}
-use Rattle.ot_commands.specs.Least.{IsReplyToLeast, TellsLeast, TellsShort}
+use Rattle.ot_commands.specs.Least.{IsReplyToLeast, ReplyTellsLeast, TellsShort}
 use Rattle.ot_commands.specs.Replies.{IsReply, IsReplyTo}
 use Rattle.ot_top.specs.Shown.{HasBefore, IsAskedAt}
 use Rattle.ot_top.proofs.OneVerdict.{least_once}
@@ -182,7 +182,7 @@ module _ (is_text : (bytes : List ℕ) (f : Function) → function_in bytes ≡ 
 
     least_shown :
         (cert : Bool) (ob : ObName) (answers : List Answer) (why : Why) (cells : ℕ) (low : List ℕ) → IsLeast f ob answers why cells low
-        → length low ≤ limit_of files.Certificate → TellsLeast f cert ob (answered_by answers) why cells low r
+        → length low ≤ limit_of files.Certificate → ReplyTellsLeast f cert ob (answered_by answers) why cells low r
         → (status_of r ≡ 1) × ShowsLeast f bytes cert cells IsWritten
     least_shown true ob answers why cells low is within tells =
         (ap (λ x. status_of x) tells, certified_shown ob answers why cells low is within tells)
@@ -191,7 +191,7 @@ module _ (is_text : (bytes : List ℕ) (f : Function) → function_in bytes ≡ 
 
     -- what was written, by what the search comes to
     short_shown :
-        (cert : Bool) (short : Short) → IsTrueOf f short → IsWithin (limit_of files.Certificate) short → TellsShort f cert short r
+        (cert : Bool) (short : Short) → IsTrueOf f short → IsShortWithin (limit_of files.Certificate) short → TellsShort f cert short r
         → ShowsShort f bytes cert IsWritten (status_of r) short
     short_shown cert shorts.Fine is within tells =
         (ap (λ x. status_of x) tells, is.0, is.1, subst IsWritten (ap (λ x. text_of x) tells) written)

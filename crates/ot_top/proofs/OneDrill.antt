@@ -15,12 +15,12 @@ use Rattle.ot_decide.specs.Verdicts.{AreAsked, ObQuestions}
 use Rattle.ot_session.specs.declared.answer.Take.{Take as NotTaken}
 use Rattle.ot_session.specs.declared.answer.Take.TheVariants as takes
 use Rattle.ot_session.specs.declared.answer.Took.{Took}
-use Rattle.ot_session.specs.Sites.{end_of}
+use Rattle.ot_session.specs.Sites.{site_end_of}
 use Rattle.ot_session.specs.Views.{View, data_in, IsBegun, HasMade, HasTaken}
 use Rattle.ot_drill.specs.declared.limits.TheConstants.{SITES}
 use Rattle.ot_drill.specs.declared.tally.Tally.{Tally}
 use Rattle.ot_drill.specs.Events.{drill_events}
-use Rattle.ot_drill.specs.Playing.{nothing_done, with_answer, IsPlayed, ArePlayed, start, then}
+use Rattle.ot_drill.specs.Playing.{nothing_done, tally_with_answer, IsPlayed, ArePlayed, start, then}
 use Rattle.ot_drill.specs.Workload.{drill_function}
 use Rattle.ot_replies.specs.declared.reply.Drilled.{Drilled}
 use Rattle.ot_replies.specs.declared.reply.Reply.{Reply}
@@ -87,7 +87,7 @@ module _ (begin_as_one :
       (taken_is_no_refusal too takes.NoMemory) (taken_is_no_refusal took takes.NoMemory) in
       let answer : too ≡ took = cc in (
         one_session v one other site number took first (subst (λ (a : Took). HasTaken v other site number (Ok a)) answer second),
-        is ∙ sym (ap (λ (a : Took). with_answer t a) answer) ∙ sym same,
+        is ∙ sym (ap (λ (a : Took). tally_with_answer t a) answer) ∙ sym same,
       )
 
   -- so are those behind events
@@ -114,8 +114,8 @@ module _ (begin_as_one :
       (plays_all one.begun (drill_events n) other.end b.tally played) in
       parts_once a b (one.number ∙ sym other.number) (one.cases ∙ sym other.cases) (one.level ∙ sym other.level) same.1
       (one.cells ∙ ap (λ (v : View). length ((data_in v).document 1)) same.0 ∙ sym other.cells)
-      (first_pair_one 1 (map end_of other.end.sites) a.differ b.differ
-      (subst (λ (v : View). IsFirstPair 1 (map end_of v.sites) a.differ) same.0 one.differ) other.differ)
+      (first_pair_one 1 (map site_end_of other.end.sites) a.differ b.differ
+      (subst (λ (v : View). IsFirstPair 1 (map site_end_of v.sites) a.differ) same.0 one.differ) other.differ)
 
   -- the reply to a workload with these questions is one
   questions_replied_once :

@@ -15,12 +15,12 @@ use Rattle.ot_hub.specs.declared.answer.Move.TheVariants as moves
 use Rattle.ot_hub.specs.declared.answer.Moved.{Moved}
 use Rattle.ot_hub.specs.declared.answer.Moved.TheVariants as moved
 use Rattle.ot_hub.specs.Steps.{Step, To}
-use Rattle.ot_hub.specs.Views.{HubData, begun, HasEdited, HasMoved, up_step, down_step}
+use Rattle.ot_hub.specs.Views.{HubData, begun_hub, HasEdited, HasMoved, up_step, down_step}
 use Rattle.ot_replies.specs.declared.reply.ClientEnd.{ClientEnd}
 use Rattle.ot_replies.specs.declared.reply.HubEnd.{HubEnd}
 use Rattle.ot_replies.specs.declared.reply.Reply.{Reply}
 use Rattle.ot_replies.specs.declared.reply.Reply.TheVariants.{Served}
-use Rattle.ot_commands.specs.Hub.{IsDone, IsEndOf, IsFirstApart, IsRefused, IsReplyToHub, IsReplyToHubScript, TellsHub, TellsNotEdited, TellsNotMoved}
+use Rattle.ot_commands.specs.Hub.{IsDone, IsEndOf, IsFirstApart, IsRefusedHubEvent, IsReplyToHub, IsReplyToHubScript, TellsHub, TellsNotEdited, TellsNotMoved}
 use Rattle.ot_commands.proofs.RunsBy.{runs_once}
 
 -- the first that is apart is one
@@ -190,7 +190,7 @@ one_edit hub one other c o (Ok x) (Err edits.NotEnabled) first second known also
 one_edit hub one other c o (Ok x) (Err edits.Full) first second known also = absurd (first.1 second.1)
 
 -- an event that is done is not refused
-done_or_refused : (hub : HubData) (i : ℕ) (event : HubEvent) (r : Reply) (new : HubData) → IsRefused hub i event r → ¬ (IsDone hub event new)
+done_or_refused : (hub : HubData) (i : ℕ) (event : HubEvent) (r : Reply) (new : HubData) → IsRefusedHubEvent hub i event r → ¬ (IsDone hub event new)
 done_or_refused hub i (events.Edit c o) r new (reason, left, refused, tells) done =
     made_is_no_refusal reason
     (one_edit hub new left c o (Ok tt) (Err reason) done refused (made_is_no_refusal edits.NoMemory) (edit_memory_untold i reason r tells))
@@ -200,7 +200,7 @@ done_or_refused hub i (events.Down c) r new (reason, left, refused, tells) (m, d
     move_done_or_refused hub c (down_step hub c) i r new left m reason done refused tells
 
 -- a refused event gets one reply
-refused_once : (hub : HubData) (i : ℕ) (event : HubEvent) (r q : Reply) → IsRefused hub i event r → IsRefused hub i event q → r ≡ q
+refused_once : (hub : HubData) (i : ℕ) (event : HubEvent) (r q : Reply) → IsRefusedHubEvent hub i event r → IsRefusedHubEvent hub i event q → r ≡ q
 refused_once hub i (events.Edit c o) r q (reason, one, refused, tells) (because, other, again, says) =
     let both : Err reason ≡ Err because =
     one_edit hub one other c o (Err reason) (Err because) refused again (edit_memory_untold i reason r tells) (edit_memory_untold i because q says) in
@@ -221,7 +221,7 @@ done_once hub (events.Down c) one other (m, first) (n, second) = move_done_once 
 script_replied_once : (f : Function) (read : Result HubScript CaseFault) (r q : Reply) → IsReplyToHubScript f read r → IsReplyToHubScript f read q → r ≡ q
 script_replied_once f (Err fault) r q first second = first ∙ sym second
 script_replied_once f (Ok script) r q first second =
-    runs_once TellsHub IsRefused IsDone hub_told_once refused_once done_once done_or_refused (begun f script.doc script.clients) 0 script.events r q
+    runs_once TellsHub IsRefusedHubEvent IsDone hub_told_once refused_once done_once done_or_refused (begun_hub f script.doc script.clients) 0 script.events r q
     first second
 
 -- the reply to a hub is one

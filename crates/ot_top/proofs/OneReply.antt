@@ -17,12 +17,12 @@ use Rattle.ot_session.specs.declared.answer.Take.TheVariants as takes
 use Rattle.ot_session.specs.declared.answer.Took.{Took}
 use Rattle.ot_session.specs.declared.ending.SiteEnd.{SiteEnd}
 use Rattle.ot_session.specs.declared.limits.TheConstants.{MAX_MADE}
-use Rattle.ot_session.specs.Sites.{end_of}
+use Rattle.ot_session.specs.Sites.{site_end_of}
 use Rattle.ot_session.specs.Views.{View, data_in, IsBegun, HasMade, HasTaken}
 use Rattle.ot_replies.specs.declared.reply.Reply.{Reply}
 use Rattle.ot_replies.specs.declared.reply.Reply.TheVariants.{Replayed}
 use Rattle.ot_session.specs.declared.ending.SiteEnd.{SiteEnd}
-use Rattle.ot_commands.specs.Replay.{CannotMake, IsDone, IsFirstOther, IsFirstPair, IsRefused, IsReplyToScript, IsReplyToSession, Runs, TellsNotMade}
+use Rattle.ot_commands.specs.Replay.{CannotMake, IsDone, IsFirstOther, IsFirstPair, IsRefusedEvent, IsReplyToScript, IsReplyToSession, Runs, TellsNotMade}
 use Rattle.ot_commands.specs.Replay.{TellsNotTaken, TellsSites}
 
 -- the first that differs from one is one
@@ -51,7 +51,7 @@ first_pair_one s (one ∷ others) a b (inr (none, rest)) (inr (_, more)) = first
 
 -- the reply to a session that was run to its end has the ends of its sites, and the first two that differ
 replayed : (v : View) (r : Reply) → TellsSites v r
-    → (ends : List SiteEnd) × (differ : Option (ℕ × ℕ)) × (r ≡ Replayed ends differ) × (ends ≡ map end_of v.sites) × IsFirstPair 1 ends differ
+    → (ends : List SiteEnd) × (differ : Option (ℕ × ℕ)) × (r ≡ Replayed ends differ) × (ends ≡ map site_end_of v.sites) × IsFirstPair 1 ends differ
 replayed v (Replayed ends differ) tells = (ends, differ, refl, tells.0, tells.1)
 replayed v r tells = absurd tells
 
@@ -143,7 +143,7 @@ module _ (begin_as_one :
     (one_session :
     (old one other : View) (t n : ℕ) (took : Took) → HasTaken old one t n (Ok took) → HasTaken old other t n (Ok took) → one ≡ other) where
   -- an event that is done is not refused
-  done_or_refused : (v : View) (i : ℕ) (event : Event) (r : Reply) (new : View) → IsRefused v i event r → ¬ (IsDone v event new)
+  done_or_refused : (v : View) (i : ℕ) (event : Event) (r : Reply) (new : View) → IsRefusedEvent v i event r → ¬ (IsDone v event new)
   done_or_refused v i (Make site op) r new (reason, cannot, tells) (number, made, may, few) =
       never_refused v site op reason may few cannot
   done_or_refused v i (Take site number) r new (reason, left, refused, tells) (took, taken) =
@@ -151,7 +151,7 @@ module _ (begin_as_one :
       (taken_is_no_refusal took takes.NoMemory) (no_memory_untold i reason r tells))
 
   -- a refused event gets one reply
-  refused_once : (v : View) (i : ℕ) (event : Event) (r s : Reply) → IsRefused v i event r → IsRefused v i event s → r ≡ s
+  refused_once : (v : View) (i : ℕ) (event : Event) (r s : Reply) → IsRefusedEvent v i event r → IsRefusedEvent v i event s → r ≡ s
   refused_once v i (Make site op) r s (reason, cannot, tells) (why, because, says) =
       let same : why ≡ reason = reason_one v site op why reason because cannot in
       not_made_told_once i reason r s tells (subst (λ (e : NotMade). TellsNotMade i e s) same says)

@@ -4,7 +4,7 @@ use Rattle.fn_rules.specs.Functions.{Function}
 use Rattle.ot_counter.specs.declared.counter.Counter.{Counter}
 use Rattle.ot_least.specs.declared.short.Short.{Short}
 use Rattle.ot_least.specs.declared.short.Short.TheVariants as shorts
-use Rattle.ot_least.specs.Shortest.{AreAlike, IsShort, end_by}
+use Rattle.ot_least.specs.Shortest.{AreAlikeAnswers, IsShort, end_by}
 use Rattle.ot_replies.specs.declared.reply.Reply.{Reply}
 use Rattle.ot_replies.specs.declared.reply.Reply.TheVariants.{Shortest}
 use Rattle.ot_replies.specs.declared.reply.Subject.TheVariants.{First}
@@ -18,7 +18,7 @@ use Rattle.ot_top.proofs.OneVerdict.{end_countered_once}
 
 -- what tells of the counterexamples of searches that come to one end is one
 short_told_once :
-    (f : Function) (one other : Short) (r s : Reply) → AreAlike one other → TellsShort f false one r → TellsShort f false other s → r ≡ s
+    (f : Function) (one other : Short) (r s : Reply) → AreAlikeAnswers one other → TellsShort f false one r → TellsShort f false other s → r ≡ s
 short_told_once f shorts.Fine shorts.Fine r s alike tells says = tells ∙ sym says
 short_told_once f shorts.TooLong shorts.TooLong r s alike tells says = tells ∙ sym says
 short_told_once f shorts.Spent shorts.Spent r s alike tells says = tells ∙ sym says
@@ -48,7 +48,7 @@ one_reply r s same = (ap (λ x. status_of x) same, λ other. same)
 
 -- and of certificates their statuses are one
 certified_told_once :
-    (f : Function) (one other : Short) (r s : Reply) → AreAlike one other → TellsShort f true one r → TellsShort f true other s
+    (f : Function) (one other : Short) (r s : Reply) → AreAlikeAnswers one other → TellsShort f true one r → TellsShort f true other s
     → AreCertifiedOrOne r s
 certified_told_once f shorts.Fine shorts.Fine r s alike tells says = one_reply r s (tells ∙ sym says)
 certified_told_once f shorts.TooLong shorts.TooLong r s alike tells says = one_reply r s (tells ∙ sym says)
@@ -70,7 +70,7 @@ certified_told_once f (shorts.Least ob answers why cells cert) shorts.Fine r s a
 certified_told_once f (shorts.Least ob answers why cells cert) shorts.TooLong r s alike tells says = absurd (cc)
 certified_told_once f (shorts.Least ob answers why cells cert) shorts.Spent r s alike tells says = absurd (cc)
 
-module _ (one_search : (f : Function) (budget : ℕ) (one other : Short) → IsShort f budget one → IsShort f budget other → AreAlike one other)
+module _ (one_search : (f : Function) (budget : ℕ) (one other : Short) → IsShort f budget one → IsShort f budget other → AreAlikeAnswers one other)
     (holds : List ℕ → Option (List ℕ)) (name bytes : List ℕ) (r s : Reply) (told : holds name ≡ Some bytes) where
   -- the reply of `least` to a told file is one
   pub least_replied_once : IsReplyTo holds (Least false name) r → IsReplyTo holds (Least false name) s → r ≡ s

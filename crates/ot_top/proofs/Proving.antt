@@ -27,7 +27,7 @@ use Rattle.ot_decide.specs.declared.verdict.Verdict.{Verdict}
 use Rattle.ot_decide.specs.declared.verdict.Verdict.TheVariants as verdicts
 use Rattle.ot_sections.specs.Certificates.{IsCertificate}
 use Rattle.ot_judge.specs.Refusals.{IsJudgement}
-use Rattle.ot_decide.specs.Verdicts.{AreAsked, ObQuestions, IsDecidedAs, IsVerdict, IsWithin, count_in, failing_in}
+use Rattle.ot_decide.specs.Verdicts.{AreAsked, ObQuestions, IsDecidedAs, IsVerdict, IsVerdictWithin, count_in, failing_in}
 use Rattle.ot_counter.specs.declared.counter.Counter.{Counter}
 use Rattle.ot_counter.specs.Counters.{Breaks, BreaksBy, level_of}
 use Rattle.ask_core.specs.Leading.{LeadTo}
@@ -53,7 +53,7 @@ use Rattle.ot_commands.specs.Replies.{IsReply, IsReplyTo}
 use Rattle.ot_commands.specs.Settle.{IsReplyToSettle, TellsSettled}
 use Rattle.ot_replies.specs.Limits.{limit_of}
 use Rattle.ot_top.specs.Evidence.{Evidence, Certificate, Proof, IsAcceptedAt, IsEvidence, asks_for, file_of}
-use Rattle.ot_top.specs.Shown.{HasBefore, HasLevel, IsAskedAt, IsBroken, IsComplete, IsProved, status_by}
+use Rattle.ot_top.specs.Shown.{HasBefore, HasLevel, IsAskedAt, IsComplete, IsProved, IsShownBroken, status_by}
 use Rattle.ot_replies.specs.Texts.{status_of, text_of}
 use Rattle.ot_words.specs.Words.{IsWithinBounds, asked_by, most_questions}
 use Rattle.ot_top.proofs.Asking.{asked_at, asked_once, listed_at}
@@ -149,7 +149,7 @@ module _ (f : Function) (proof : List ℕ) (level : Level) (judged : judgement_o
 -- status 0: the verdict is yes
 proved_verdict :
     (f : Function) (level : Level) (budget : ℕ) (r : Reply) (verdict : Verdict) → 0 ≡ status_of r
-    → IsDecidedAs f level budget verdict → (budget ≤ most_questions → IsWithin (limit_of files.Certificate) verdict)
+    → IsDecidedAs f level budget verdict → (budget ≤ most_questions → IsVerdictWithin (limit_of files.Certificate) verdict)
     → TellsVerdict f verdict r
     → (certificate : List ℕ) × IsCertificate certificate f level
     × (budget ≤ most_questions → length certificate ≤ limit_of files.Certificate) × (r ≡ Proved certificate)
@@ -315,7 +315,7 @@ module _ (is_text : (bytes : List ℕ) (f : Function) → function_in bytes ≡ 
     -- status 1: a counterexample was written that breaks a property which is asked at the level
     pub broken :
         (e : Evidence) (words : List (List ℕ)) (holds : List ℕ → Option (List ℕ)) (r : Reply) (IsWritten : List ℕ → Type 0)
-        → 1 ≡ status_of r → IsReply words holds r → IsWritten (text_of r) → IsBroken e words holds IsWritten
+        → 1 ≡ status_of r → IsReply words holds r → IsWritten (text_of r) → IsShownBroken e words holds IsWritten
     broken e words holds r IsWritten is_one is_reply written level budget name bytes named told =
         let got = read_behind r 1 is_one (λ e. omega (arith, e)) (λ e. omega (arith, e)) First (holds name)
         (λ f. Gets e f level budget r)

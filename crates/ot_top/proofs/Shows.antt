@@ -20,8 +20,8 @@ use Rattle.ot_commands.specs.Replies.{IsReply}
 use Rattle.ot_commands.specs.Steady.{AreSteady}
 use Rattle.ot_top.specs.Bounded.{IsBounded, IsSought}
 use Rattle.ot_top.specs.Evidence.{Evidence}
-use Rattle.ot_top.specs.Shown.{HasLevel, IsBroken, IsComplete}
-use Rattle.ot_top.specs.Shows.{AreKnown, IsOfReply, Shows}
+use Rattle.ot_top.specs.Shown.{HasLevel, IsComplete, IsShownBroken}
+use Rattle.ot_top.specs.Shows.{AreKnown, IsOfReply, StatusShows}
 use Rattle.ot_replies.specs.Texts.{status_of, text_of}
 use Rattle.ot_top.proofs.Audited.{audited, compared}
 use Rattle.ot_top.proofs.Bounded.{bound_judged}
@@ -61,11 +61,11 @@ module _ (words : List (List ℕ)) (holds : List ℕ → Option (List ℕ)) (IsW
     → IsJudgement f bytes other → one ≡ other)
     (one_list : (p : Plan Why) (w : List Lit) (q r : Questions Why) → QuestionList p w q → QuestionList p w r → q ≡ r)
     (is_broken :
-    (e : Evidence) (r : Reply) → 1 ≡ status_of r → IsReply words holds r → IsWritten (text_of r) → IsBroken e words holds IsWritten)
+    (e : Evidence) (r : Reply) → 1 ≡ status_of r → IsReply words holds r → IsWritten (text_of r) → IsShownBroken e words holds IsWritten)
     (is_bounded : (r : Reply) → 0 ≡ status_of r → IsReply words holds r → IsWritten (text_of r) → IsBounded words holds IsWritten)
     (is_sought : (r : Reply) → IsReply words holds r → IsWritten (text_of r) → IsSought words holds IsWritten (status_of r)) where
   -- each status shows what is said of it, from the reply that it is of
-  pub shows : Shows words holds IsWritten status
+  pub shows : StatusShows words holds IsWritten status
   shows =
       record {
         sound =

@@ -18,7 +18,7 @@ use Rattle.case_json.specs.declared.trial.Trial.{Trial}
 use Rattle.case_json.specs.Cases.{trial_in}
 use Rattle.case_json.specs.Hubs.{hub_script_in}
 use Rattle.case_json.specs.Scripts.{script_in}
-use Rattle.ot_hub.specs.Views.{HubData, begun}
+use Rattle.ot_hub.specs.Views.{HubData, begun_hub}
 use Rattle.ot_sections.specs.declared.refusal.JudgeError.{JudgeError}
 use Rattle.ot_sections.specs.declared.refusal.JudgeError.TheVariants as judge
 use Rattle.ot_judge.specs.Refusals.{IsJudgement}
@@ -58,9 +58,9 @@ use Rattle.ot_commands.specs.Bound.{at_least}
 use Rattle.ot_commands.specs.Certificate.{IsReplyToCertificate, Tells}
 use Rattle.ot_commands.specs.Confirm.{IsReplyToConfirmed, TellsJudgement}
 use Rattle.ot_commands.specs.Drill.{IsReplyToQuestions}
-use Rattle.ot_commands.specs.Hub.{IsDone, IsRefused, IsReplyToHub, IsReplyToHubScript, TellsHub}
+use Rattle.ot_commands.specs.Hub.{IsDone, IsRefusedHubEvent, IsReplyToHub, IsReplyToHubScript, TellsHub}
 use Rattle.ot_commands.specs.Integrate.{IsReplyToCase, IsReplyToTrial, TellsOutcomes}
-use Rattle.ot_commands.specs.Least.{TellsLeast, TellsShort}
+use Rattle.ot_commands.specs.Least.{ReplyTellsLeast, TellsShort}
 use Rattle.ot_commands.specs.Load.{IsReplyToFile, IsReplyToFunction}
 use Rattle.ot_commands.specs.Prove.{TellsVerdict}
 use Rattle.ot_commands.specs.Replay.{IsReplyToScript, IsReplyToSession, Runs, TellsNotMade, TellsNotTaken, TellsSites}
@@ -132,7 +132,7 @@ proof_other f told r (contents, known, inr tells) = told_other (judgement_of f (
 
 least_other :
     (f : Function) (cert : Bool) (ob : ObName) (w : List Lit) (why : Why) (cells : ℕ) (bytes : List ℕ) (r : Reply)
-    → TellsLeast f cert ob w why cells bytes r → status_of r ≢ 3
+    → ReplyTellsLeast f cert ob w why cells bytes r → status_of r ≢ 3
 least_other f true ob w why cells bytes r tells = named_so r (replies.Certified bytes) 1 tells refl (λ e. omega (arith, e))
 least_other f false ob w why cells bytes r tells = named_so r (replies.Shortest tells.0 cells) 1 tells.2 refl (λ e. omega (arith, e))
 
@@ -194,7 +194,7 @@ hub_other hub _ tells = absurd tells
 hub_script_other : (f : Function) (read : Result HubScript CaseFault) (r : Reply) → IsReplyToHubScript f read r → status_of r ≢ 3
 hub_script_other f (Err fault) r tells = refused_case fault r tells
 hub_script_other f (Ok script) r tells =
-    runs_other TellsHub IsRefused IsDone 3 hub_other refused_other (begun f script.doc script.clients) 0 script.events r tells
+    runs_other TellsHub IsRefusedHubEvent IsDone 3 hub_other refused_other (begun_hub f script.doc script.clients) 0 script.events r tells
 
 case_reply_other : (f : Function) (bytes : List ℕ) (r : Reply) → IsReplyToCase f bytes r → status_of r ≢ 3
 unfolding IsReplyToCase

@@ -14,7 +14,7 @@ use Rattle.ot_top.specs.Shows.{IsOfReply}
 -- what words and files are answered: each status that is none of a fault and none of want of memory is that of a reply,
 -- whose text was written: the one that the files get where `holds` tells them, and whether or not it does, the one that
 -- those bytes get that were given between `old` and `new`
-pub record Answers (words : List (List ℕ)) (holds : List ℕ → Option (List ℕ)) (old new : Reads)
+pub record AnswersCommand (words : List (List ℕ)) (holds : List ℕ → Option (List ℕ)) (old new : Reads)
     (IsWritten : List ℕ → Type 0)
     (status : ℕ) : Type 0 where
   pub replied :
@@ -28,8 +28,8 @@ pub record CountChange : Type 0 where
   pub before : ℕ
   pub now : ℕ
 
-abbrev pub counted : ℕ → ℕ → CountChange
-counted before now = record { before = before; now = now }
+abbrev pub count_change : ℕ → ℕ → CountChange
+count_change before now = record { before = before; now = now }
 
 -- what faults and want of memory tell, by the counts of faults of the shelf and of the sink, and by what the sink tells
 -- that was written `before` the run and is `now`

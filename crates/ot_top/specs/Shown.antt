@@ -88,8 +88,8 @@ HasBefore f Tp2 = HasTp1 f
 -- counterexample was written: the function breaks the property there, which is asked at the level, by the cause that is
 -- written, and the sides that are written are what the interpreter gives; where that property is TP2, the function has
 -- TP1
-abbrev pub IsBroken : Evidence → List (List ℕ) → (List ℕ → Option (List ℕ)) → (List ℕ → Type 0) → Type 0
-IsBroken e words holds IsWritten =
+abbrev pub IsShownBroken : Evidence → List (List ℕ) → (List ℕ → Option (List ℕ)) → (List ℕ → Type 0) → Type 0
+IsShownBroken e words holds IsWritten =
     (level : Level) (budget : ℕ) (name bytes : List ℕ)
     → asked_by words ≡ Some (asks_for e level budget name) → holds name ≡ Some bytes
     → (f : Function) × (counter : Counter)

@@ -8,9 +8,9 @@ use Rattle.ot_top.specs.Confirmed.{IsConfirmJudgedAs, IsConfirmed}
 use Rattle.ot_top.specs.Evidence.{Evidence}
 use Rattle.ot_commands.specs.Given.{TellsGivenOf}
 use Rattle.ot_commands.specs.Hub.{IsServed}
-use Rattle.ot_commands.specs.Replay.{IsSteady}
+use Rattle.ot_commands.specs.Replay.{IsSteadyReplay}
 use Rattle.ot_commands.specs.Reverse.{IsReversed}
-use Rattle.ot_top.specs.Shown.{IsBroken, IsComplete, IsGoneThrough, IsJudgedAs, IsProved, IsShown, IsUnread}
+use Rattle.ot_top.specs.Shown.{IsComplete, IsGoneThrough, IsJudgedAs, IsProved, IsShown, IsShownBroken, IsUnread}
 
 -- the status is that of a reply: neither the files nor the sink failed, and there was memory
 abbrev pub IsOfReply : ℕ → Type 0
@@ -23,15 +23,15 @@ IsOfReply status = (status ≢ SHELF_FAULT) × (status ≢ SINK_FAULT) × (statu
 -- apart, nor clients and their server, `audit`, `same` and `reverse` write what is so of all operations, no document is
 -- shorter than `least` and `bound` say, and no event of a workload is refused, no site of it is stuck, and no two sites
 -- of it differ
-pub record Shows (words : List (List ℕ)) (holds : List ℕ → Option (List ℕ)) (IsWritten : List ℕ → Type 0) (status : ℕ) :
-    Type 0 where
+pub record StatusShows (words : List (List ℕ)) (holds : List ℕ → Option (List ℕ)) (IsWritten : List ℕ → Type 0)
+    (status : ℕ) : Type 0 where
   pub sound : status ≡ 0 → IsShown words holds IsWritten
   pub proved : (e : Evidence) → status ≡ 0 → IsProved e words holds IsWritten
-  pub broken : (e : Evidence) → status ≡ 1 → IsBroken e words holds IsWritten
+  pub broken : (e : Evidence) → status ≡ 1 → IsShownBroken e words holds IsWritten
   pub complete : IsOfReply status → IsComplete words holds status
   pub judged : IsOfReply status → IsJudgedAs words holds status
   pub unread : IsOfReply status → IsUnread words holds status
-  pub steady : IsSteady words holds status
+  pub steady : IsSteadyReplay words holds status
   pub served : IsServed words holds status
   pub audited : IsOfReply status → IsAudited words holds IsWritten status
   pub compared : IsOfReply status → IsCompared words holds IsWritten status

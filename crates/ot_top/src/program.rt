@@ -4,10 +4,10 @@ ghost use Rattle.std.specs.Io.KnownBytes.{append_known};
 ghost use Rattle.ot_outside.specs.Faults.{Rose};
 ghost use Rattle.ot_outside.specs.Whole.{AppendsFront};
 ghost use Rattle.ot_outside.specs.Unchanged.{Unchanged};
-ghost use Rattle.ot_top.specs.Answers.{Answers, Faults, counted};
+ghost use Rattle.ot_top.specs.Answers.{AnswersCommand, Faults, count_change};
 ghost use Rattle.ot_commands.specs.Given.{IsAnswerOfGiven};
 ghost use Rattle.ot_commands.specs.Replies.{AreOffered, IsReply};
-ghost use Rattle.ot_top.specs.Shows.{AreKnown, Shows};
+ghost use Rattle.ot_top.specs.Shows.{AreKnown, StatusShows};
 ghost use Rattle.ot_commands.specs.Steady.{AreSteady};
 ghost use Rattle.ot_replies.specs.Texts.{status_of, text_of};
 ghost use Rattle.ot_words.specs.Words.{asked_by};
@@ -85,19 +85,19 @@ pub fn run<H: Shelf, S: Sink>(alloc: Global, words: &[String], shelf: &mut H, ou
     requires { IfSome (asked_by (map string_bytes words.now)) (AreOffered (H.holds shelf.old) (H.offered shelf.old)) }
 
     // What is answered, of what the shelf tells and of what its calls gave.
-    ensures answered { Answers (map string_bytes words.now) (H.holds shelf.old) (H.reads shelf.old) (H.reads shelf.new)
-        (λ text. S.written out.new ≡ append_known (S.written out.old) text) result }
+    ensures answered { AnswersCommand (map string_bytes words.now) (H.holds shelf.old) (H.reads shelf.old)
+        (H.reads shelf.new) (λ text. S.written out.new ≡ append_known (S.written out.old) text) result }
 
     // What the status shows, whether the files are known as what the shelf tells or as what its calls gave.
     ensures shows { (holds : List ℕ → Option (List ℕ))
         → AreKnown (map string_bytes words.now) (H.holds shelf.old) (H.reads shelf.old) (H.reads shelf.new) holds
-        → Shows (map string_bytes words.now) holds (λ text. S.written out.new ≡ append_known (S.written out.old) text)
-        result }
+        → StatusShows (map string_bytes words.now) holds
+        (λ text. S.written out.new ≡ append_known (S.written out.old) text) result }
 
     // When the statuses of faults and of want of memory come, and what was written then.
     ensures faults { Faults (map string_bytes words.now) (H.holds shelf.old)
-        (counted (H.faults shelf.old) (H.faults shelf.new))
-        (counted (S.faults out.old) (S.faults out.new)) (S.written out.old) (S.written out.new) result }
+        (count_change (H.faults shelf.old) (H.faults shelf.new))
+        (count_change (S.faults out.old) (S.faults out.new)) (S.written out.old) (S.written out.new) result }
 
     // What is left alone.
     ensures unchanged { Unchanged H.holds H.offered H.faults shelf.old shelf.new }

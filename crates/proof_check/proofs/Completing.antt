@@ -15,10 +15,11 @@ use Rattle.proof_trees.specs.declared.token.ProofTok.TheVariants as token
 use Rattle.proof_trees.specs.Starts.{MarkedPlan, Ask, Holds, Fails, start_of, Comparison, conditions_between}
 use Rattle.proof_trees.specs.Proofs.{ProofTree, Question, End, Impossible, Lemma, Citation, Learned, with_lemma, learned, MayLearn, EachFollows, FollowsUnder}
 use Rattle.proof_trees.specs.Proofs.{Serves, Shows}
-use Rattle.proof_trees.specs.Tokens.{tokens_of, cycle_tokens, Wanted, Tree, Cycle, Learn, wanted_cycles, Completes, HasFew}
+use Rattle.proof_trees.specs.Tokens.{proof_tokens_of, cycle_tokens, Wanted, Tree, Cycle, Learn, wanted_cycles, CompletesWanted, HasFew}
 use Rattle.proof_check.specs.declared.verdict.ProofError.{ProofError}
-use Rattle.proof_check.specs.Steps.{Standing, settled, after_question, after_end, after_cycle, after_lemma, after_comparison, after_citation, after_at_tree}
-use Rattle.proof_check.specs.Steps.{after_at_cycle, after}
+use Rattle.proof_check.specs.Steps.{Standing, settled, after_proof_question, after_end, after_cycle, after_lemma, after_comparison, after_citation}
+use Rattle.proof_check.specs.Steps.{after_at_tree}
+use Rattle.proof_check.specs.Steps.{after_at_cycle, after_proof_token}
 
 -- no numbers are no cycle
 cycle_has_picks : (w : List Lit) (picks : List ℕ) → pick_verdict w picks ≡ Ok tt → 1 ≤ length picks
@@ -33,33 +34,33 @@ no_start_no_conditions compare (Some s) = refl
 module _ {S W : Type 0} (compare : Comparison S) where
   -- the tokens complete what a token left, if it was taken
   abbrev pub IsCompleted : List ProofTok → Result (Standing S W) ProofError → Type 0
-  IsCompleted tokens (Ok next) = Completes compare tokens next.wanted next.known
+  IsCompleted tokens (Ok next) = CompletesWanted compare tokens next.wanted next.known
   IsCompleted tokens (Err why) = ⊥
 
   -- lemmas that are learned at once take no token
-  Completes-settled :
+  CompletesWanted-settled :
       (tokens : List ProofTok) (known : List (Learned S W)) (wanted : List (Wanted S W))
-      → (Completes compare tokens wanted known ↔ IsCompleted tokens (Ok (settled known wanted)))
-  Completes-settled tokens known [] = (λ rest. rest, λ rest. rest)
-  Completes-settled tokens known (Tree p w ∷ wanted) = (λ rest. rest, λ rest. rest)
-  Completes-settled tokens known (Cycle w ∷ wanted) = (λ rest. rest, λ rest. rest)
-  Completes-settled tokens known (Learn p ls ∷ wanted) = Completes-settled tokens (with_lemma known p ls) wanted
+      → (CompletesWanted compare tokens wanted known ↔ IsCompleted tokens (Ok (settled known wanted)))
+  CompletesWanted-settled tokens known [] = (λ rest. rest, λ rest. rest)
+  CompletesWanted-settled tokens known (Tree p w ∷ wanted) = (λ rest. rest, λ rest. rest)
+  CompletesWanted-settled tokens known (Cycle w ∷ wanted) = (λ rest. rest, λ rest. rest)
+  CompletesWanted-settled tokens known (Learn p ls ∷ wanted) = CompletesWanted-settled tokens (with_lemma known p ls) wanted
 
   module _ (known : List (Learned S W)) (w : List Lit) (wanted : List (Wanted S W)) (tokens : List ProofTok) where
     -- a cycle
     cycle_taken :
         (picks : List ℕ) (verdict : Result (Unit {0}) PickError) → pick_verdict w picks ≡ verdict → IsCycleAmong w picks
-        → Completes compare tokens wanted known → IsCompleted tokens (after_cycle verdict known wanted)
-    cycle_taken picks (Ok done) same is later = (Completes-settled tokens known wanted).0 later
+        → CompletesWanted compare tokens wanted known → IsCompleted tokens (after_cycle verdict known wanted)
+    cycle_taken picks (Ok done) same is later = (CompletesWanted-settled tokens known wanted).0 later
     cycle_taken picks (Err why) same is later =
         let wrong : ◌≡◌ {A = Result (Unit {0}) PickError} (Ok tt) (Err why) = sym is.2 ∙ same in absurd (cc)
 
     cycle_begun :
         (picks : List ℕ) (verdict : Result (Unit {0}) PickError) → pick_verdict w picks ≡ verdict
         → length picks ≤ MAX_PICKS → IsCompleted tokens (after_cycle verdict known wanted)
-        → IsCycleAmong w picks × Completes compare tokens wanted known
+        → IsCycleAmong w picks × CompletesWanted compare tokens wanted known
     cycle_begun picks (Ok done) same few later =
-        ((cycle_has_picks w picks same, few, same), (Completes-settled tokens known wanted).1 later)
+        ((cycle_has_picks w picks same, few, same), (CompletesWanted-settled tokens known wanted).1 later)
     cycle_begun picks (Err why) same few none = absurd none
 
     -- a lemma at this start
@@ -67,13 +68,13 @@ module _ {S W : Type 0} (compare : Comparison S) where
         (start : Option S) (p : MarkedPlan S W) (ls : List Lit) (t u : ProofTree) (rest : List ProofTok)
         → MayLearn start ls known → Shows compare t p ls known
         → Shows compare u p w (with_lemma (learned t p known) p ls)
-        → tokens ≡ (tokens_of t ++ tokens_of u) ++ rest
-        → Completes compare rest wanted (learned u p (with_lemma (learned t p known) p ls))
+        → tokens ≡ (proof_tokens_of t ++ proof_tokens_of u) ++ rest
+        → CompletesWanted compare rest wanted (learned u p (with_lemma (learned t p known) p ls))
         → IsCompleted tokens (after_lemma start known ls p w wanted)
     lemma_taken None p ls t u rest may first second same later = absurd may
     lemma_taken (Some s) p ls t u rest may first second same later =
         let few : nat_lt (length known) MAX_LEMMAS ≡ true = grind (arith, nat_tests, may.1) in
-        rw few (t, tokens_of u ++ rest, first, rw (← append_assoc) same, (u, rest, second, refl, later))
+        rw few (t, proof_tokens_of u ++ rest, first, rw (← append_assoc) same, (u, rest, second, refl, later))
 
     -- tokens that complete the rest after a lemma's token begin with the lemma's own tree and the tree behind it
     lemma_begun :
@@ -81,8 +82,8 @@ module _ {S W : Type 0} (compare : Comparison S) where
         → IsCompleted tokens (after_lemma start known ls p w wanted)
         → (t u : ProofTree) × (rest : List ProofTok) × MayLearn start ls known × Shows compare t p ls known
         × Shows compare u p w (with_lemma (learned t p known) p ls)
-        × (tokens ≡ (tokens_of t ++ tokens_of u) ++ rest)
-        × Completes compare rest wanted (learned u p (with_lemma (learned t p known) p ls))
+        × (tokens ≡ (proof_tokens_of t ++ proof_tokens_of u) ++ rest)
+        × CompletesWanted compare rest wanted (learned u p (with_lemma (learned t p known) p ls))
     lemma_begun None p ls short none = absurd none
     lemma_begun (Some s) p ls short begun =
         elim (cases_Bool (nat_lt (length known) MAX_LEMMAS)) [
@@ -92,19 +93,19 @@ module _ {S W : Type 0} (compare : Comparison S) where
       where
         lemma_parts :
             length known < MAX_LEMMAS
-            → Completes compare tokens (Tree p ls ∷ Learn p ls ∷ Tree p w ∷ wanted) known
+            → CompletesWanted compare tokens (Tree p ls ∷ Learn p ls ∷ Tree p w ∷ wanted) known
             → (t u : ProofTree) × (rest : List ProofTok) × MayLearn (Some s) ls known × Shows compare t p ls known
             × Shows compare u p w (with_lemma (learned t p known) p ls)
-            × (tokens ≡ (tokens_of t ++ tokens_of u) ++ rest)
-            × Completes compare rest wanted (learned u p (with_lemma (learned t p known) p ls))
+            × (tokens ≡ (proof_tokens_of t ++ proof_tokens_of u) ++ rest)
+            × CompletesWanted compare rest wanted (learned u p (with_lemma (learned t p known) p ls))
         lemma_parts few (t, middle, first, same, (u, rest, second, same_rest, later)) =
-            let e : tokens ≡ tokens_of t ++ (tokens_of u ++ rest) = cc in
+            let e : tokens ≡ proof_tokens_of t ++ (proof_tokens_of u ++ rest) = cc in
             (t, u, rest, (short, few), first, second, rw append_assoc e, later)
 
     -- a citation whose cycles are there
     cycles_taken :
         (ls : List Lit) (cycles : List (List ℕ)) (rest : List ProofTok) → EachFollows w ls cycles
-        → Completes compare rest wanted known → Completes compare (cycle_tokens cycles ++ rest) (wanted_cycles w ls ++ wanted) known
+        → CompletesWanted compare rest wanted known → CompletesWanted compare (cycle_tokens cycles ++ rest) (wanted_cycles w ls ++ wanted) known
     cycles_taken [] [] rest follows later = later
     cycles_taken [] (c ∷ cycles) rest follows later = absurd follows
     cycles_taken (l ∷ ls) [] rest follows later = absurd follows
@@ -113,18 +114,18 @@ module _ {S W : Type 0} (compare : Comparison S) where
 
     comparison_taken :
         (conditions : Option (List Lit)) (ls : List Lit) (cycles : List (List ℕ)) (rest : List ProofTok)
-        → FollowsUnder conditions ls w cycles → tokens ≡ cycle_tokens cycles ++ rest → Completes compare rest wanted known
+        → FollowsUnder conditions ls w cycles → tokens ≡ cycle_tokens cycles ++ rest → CompletesWanted compare rest wanted known
         → IsCompleted tokens (after_comparison conditions known ls w wanted)
     comparison_taken None ls cycles rest follows same later = absurd follows
     comparison_taken (Some es) ls cycles rest follows same later =
-        (Completes-settled tokens known (wanted_cycles w (ls ++ es) ++ wanted)).0
-        (subst (λ (x : List ProofTok). Completes compare x (wanted_cycles w (ls ++ es) ++ wanted) known) (sym same)
+        (CompletesWanted-settled tokens known (wanted_cycles w (ls ++ es) ++ wanted)).0
+        (subst (λ (x : List ProofTok). CompletesWanted compare x (wanted_cycles w (ls ++ es) ++ wanted) known) (sym same)
         (cycles_taken (ls ++ es) cycles rest follows later))
 
     -- the cycles of a citation that serves, and tokens for what is wanted behind it, complete what it leaves
     citation_taken :
         (start : Option S) (found : Option (Learned S W)) (cycles : List (List ℕ)) (rest : List ProofTok)
-        → Serves compare found start w cycles → tokens ≡ cycle_tokens cycles ++ rest → Completes compare rest wanted known
+        → Serves compare found start w cycles → tokens ≡ cycle_tokens cycles ++ rest → CompletesWanted compare rest wanted known
         → IsCompleted tokens (after_citation compare start found known w wanted)
     citation_taken None None cycles rest serves same later = absurd serves
     citation_taken None (Some lemma) cycles rest serves same later =
@@ -138,9 +139,9 @@ module _ {S W : Type 0} (compare : Comparison S) where
   -- what begins with the cycles that are wanted
   cycles_begun :
       (known : List (Learned S W)) (w : List Lit) (wanted : List (Wanted S W)) (ls : List Lit) (tokens : List ProofTok)
-      → Completes compare tokens (wanted_cycles w ls ++ wanted) known
+      → CompletesWanted compare tokens (wanted_cycles w ls ++ wanted) known
       → (cycles : List (List ℕ)) × (rest : List ProofTok) × EachFollows w ls cycles
-      × (tokens ≡ cycle_tokens cycles ++ rest) × Completes compare rest wanted known
+      × (tokens ≡ cycle_tokens cycles ++ rest) × CompletesWanted compare rest wanted known
   cycles_begun known w wanted [] tokens later = ([], tokens, tt, refl, later)
   cycles_begun known w wanted (l ∷ ls) tokens (c, middle, is, same, more) =
       let others = cycles_begun known w wanted ls middle more in
@@ -150,16 +151,16 @@ module _ {S W : Type 0} (compare : Comparison S) where
     comparison_begun :
         (conditions : Option (List Lit)) (ls : List Lit) → IsCompleted tokens (after_comparison conditions known ls w wanted)
         → (cycles : List (List ℕ)) × (rest : List ProofTok) × FollowsUnder conditions ls w cycles
-        × (tokens ≡ cycle_tokens cycles ++ rest) × Completes compare rest wanted known
+        × (tokens ≡ cycle_tokens cycles ++ rest) × CompletesWanted compare rest wanted known
     comparison_begun None ls none = absurd none
     comparison_begun (Some es) ls begun =
         cycles_begun known w wanted (ls ++ es) tokens
-        ((Completes-settled tokens known (wanted_cycles w (ls ++ es) ++ wanted)).1 begun)
+        ((CompletesWanted-settled tokens known (wanted_cycles w (ls ++ es) ++ wanted)).1 begun)
 
     citation_begun :
         (start : Option S) (found : Option (Learned S W)) → IsCompleted tokens (after_citation compare start found known w wanted)
         → (cycles : List (List ℕ)) × (rest : List ProofTok) × Serves compare found start w cycles
-        × (tokens ≡ cycle_tokens cycles ++ rest) × Completes compare rest wanted known
+        × (tokens ≡ cycle_tokens cycles ++ rest) × CompletesWanted compare rest wanted known
     citation_begun None found none = absurd none
     citation_begun (Some here) None none = absurd none
     citation_begun (Some here) (Some lemma) begun = comparison_begun (conditions_between compare (start_of lemma.plan) (Some here)) lemma.literals begun
@@ -167,45 +168,45 @@ module _ {S W : Type 0} (compare : Comparison S) where
     -- a question
     question_taken :
         (p : MarkedPlan S W) (t u : ProofTree) (rest : List ProofTok) → Shows compare (Question t u) p w known
-        → tokens ≡ (tokens_of t ++ tokens_of u) ++ rest → Completes compare rest wanted (learned (Question t u) p known)
-        → IsCompleted tokens (after_question known p w wanted)
+        → tokens ≡ (proof_tokens_of t ++ proof_tokens_of u) ++ rest → CompletesWanted compare rest wanted (learned (Question t u) p known)
+        → IsCompleted tokens (after_proof_question known p w wanted)
     question_taken (Ask start l on_yes on_no) t u rest shows same later =
-        (t, tokens_of u ++ rest, shows.0, rw (← append_assoc) same, (u, rest, shows.1, refl, later))
+        (t, proof_tokens_of u ++ rest, shows.0, rw (← append_assoc) same, (u, rest, shows.1, refl, later))
     question_taken (Holds start) t u rest shows same later = absurd shows
     question_taken (Fails start why) t u rest shows same later = absurd shows
 
     question_begun :
-        (p : MarkedPlan S W) → IsCompleted tokens (after_question known p w wanted)
-        → Completes compare (token.Ask ∷ tokens) (Tree p w ∷ wanted) known
+        (p : MarkedPlan S W) → IsCompleted tokens (after_proof_question known p w wanted)
+        → CompletesWanted compare (token.Ask ∷ tokens) (Tree p w ∷ wanted) known
     question_begun (Ask start l on_yes on_no) (t, middle, at_yes, same, (u, rest, at_no, same_rest, later)) =
-        let e : tokens ≡ tokens_of t ++ (tokens_of u ++ rest) = cc in
-        let f : tokens ≡ (tokens_of t ++ tokens_of u) ++ rest = rw append_assoc e in
+        let e : tokens ≡ proof_tokens_of t ++ (proof_tokens_of u ++ rest) = cc in
+        let f : tokens ≡ (proof_tokens_of t ++ proof_tokens_of u) ++ rest = rw append_assoc e in
         (Question t u, rest, (at_yes, at_no), ap (λ (x : List ProofTok). token.Ask ∷ x) f, later)
     question_begun (Holds start) none = absurd none
     question_begun (Fails start why) none = absurd none
 
     -- an end
     end_taken :
-        (p : MarkedPlan S W) → Shows compare End p w known → Completes compare tokens wanted known
+        (p : MarkedPlan S W) → Shows compare End p w known → CompletesWanted compare tokens wanted known
         → IsCompleted tokens (after_end known p wanted)
     end_taken (Ask start l on_yes on_no) shows later = absurd shows
-    end_taken (Holds start) shows later = (Completes-settled tokens known wanted).0 later
+    end_taken (Holds start) shows later = (CompletesWanted-settled tokens known wanted).0 later
     end_taken (Fails start why) shows later = absurd shows
 
     end_begun :
         (p : MarkedPlan S W) → IsCompleted tokens (after_end known p wanted)
-        → Shows compare End p w known × Completes compare tokens wanted known
+        → Shows compare End p w known × CompletesWanted compare tokens wanted known
     end_begun (Ask start l on_yes on_no) none = absurd none
-    end_begun (Holds start) later = (tt, (Completes-settled tokens known wanted).1 later)
+    end_begun (Holds start) later = (tt, (CompletesWanted-settled tokens known wanted).1 later)
     end_begun (Fails start why) none = absurd none
 
     -- any token where a tree is wanted, by the tree that it begins
     taken_at_tree :
         (tok : ProofTok) (p : MarkedPlan S W) (t : ProofTree) (rest : List ProofTok) → Shows compare t p w known
-        → tok ∷ tokens ≡ tokens_of t ++ rest → Completes compare rest wanted (learned t p known)
+        → tok ∷ tokens ≡ proof_tokens_of t ++ rest → CompletesWanted compare rest wanted (learned t p known)
         → IsCompleted tokens (after_at_tree compare tok known p w wanted)
     taken_at_tree token.Ask p (Question t u) rest shows same later =
-        let e : tokens ≡ (tokens_of t ++ tokens_of u) ++ rest = cc in question_taken p t u rest shows e later
+        let e : tokens ≡ (proof_tokens_of t ++ proof_tokens_of u) ++ rest = cc in question_taken p t u rest shows e later
     taken_at_tree token.Ask p End rest shows same later = absurd (cc)
     taken_at_tree token.Ask p (Impossible picks) rest shows same later = absurd (cc)
     taken_at_tree token.Ask p (Lemma ls t u) rest shows same later = absurd (cc)
@@ -213,7 +214,7 @@ module _ {S W : Type 0} (compare : Comparison S) where
     taken_at_tree token.Holds p (Question t u) rest shows same later = absurd (cc)
     taken_at_tree token.Holds p End rest shows same later =
         let e : rest ≡ tokens = cc in
-        end_taken p shows (subst (λ (x : List ProofTok). Completes compare x wanted known) e later)
+        end_taken p shows (subst (λ (x : List ProofTok). CompletesWanted compare x wanted known) e later)
     taken_at_tree token.Holds p (Impossible picks) rest shows same later = absurd (cc)
     taken_at_tree token.Holds p (Lemma ls t u) rest shows same later = absurd (cc)
     taken_at_tree token.Holds p (Citation number cycles) rest shows same later = absurd (cc)
@@ -224,18 +225,18 @@ module _ {S W : Type 0} (compare : Comparison S) where
         let f : others ≡ picks = cc in
         cycle_taken known w wanted tokens picks (pick_verdict w picks) refl
         (subst (λ (x : List ℕ). IsCycleAmong w x) f shows)
-        (subst (λ (x : List ProofTok). Completes compare x wanted known) e later)
+        (subst (λ (x : List ProofTok). CompletesWanted compare x wanted known) e later)
     taken_at_tree (token.Cycle picks) p (Lemma ls t u) rest shows same later = absurd (cc)
     taken_at_tree (token.Cycle picks) p (Citation number cycles) rest shows same later = absurd (cc)
     taken_at_tree (token.Lemma ls) p (Question t u) rest shows same later = absurd (cc)
     taken_at_tree (token.Lemma ls) p End rest shows same later = absurd (cc)
     taken_at_tree (token.Lemma ls) p (Impossible picks) rest shows same later = absurd (cc)
     taken_at_tree (token.Lemma ls) p (Lemma others t u) rest shows same later =
-        let e : tokens ≡ (tokens_of t ++ tokens_of u) ++ rest = cc in
+        let e : tokens ≡ (proof_tokens_of t ++ proof_tokens_of u) ++ rest = cc in
         let f : others ≡ ls = cc in
         let both =
         subst
-        (λ (x : List Lit). Shows compare (Lemma x t u) p w known × Completes compare rest wanted (learned (Lemma x t u) p known)) f
+        (λ (x : List Lit). Shows compare (Lemma x t u) p w known × CompletesWanted compare rest wanted (learned (Lemma x t u) p known)) f
         (shows, later) in
         lemma_taken known w wanted tokens (start_of p) p ls t u rest both.0.0 both.0.1 both.0.2 e both.1
     taken_at_tree (token.Lemma ls) p (Citation number cycles) rest shows same later = absurd (cc)
@@ -252,7 +253,7 @@ module _ {S W : Type 0} (compare : Comparison S) where
     -- any token where a tree is wanted begins a tree that shows the plan, if tokens complete what it leaves
     begun_at_tree :
         (tok : ProofTok) (p : MarkedPlan S W) → HasFew tok → IsCompleted tokens (after_at_tree compare tok known p w wanted)
-        → Completes compare (tok ∷ tokens) (Tree p w ∷ wanted) known
+        → CompletesWanted compare (tok ∷ tokens) (Tree p w ∷ wanted) known
     begun_at_tree token.Ask p few begun = question_begun p begun
     begun_at_tree token.Holds p few begun =
         let held = end_begun p begun in (End, tokens, held.0, refl, held.1)
@@ -268,7 +269,7 @@ module _ {S W : Type 0} (compare : Comparison S) where
 
     -- any token where a cycle is wanted
     taken_at_cycle :
-        (tok : ProofTok) → Completes compare (tok ∷ tokens) (Cycle w ∷ wanted) known
+        (tok : ProofTok) → CompletesWanted compare (tok ∷ tokens) (Cycle w ∷ wanted) known
         → IsCompleted tokens (after_at_cycle tok known w wanted)
     taken_at_cycle token.Ask (picks, rest, is, same, later) = absurd (cc)
     taken_at_cycle token.Holds (picks, rest, is, same, later) = absurd (cc)
@@ -277,13 +278,13 @@ module _ {S W : Type 0} (compare : Comparison S) where
         let f : others ≡ picks = cc in
         cycle_taken known w wanted tokens picks (pick_verdict w picks) refl
         (subst (λ (x : List ℕ). IsCycleAmong w x) f is)
-        (subst (λ (x : List ProofTok). Completes compare x wanted known) e later)
+        (subst (λ (x : List ProofTok). CompletesWanted compare x wanted known) e later)
     taken_at_cycle (token.Lemma ls) (picks, rest, is, same, later) = absurd (cc)
     taken_at_cycle (token.Cite number) (picks, rest, is, same, later) = absurd (cc)
 
     begun_at_cycle :
         (tok : ProofTok) → HasFew tok → IsCompleted tokens (after_at_cycle tok known w wanted)
-        → Completes compare (tok ∷ tokens) (Cycle w ∷ wanted) known
+        → CompletesWanted compare (tok ∷ tokens) (Cycle w ∷ wanted) known
     begun_at_cycle token.Ask few none = absurd none
     begun_at_cycle token.Holds few none = absurd none
     begun_at_cycle (token.Cycle picks) few begun =
@@ -292,43 +293,43 @@ module _ {S W : Type 0} (compare : Comparison S) where
     begun_at_cycle (token.Lemma ls) few none = absurd none
     begun_at_cycle (token.Cite number) few none = absurd none
 
-  Completes-taken :
+  CompletesWanted-taken :
       (tok : ProofTok) (tokens : List ProofTok) (known : List (Learned S W)) (wanted : List (Wanted S W))
-      → Completes compare (tok ∷ tokens) wanted known → IsCompleted tokens (after compare tok known wanted)
-  Completes-taken tok tokens known [] whole = absurd (cc)
-  Completes-taken tok tokens known (Tree p w ∷ wanted) (t, rest, shows, same, later) =
+      → CompletesWanted compare (tok ∷ tokens) wanted known → IsCompleted tokens (after_proof_token compare tok known wanted)
+  CompletesWanted-taken tok tokens known [] whole = absurd (cc)
+  CompletesWanted-taken tok tokens known (Tree p w ∷ wanted) (t, rest, shows, same, later) =
       taken_at_tree known w wanted tokens tok p t rest shows same later
-  Completes-taken tok tokens known (Cycle w ∷ wanted) whole = taken_at_cycle known w wanted tokens tok whole
-  Completes-taken tok tokens known (Learn p ls ∷ wanted) whole =
-      Completes-taken tok tokens (with_lemma known p ls) wanted whole
+  CompletesWanted-taken tok tokens known (Cycle w ∷ wanted) whole = taken_at_cycle known w wanted tokens tok whole
+  CompletesWanted-taken tok tokens known (Learn p ls ∷ wanted) whole =
+      CompletesWanted-taken tok tokens (with_lemma known p ls) wanted whole
 
-  Completes-begun :
+  CompletesWanted-begun :
       (tok : ProofTok) (tokens : List ProofTok) (known : List (Learned S W)) (wanted : List (Wanted S W)) → HasFew tok
-      → IsCompleted tokens (after compare tok known wanted) → Completes compare (tok ∷ tokens) wanted known
-  Completes-begun tok tokens known [] few none = absurd none
-  Completes-begun tok tokens known (Tree p w ∷ wanted) few begun = begun_at_tree known w wanted tokens tok p few begun
-  Completes-begun tok tokens known (Cycle w ∷ wanted) few begun = begun_at_cycle known w wanted tokens tok few begun
-  Completes-begun tok tokens known (Learn p ls ∷ wanted) few begun =
-      Completes-begun tok tokens (with_lemma known p ls) wanted few begun
+      → IsCompleted tokens (after_proof_token compare tok known wanted) → CompletesWanted compare (tok ∷ tokens) wanted known
+  CompletesWanted-begun tok tokens known [] few none = absurd none
+  CompletesWanted-begun tok tokens known (Tree p w ∷ wanted) few begun = begun_at_tree known w wanted tokens tok p few begun
+  CompletesWanted-begun tok tokens known (Cycle w ∷ wanted) few begun = begun_at_cycle known w wanted tokens tok few begun
+  CompletesWanted-begun tok tokens known (Learn p ls ∷ wanted) few begun =
+      CompletesWanted-begun tok tokens (with_lemma known p ls) wanted few begun
 
   -- a token that is taken leaves what the others complete
-  pub Completes-step :
+  pub CompletesWanted-step :
       (tok : ProofTok) (tokens : List ProofTok) (known : List (Learned S W)) (wanted : List (Wanted S W))
-      (next : Standing S W) → HasFew tok → after compare tok known wanted ≡ Ok next
-      → (Completes compare (tok ∷ tokens) wanted known ↔ Completes compare tokens next.wanted next.known)
-  Completes-step tok tokens known wanted next few taken = (
+      (next : Standing S W) → HasFew tok → after_proof_token compare tok known wanted ≡ Ok next
+      → (CompletesWanted compare (tok ∷ tokens) wanted known ↔ CompletesWanted compare tokens next.wanted next.known)
+  CompletesWanted-step tok tokens known wanted next few taken = (
     λ whole.
         subst (λ (x : Result (Standing S W) ProofError). IsCompleted tokens x) taken
-        (Completes-taken tok tokens known wanted whole),
+        (CompletesWanted-taken tok tokens known wanted whole),
     λ rest.
-        Completes-begun tok tokens known wanted few
+        CompletesWanted-begun tok tokens known wanted few
         (subst (λ (x : Result (Standing S W) ProofError). IsCompleted tokens x) (sym taken) rest),
   )
 
   -- a token that is refused begins nothing that completes them
-  pub Completes-refused :
+  pub CompletesWanted-refused :
       (tok : ProofTok) (tokens : List ProofTok) (known : List (Learned S W)) (wanted : List (Wanted S W)) (why : ProofError)
-      → after compare tok known wanted ≡ Err why → Completes compare (tok ∷ tokens) wanted known → ⊥
-  Completes-refused tok tokens known wanted why refused whole =
+      → after_proof_token compare tok known wanted ≡ Err why → CompletesWanted compare (tok ∷ tokens) wanted known → ⊥
+  CompletesWanted-refused tok tokens known wanted why refused whole =
       subst (λ (x : Result (Standing S W) ProofError). IsCompleted tokens x) refused
-      (Completes-taken tok tokens known wanted whole)
+      (CompletesWanted-taken tok tokens known wanted whole)

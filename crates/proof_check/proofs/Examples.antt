@@ -11,7 +11,7 @@ use Rattle.proof_trees.specs.Proofs.{Learned}
 use Rattle.proof_trees.specs.Tokens.{Wanted, Tree, Cycle, Learn}
 use Rattle.proof_check.specs.declared.verdict.ProofError.{ProofError}
 use Rattle.proof_check.specs.declared.verdict.ProofError.TheVariants as error
-use Rattle.proof_check.specs.Steps.{Standing, after}
+use Rattle.proof_check.specs.Steps.{Standing, after_proof_token}
 
 -- name 1 is at most name 2, and its negation; name 3 is at most name 4, and its negation
 abbrev at_most : Lit
@@ -47,70 +47,70 @@ lemma = record { plan = start_plan 3; literals = at_most ∷ [] }
 
 -- a lemma is begun: its own tree, under its own literal alone, then it is known, then the place goes on
 after-lemma :
-    after alike (token.Lemma (at_most ∷ [])) [] (Tree (start_plan 3) (at_most ∷ other ∷ []) ∷ [])
+    after_proof_token alike (token.Lemma (at_most ∷ [])) [] (Tree (start_plan 3) (at_most ∷ other ∷ []) ∷ [])
     ≡ standing []
     (Tree (start_plan 3) (at_most ∷ []) ∷ Learn (start_plan 3) (at_most ∷ []) ∷ Tree (start_plan 3) (at_most ∷ other ∷ []) ∷ [])
 after-lemma = refl
 
 -- the last token of its tree makes it known; the cycle is one of its own list
 after-last_of_the_lemma :
-    after alike (token.Cycle (0 ∷ 1 ∷ [])) []
+    after_proof_token alike (token.Cycle (0 ∷ 1 ∷ [])) []
     (Tree (Fails None 7) (at_most ∷ above ∷ []) ∷ Learn (start_plan 3) (at_most ∷ []) ∷ Tree (start_plan 3) (at_most ∷ other ∷ []) ∷ [])
     ≡ standing (lemma ∷ []) (Tree (start_plan 3) (at_most ∷ other ∷ []) ∷ [])
 after-last_of_the_lemma = refl
 
 -- it is cited where the same start is: its literal has to follow from the list there
 after-citation :
-    after alike (token.Cite 0) (lemma ∷ []) (Tree (start_plan 3) (at_most ∷ other ∷ []) ∷ [])
+    after_proof_token alike (token.Cite 0) (lemma ∷ []) (Tree (start_plan 3) (at_most ∷ other ∷ []) ∷ [])
     ≡ standing (lemma ∷ []) (Cycle (at_most ∷ other ∷ above ∷ []) ∷ [])
 after-citation = refl
 
 -- at another start the condition has to follow too, after the literal
 after-citation_under_a_condition :
-    after alike (token.Cite 0) (lemma ∷ []) (Tree (start_plan 5) (at_most ∷ other ∷ []) ∷ [])
+    after_proof_token alike (token.Cite 0) (lemma ∷ []) (Tree (start_plan 5) (at_most ∷ other ∷ []) ∷ [])
     ≡ standing (lemma ∷ []) (Cycle (at_most ∷ other ∷ above ∷ []) ∷ Cycle (at_most ∷ other ∷ not_other ∷ []) ∷ [])
 after-citation_under_a_condition = refl
 
 -- the last cycle closes the last place
 after-last_cycle :
-    after alike (token.Cycle (0 ∷ 2 ∷ [])) (lemma ∷ []) (Cycle (at_most ∷ other ∷ above ∷ []) ∷ []) ≡ standing (lemma ∷ []) []
+    after_proof_token alike (token.Cycle (0 ∷ 2 ∷ [])) (lemma ∷ []) (Cycle (at_most ∷ other ∷ above ∷ []) ∷ []) ≡ standing (lemma ∷ []) []
 after-last_cycle = refl
 
 -- a lemma without literals at the same start needs no cycles
 after-citation_of_no_literals :
-    after equal (token.Cite 0) (record { plan = start_plan 3; literals = [] } ∷ [])
+    after_proof_token equal (token.Cite 0) (record { plan = start_plan 3; literals = [] } ∷ [])
     (Tree (start_plan 3) [] ∷ Learn (start_plan 3) (other ∷ []) ∷ Tree (start_plan 3) (other ∷ []) ∷ [])
     ≡ standing (record { plan = start_plan 3; literals = [] } ∷ record { plan = start_plan 3; literals = other ∷ [] } ∷ [])
     (Tree (start_plan 3) (other ∷ []) ∷ [])
 after-citation_of_no_literals = refl
 
 -- a refusal of each kind
-after-lemma_at_no_start : after equal (token.Lemma []) (lemma ∷ []) (Tree (Holds None) [] ∷ []) ≡ Err error.NoStart
+after-lemma_at_no_start : after_proof_token equal (token.Lemma []) (lemma ∷ []) (Tree (Holds None) [] ∷ []) ≡ Err error.NoStart
 after-lemma_at_no_start = refl
 
-after-citation_at_no_start : after equal (token.Cite 0) (lemma ∷ []) (Tree (Holds None) [] ∷ []) ≡ Err error.NoStart
+after-citation_at_no_start : after_proof_token equal (token.Cite 0) (lemma ∷ []) (Tree (Holds None) [] ∷ []) ≡ Err error.NoStart
 after-citation_at_no_start = refl
 
 after-lemma_within_itself :
-    after equal (token.Cite 0) [] (Tree (start_plan 3) [] ∷ Learn (start_plan 3) [] ∷ Tree (start_plan 3) [] ∷ [])
+    after_proof_token equal (token.Cite 0) [] (Tree (start_plan 3) [] ∷ Learn (start_plan 3) [] ∷ Tree (start_plan 3) [] ∷ [])
     ≡ Err error.UnknownLemma
 after-lemma_within_itself = refl
 
-after-other_start : after equal (token.Cite 0) (lemma ∷ []) (Tree (start_plan 5) [] ∷ []) ≡ Err error.OtherStart
+after-other_start : after_proof_token equal (token.Cite 0) (lemma ∷ []) (Tree (start_plan 5) [] ∷ []) ≡ Err error.OtherStart
 after-other_start = refl
 
 after-question_for_a_cycle :
-    after equal token.Ask (lemma ∷ []) (Cycle (at_most ∷ above ∷ []) ∷ []) ≡ Err (error.Tree check.NotAQuestion)
+    after_proof_token equal token.Ask (lemma ∷ []) (Cycle (at_most ∷ above ∷ []) ∷ []) ≡ Err (error.Tree check.NotAQuestion)
 after-question_for_a_cycle = refl
 
 after-end_for_a_cycle :
-    after equal token.Holds (lemma ∷ []) (Cycle (at_most ∷ above ∷ []) ∷ []) ≡ Err (error.Tree check.GoalFails)
+    after_proof_token equal token.Holds (lemma ∷ []) (Cycle (at_most ∷ above ∷ []) ∷ []) ≡ Err (error.Tree check.GoalFails)
 after-end_for_a_cycle = refl
 
 after-lemma_for_a_cycle :
-    after equal (token.Lemma []) (lemma ∷ []) (Cycle (at_most ∷ above ∷ []) ∷ []) ≡ Err error.NoStart
+    after_proof_token equal (token.Lemma []) (lemma ∷ []) (Cycle (at_most ∷ above ∷ []) ∷ []) ≡ Err error.NoStart
 after-lemma_for_a_cycle = refl
 
 after-cycle_of_another_literal :
-    after equal (token.Cycle (1 ∷ 2 ∷ [])) (lemma ∷ []) (Cycle (at_most ∷ other ∷ above ∷ []) ∷ []) ≡ Err (error.Tree check.NotACycle)
+    after_proof_token equal (token.Cycle (1 ∷ 2 ∷ [])) (lemma ∷ []) (Cycle (at_most ∷ other ∷ above ∷ []) ∷ []) ≡ Err (error.Tree check.NotACycle)
 after-cycle_of_another_literal = refl

@@ -15,7 +15,7 @@ use Rattle.proof_check.specs.declared.places.WaitingPlace.{WaitingPlace}
 use Rattle.proof_check.specs.declared.places.WaitingPlace.TheVariants as waiting
 use Rattle.proof_check.specs.Parts.{AreCycles, cycle_part, without_cycles}
 use Rattle.proof_check.specs.Places.{WantedAt, Tree, OpenProof, first_list, settled_at, closed, asked, begun, cited, cycles_at, literals_at, place_at, behind}
-use Rattle.proof_check.specs.Places.{IsNested, open_proof, IsOpenPath}
+use Rattle.proof_check.specs.Places.{AreNestedParts, open_proof, IsOpenPath}
 
 -- a list, cut before its last element
 pushed_at :
@@ -59,18 +59,18 @@ reverse-push xs x = reverse-append xs (x ∷ [])
 
 module _ {N : Type 0} where
   -- a higher limit is kept too
-  pub IsNested-more :
-      (base low high : ℕ) (parts : List (WaitingPlace N)) → low ≤ high → IsNested base low parts → IsNested base high parts
-  IsNested-more base low high [] less nested = tt
-  IsNested-more base low high (waiting.Place place depth answer ∷ parts) less nested =
+  pub AreNestedParts-more :
+      (base low high : ℕ) (parts : List (WaitingPlace N)) → low ≤ high → AreNestedParts base low parts → AreNestedParts base high parts
+  AreNestedParts-more base low high [] less nested = tt
+  AreNestedParts-more base low high (waiting.Place place depth answer ∷ parts) less nested =
       (nested.0, omega (arith, nested.1), nested.2)
-  IsNested-more base low high (waiting.Lemma n below count ∷ parts) less nested =
+  AreNestedParts-more base low high (waiting.Lemma n below count ∷ parts) less nested =
       (nested.0, omega (arith, nested.1), nested.2)
 
   -- parts that wait see the shared literals alone
   behind-same :
       (base limit : ℕ) (u w : List Lit) (parts : List (WaitingPlace N)) → ((k : ℕ) → k ≤ limit → take k u ≡ take k w)
-      → IsNested base limit parts → behind base u parts ≡ behind base w parts
+      → AreNestedParts base limit parts → behind base u parts ≡ behind base w parts
   behind-same base limit u w [] same nested = refl
   behind-same base limit u w (waiting.Place place depth answer ∷ parts) same nested =
       let here : take depth u ≡ take depth w = same depth nested.1 in
@@ -111,7 +111,7 @@ module _ {N : Type 0} where
       let more : length u ≡ length list + 1 = rw (longer, length-append) refl in
       record {
         within = omega (arith, more, path.within);
-        nested = IsNested-more base (length list) (length u) (reverse parts) (omega (arith, more)) path.nested;
+        nested = AreNestedParts-more base (length list) (length u) (reverse parts) (omega (arith, more)) path.nested;
       }
 
   -- the innermost part that waits is taken out
@@ -124,7 +124,7 @@ module _ {N : Type 0} where
       let long : length (take depth list) ≡ depth = length-take-le depth list nested.1 in
       record {
         within = omega (arith, long, nested.0);
-        nested = IsNested-more base depth (length (take depth list)) (reverse rest) (omega (arith, long)) nested.2;
+        nested = AreNestedParts-more base depth (length (take depth list)) (reverse rest) (omega (arith, long)) nested.2;
       }
 
   -- the path around a lemma has the list as it was when the lemma began
@@ -137,7 +137,7 @@ module _ {N : Type 0} where
       let long : length (take base list) ≡ base = length-take-le base list (omega (arith, nested.1)) in
       record {
         within = omega (arith, long, nested.0);
-        nested = IsNested-more below base (length (take base list)) (reverse rest) (omega (arith, long)) nested.2;
+        nested = AreNestedParts-more below base (length (take base list)) (reverse rest) (omega (arith, long)) nested.2;
       }
 
   -- a lemma's literals more, and its place waits
@@ -158,7 +158,7 @@ module _ {N : Type 0} where
       let more : length u ≡ length list + length ls = rw (longer, length-append) refl in
       record {
         within = omega (arith, more, path.within);
-        nested = IsNested-more base (length list) (length u) (reverse parts) (omega (arith, more)) path.nested;
+        nested = AreNestedParts-more base (length list) (length u) (reverse parts) (omega (arith, more)) path.nested;
       }
 
   -- a lemma is begun: its tree is wanted after its own literals, and the place where it was begun waits
@@ -234,8 +234,8 @@ module _ {N : Type 0} where
 
   -- parts that wait for cycles of the present list
   cycle_parts_nested :
-      (base limit : ℕ) (ls : List Lit) (parts : List (WaitingPlace N)) → base ≤ limit → IsNested base limit parts
-      → IsNested base limit (map (cycle_part limit) ls ++ parts)
+      (base limit : ℕ) (ls : List Lit) (parts : List (WaitingPlace N)) → base ≤ limit → AreNestedParts base limit parts
+      → AreNestedParts base limit (map (cycle_part limit) ls ++ parts)
   cycle_parts_nested base limit [] parts within nested = nested
   cycle_parts_nested base limit (l ∷ ls) parts within nested =
       (within, omega arith, cycle_parts_nested base limit ls parts within nested)
@@ -324,14 +324,14 @@ module _ {N : Type 0} where
   -- parts that wait for cycles are forgotten
   cycles_dropped :
       (base limit count : ℕ) (list : List Lit) (parts : List (WaitingPlace N)) → AreCycles count (behind base list parts)
-      → IsNested base limit parts
+      → AreNestedParts base limit parts
       → (count ≤ length parts) × (behind base list (drop count parts) ≡ drop count (behind base list parts))
-      × IsNested base limit (drop count parts)
+      × AreNestedParts base limit (drop count parts)
   cycles_dropped base limit zero list parts cycles nested = (omega arith, refl, nested)
   cycles_dropped base limit (suc count) list [] cycles nested = absurd cycles
   cycles_dropped base limit (suc count) list (waiting.Place (at.Tree n) depth answer ∷ parts) cycles nested = absurd cycles
   cycles_dropped base limit (suc count) list (waiting.Place at.Cycle depth answer ∷ parts) cycles nested =
-      let later = cycles_dropped base limit count list parts cycles (IsNested-more base depth limit parts nested.1 nested.2) in
+      let later = cycles_dropped base limit count list parts cycles (AreNestedParts-more base depth limit parts nested.1 nested.2) in
       (omega (arith, later.0), later.1, later.2)
   cycles_dropped base limit (suc count) list (waiting.Lemma n below size ∷ parts) cycles nested = absurd cycles
 

@@ -16,9 +16,9 @@ use Rattle.proof_trees.specs.Proofs.{Learned}
 use Rattle.proof_trees.specs.Tokens.{Wanted, wanted_cycles}
 use Rattle.proof_trees.specs.Tokens as plan
 use Rattle.proof_check.specs.declared.places.Known.{Known}
-use Rattle.proof_check.specs.Places.{WantedAt, Tree, Cycle, Learn, OpenProof, IsSettled, first_node, first_list, asked, closed, begun, cited, cycles_at}
+use Rattle.proof_check.specs.Places.{WantedAt, Tree, Cycle, Learn, OpenProof, AreSettledPlaces, first_node, first_list, asked, closed, begun, cited, cycles_at}
 use Rattle.proof_check.specs.Places.{settled_at, wanted_of, learned_of, standing_of}
-use Rattle.proof_check.specs.Steps.{settled, IsTaken, after, after_at_cycle, after_at_tree}
+use Rattle.proof_check.specs.Steps.{settled, IsTaken, after_proof_token, after_at_cycle, after_at_tree}
 
 module _ {N S W : Type 0} (marked : N → MarkedPlan S W) where
   abbrev open_at : List (Known N) → List (WantedAt N) → OpenProof N
@@ -69,7 +69,7 @@ module _ {N S W : Type 0} (marked : N → MarkedPlan S W) where
     end_taken (Learn m ls ∷ wanted) n start first begins = absurd (cc)
 
     pub cycle_taken :
-        (wanted : List (WantedAt N)) (picks : List ℕ) → IsSettled wanted → 0 < length wanted
+        (wanted : List (WantedAt N)) (picks : List ℕ) → AreSettledPlaces wanted → 0 < length wanted
         → pick_verdict (first_list wanted) picks ≡ Ok tt
         → IsTaken compare (token.Cycle picks) (standing_of marked (open_at known wanted))
         (standing_of marked (closed (open_at known wanted)))
@@ -116,7 +116,7 @@ module _ {N S W : Type 0} (marked : N → MarkedPlan S W) where
     -- any token at the first place, where a tree is wanted there
     pub after_first_tree :
         (wanted : List (WantedAt N)) (tok : ProofTok) (n : N) → first_node wanted ≡ Some n
-        → after compare tok (map (learned_of marked) known) (map (wanted_of marked) wanted)
+        → after_proof_token compare tok (map (learned_of marked) known) (map (wanted_of marked) wanted)
         ≡ after_at_tree compare tok (map (learned_of marked) known) (marked n) (first_list wanted)
         (drop 1 (map (wanted_of marked) wanted))
     after_first_tree [] tok n first = absurd (cc)
@@ -126,8 +126,8 @@ module _ {N S W : Type 0} (marked : N → MarkedPlan S W) where
 
     -- and where a cycle is wanted
     pub after_first_cycle :
-        (wanted : List (WantedAt N)) (tok : ProofTok) → IsSettled wanted → 0 < length wanted → first_node wanted ≡ None
-        → after compare tok (map (learned_of marked) known) (map (wanted_of marked) wanted)
+        (wanted : List (WantedAt N)) (tok : ProofTok) → AreSettledPlaces wanted → 0 < length wanted → first_node wanted ≡ None
+        → after_proof_token compare tok (map (learned_of marked) known) (map (wanted_of marked) wanted)
         ≡ after_at_cycle tok (map (learned_of marked) known) (first_list wanted) (drop 1 (map (wanted_of marked) wanted))
     after_first_cycle [] tok settled some none = absurd (omega arith)
     after_first_cycle (Tree m w ∷ wanted) tok settled some none = absurd (cc)

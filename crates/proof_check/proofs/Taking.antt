@@ -13,16 +13,16 @@ use Rattle.proof_trees.specs.declared.token.ProofTok.TheVariants as token
 use Rattle.proof_trees.specs.Starts.{MarkedPlan, Ask, Holds, start_of, unmarked, Comparison, conditions_between, IsMarkedBy, IsLawful}
 use Rattle.proof_trees.specs.Proofs.{ProofTree, Shows}
 use Rattle.proof_trees.specs.Starters.{Starts, KeepsStarts, IsWhole}
-use Rattle.proof_trees.specs.Tokens.{Completes, HasFew}
+use Rattle.proof_trees.specs.Tokens.{CompletesWanted, HasFew}
 use Rattle.proof_trees.specs.Truth.{HoldsUnder}
 use Rattle.proof_check.specs.declared.places.Known.{Known}
 use Rattle.proof_check.specs.declared.verdict.ProofError.{ProofError}
 use Rattle.proof_check.specs.declared.verdict.ProofError.TheVariants as error
-use Rattle.proof_check.specs.Places.{WantedAt, Tree, Cycle, Learn, OpenProof, AreOwnPlaces, IsSettled, first_node, first_list, asked, closed, cited}
+use Rattle.proof_check.specs.Places.{WantedAt, Tree, Cycle, Learn, OpenProof, AreOwnPlaces, AreSettledPlaces, first_node, first_list, asked, closed, cited}
 use Rattle.proof_check.specs.Places.{literals_at, wanted_of, learned_of}
-use Rattle.proof_check.specs.Steps.{Standing, after, IsTaken}
-use Rattle.proof_check.specs.Judging.{IsUnderWay, IsUnderWayUnless, standing_over, AreCompleted, IsCauseOf, IsRefusedBy, IsWant}
-use Rattle.proof_check.proofs.Completing.{Completes-step, Completes-refused}
+use Rattle.proof_check.specs.Steps.{Standing, after_proof_token, IsTaken}
+use Rattle.proof_check.specs.Judging.{IsProofUnderWay, IsUnderWayUnless, standing_over, AreCompleted, IsProofCauseOf, IsRefusedBy, IsWantOfMemory}
+use Rattle.proof_check.proofs.Completing.{CompletesWanted-step, CompletesWanted-refused}
 use Rattle.proof_check.proofs.Keeping.{standing_kept, own_closed}
 use Rattle.proof_check.proofs.Standings.{question_taken, end_taken, cycle_taken, citation_taken}
 
@@ -87,15 +87,15 @@ module _ {N S W : Type 0} {was_own is_own : N → Type 0} {old new : Starts N S 
       (citation_taken new.marked new.compare p.known p.wanted n here.0 number k.0 es first here.1 k.1 same))
 
   -- a token that is taken keeps that the asker's plan follows from what is wanted
-  pub IsUnderWay-taken :
-      (tok : ProofTok) (next : OpenProof N) → IsUnderWay was_own old p → AreOwnPlaces is_own next → HasFew tok
-      → IsTaken old.compare tok (standing_over old p) (standing_over new next) → IsUnderWay is_own new next
-  IsUnderWay-taken tok next way own_next few taken = record {
+  pub IsProofUnderWay-taken :
+      (tok : ProofTok) (next : OpenProof N) → IsProofUnderWay was_own old p → AreOwnPlaces is_own next → HasFew tok
+      → IsTaken old.compare tok (standing_over old p) (standing_over new next) → IsProofUnderWay is_own new next
+  IsProofUnderWay-taken tok next way own_next few taken = record {
     own = own_next;
     follows = λ tokens rest.
         subst (λ (q : MarkedPlan S W). HoldsUnder [] (unmarked q)) (sym keeps.root)
         (way.follows (tok ∷ tokens)
-        ((Completes-step old.compare tok tokens (standing_over old p).known (standing_over old p).wanted (standing_over new next) few
+        ((CompletesWanted-step old.compare tok tokens (standing_over old p).known (standing_over old p).wanted (standing_over new next) few
         taken).1
         (subst (λ (c : Comparison S). AreCompleted c tokens (standing_over new next)) keeps.compare rest)));
   }
@@ -108,16 +108,16 @@ pub step_done :
 step_done compare tok old starts next closed few taken tokens =
     subst
     (λ (w : List (WantedAt _)). AreCompleted compare (tok ∷ tokens) old
-    ↔ Completes compare tokens (map (wanted_of starts.marked) w) (map (learned_of starts.marked) next.known))
+    ↔ CompletesWanted compare tokens (map (wanted_of starts.marked) w) (map (learned_of starts.marked) next.known))
     closed
-    (Completes-step compare tok tokens old.known old.wanted (standing_over starts next) few taken)
+    (CompletesWanted-step compare tok tokens old.known old.wanted (standing_over starts next) few taken)
 
 -- a token that is refused, not for want of memory, begins nothing
 pub none_begun :
-    {S W : Type 0} (compare : Comparison S) (e : ProofError) (tok : ProofTok) (at : Standing S W) → IsCauseOf compare e tok at
-    → (IsWant e → ⊥) → (tokens : List ProofTok) → AreCompleted compare (tok ∷ tokens) at → ⊥
+    {S W : Type 0} (compare : Comparison S) (e : ProofError) (tok : ProofTok) (at : Standing S W) → IsProofCauseOf compare e tok at
+    → (IsWantOfMemory e → ⊥) → (tokens : List ProofTok) → AreCompleted compare (tok ∷ tokens) at → ⊥
 none_begun compare e tok at (inl want) other tokens whole = other want
-none_begun compare e tok at (inr refused) other tokens whole = Completes-refused compare tok tokens at.known at.wanted e refused whole
+none_begun compare e tok at (inr refused) other tokens whole = CompletesWanted-refused compare tok tokens at.known at.wanted e refused whole
 
 -- what holds of an asker's starts holds of its plan
 pub root_kept :
@@ -126,12 +126,12 @@ pub root_kept :
 root_kept old new was root before after same = after.same ∙ ap unmarked same ∙ sym before.same
 
 pub plan_holds :
-    {N S W : Type 0} (is_own : N → Type 0) (starts : Starts N S W) (root : Plan W) (p : OpenProof N) → IsUnderWay is_own starts p
+    {N S W : Type 0} (is_own : N → Type 0) (starts : Starts N S W) (root : Plan W) (p : OpenProof N) → IsProofUnderWay is_own starts p
     → p.wanted ≡ [] → IsWhole root starts → (v : ℕ → ℤ) → value root v ≡ true
 plan_holds is_own starts root p way closed whole v =
     let done : AreCompleted starts.compare [] (standing_over starts p) =
     subst
-    (λ (w : List (WantedAt _)). Completes starts.compare [] (map (wanted_of starts.marked) w) (map (learned_of starts.marked) p.known))
+    (λ (w : List (WantedAt _)). CompletesWanted starts.compare [] (map (wanted_of starts.marked) w) (map (learned_of starts.marked) p.known))
     (sym closed) refl in
     ap (λ (q : Plan _). value q v) whole.same ∙ way.follows [] done v tt
 
@@ -149,12 +149,12 @@ ShowsPlans S W =
     → IsLawful compare meaning → IsMarkedBy meaning p → Shows compare t p [] [] → HoldsUnder [] (unmarked p)
 
 -- a judge begins with one place, at which a tree of the asker's own plan is wanted
-pub IsUnderWay-begun :
+pub IsProofUnderWay-begun :
     {N S W : Type 0} (is_own : N → Type 0) (starts : Starts N S W) (root : Plan W) (first : N) (p : OpenProof N)
     → ShowsPlans S W → IsWhole root starts → is_own first × (starts.marked first ≡ starts.root)
-    → p ≡ record { known = []; wanted = Tree first [] ∷ [] } → IsUnderWay is_own starts p
-IsUnderWay-begun is_own starts root first p law whole begins begun =
-    subst (λ (x : OpenProof _). IsUnderWay is_own starts x) (sym begun)
+    → p ≡ record { known = []; wanted = Tree first [] ∷ [] } → IsProofUnderWay is_own starts p
+IsProofUnderWay-begun is_own starts root first p law whole begins begun =
+    subst (λ (x : OpenProof _). IsProofUnderWay is_own starts x) (sym begun)
     (record {
       own = (tt, (begins.0, tt));
       follows = λ tokens rest.
@@ -165,13 +165,13 @@ IsUnderWay-begun is_own starts root first p law whole begins begun =
 -- a judge that has not refused
 pub under_way :
     {N S W : Type 0} (refusal : Option ProofError) (is_own : N → Type 0) (starts : Starts N S W) (p : OpenProof N)
-    → ((e : ProofError) → refusal ≡ Some e → ⊥) → IsUnderWayUnless refusal is_own starts p → IsUnderWay is_own starts p
+    → ((e : ProofError) → refusal ≡ Some e → ⊥) → IsUnderWayUnless refusal is_own starts p → IsProofUnderWay is_own starts p
 under_way None is_own starts p none way = way
 under_way (Some e) is_own starts p none way = absurd (none e refl)
 
 pub under_way_still :
     {N S W : Type 0} (refusal : Option ProofError) (is_own : N → Type 0) (starts : Starts N S W) (p : OpenProof N)
-    → IsUnderWay is_own starts p → IsUnderWayUnless refusal is_own starts p
+    → IsProofUnderWay is_own starts p → IsUnderWayUnless refusal is_own starts p
 under_way_still None is_own starts p way = way
 under_way_still (Some e) is_own starts p way = tt
 
@@ -179,7 +179,7 @@ under_way_still (Some e) is_own starts p way = tt
 pub step_more :
     {S W : Type 0} (compare : Comparison S) (tok : ProofTok) (old new : Standing S W) → HasFew tok → IsTaken compare tok old new
     → (tokens : List ProofTok) → AreCompleted compare (tok ∷ tokens) old ↔ AreCompleted compare tokens new
-step_more compare tok old new few taken tokens = Completes-step compare tok tokens old.known old.wanted new few taken
+step_more compare tok old new few taken tokens = CompletesWanted-step compare tok tokens old.known old.wanted new few taken
 
 -- a refusal that leaves the places leaves their standing
 pub refusal_stands :
@@ -190,14 +190,14 @@ refusal_stands old new p q kept same =
 
 -- a cycle that is none, at a place that takes a token
 pub cycle_refused :
-    {N S W : Type 0} (starts : Starts N S W) (p : OpenProof N) (picks : List ℕ) (why : PickError) → IsSettled p.wanted
+    {N S W : Type 0} (starts : Starts N S W) (p : OpenProof N) (picks : List ℕ) (why : PickError) → AreSettledPlaces p.wanted
     → 0 < length p.wanted → pick_verdict (first_list p.wanted) picks ≡ Err why
     → IsRefusedBy starts.compare (error.Tree (end_of_cycle why)) (token.Cycle picks) (standing_over starts p)
 cycle_refused starts p picks why settled some refused = by_first p.wanted settled some refused
   where
     by_first :
-        (wanted : List (WantedAt _)) → IsSettled wanted → 0 < length wanted → pick_verdict (first_list wanted) picks ≡ Err why
-        → after starts.compare (token.Cycle picks) (map (learned_of starts.marked) p.known) (map (wanted_of starts.marked) wanted)
+        (wanted : List (WantedAt _)) → AreSettledPlaces wanted → 0 < length wanted → pick_verdict (first_list wanted) picks ≡ Err why
+        → after_proof_token starts.compare (token.Cycle picks) (map (learned_of starts.marked) p.known) (map (wanted_of starts.marked) wanted)
         ≡ Err (error.Tree (end_of_cycle why))
     by_first [] settled some is = absurd (omega arith)
     by_first (Tree n w ∷ wanted) settled some is = rw is refl
@@ -206,10 +206,10 @@ cycle_refused starts p picks why settled some refused = by_first p.wanted settle
 
 -- the refusal of a cycle, as that of a token
 pub cycle_cause :
-    {N S W : Type 0} (starts : Starts N S W) (p : OpenProof N) (picks : List ℕ) (e : ProofError) → IsSettled p.wanted
+    {N S W : Type 0} (starts : Starts N S W) (p : OpenProof N) (picks : List ℕ) (e : ProofError) → AreSettledPlaces p.wanted
     → 0 < length p.wanted
-    → IsWant e ⊎ ((why : PickError) × (pick_verdict (first_list p.wanted) picks ≡ Err why) × (e ≡ error.Tree (end_of_cycle why)))
-    → IsCauseOf starts.compare e (token.Cycle picks) (standing_over starts p)
+    → IsWantOfMemory e ⊎ ((why : PickError) × (pick_verdict (first_list p.wanted) picks ≡ Err why) × (e ≡ error.Tree (end_of_cycle why)))
+    → IsProofCauseOf starts.compare e (token.Cycle picks) (standing_over starts p)
 cycle_cause starts p picks e settled some (inl want) = inl want
 cycle_cause starts p picks e settled some (inr (why, refused, same)) =
     inr
@@ -219,7 +219,7 @@ cycle_cause starts p picks e settled some (inr (why, refused, same)) =
 -- what became of a cycle, in terms of its token
 module _ {N S W : Type 0} (is_own : N → Type 0) (starts : Starts N S W) (p q : OpenProof N) (picks : List ℕ) where
   pub cycle_ok :
-      (r : Result (Unit {0}) ProofError) → IsSettled p.wanted → 0 < length p.wanted → OnOk r (q ≡ closed p)
+      (r : Result (Unit {0}) ProofError) → AreSettledPlaces p.wanted → 0 < length p.wanted → OnOk r (q ≡ closed p)
       → OnOk r (pick_verdict (first_list p.wanted) picks ≡ Ok tt)
       → OnOk r (IsTaken starts.compare (token.Cycle picks) (standing_over starts p) (standing_over starts q))
   cycle_ok (Ok done) settled some same is =
@@ -232,9 +232,9 @@ module _ {N S W : Type 0} (is_own : N → Type 0) (starts : Starts N S W) (p q :
   cycle_own (Err e) own same = tt
 
   pub cycle_why :
-      (r : Result (Unit {0}) ProofError) → IsSettled p.wanted → 0 < length p.wanted
+      (r : Result (Unit {0}) ProofError) → AreSettledPlaces p.wanted → 0 < length p.wanted
       → IfErr r
-      (λ e. IsWant e ⊎ ((why : PickError) × (pick_verdict (first_list p.wanted) picks ≡ Err why) × (e ≡ error.Tree (end_of_cycle why))))
-      → IfErr r (λ e. IsCauseOf starts.compare e (token.Cycle picks) (standing_over starts p))
+      (λ e. IsWantOfMemory e ⊎ ((why : PickError) × (pick_verdict (first_list p.wanted) picks ≡ Err why) × (e ≡ error.Tree (end_of_cycle why))))
+      → IfErr r (λ e. IsProofCauseOf starts.compare e (token.Cycle picks) (standing_over starts p))
   cycle_why (Ok done) settled some why = tt
   cycle_why (Err e) settled some why = cycle_cause starts p picks e settled some why

@@ -6,11 +6,11 @@ use Rattle.cert_check.specs.declared.verdict.Progress.TheVariants.{More, Done}
 use Rattle.proof_trees.specs.declared.token.ProofTok.{ProofTok}
 use Rattle.proof_trees.specs.Starts.{unmarked, Comparison}
 use Rattle.proof_trees.specs.Starters.{Starts}
-use Rattle.proof_trees.specs.Tokens.{Completes}
+use Rattle.proof_trees.specs.Tokens.{CompletesWanted}
 use Rattle.proof_trees.specs.Truth.{HoldsUnder}
 use Rattle.proof_check.specs.declared.verdict.ProofError.{ProofError}
 use Rattle.proof_check.specs.declared.verdict.ProofError.TheVariants as error
-use Rattle.proof_check.specs.Steps.{Standing, after}
+use Rattle.proof_check.specs.Steps.{Standing, after_proof_token}
 use Rattle.proof_check.specs.Places.{OpenProof, AreOwnPlaces, standing_of}
 
 pub record ProofJudging (A N : Type 0) : Type 0 where
@@ -28,10 +28,11 @@ standing_at starts j = standing_over (starts j.asker) j.places
 
 -- the tokens complete what is known and wanted
 abbrev pub AreCompleted : {S W : Type 0} → Comparison S → List ProofTok → Standing S W → Type 0
-AreCompleted compare tokens at = Completes compare tokens at.wanted at.known
+AreCompleted compare tokens at = CompletesWanted compare tokens at.wanted at.known
 
 -- the places are the asker's own, and tokens that complete them show that the asker's plan holds
-pub record IsUnderWay {N S W : Type 0} (is_own : N → Type 0) (starts : Starts N S W) (p : OpenProof N) : Type 0 where
+pub record IsProofUnderWay {N S W : Type 0} (is_own : N → Type 0) (starts : Starts N S W)
+    (p : OpenProof N) : Type 0 where
   pub own : AreOwnPlaces is_own p
   pub follows :
       (tokens : List ProofTok) → AreCompleted starts.compare tokens (standing_over starts p)
@@ -40,31 +41,31 @@ pub record IsUnderWay {N S W : Type 0} (is_own : N → Type 0) (starts : Starts 
 -- a judge that has refused judges nothing any more
 abbrev pub IsUnderWayUnless :
     {N S W : Type 0} → Option ProofError → (N → Type 0) → Starts N S W → OpenProof N → Type 0
-IsUnderWayUnless None is_own starts p = IsUnderWay is_own starts p
+IsUnderWayUnless None is_own starts p = IsProofUnderWay is_own starts p
 IsUnderWayUnless (Some refusal) is_own starts p = Unit {0}
 
 -- the tokens complete what is still open after More, and there are none after Done
-abbrev pub LeavesOpen : {S W : Type 0} → Comparison S → Progress → List ProofTok → Standing S W → Type 0
-LeavesOpen compare More tokens at = AreCompleted compare tokens at
-LeavesOpen compare Done tokens at = tokens ≡ []
+abbrev pub LeavesWanted : {S W : Type 0} → Comparison S → Progress → List ProofTok → Standing S W → Type 0
+LeavesWanted compare More tokens at = AreCompleted compare tokens at
+LeavesWanted compare Done tokens at = tokens ≡ []
 
 -- the token followed by any tokens completes what was wanted exactly where those leave nothing of it open now
-abbrev pub IsStep : {S W : Type 0} → Comparison S → Progress → ProofTok → Standing S W → Standing S W → Type 0
-IsStep compare p tok old new =
-    (tokens : List ProofTok) → AreCompleted compare (tok ∷ tokens) old ↔ LeavesOpen compare p tokens new
+abbrev pub IsProofStep : {S W : Type 0} → Comparison S → Progress → ProofTok → Standing S W → Standing S W → Type 0
+IsProofStep compare p tok old new =
+    (tokens : List ProofTok) → AreCompleted compare (tok ∷ tokens) old ↔ LeavesWanted compare p tokens new
 
 -- the token begins no tokens that complete what is wanted
-abbrev pub BeginsNothing : {S W : Type 0} → Comparison S → ProofTok → Standing S W → Type 0
-BeginsNothing compare tok at = (tokens : List ProofTok) → ¬ AreCompleted compare (tok ∷ tokens) at
+abbrev pub BeginsNothingWanted : {S W : Type 0} → Comparison S → ProofTok → Standing S W → Type 0
+BeginsNothingWanted compare tok at = (tokens : List ProofTok) → ¬ AreCompleted compare (tok ∷ tokens) at
 
 -- the error is want of memory
-abbrev pub IsWant : ProofError → Type 0
-IsWant e = e ≡ error.Tree check.NoMemory
+abbrev pub IsWantOfMemory : ProofError → Type 0
+IsWantOfMemory e = e ≡ error.Tree check.NoMemory
 
 -- the token is refused so
 abbrev pub IsRefusedBy : {S W : Type 0} → Comparison S → ProofError → ProofTok → Standing S W → Type 0
-IsRefusedBy compare e tok at = after compare tok at.known at.wanted ≡ Err e
+IsRefusedBy compare e tok at = after_proof_token compare tok at.known at.wanted ≡ Err e
 
 -- the error is want of memory, or the refusal of the token
-abbrev pub IsCauseOf : {S W : Type 0} → Comparison S → ProofError → ProofTok → Standing S W → Type 0
-IsCauseOf compare e tok at = IsWant e ⊎ IsRefusedBy compare e tok at
+abbrev pub IsProofCauseOf : {S W : Type 0} → Comparison S → ProofError → ProofTok → Standing S W → Type 0
+IsProofCauseOf compare e tok at = IsWantOfMemory e ⊎ IsRefusedBy compare e tok at

@@ -61,11 +61,11 @@ first_node (Cycle w ∷ wanted) = None
 first_node (Learn n ls ∷ wanted) = None
 
 -- the first place takes a token: no lemma whose tree has ended stands first
-abbrev pub IsSettled : {N : Type 0} → List (WantedAt N) → Type 0
-IsSettled [] = ⊤
-IsSettled (Tree n w ∷ wanted) = ⊤
-IsSettled (Cycle w ∷ wanted) = ⊤
-IsSettled (Learn n ls ∷ wanted) = ⊥
+abbrev pub AreSettledPlaces : {N : Type 0} → List (WantedAt N) → Type 0
+AreSettledPlaces [] = ⊤
+AreSettledPlaces (Tree n w ∷ wanted) = ⊤
+AreSettledPlaces (Cycle w ∷ wanted) = ⊤
+AreSettledPlaces (Learn n ls ∷ wanted) = ⊥
 
 -- a lemma whose tree has ended is known
 abbrev pub settled_at : {N : Type 0} → List (Known N) → List (WantedAt N) → OpenProof N
@@ -124,12 +124,12 @@ behind base list (waiting.Lemma n below count ∷ parts) =
     Learn n (take count (drop base list)) ∷ Tree n (drop below (take base list)) ∷ behind below list parts
 
 -- each part shares no more literals than the limit and than the one before it, and none before its base
-abbrev pub IsNested : {N : Type 0} → ℕ → ℕ → List (WaitingPlace N) → Type 0
-IsNested base limit [] = ⊤
-IsNested base limit (waiting.Place place depth answer ∷ parts) = (base ≤ depth) × (depth ≤ limit)
-    × IsNested base depth parts
-IsNested base limit (waiting.Lemma n below count ∷ parts) = (below ≤ base) × (base + count ≤ limit)
-    × IsNested below base parts
+abbrev pub AreNestedParts : {N : Type 0} → ℕ → ℕ → List (WaitingPlace N) → Type 0
+AreNestedParts base limit [] = ⊤
+AreNestedParts base limit (waiting.Place place depth answer ∷ parts) = (base ≤ depth) × (depth ≤ limit)
+    × AreNestedParts base depth parts
+AreNestedParts base limit (waiting.Lemma n below count ∷ parts) = (below ≤ base) × (base + count ≤ limit)
+    × AreNestedParts below base parts
 
 -- the open places of a path, the parts that wait being listed with the innermost one last
 abbrev pub open_proof : {N : Type 0} → List (Known N) → Option (At N) → ℕ → List Lit → List (WaitingPlace N)
@@ -140,4 +140,4 @@ open_proof known (Some place) base list parts =
 
 pub record IsOpenPath {N : Type 0} (base : ℕ) (list : List Lit) (parts : List (WaitingPlace N)) : Type 0 where
   pub within : base ≤ length list
-  pub nested : IsNested base (length list) (reverse parts)
+  pub nested : AreNestedParts base (length list) (reverse parts)

@@ -29,16 +29,16 @@ settled known (Cycle w ∷ wanted) = record { known = known; wanted = Cycle w �
 settled known (Learn p ls ∷ wanted) = settled (with_lemma known p ls) wanted
 
 -- after `?` where a tree of the plan is wanted
-abbrev pub after_question :
+abbrev pub after_proof_question :
     {S W : Type 0} → List (Learned S W) → MarkedPlan S W → List Lit → List (Wanted S W)
     → Result (Standing S W) ProofError
-after_question known (Ask start l on_yes on_no) w wanted =
+after_proof_question known (Ask start l on_yes on_no) w wanted =
     Ok (record {
       known = known;
       wanted = Tree on_yes (with_answer w l true) ∷ Tree on_no (with_answer w l false) ∷ wanted;
     })
-after_question known (Holds start) w wanted = Err (error.Tree check.NotAQuestion)
-after_question known (Fails start why) w wanted = Err (error.Tree check.NotAQuestion)
+after_proof_question known (Holds start) w wanted = Err (error.Tree check.NotAQuestion)
+after_proof_question known (Fails start why) w wanted = Err (error.Tree check.NotAQuestion)
 
 -- after `.` there
 abbrev pub after_end :
@@ -84,7 +84,7 @@ after_citation compare (Some here) (Some lemma) known w wanted =
 abbrev pub after_at_tree :
     {S W : Type 0} → Comparison S → ProofTok → List (Learned S W) → MarkedPlan S W → List Lit → List (Wanted S W)
     → Result (Standing S W) ProofError
-after_at_tree compare token.Ask known p w wanted = after_question known p w wanted
+after_at_tree compare token.Ask known p w wanted = after_proof_question known p w wanted
 after_at_tree compare token.Holds known p w wanted = after_end known p wanted
 after_at_tree compare (token.Cycle picks) known p w wanted = after_cycle (pick_verdict w picks) known wanted
 after_at_tree compare (token.Lemma ls) known p w wanted = after_lemma (start_of p) known ls p w wanted
@@ -101,13 +101,13 @@ after_at_cycle (token.Lemma ls) known w wanted = Err error.NoStart
 after_at_cycle (token.Cite number) known w wanted = Err error.NoStart
 
 -- what is known and wanted after a token, or why it is refused. Where nothing is wanted nothing is asked
-abbrev pub after :
+abbrev pub after_proof_token :
     {S W : Type 0} → Comparison S → ProofTok → List (Learned S W) → List (Wanted S W) → Result (Standing S W) ProofError
-after compare tok known [] = Err (error.Tree check.NotAQuestion)
-after compare tok known (Tree p w ∷ wanted) = after_at_tree compare tok known p w wanted
-after compare tok known (Cycle w ∷ wanted) = after_at_cycle tok known w wanted
-after compare tok known (Learn p ls ∷ wanted) = after compare tok (with_lemma known p ls) wanted
+after_proof_token compare tok known [] = Err (error.Tree check.NotAQuestion)
+after_proof_token compare tok known (Tree p w ∷ wanted) = after_at_tree compare tok known p w wanted
+after_proof_token compare tok known (Cycle w ∷ wanted) = after_at_cycle tok known w wanted
+after_proof_token compare tok known (Learn p ls ∷ wanted) = after_proof_token compare tok (with_lemma known p ls) wanted
 
 -- the token is taken and makes this of what was known and wanted
 abbrev pub IsTaken : {S W : Type 0} → Comparison S → ProofTok → Standing S W → Standing S W → Type 0
-IsTaken compare tok old new = after compare tok old.known old.wanted ≡ Ok new
+IsTaken compare tok old new = after_proof_token compare tok old.known old.wanted ≡ Ok new

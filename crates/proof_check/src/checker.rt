@@ -5,7 +5,8 @@ ghost use Rattle.cert_check.specs.declared.verdict.Progress.TheVariants as progr
 ghost use Rattle.proof_trees.specs.Tokens.{Tree};
 ghost use Rattle.proof_check.specs.declared.verdict.ProofError.{ProofError};
 ghost use Rattle.proof_check.specs.Steps.{IsTaken};
-ghost use Rattle.proof_check.specs.Judging.{IsStep, BeginsNothing, IsCauseOf, IsWant, standing_at};
+ghost use Rattle.proof_check.specs.Judging.{IsProofStep, BeginsNothingWanted, IsProofCauseOf, IsWantOfMemory};
+ghost use Rattle.proof_check.specs.Judging.{standing_at};
 
 use crate::places::Places;
 use crate::token::take_token;
@@ -66,7 +67,7 @@ impl<A: Starter> ProofChecker<A> {
         // What a token that is taken leaves, and that the last one shows what the tree is for.
         ensures step { IfOk result (λ p. IsTaken (A.starts self.old.asker).compare tok.now
             (standing_at A.starts self.old) (standing_at A.starts self.new)) }
-        ensures completes { IfOk result (λ p. IsStep (A.starts self.old.asker).compare p tok.now
+        ensures completes { IfOk result (λ p. IsProofStep (A.starts self.old.asker).compare p tok.now
             (standing_at A.starts self.old) (standing_at A.starts self.new)) }
         ensures done { result ≡ Ok progress.Done → (v : ℕ → ℤ) → value (A.root self.old.asker) v ≡ true }
         ensures open { result ≡ Ok progress.More → 0 < length self.new.places.wanted }
@@ -74,10 +75,11 @@ impl<A: Starter> ProofChecker<A> {
         ensures none_before { IfOk result (λ p. (self.old.refusal ≡ None) × (self.new.refusal ≡ None)) }
 
         // When each refusal comes, and that it stays.
-        ensures why { self.old.refusal ≡ None → IfErr result (λ e. IsCauseOf (A.starts self.old.asker).compare e tok.now
+        ensures why { self.old.refusal ≡ None
+            → IfErr result (λ e. IsProofCauseOf (A.starts self.old.asker).compare e tok.now
             (standing_at A.starts self.old)) }
-        ensures refused { self.old.refusal ≡ None → IfErr result (λ e. ¬ IsWant e
-            → BeginsNothing (A.starts self.old.asker).compare tok.now (standing_at A.starts self.old)) }
+        ensures refused { self.old.refusal ≡ None → IfErr result (λ e. ¬ IsWantOfMemory e
+            → BeginsNothingWanted (A.starts self.old.asker).compare tok.now (standing_at A.starts self.old)) }
         ensures stays { IfErr result (λ e. self.new.refusal ≡ Some e) }
         ensures again { (e : ProofError) → self.old.refusal ≡ Some e → result ≡ Err e }
         ensures err { OnErr result (self.new.places ≡ self.old.places) }

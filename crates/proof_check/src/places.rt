@@ -4,8 +4,8 @@ ghost use Rattle.std.specs.Prelude.{drop, map, take, OnOk, OnErr, MatchOption};
 ghost use Rattle.diff_graph.specs.declared.lit.Lit.{Lit};
 ghost use Rattle.std.specs.Option.{option_map};
 ghost use Rattle.proof_trees.specs.declared.limits.TheConstants.{MAX_LITERALS};
-ghost use Rattle.proof_check.specs.Places.{OpenProof, Tree, IsSettled, first_list, first_node, closed, asked, begun};
-ghost use Rattle.proof_check.specs.Places.{cited, literals_at};
+ghost use Rattle.proof_check.specs.Places.{OpenProof, Tree, AreSettledPlaces, first_list, first_node, closed, asked};
+ghost use Rattle.proof_check.specs.Places.{begun, cited, literals_at};
 ghost use Rattle.proof_check.specs.Parts.{AreCycles, cycle_part, without_cycles};
 
 use ask_core::NoMemory;
@@ -93,7 +93,7 @@ impl<N: Copy> Places<N> {
     /// The node at the first place, where a tree is wanted there.
     pub fn node(&self) -> Option<N>
         ensures value { result ≡ first_node self.now.wanted }
-        ensures settled { IsSettled self.now.wanted }
+        ensures settled { AreSettledPlaces self.now.wanted }
     {
         match self.current {
             Some(At::Tree(node)) => Some(node),
@@ -106,7 +106,7 @@ impl<N: Copy> Places<N> {
     pub fn list(&self) -> &[Lit]
         requires { 0 < length self.now.wanted }
         ensures value { result.now ≡ first_list self.now.wanted }
-        ensures settled { IsSettled self.now.wanted }
+        ensures settled { AreSettledPlaces self.now.wanted }
     {
         &self.list[self.base..]
     }

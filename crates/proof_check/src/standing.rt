@@ -7,9 +7,9 @@ ghost use Rattle.proof_trees.specs.declared.token.ProofTok.{ProofTok};
 ghost use Rattle.proof_trees.specs.declared.token.ProofTok.TheVariants as token;
 ghost use Rattle.proof_trees.specs.Starts.{MarkedPlan, Ask, Holds, start_of, Comparison, conditions_between};
 ghost use Rattle.proof_check.specs.declared.places.Known.{Known};
-ghost use Rattle.proof_check.specs.Places.{OpenProof, IsSettled, first_node, first_list, asked, closed, begun, cited};
-ghost use Rattle.proof_check.specs.Places.{standing_of};
-ghost use Rattle.proof_check.specs.Steps.{IsTaken, after, after_at_cycle, after_at_tree};
+ghost use Rattle.proof_check.specs.Places.{OpenProof, AreSettledPlaces, first_node, first_list, asked, closed, begun};
+ghost use Rattle.proof_check.specs.Places.{cited, standing_of};
+ghost use Rattle.proof_check.specs.Steps.{IsTaken, after_proof_token, after_at_cycle, after_at_tree};
 
 /// A law and no code, for any nodes with their plans: what the changes of open places do is what the tokens do. A
 /// question is asked where the plan asks; an end closes a place where the plan holds; a lemma is begun and a known
@@ -23,7 +23,7 @@ pub fn places_change_as_tokens_say<N: Copy, S, W: Copy>()
         → first_node p.wanted ≡ Some n → marked n ≡ Holds start
         → IsTaken compare token.Holds (standing_of marked p) (standing_of marked (closed p)) }
     ensures cycle { (compare : Comparison S) (marked : N → MarkedPlan S W) (p : OpenProof N) (picks : List ℕ)
-        → IsSettled p.wanted → 0 < length p.wanted → pick_verdict (first_list p.wanted) picks ≡ Ok tt
+        → AreSettledPlaces p.wanted → 0 < length p.wanted → pick_verdict (first_list p.wanted) picks ≡ Ok tt
         → IsTaken compare (token.Cycle picks) (standing_of marked p) (standing_of marked (closed p)) }
     ensures lemma { (compare : Comparison S) (marked : N → MarkedPlan S W) (p : OpenProof N) (n : N) (s : S)
         (ls : List Lit)
@@ -42,11 +42,11 @@ pub fn places_change_as_tokens_say<N: Copy, S, W: Copy>()
 pub fn first_places_take_tokens<N: Copy, S, W: Copy>()
     ensures tree { (compare : Comparison S) (marked : N → MarkedPlan S W) (p : OpenProof N) (tok : ProofTok) (n : N)
         → first_node p.wanted ≡ Some n
-        → after compare tok (standing_of marked p).known (standing_of marked p).wanted
+        → after_proof_token compare tok (standing_of marked p).known (standing_of marked p).wanted
         ≡ after_at_tree compare tok (standing_of marked p).known (marked n) (first_list p.wanted)
         (drop 1 (standing_of marked p).wanted) }
     ensures cycle { (compare : Comparison S) (marked : N → MarkedPlan S W) (p : OpenProof N) (tok : ProofTok)
-        → IsSettled p.wanted → 0 < length p.wanted → first_node p.wanted ≡ None
-        → after compare tok (standing_of marked p).known (standing_of marked p).wanted
+        → AreSettledPlaces p.wanted → 0 < length p.wanted → first_node p.wanted ≡ None
+        → after_proof_token compare tok (standing_of marked p).known (standing_of marked p).wanted
         ≡ after_at_cycle tok (standing_of marked p).known (first_list p.wanted) (drop 1 (standing_of marked p).wanted) }
 {}

@@ -8,9 +8,9 @@ ghost use Rattle.proof_trees.specs.declared.token.ProofTok.TheVariants as token;
 ghost use Rattle.proof_trees.specs.Starters.{KeepsStarts};
 ghost use Rattle.proof_trees.specs.Tokens.{HasFew};
 ghost use Rattle.proof_check.specs.declared.verdict.ProofError.TheVariants as error;
-ghost use Rattle.proof_check.specs.Places.{AreOwnPlaces, IsSettled, closed, first_list};
+ghost use Rattle.proof_check.specs.Places.{AreOwnPlaces, AreSettledPlaces, closed, first_list};
 ghost use Rattle.proof_check.specs.Steps.{IsTaken};
-ghost use Rattle.proof_check.specs.Judging.{IsCauseOf, IsWant, standing_over};
+ghost use Rattle.proof_check.specs.Judging.{IsProofCauseOf, IsWantOfMemory, standing_over};
 
 use crate::places::Places;
 use crate::verdict::ProofError;
@@ -24,11 +24,11 @@ use std::alloc::Global;
 fn take_cycle<N: Copy>(places: &mut Places<N>, picks: &Picks) -> Result<(), ProofError>
     requires { 0 < length places.old.wanted }
     ensures few { length picks.now ≤ MAX_PICKS }
-    ensures settled { IsSettled places.old.wanted }
+    ensures settled { AreSettledPlaces places.old.wanted }
     ensures closed { OnOk result (places.new ≡ closed places.old) }
     ensures ok { OnOk result (pick_verdict (first_list places.old.wanted) picks.now ≡ Ok tt) }
     ensures kept { OnErr result (places.new ≡ places.old) }
-    ensures why { IfErr result (λ e. IsWant e
+    ensures why { IfErr result (λ e. IsWantOfMemory e
         ⊎ ((p : PickError) × (pick_verdict (first_list places.old.wanted) picks.now ≡ Err p)
         × (e ≡ error.Tree (end_of_cycle p)))) }
 {
@@ -44,7 +44,7 @@ fn take_end<A: Starter>(asker: &mut A, places: &mut Places<A::Node>) -> Result<(
     ensures ok { OnOk result (IsTaken (A.starts asker.old).compare token.Holds
         (standing_over (A.starts asker.old) places.old) (standing_over (A.starts asker.new) places.new)) }
     ensures own { OnOk result (AreOwnPlaces (A.is_own asker.new) places.new) }
-    ensures why { IfErr result (λ e. IsCauseOf (A.starts asker.old).compare e token.Holds
+    ensures why { IfErr result (λ e. IsProofCauseOf (A.starts asker.old).compare e token.Holds
         (standing_over (A.starts asker.old) places.old)) }
     ensures kept { OnErr result (places.new ≡ places.old) }
     ensures same { KeepsStarts (A.is_own asker.old) (A.is_own asker.new) (A.starts asker.old) (A.starts asker.new) }
@@ -69,7 +69,7 @@ fn take_question<A: Starter>(asker: &mut A, places: &mut Places<A::Node>) -> Res
     ensures ok { OnOk result (IsTaken (A.starts asker.old).compare token.Ask
         (standing_over (A.starts asker.old) places.old) (standing_over (A.starts asker.new) places.new)) }
     ensures own { OnOk result (AreOwnPlaces (A.is_own asker.new) places.new) }
-    ensures why { IfErr result (λ e. IsCauseOf (A.starts asker.old).compare e token.Ask
+    ensures why { IfErr result (λ e. IsProofCauseOf (A.starts asker.old).compare e token.Ask
         (standing_over (A.starts asker.old) places.old)) }
     ensures kept { OnErr result (places.new ≡ places.old) }
     ensures same { KeepsStarts (A.is_own asker.old) (A.is_own asker.new) (A.starts asker.old) (A.starts asker.new) }
@@ -99,7 +99,7 @@ fn take_lemma<A: Starter>(
     ensures ok { OnOk result (IsTaken (A.starts asker.now).compare (token.Lemma literals.now)
         (standing_over (A.starts asker.now) places.old) (standing_over (A.starts asker.now) places.new)) }
     ensures own { OnOk result (AreOwnPlaces (A.is_own asker.now) places.new) }
-    ensures why { IfErr result (λ e. IsCauseOf (A.starts asker.now).compare e (token.Lemma literals.now)
+    ensures why { IfErr result (λ e. IsProofCauseOf (A.starts asker.now).compare e (token.Lemma literals.now)
         (standing_over (A.starts asker.now) places.old)) }
     ensures kept { OnErr result (places.new ≡ places.old) }
 {
@@ -128,7 +128,7 @@ fn take_citation<A: Starter>(
     ensures ok { OnOk result (IsTaken (A.starts asker.old).compare (token.Cite number)
         (standing_over (A.starts asker.old) places.old) (standing_over (A.starts asker.new) places.new)) }
     ensures own { OnOk result (AreOwnPlaces (A.is_own asker.new) places.new) }
-    ensures why { IfErr result (λ e. IsCauseOf (A.starts asker.old).compare e (token.Cite number)
+    ensures why { IfErr result (λ e. IsProofCauseOf (A.starts asker.old).compare e (token.Cite number)
         (standing_over (A.starts asker.old) places.old)) }
     ensures kept { OnErr result (places.new ≡ places.old) }
     ensures same { KeepsStarts (A.is_own asker.old) (A.is_own asker.new) (A.starts asker.old) (A.starts asker.new) }
@@ -162,7 +162,7 @@ pub(crate) fn take_token<A: Starter>(
         (standing_over (A.starts asker.old) places.old) (standing_over (A.starts asker.new) places.new)) }
     ensures few { OnOk result (HasFew tok.now) }
     ensures own { OnOk result (AreOwnPlaces (A.is_own asker.new) places.new) }
-    ensures why { IfErr result (λ e. IsCauseOf (A.starts asker.old).compare e tok.now
+    ensures why { IfErr result (λ e. IsProofCauseOf (A.starts asker.old).compare e tok.now
         (standing_over (A.starts asker.old) places.old)) }
     ensures kept { OnErr result (places.new ≡ places.old) }
     ensures same { KeepsStarts (A.is_own asker.old) (A.is_own asker.new) (A.starts asker.old) (A.starts asker.new) }

@@ -10,7 +10,7 @@ use Rattle.proof_search.specs.declared.levels.LemmaLevel.{LemmaLevel}
 use Rattle.proof_search.specs.declared.lemmas.Lemma.{Lemma}
 use Rattle.proof_search.specs.declared.open.WaitingPart.{WaitingPart}
 use Rattle.proof_search.specs.declared.open.Search.{Search}
-use Rattle.proof_search.specs.Owning.{AreOwn, IsOwnSearch}
+use Rattle.proof_search.specs.Owning.{AreOwnLemmas, IsOwnSearch}
 
 -- a search that has nothing but an open place
 pub own_begun :
@@ -20,7 +20,7 @@ own_begun {N = N} is_own s n at levels waiting lemmas one = record {
   at = subst (λ (o : Option N). IfSome o is_own) (sym at) one;
   waiting = subst (λ (parts : List (WaitingPart N)). All (λ w. is_own w.node) parts) (sym waiting) (All-nil (λ w. is_own w.node));
   levels = subst (λ (held : List (LemmaLevel N)). All (λ l. is_own l.node) held) (sym levels) (All-nil (λ l. is_own l.node));
-  lemmas = subst (λ (held : List (Lemma N)). AreOwn is_own held) (sym lemmas) (All-nil (λ l. is_own l.node));
+  lemmas = subst (λ (held : List (Lemma N)). AreOwnLemmas is_own held) (sym lemmas) (All-nil (λ l. is_own l.node));
 }
 
 -- the plan with the starts is kept, and so is the one without them

@@ -9,8 +9,8 @@ use Rattle.proof_search.specs.declared.levels.LemmaLevel.{LemmaLevel}
 use Rattle.proof_search.specs.declared.lemmas.Lemma.{Lemma}
 use Rattle.proof_search.specs.declared.open.WaitingPart.{WaitingPart}
 use Rattle.proof_search.specs.declared.open.Search.{Search}
-use Rattle.proof_search.specs.Owning.{AreOwn, IsOwnSearch, KeepsNodes, KeepsPlaces, BeginsLevel, AddsItem, MayAddItem, HasAsked, TakesPart}
-use Rattle.proof_search.specs.Owning.{OpensPart, closed}
+use Rattle.proof_search.specs.Owning.{AreOwnLemmas, IsOwnSearch, KeepsNodes, KeepsPlaces, BeginsLevel, AddsItem, MayAddItem, HasAskedInSearch, TakesPart}
+use Rattle.proof_search.specs.Owning.{OpensPart, closed_search}
 
 IfSome-weaker : {N : Type 0} (P Q : N → Type 0) → ((n : N) → P n → Q n) → (o : Option N) → IfSome o P → IfSome o Q
 IfSome-weaker P Q weaker None own = tt
@@ -41,7 +41,7 @@ module _ {N S W : Type 0} {was_own is_own : N → Type 0} {old new : Starts N S 
   still_own n own = (keeps.own n).0 own
 
   -- the calls of an asker keep its nodes
-  pub lemmas_kept : (lemmas : List (Lemma N)) → AreOwn was_own lemmas → AreOwn is_own lemmas
+  pub lemmas_kept : (lemmas : List (Lemma N)) → AreOwnLemmas was_own lemmas → AreOwnLemmas is_own lemmas
   lemmas_kept lemmas own = All-weaker (λ l. was_own l.node) (λ l. is_own l.node) (λ l. still_own l.node) lemmas own
 
   pub search_kept : (s : Search N) → IsOwnSearch was_own s → IsOwnSearch is_own s
@@ -60,18 +60,18 @@ module _ {N : Type 0} (is_own : N → Type 0) (old new : Search N) (own : IsOwnS
     waiting = subst (λ (parts : List (WaitingPart N)). All (λ w. is_own w.node) parts) (sym begun.waiting) own.waiting;
     levels =
         item_added (λ l. l.node) is_own n one old.levels.items new.levels.items begun.levels own.levels;
-    lemmas = subst (λ (held : List (Lemma N)). AreOwn is_own held) (sym begun.lemmas) own.lemmas;
+    lemmas = subst (λ (held : List (Lemma N)). AreOwnLemmas is_own held) (sym begun.lemmas) own.lemmas;
   }
 
   -- nor one that has asked a question with two such parts
-  pub own_asked : (on_yes on_no : N) → is_own on_yes → is_own on_no → HasAsked on_yes on_no old new → IsOwnSearch is_own new
+  pub own_asked : (on_yes on_no : N) → is_own on_yes → is_own on_no → HasAskedInSearch on_yes on_no old new → IsOwnSearch is_own new
   own_asked on_yes on_no own_yes own_no asked = record {
     at =
         ⊎_elim (λ (e : new.at ≡ Some on_yes). subst (λ (o : Option N). IfSome o is_own) (sym e) own_yes)
         (λ (e : new.at ≡ Some on_no). subst (λ (o : Option N). IfSome o is_own) (sym e) own_no) asked.at;
     waiting = item_added (λ w. w.node) is_own on_no own_no old.waiting.items new.waiting.items asked.waiting own.waiting;
     levels = subst (λ (held : List (LemmaLevel N)). All (λ l. is_own l.node) held) (sym asked.levels) own.levels;
-    lemmas = subst (λ (held : List (Lemma N)). AreOwn is_own held) (sym asked.lemmas) own.lemmas;
+    lemmas = subst (λ (held : List (Lemma N)). AreOwnLemmas is_own held) (sym asked.lemmas) own.lemmas;
   }
 
   own_taken : TakesPart old new → IfSome new.at is_own × All (λ w. is_own w.node) new.waiting.items
@@ -98,16 +98,16 @@ module _ {N : Type 0} (is_own : N → Type 0) (old new : Search N) (own : IsOwnS
         at = parts.0;
         waiting = parts.1;
         levels = subst (λ (held : List (LemmaLevel N)). All (λ l. is_own l.node) held) (sym opens.levels) own.levels;
-        lemmas = subst (λ (held : List (Lemma N)). AreOwn is_own held) (sym opens.lemmas) own.lemmas;
+        lemmas = subst (λ (held : List (Lemma N)). AreOwnLemmas is_own held) (sym opens.lemmas) own.lemmas;
       }
 
   -- nor one that has closed its open place, but for what became of the levels around it
-  pub own_closed : KeepsPlaces (closed old) new → IsOwnSearch is_own new
+  pub own_closed : KeepsPlaces (closed_search old) new → IsOwnSearch is_own new
   own_closed keeps = record {
     at = subst (λ (o : Option N). IfSome o is_own) (sym keeps.at) tt;
     waiting = nodes_kept (λ w. w.node) is_own old.waiting.items new.waiting.items keeps.waiting own.waiting;
     levels = nodes_kept (λ l. l.node) is_own old.levels.items new.levels.items keeps.levels own.levels;
-    lemmas = subst (λ (lemmas : List (Lemma N)). AreOwn is_own lemmas) (sym keeps.lemmas) own.lemmas;
+    lemmas = subst (λ (lemmas : List (Lemma N)). AreOwnLemmas is_own lemmas) (sym keeps.lemmas) own.lemmas;
   }
 
 -- where the innermost level is closed, its node is own, and so are those of the levels around it and of the lemmas
@@ -119,7 +119,7 @@ module _ {N : Type 0} (is_own : N → Type 0) (old new : List (LemmaLevel N)) (l
       let both = All-pop (λ l. is_own l.node) old new (Some level) popped all in (both.1, both.0)
 
 -- where no place is open, one node fewer is to be own
-pub own_none : {N : Type 0} (is_own : N → Type 0) (s : Search N) → IsOwnSearch is_own s → IsOwnSearch is_own (closed s)
+pub own_none : {N : Type 0} (is_own : N → Type 0) (s : Search N) → IsOwnSearch is_own s → IsOwnSearch is_own (closed_search s)
 own_none is_own s own = record { at = tt; waiting = own.waiting; levels = own.levels; lemmas = own.lemmas }
 
 pub ruleset keeping = (KeepsStarts-refl, KeepsStarts-trans, search_kept, own_level, own_asked, own_opened, own_closed, own_none)

@@ -12,12 +12,12 @@ use Rattle.proof_search.specs.declared.open.Search.{Search}
 use Rattle.proof_search.specs.declared.service.ServingLemma.{ServingLemma}
 
 -- the nodes of the lemmas are the asker's own
-abbrev pub AreOwn : {N : Type 0} → (N → Type 0) → List (Lemma N) → Type 0
-AreOwn is_own lemmas = All (λ l. is_own l.node) lemmas
+abbrev pub AreOwnLemmas : {N : Type 0} → (N → Type 0) → List (Lemma N) → Type 0
+AreOwnLemmas is_own lemmas = All (λ l. is_own l.node) lemmas
 
 -- the lemma stands in the list, and its start compares with that of the node under the conditions
-abbrev pub Serves : {N S W : Type 0} → Starts N S W → List (Lemma N) → N → ServingLemma → Type 0
-Serves {N = N} starts lemmas here s =
+abbrev pub ServesNode : {N S W : Type 0} → Starts N S W → List (Lemma N) → N → ServingLemma → Type 0
+ServesNode {N = N} starts lemmas here s =
     (l : Lemma N) × (slice_get lemmas s.place ≡ Some l)
     × (conditions_between starts.compare (start_of (starts.marked l.node)) (start_of (starts.marked here))
     ≡ Some s.conditions)
@@ -27,7 +27,7 @@ pub record IsOwnSearch {N : Type 0} (is_own : N → Type 0) (s : Search N) : Typ
   pub at : IfSome s.at is_own
   pub waiting : All (λ w. is_own w.node) s.waiting.items
   pub levels : All (λ l. is_own l.node) s.levels.items
-  pub lemmas : AreOwn is_own s.lemmas
+  pub lemmas : AreOwnLemmas is_own s.lemmas
 
 -- there are no more items than before, and each has the node of the one that stood at its place
 pub record KeepsNodes {X N : Type 0} (node_of : X → N) (old new : List X) : Type 0 where
@@ -43,8 +43,8 @@ pub record KeepsPlaces {N : Type 0} (old new : Search N) : Type 0 where
   pub asked : new.asked ≡ old.asked
 
 -- the open place is closed
-abbrev pub closed : {N : Type 0} → Search N → Search N
-closed s = record s { at = None }
+abbrev pub closed_search : {N : Type 0} → Search N → Search N
+closed_search s = record s { at = None }
 
 -- an item with the node stands at the end now
 pub record AddsItem {X N : Type 0} (node_of : X → N) (n : N) (old new : List X) : Type 0 where
@@ -65,7 +65,7 @@ pub record BeginsLevel {N : Type 0} (n : N) (old new : Search N) : Type 0 where
   pub asked : new.asked ≡ old.asked
 
 -- one of two parts is open now, and if another one waits, it is that for no
-pub record HasAsked {N : Type 0} (on_yes on_no : N) (old new : Search N) : Type 0 where
+pub record HasAskedInSearch {N : Type 0} (on_yes on_no : N) (old new : Search N) : Type 0 where
   pub at : (new.at ≡ Some on_yes) ⊎ (new.at ≡ Some on_no)
   pub waiting : MayAddItem (λ w. w.node) on_no old.waiting.items new.waiting.items
   pub levels : new.levels.items ≡ old.levels.items
@@ -86,7 +86,7 @@ pub record OpensPart {N : Type 0} (old new : Search N) : Type 0 where
   pub asked : new.asked ≡ old.asked
 
 -- a level that no integers lead to is one of so many
-abbrev pub IsWithin : ℕ → Mended → Type 0
-IsWithin count mended.All = Unit {0}
-IsWithin count (mended.Unreachable number) = number < count
-IsWithin count mended.Unexplained = Unit {0}
+abbrev pub IsMendedWithin : ℕ → Mended → Type 0
+IsMendedWithin count mended.All = Unit {0}
+IsMendedWithin count (mended.Unreachable number) = number < count
+IsMendedWithin count mended.Unexplained = Unit {0}

@@ -1,6 +1,6 @@
 //! What becomes of an end that fails within the lemmas that are being shown.
 ghost use Rattle.std.specs.Prelude.{◌≡◌, ◌<◌, ◌≤◌, length, IfOk, IfSome, OnOk};
-ghost use Rattle.proof_search.specs.Owning.{KeepsNodes, KeepsPlaces, IsWithin};
+ghost use Rattle.proof_search.specs.Owning.{KeepsNodes, KeepsPlaces, IsMendedWithin};
 
 use crate::NoMemory;
 use crate::excuse::Excuse;
@@ -58,7 +58,7 @@ fn mend<N: Copy>(
     first: usize,
 ) -> Result<Mended, NoMemory>
     ensures nodes { KeepsNodes (λ l. l.node) levels.old levels.new }
-    ensures within { IfOk result (IsWithin (length levels.old)) }
+    ensures within { IfOk result (IsMendedWithin (length levels.old)) }
 {
     for number in first..levels.len() {
         if number > first {

@@ -1,6 +1,6 @@
 //! A search under way.
 ghost use Rattle.std.specs.Prelude.{◌≡◌, ◌+◌, ◌<◌, ◌^◌, [], Some, OnOk};
-ghost use Rattle.proof_search.specs.Owning.{BeginsLevel, HasAsked};
+ghost use Rattle.proof_search.specs.Owning.{BeginsLevel, HasAskedInSearch};
 
 use crate::NoMemory;
 use crate::excuse::Excuse;
@@ -79,7 +79,7 @@ impl<N: Copy> Search<N> {
     #[inline(always)]
     pub fn ask(&mut self, lit: Lit, yes: N, no: N) -> Result<(), NoMemory>
         requires { self.old.asked + 1 < 2 ^ 64 }
-        ensures { OnOk result (HasAsked yes no self.old self.new) }
+        ensures { OnOk result (HasAskedInSearch yes no self.old self.new) }
     {
         self.asked += 1;
         if self.facts.implies(lit) {

@@ -1,7 +1,7 @@
 //! The call that searches a plan.
 ghost use Rattle.std.specs.Prelude.{◌≡◌, ◌≤◌, IfOk};
 ghost use Rattle.proof_trees.specs.Starters.{KeepsStarts};
-ghost use Rattle.proof_search.specs.Owning.{AreOwn};
+ghost use Rattle.proof_search.specs.Owning.{AreOwnLemmas};
 
 use crate::NoMemory;
 use crate::finder::Finder;
@@ -65,7 +65,7 @@ fn seek<A: Finder>(
     budget: u64,
 ) -> Result<SearchResult<A::Node>, NoMemory>
     ensures within { IfOk result (λ s. s.asked ≤ budget) }
-    ensures own { IfOk result (λ s. AreOwn (A.is_own asker.new) s.lemmas) }
+    ensures own { IfOk result (λ s. AreOwnLemmas (A.is_own asker.new) s.lemmas) }
     ensures same { KeepsStarts (A.is_own asker.old) (A.is_own asker.new) (A.starts asker.old) (A.starts asker.new) }
 {
     let first = asker.first()?;
@@ -89,7 +89,7 @@ pub fn search<A: Finder>(
     budget: u64,
 ) -> Result<SearchResult<A::Node>, NoMemory>
     ensures within { IfOk result (λ s. s.asked ≤ budget) }
-    ensures own { IfOk result (λ s. AreOwn (A.is_own asker.new) s.lemmas) }
+    ensures own { IfOk result (λ s. AreOwnLemmas (A.is_own asker.new) s.lemmas) }
 
     // The asker is as it was.
     ensures same { KeepsStarts (A.is_own asker.old) (A.is_own asker.new) (A.starts asker.old) (A.starts asker.new) }

@@ -2,7 +2,7 @@
 ghost use Rattle.std.specs.Prelude.{◌≡◌, Some, IfOk, IfSome, MatchOption};
 ghost use Rattle.proof_trees.specs.Starts.{start_of, conditions_between};
 ghost use Rattle.proof_trees.specs.Starters.{KeepsStarts};
-ghost use Rattle.proof_search.specs.Owning.{AreOwn, Serves};
+ghost use Rattle.proof_search.specs.Owning.{AreOwnLemmas, ServesNode};
 
 use crate::NoMemory;
 use crate::facts::Facts;
@@ -57,9 +57,9 @@ fn serving_at<A: Finder, C: Choice>(
     choice: &C,
     place: usize,
 ) -> Result<Option<ServingLemma>, NoMemory>
-    requires lemmas { AreOwn (A.is_own asker.old) lemmas.now }
+    requires lemmas { AreOwnLemmas (A.is_own asker.old) lemmas.now }
     requires here { A.is_own asker.old here }
-    ensures serves { IfOk result (λ found. IfSome found (λ s. Serves (A.starts asker.new) lemmas.now here s)) }
+    ensures serves { IfOk result (λ found. IfSome found (λ s. ServesNode (A.starts asker.new) lemmas.now here s)) }
     ensures same { KeepsStarts (A.is_own asker.old) (A.is_own asker.new) (A.starts asker.old) (A.starts asker.new) }
 {
     if !choice.takes(place) {
@@ -92,9 +92,9 @@ pub fn serving_of<A: Finder, C: Choice>(
     facts: &Facts,
     choice: &C,
 ) -> Result<Option<ServingLemma>, NoMemory>
-    requires lemmas { AreOwn (A.is_own asker.old) lemmas.now }
+    requires lemmas { AreOwnLemmas (A.is_own asker.old) lemmas.now }
     requires here { A.is_own asker.old here }
-    ensures serves { IfOk result (λ found. IfSome found (λ s. Serves (A.starts asker.new) lemmas.now here s)) }
+    ensures serves { IfOk result (λ found. IfSome found (λ s. ServesNode (A.starts asker.new) lemmas.now here s)) }
     ensures same { KeepsStarts (A.is_own asker.old) (A.is_own asker.new) (A.starts asker.old) (A.starts asker.new) }
 {
     let places = lemmas.newest(number);
@@ -117,9 +117,9 @@ pub fn serving<A: Finder, C: Choice>(
     facts: &Facts,
     choice: &C,
 ) -> Result<Option<ServingLemma>, NoMemory>
-    requires lemmas { AreOwn (A.is_own asker.old) lemmas.now }
+    requires lemmas { AreOwnLemmas (A.is_own asker.old) lemmas.now }
     requires here { A.is_own asker.old here }
-    ensures serves { IfOk result (λ found. IfSome found (λ s. Serves (A.starts asker.new) lemmas.now here s)) }
+    ensures serves { IfOk result (λ found. IfSome found (λ s. ServesNode (A.starts asker.new) lemmas.now here s)) }
     ensures same { KeepsStarts (A.is_own asker.old) (A.is_own asker.new) (A.starts asker.old) (A.starts asker.new) }
 {
     let number = asker.number(here)?;

@@ -1,7 +1,7 @@
 //! The turns of a search: each goes on at the open place, or to the next one where that was closed.
 ghost use Rattle.std.specs.Prelude.{◌≡◌, ◌≤◌, OnOk};
 ghost use Rattle.proof_trees.specs.Starters.{KeepsStarts};
-ghost use Rattle.proof_search.specs.Owning.{AreOwn, IsOwnSearch, KeepsPlaces, OpensPart, closed};
+ghost use Rattle.proof_search.specs.Owning.{AreOwnLemmas, IsOwnSearch, KeepsPlaces, OpensPart, closed_search};
 
 use crate::NoMemory;
 use crate::blame::Blamed;
@@ -36,7 +36,7 @@ fn is_shown<A: Finder>(
     node: A::Node,
     begins: bool,
 ) -> Result<bool, NoMemory>
-    requires lemmas { AreOwn (A.is_own asker.old) search.now.lemmas }
+    requires lemmas { AreOwnLemmas (A.is_own asker.old) search.now.lemmas }
     requires node { A.is_own asker.old node }
     ensures { KeepsStarts (A.is_own asker.old) (A.is_own asker.new) (A.starts asker.old) (A.starts asker.new) }
 {
@@ -48,7 +48,7 @@ fn is_shown<A: Finder>(
 
 /// Closes the open place, whose end fails, where a level shuts it out.
 fn fail<N: Copy>(search: &mut Search<N>) -> Result<Option<SearchEnd>, NoMemory>
-    ensures { OnOk result (KeepsPlaces (closed search.old) search.new) }
+    ensures { OnOk result (KeepsPlaces (closed_search search.old) search.new) }
 {
     search.at = None;
     match search.blame()? {

@@ -10,7 +10,7 @@ use Rattle.cert_text.specs.Spelling.{ob_text, end_text}
 use Rattle.proof_trees.specs.Starts.{MarkedPlan, Holds, Comparison}
 use Rattle.proof_trees.specs.Proofs.{ProofTree, Lemma, End, Citation}
 use Rattle.proof_text.specs.Fronts.{items_front}
-use Rattle.proof_text.specs.Spelling.{header_text}
+use Rattle.proof_text.specs.Spelling.{proof_header_text}
 use Rattle.proof_sections.specs.declared.refusal.ProofRefusal.TheVariants as why
 use Rattle.proof_sections.specs.declared.refusal.ConfirmError.TheVariants as confirm
 use Rattle.proof_sections.specs.Judgement.{end_judged, proof_judged, section_judged, sections_judged, tree_by, tree_judged}
@@ -37,7 +37,7 @@ cited_is_proof =
 
 -- the next obligation cites the lemma of the one before
 later_text : List ℕ
-later_text = header_text Tp1 ++ (ob_text (Pair Ins Ins) ++ (codes "l;.c0;" ++ 10 ∷ (ob_text (Pair Ins Del) ++ (codes "c0;" ++ 10 ∷ end_text))))
+later_text = proof_header_text Tp1 ++ (ob_text (Pair Ins Ins) ++ (codes "l;.c0;" ++ 10 ∷ (ob_text (Pair Ins Del) ++ (codes "c0;" ++ 10 ∷ end_text))))
 
 later_is_refused : proof_judged one_start held two later_text ≡ Err (confirm.Refused 43 why.UnknownLemma)
 unfolding one_start held two later_text proof_judged sections_judged section_judged tree_judged tree_by end_judged items_front

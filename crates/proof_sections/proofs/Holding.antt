@@ -8,22 +8,23 @@ use Rattle.proof_trees.specs.declared.token.ProofTok.{ProofTok}
 use Rattle.proof_trees.specs.declared.token.ProofTok.TheVariants as token
 use Rattle.proof_trees.specs.Starts.{MarkedPlan, unmarked, Comparison, IsMarkedBy, IsLawful}
 use Rattle.proof_trees.specs.Proofs.{Learned}
-use Rattle.proof_trees.specs.Tokens.{Wanted, Tree, Completes, HasFew}
+use Rattle.proof_trees.specs.Tokens.{Wanted, Tree, CompletesWanted, HasFew}
 use Rattle.proof_trees.specs.Truth.{HoldsUnder}
 use Rattle.proof_check.specs.declared.verdict.ProofError.{ProofError}
 use Rattle.proof_check.specs.Judging.{AreCompleted}
-use Rattle.proof_check.specs.Steps.{Standing, after}
+use Rattle.proof_check.specs.Steps.{Standing, after_proof_token}
 use Rattle.proof_text.specs.Fronts.{Parsed, Found, Missing}
 use Rattle.proof_text.specs.Lines.{header_front, ob_front, line_end_front}
-use Rattle.proof_text.specs.Spelling.{IsSpellable}
+use Rattle.proof_text.specs.Spelling.{IsSpellableInProof}
 use Rattle.proof_text.specs.Tokens.{token_front}
 use Rattle.proof_sections.specs.declared.refusal.ConfirmError.{ConfirmError}
-use Rattle.proof_sections.specs.Judgement.{after_part, after_token, and_then, end_judged, ended_or, line_judged, opened, proof_judged, section_judged}
+use Rattle.proof_sections.specs.Judgement.{after_part, after_token, and_then_judged, end_judged, ended_or, line_judged, opened_tree, proof_judged}
+use Rattle.proof_sections.specs.Judgement.{section_judged}
 use Rattle.proof_sections.specs.Judgement.{sections_judged, tree_by, tree_judged}
 use Rattle.proof_sections.proofs.Trees.{AreFound}
 
 -- a token with a spelling has few numbers and literals
-pub few_of : (tok : ProofTok) → IsSpellable tok → HasFew tok
+pub few_of : (tok : ProofTok) → IsSpellableInProof tok → HasFew tok
 few_of token.Ask spelled = tt
 few_of token.Holds spelled = tt
 few_of (token.Cycle picks) spelled = spelled.1
@@ -34,14 +35,14 @@ few_of (token.Cite number) spelled = tt
 abbrev pub AreTakenOneByOne : (S W : Type 0) → Type 0
 AreTakenOneByOne S W =
     (compare : Comparison S) (tok : ProofTok) (tokens : List ProofTok) (known : List (Learned S W)) (wanted : List (Wanted S W))
-    (next : Standing S W) → HasFew tok → after compare tok known wanted ≡ Ok next
-    → (Completes compare (tok ∷ tokens) wanted known ↔ Completes compare tokens next.wanted next.known)
+    (next : Standing S W) → HasFew tok → after_proof_token compare tok known wanted ≡ Ok next
+    → (CompletesWanted compare (tok ∷ tokens) wanted known ↔ CompletesWanted compare tokens next.wanted next.known)
 
 -- tokens that complete a plan show that it holds
 abbrev pub CompletedHold : (S W : Type 0) → Type 0
 CompletedHold S W =
     (compare : Comparison S) (meaning : S → Plan W) (tokens : List ProofTok) (p : MarkedPlan S W)
-    → IsLawful compare meaning → IsMarkedBy meaning p → Completes compare tokens (Tree p [] ∷ []) []
+    → IsLawful compare meaning → IsMarkedBy meaning p → CompletesWanted compare tokens (Tree p [] ∷ []) []
     → HoldsUnder [] (unmarked p)
 
 module _ {S W : Type 0} (exact : AreFound) (one_by_one : AreTakenOneByOne S W) (compare : Comparison S) (total : ℕ) where
@@ -56,18 +57,18 @@ module _ {S W : Type 0} (exact : AreFound) (one_by_one : AreTakenOneByOne S W) (
     few_found = few_of tok ((exact.found tok left more).0 found).0
 
     by_wanted :
-        (next : Standing S W) (w : List (Wanted S W)) → next.wanted ≡ w → after compare tok at.known at.wanted ≡ Ok next
+        (next : Standing S W) (w : List (Wanted S W)) → next.wanted ≡ w → after_proof_token compare tok at.known at.wanted ≡ Ok next
         → ended_or w more (later next) ≡ Ok rest → IsCompleted at
     by_wanted next [] none taken ok =
         let done : AreCompleted compare [] next =
-        subst (λ (x : List (Wanted S W)). Completes compare [] x next.known) (sym none) refl in
+        subst (λ (x : List (Wanted S W)). CompletesWanted compare [] x next.known) (sym none) refl in
         (tok ∷ [], (one_by_one compare tok [] at.known at.wanted next few_found taken).1 done)
     by_wanted next (x ∷ w) some taken ok =
         let rest_of = go_on next ok in
         (tok ∷ rest_of.0, (one_by_one compare tok rest_of.0 at.known at.wanted next few_found taken).1 rest_of.1)
 
     by_taken :
-        (taken : Result (Standing S W) ProofError) → after compare tok at.known at.wanted ≡ taken
+        (taken : Result (Standing S W) ProofError) → after_proof_token compare tok at.known at.wanted ≡ taken
         → after_token (total - length left) more later taken ≡ Ok rest → IsCompleted at
     by_taken (Ok next) is ok = by_wanted next next.wanted refl is ok
     by_taken (Err e) is ok = absurd (cc)
@@ -79,12 +80,12 @@ module _ {S W : Type 0} (exact : AreFound) (one_by_one : AreTakenOneByOne S W) (
         (front : Parsed ProofTok) → token_front left ≡ front
         → after_part total left front
         (λ tok more.
-        after_token (total - length left) more (λ next. tree_by most compare total next more) (after compare tok at.known at.wanted))
+        after_token (total - length left) more (λ next. tree_by most compare total next more) (after_proof_token compare tok at.known at.wanted))
         ≡ Ok rest
         → IsCompleted at
     by_front (Found tok more) is ok =
         by_taken at tok left more rest is (λ next. tree_by most compare total next more) (λ next. go_on next more)
-        (after compare tok at.known at.wanted) refl ok
+        (after_proof_token compare tok at.known at.wanted) refl ok
     by_front (Missing unread) is ok = absurd (cc)
 
   -- a tree that is accepted is made of tokens that complete what is wanted
@@ -103,7 +104,7 @@ module _ {S W : Type 0} (exact : AreFound) (one_by_one : AreTakenOneByOne S W) (
   module _ (holds : CompletedHold S W) (meaning : S → Plan W) (lawful : IsLawful compare meaning) where
     -- what was accepted, in two steps
     first_of :
-        {A B : Type 0} (one : Result A ConfirmError) (next : A → Result B ConfirmError) (b : B) → and_then one next ≡ Ok b
+        {A B : Type 0} (one : Result A ConfirmError) (next : A → Result B ConfirmError) (b : B) → and_then_judged one next ≡ Ok b
         → (a : A) × (one ≡ Ok a) × (next a ≡ Ok b)
     first_of (Ok a) next b ok = (a, refl, ok)
     first_of (Err e) next b ok = absurd (cc)
@@ -122,9 +123,9 @@ module _ {S W : Type 0} (exact : AreFound) (one_by_one : AreTakenOneByOne S W) (
     section_holds p name left rest marked ok =
         let line =
         first_of (line_judged total (ob_front name) left)
-        (λ more. and_then (tree_judged compare total (opened p) more) (line_judged total line_end_front)) rest ok in
-        let tree = first_of (tree_judged compare total (opened p) line.0) (line_judged total line_end_front) rest line.2 in
-        let tokens = tree_judged-completed (opened p) line.0 tree.0 tree.1 in
+        (λ more. and_then_judged (tree_judged compare total (opened_tree p) more) (line_judged total line_end_front)) rest ok in
+        let tree = first_of (tree_judged compare total (opened_tree p) line.0) (line_judged total line_end_front) rest line.2 in
+        let tokens = tree_judged-completed (opened_tree p) line.0 tree.0 tree.1 in
         holds compare meaning tokens.0 p lawful marked tokens.1
 
     pub sections_hold :

@@ -7,26 +7,27 @@ use Rattle.cert_text.specs.Spelling.{ob_text, end_text}
 use Rattle.proof_trees.specs.declared.token.ProofTok.{ProofTok}
 use Rattle.proof_trees.specs.Starts.{MarkedPlan, Comparison}
 use Rattle.proof_trees.specs.Proofs.{ProofTree, Shows}
-use Rattle.proof_trees.specs.Tokens.{Wanted, Completes, tokens_of}
+use Rattle.proof_trees.specs.Tokens.{Wanted, CompletesWanted, proof_tokens_of}
 use Rattle.proof_check.specs.declared.verdict.ProofError.{ProofError}
 use Rattle.proof_check.specs.Judging.{AreCompleted}
-use Rattle.proof_check.specs.Steps.{Standing, after}
+use Rattle.proof_check.specs.Steps.{Standing, after_proof_token}
 use Rattle.proof_text.specs.Exact.{FindsExactly}
 use Rattle.proof_text.specs.Fronts.{Parsed, Found, Missing}
 use Rattle.proof_text.specs.Lines.{header_front, ob_front, line_end_front, end_front}
-use Rattle.proof_text.specs.Spelling.{IsSpellable, header_text, newline_text, token_text}
+use Rattle.proof_text.specs.Spelling.{IsSpellableInProof, proof_header_text, newline_text, proof_token_text}
 use Rattle.proof_text.specs.Tokens.{token_front}
 use Rattle.proof_sections.specs.declared.refusal.ConfirmError.{ConfirmError}
-use Rattle.proof_sections.specs.Judgement.{after_part, after_token, and_then, end_judged, ended_or, line_judged, nothing_after, opened, proof_judged}
+use Rattle.proof_sections.specs.Judgement.{after_part, after_token, and_then_judged, end_judged, ended_or, line_judged, nothing_after, opened_tree}
+use Rattle.proof_sections.specs.Judgement.{proof_judged}
 use Rattle.proof_sections.specs.Judgement.{section_judged, sections_judged, tree_by, tree_judged}
-use Rattle.proof_sections.specs.Spelled.{AreShown, AreSpellable, IsProof, sections_text, tokens_text}
+use Rattle.proof_sections.specs.Spelled.{AreShown, AreSpellableInProof, IsProof, proof_sections_text, proof_tokens_text}
 use Rattle.proof_sections.proofs.Accepting.{LinesAreFound}
 use Rattle.proof_sections.proofs.Holding.{AreTakenOneByOne, few_of}
 use Rattle.proof_sections.proofs.Trees.{AreFound}
 
 -- what was accepted, in two steps
 first_of :
-    {A B : Type 0} (one : Result A ConfirmError) (next : A → Result B ConfirmError) (b : B) → and_then one next ≡ Ok b
+    {A B : Type 0} (one : Result A ConfirmError) (next : A → Result B ConfirmError) (b : B) → and_then_judged one next ≡ Ok b
     → (a : A) × (one ≡ Ok a) × (next a ≡ Ok b)
 first_of (Ok a) next b ok = (a, refl, ok)
 first_of (Err e) next b ok = absurd (cc)
@@ -41,39 +42,39 @@ module _ {S W : Type 0} (exact : AreFound) (one_by_one : AreTakenOneByOne S W) (
   -- some tokens complete what is wanted, and their text is what is left, up to the rest
   abbrev IsMadeUpTo : List ℕ → Standing S W → List ℕ → Type 0
   IsMadeUpTo rest at left =
-      (tokens : List ProofTok) × AreSpellable tokens × (left ≡ tokens_text tokens ++ rest) × AreCompleted compare tokens at
+      (tokens : List ProofTok) × AreSpellableInProof tokens × (left ≡ proof_tokens_text tokens ++ rest) × AreCompleted compare tokens at
 
   module _ (at : Standing S W) (tok : ProofTok) (left more rest : List ℕ) (found : token_front left ≡ Found tok more)
       (later : Standing S W → Result (List ℕ) ConfirmError)
       (go_on : (next : Standing S W) → later next ≡ Ok rest → IsMadeUpTo rest next more) where
-    spelled : IsSpellable tok × (left ≡ token_text tok ++ more)
+    spelled : IsSpellableInProof tok × (left ≡ proof_token_text tok ++ more)
     spelled = (exact.found tok left more).0 found
 
     -- after the token nothing is wanted any more, or what is left is made of further tokens
     by_wanted :
-        (next : Standing S W) (w : List (Wanted S W)) → next.wanted ≡ w → after compare tok at.known at.wanted ≡ Ok next
+        (next : Standing S W) (w : List (Wanted S W)) → next.wanted ≡ w → after_proof_token compare tok at.known at.wanted ≡ Ok next
         → ended_or w more (later next) ≡ Ok rest → IsMadeUpTo rest at left
     by_wanted next [] none taken ok =
         let same : more ≡ rest = cc in
         let done : AreCompleted compare [] next =
-        subst (λ (x : List (Wanted S W)). Completes compare [] x next.known) (sym none) refl in (
+        subst (λ (x : List (Wanted S W)). CompletesWanted compare [] x next.known) (sym none) refl in (
           tok ∷ [],
           (spelled.0, tt),
-          spelled.1 ∙ ap (λ (x : List ℕ). token_text tok ++ x) same
-              ∙ ap (λ (x : List ℕ). x ++ rest) (sym (append-nil (token_text tok))),
+          spelled.1 ∙ ap (λ (x : List ℕ). proof_token_text tok ++ x) same
+              ∙ ap (λ (x : List ℕ). x ++ rest) (sym (append-nil (proof_token_text tok))),
           (one_by_one compare tok [] at.known at.wanted next (few_of tok spelled.0) taken).1 done,
         )
     by_wanted next (x ∷ w) some taken ok =
         let rest_of = go_on next ok in (
           tok ∷ rest_of.0,
           (spelled.0, rest_of.1),
-          spelled.1 ∙ ap (λ (y : List ℕ). token_text tok ++ y) rest_of.2
-              ∙ sym (append_assoc (token_text tok) (tokens_text rest_of.0) rest),
+          spelled.1 ∙ ap (λ (y : List ℕ). proof_token_text tok ++ y) rest_of.2
+              ∙ sym (append_assoc (proof_token_text tok) (proof_tokens_text rest_of.0) rest),
           (one_by_one compare tok rest_of.0 at.known at.wanted next (few_of tok spelled.0) taken).1 rest_of.3,
         )
 
     by_taken :
-        (taken : Result (Standing S W) ProofError) → after compare tok at.known at.wanted ≡ taken
+        (taken : Result (Standing S W) ProofError) → after_proof_token compare tok at.known at.wanted ≡ taken
         → after_token (total - length left) more later taken ≡ Ok rest → IsMadeUpTo rest at left
     by_taken (Ok next) is ok = by_wanted next next.wanted refl is ok
     by_taken (Err e) is ok = absurd (cc)
@@ -85,12 +86,12 @@ module _ {S W : Type 0} (exact : AreFound) (one_by_one : AreTakenOneByOne S W) (
         (front : Parsed ProofTok) → token_front left ≡ front
         → after_part total left front
         (λ tok more.
-        after_token (total - length left) more (λ next. tree_by most compare total next more) (after compare tok at.known at.wanted))
+        after_token (total - length left) more (λ next. tree_by most compare total next more) (after_proof_token compare tok at.known at.wanted))
         ≡ Ok rest
         → IsMadeUpTo rest at left
     by_front (Found tok more) is ok =
         by_taken at tok left more rest is (λ next. tree_by most compare total next more) (λ next. go_on next more)
-        (after compare tok at.known at.wanted) refl ok
+        (after_proof_token compare tok at.known at.wanted) refl ok
     by_front (Missing unread) is ok = absurd (cc)
 
   tree_by-made :
@@ -103,22 +104,22 @@ module _ {S W : Type 0} (exact : AreFound) (one_by_one : AreTakenOneByOne S W) (
   -- a tree that is accepted shows its plan
   abbrev IsTreeUpTo : List ℕ → MarkedPlan S W → List ℕ → Type 0
   IsTreeUpTo rest p left =
-      (t : ProofTree) × Shows compare t p [] [] × AreSpellable (tokens_of t) × (left ≡ tokens_text (tokens_of t) ++ rest)
+      (t : ProofTree) × Shows compare t p [] [] × AreSpellableInProof (proof_tokens_of t) × (left ≡ proof_tokens_text (proof_tokens_of t) ++ rest)
 
   tree_made :
-      (p : MarkedPlan S W) (left rest : List ℕ) → IsMadeUpTo rest (opened p) left → IsTreeUpTo rest p left
+      (p : MarkedPlan S W) (left rest : List ℕ) → IsMadeUpTo rest (opened_tree p) left → IsTreeUpTo rest p left
   tree_made p left rest (tokens, spellable, text, (t, others, shows, same, none)) =
-      let are : tokens ≡ tokens_of t = same ∙ ap (λ (x : List ProofTok). tokens_of t ++ x) none ∙ append-nil (tokens_of t) in (
+      let are : tokens ≡ proof_tokens_of t = same ∙ ap (λ (x : List ProofTok). proof_tokens_of t ++ x) none ∙ append-nil (proof_tokens_of t) in (
         t,
         shows,
-        subst (λ (x : List ProofTok). AreSpellable x) are spellable,
-        text ∙ ap (λ (x : List ProofTok). tokens_text x ++ rest) are,
+        subst (λ (x : List ProofTok). AreSpellableInProof x) are spellable,
+        text ∙ ap (λ (x : List ProofTok). proof_tokens_text x ++ rest) are,
       )
 
   tree_judged-made :
-      (p : MarkedPlan S W) (left rest : List ℕ) → tree_judged compare total (opened p) left ≡ Ok rest → IsTreeUpTo rest p left
+      (p : MarkedPlan S W) (left rest : List ℕ) → tree_judged compare total (opened_tree p) left ≡ Ok rest → IsTreeUpTo rest p left
   unfolding tree_judged
-  tree_judged-made p left rest ok = tree_made p left rest (tree_by-made (length left) (opened p) left rest ok)
+  tree_judged-made p left rest ok = tree_made p left rest (tree_by-made (length left) (opened_tree p) left rest ok)
 
   -- a line that is accepted stands there
   line_made :
@@ -133,14 +134,14 @@ module _ {S W : Type 0} (exact : AreFound) (one_by_one : AreTakenOneByOne S W) (
     -- a section that is accepted is the text of a tree that shows its plan
     section_made :
         (p : MarkedPlan S W) (name : ObName) (left rest : List ℕ) → section_judged compare p name total left ≡ Ok rest
-        → (t : ProofTree) × Shows compare t p [] [] × AreSpellable (tokens_of t)
-        × (left ≡ ob_text name ++ (tokens_text (tokens_of t) ++ (newline_text ++ rest)))
+        → (t : ProofTree) × Shows compare t p [] [] × AreSpellableInProof (proof_tokens_of t)
+        × (left ≡ ob_text name ++ (proof_tokens_text (proof_tokens_of t) ++ (newline_text ++ rest)))
     unfolding section_judged
     section_made p name left rest ok =
         let line =
         first_of (line_judged total (ob_front name) left)
-        (λ more. and_then (tree_judged compare total (opened p) more) (line_judged total line_end_front)) rest ok in
-        let tree = first_of (tree_judged compare total (opened p) line.0) (line_judged total line_end_front) rest line.2 in
+        (λ more. and_then_judged (tree_judged compare total (opened_tree p) more) (line_judged total line_end_front)) rest ok in
+        let tree = first_of (tree_judged compare total (opened_tree p) line.0) (line_judged total line_end_front) rest line.2 in
         let made = tree_judged-made p line.0 tree.0 tree.1 in (
           made.0,
           made.1,
@@ -148,7 +149,7 @@ module _ {S W : Type 0} (exact : AreFound) (one_by_one : AreTakenOneByOne S W) (
           line_made (ob_front name) (ob_text name) left line.0 (lines.obs name) line.1
               ∙ ap (λ (x : List ℕ). ob_text name ++ x)
               (made.3
-              ∙ ap (λ (x : List ℕ). tokens_text (tokens_of made.0) ++ x)
+              ∙ ap (λ (x : List ℕ). proof_tokens_text (proof_tokens_of made.0) ++ x)
               (line_made line_end_front newline_text tree.0 rest lines.line_ends tree.2)),
         )
 
@@ -159,7 +160,7 @@ module _ {S W : Type 0} (exact : AreFound) (one_by_one : AreTakenOneByOne S W) (
     sections_made :
         (plan : ObName → MarkedPlan S W) (names : List ObName) (left rest : List ℕ)
         → sections_judged compare plan names total left ≡ Ok rest
-        → (trees : List ProofTree) × AreShown compare plan names trees × (left ≡ sections_text names trees ++ rest)
+        → (trees : List ProofTree) × AreShown compare plan names trees × (left ≡ proof_sections_text names trees ++ rest)
     unfolding sections_judged
     sections_made plan [] left rest ok = ([], tt, cc)
     sections_made plan (name ∷ names) left rest ok =
@@ -169,8 +170,8 @@ module _ {S W : Type 0} (exact : AreFound) (one_by_one : AreTakenOneByOne S W) (
           made.0 ∷ others.0,
           (made.1, made.2, others.1),
           made.3
-              ∙ ap (λ (x : List ℕ). ob_text name ++ (tokens_text (tokens_of made.0) ++ (newline_text ++ x))) others.2
-              ∙ sym (regroup (ob_text name) (tokens_text (tokens_of made.0)) newline_text (sections_text names others.0) rest),
+              ∙ ap (λ (x : List ℕ). ob_text name ++ (proof_tokens_text (proof_tokens_of made.0) ++ (newline_text ++ x))) others.2
+              ∙ sym (regroup (ob_text name) (proof_tokens_text (proof_tokens_of made.0)) newline_text (proof_sections_text names others.0) rest),
         )
 
     nothing_made : (left : List ℕ) → nothing_after total left ≡ Ok tt → left ≡ []
@@ -206,7 +207,7 @@ accepted_made exact one_by_one lines compare plan names bytes level ok =
     let is : IsProof compare plan names bytes header.0 = (
       made.0,
       made.1,
-      whole_text bytes (header_text header.0) header.1 (sections_text (names header.0) made.0) sections.0 end_text
+      whole_text bytes (proof_header_text header.0) header.1 (proof_sections_text (names header.0) made.0) sections.0 end_text
           ((lines.headers.found header.0 bytes header.1).0 header.2).1 made.2 last,
     ) in
     subst (λ (l : Level). IsProof compare plan names bytes l) same is

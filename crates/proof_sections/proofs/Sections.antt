@@ -9,7 +9,7 @@ use Rattle.proof_text.specs.Lines.{header_front, ob_front, line_end_front, end_f
 use Rattle.proof_sections.specs.declared.refusal.ProofRefusal.TheVariants as why
 use Rattle.proof_sections.specs.declared.refusal.ConfirmError.{ConfirmError}
 use Rattle.proof_sections.specs.declared.refusal.ConfirmError.TheVariants as confirm
-use Rattle.proof_sections.specs.Judgement.{Judges, and_then, end_judged, line_judged, nothing_after, opened, proof_judged, section_judged}
+use Rattle.proof_sections.specs.Judgement.{Judges, and_then_judged, end_judged, line_judged, nothing_after, opened_tree, proof_judged, section_judged}
 use Rattle.proof_sections.specs.Judgement.{sections_judged, tree_judged, unread_at}
 use Rattle.proof_sections.proofs.Trees.{judges_not, judges_then}
 
@@ -20,32 +20,32 @@ module _ {S W : Type 0} (compare : Comparison S) (p : MarkedPlan S W) (name : Ob
   unfolding section_judged
   section_no_line e is =
       judges_not bytes (line_judged (length bytes) (ob_front name) (drop at bytes))
-      (λ rest. and_then (tree_judged compare (length bytes) (opened p) rest) (line_judged (length bytes) line_end_front)) e is
+      (λ rest. and_then_judged (tree_judged compare (length bytes) (opened_tree p) rest) (line_judged (length bytes) line_end_front)) e is
 
   module _ (start : ℕ) (line : Judges bytes (line_judged (length bytes) (ob_front name) (drop at bytes)) (Ok start)) where
     pub section_no_tree :
-        (e : ConfirmError) → Judges bytes (tree_judged compare (length bytes) (opened p) (drop start bytes)) (Err e)
+        (e : ConfirmError) → Judges bytes (tree_judged compare (length bytes) (opened_tree p) (drop start bytes)) (Err e)
         → Judges bytes (section_judged compare p name (length bytes) (drop at bytes)) (Err e)
     unfolding section_judged
     section_no_tree e is =
         judges_then bytes (line_judged (length bytes) (ob_front name) (drop at bytes))
-        (λ rest. and_then (tree_judged compare (length bytes) (opened p) rest) (line_judged (length bytes) line_end_front)) start (Err e)
+        (λ rest. and_then_judged (tree_judged compare (length bytes) (opened_tree p) rest) (line_judged (length bytes) line_end_front)) start (Err e)
         line
-        (judges_not bytes (tree_judged compare (length bytes) (opened p) (drop start bytes)) (line_judged (length bytes) line_end_front)
+        (judges_not bytes (tree_judged compare (length bytes) (opened_tree p) (drop start bytes)) (line_judged (length bytes) line_end_front)
         e is)
 
     -- a section whose line and tree are accepted is judged as what ends its line is
     pub section_whole :
         (behind : ℕ) (result : Result ℕ ConfirmError)
-        → Judges bytes (tree_judged compare (length bytes) (opened p) (drop start bytes)) (Ok behind)
+        → Judges bytes (tree_judged compare (length bytes) (opened_tree p) (drop start bytes)) (Ok behind)
         → Judges bytes (line_judged (length bytes) line_end_front (drop behind bytes)) result
         → Judges bytes (section_judged compare p name (length bytes) (drop at bytes)) result
     unfolding section_judged
     section_whole behind result tree is =
         judges_then bytes (line_judged (length bytes) (ob_front name) (drop at bytes))
-        (λ rest. and_then (tree_judged compare (length bytes) (opened p) rest) (line_judged (length bytes) line_end_front)) start result
+        (λ rest. and_then_judged (tree_judged compare (length bytes) (opened_tree p) rest) (line_judged (length bytes) line_end_front)) start result
         line
-        (judges_then bytes (tree_judged compare (length bytes) (opened p) (drop start bytes))
+        (judges_then bytes (tree_judged compare (length bytes) (opened_tree p) (drop start bytes))
         (line_judged (length bytes) line_end_front) behind result tree is)
 
 module _ {S W : Type 0} (compare : Comparison S) (plan : ObName → MarkedPlan S W) (bytes : List ℕ) (at : ℕ) where
@@ -88,8 +88,8 @@ module _ {S W : Type 0} (compare : Comparison S) (plan : ObName → MarkedPlan S
   module _ (level : Level) (start : ℕ) (header : header_front bytes ≡ Found level (drop start bytes)) where
     after_header :
         proof_judged compare plan names bytes
-        ≡ and_then (sections_judged compare plan (names level) (length bytes) (drop start bytes))
-        (λ behind. and_then (end_judged (length bytes) behind) (λ done. Ok level))
+        ≡ and_then_judged (sections_judged compare plan (names level) (length bytes) (drop start bytes))
+        (λ behind. and_then_judged (end_judged (length bytes) behind) (λ done. Ok level))
     unfolding proof_judged
     after_header = rw header refl
 
@@ -102,7 +102,7 @@ module _ {S W : Type 0} (compare : Comparison S) (plan : ObName → MarkedPlan S
         inr
         (sym
         (after_header
-        ∙ ap (λ (x : Result (List ℕ) ConfirmError). and_then x (λ behind. and_then (end_judged (length bytes) behind) (λ done. Ok level)))
+        ∙ ap (λ (x : Result (List ℕ) ConfirmError). and_then_judged x (λ behind. and_then_judged (end_judged (length bytes) behind) (λ done. Ok level)))
         is))
     proof_no_section confirm.NoMemory is = inl refl
 
@@ -110,10 +110,10 @@ module _ {S W : Type 0} (compare : Comparison S) (plan : ObName → MarkedPlan S
         (sections : Judges bytes (sections_judged compare plan (names level) (length bytes) (drop start bytes)) (Ok behind)) where
       after_sections :
           proof_judged compare plan names bytes
-          ≡ and_then (end_judged (length bytes) (drop behind bytes)) (λ done. Ok level)
+          ≡ and_then_judged (end_judged (length bytes) (drop behind bytes)) (λ done. Ok level)
       after_sections =
           after_header
-          ∙ ap (λ (x : Result (List ℕ) ConfirmError). and_then x (λ rest. and_then (end_judged (length bytes) rest) (λ done. Ok level)))
+          ∙ ap (λ (x : Result (List ℕ) ConfirmError). and_then_judged x (λ rest. and_then_judged (end_judged (length bytes) rest) (λ done. Ok level)))
           sections.1
 
       -- what refuses the last line refuses the proof
@@ -126,27 +126,27 @@ module _ {S W : Type 0} (compare : Comparison S) (plan : ObName → MarkedPlan S
           (sym
           (after_sections
           ∙ ap
-          (λ (x : Result (List ℕ) ConfirmError). and_then (and_then x (nothing_after (length bytes))) (λ done. Ok level))
+          (λ (x : Result (List ℕ) ConfirmError). and_then_judged (and_then_judged x (nothing_after (length bytes))) (λ done. Ok level))
           is))
       proof_no_end confirm.NoMemory is = inl refl
 
       module _ (end : ℕ) (last : Judges bytes (line_judged (length bytes) end_front (drop behind bytes)) (Ok end)) where
         after_end :
-            proof_judged compare plan names bytes ≡ and_then (nothing_after (length bytes) (drop end bytes)) (λ done. Ok level)
+            proof_judged compare plan names bytes ≡ and_then_judged (nothing_after (length bytes) (drop end bytes)) (λ done. Ok level)
         unfolding end_judged
         after_end =
             after_sections
             ∙ ap
-            (λ (x : Result (List ℕ) ConfirmError). and_then (and_then x (nothing_after (length bytes))) (λ done. Ok level)) last.1
+            (λ (x : Result (List ℕ) ConfirmError). and_then_judged (and_then_judged x (nothing_after (length bytes))) (λ done. Ok level)) last.1
 
         nothing_left :
-            (rest : List ℕ) → length rest ≡ 0 → and_then (nothing_after (length bytes) rest) (λ done. Ok level) ≡ Ok level
+            (rest : List ℕ) → length rest ≡ 0 → and_then_judged (nothing_after (length bytes) rest) (λ done. Ok level) ≡ Ok level
         nothing_left [] none = refl
         nothing_left (b ∷ rest) some = absurd (omega arith)
 
         something_left :
             (rest : List ℕ) → 0 < length rest
-            → and_then (nothing_after (length bytes) rest) (λ done. Ok level)
+            → and_then_judged (nothing_after (length bytes) rest) (λ done. Ok level)
             ≡ Err (confirm.Refused (length bytes - length rest) why.Trailing)
         something_left [] none = absurd (omega arith)
         something_left (b ∷ rest) some = refl

@@ -5,7 +5,7 @@ use Rattle.fn_rules.specs.declared.function.ObName.{ObName}
 use Rattle.proof_trees.specs.Starts.{MarkedPlan, Comparison}
 use Rattle.proof_trees.specs.Tokens.{Wanted}
 use Rattle.proof_check.specs.declared.verdict.ProofError.{ProofError}
-use Rattle.proof_check.specs.Steps.{Standing, after}
+use Rattle.proof_check.specs.Steps.{Standing, after_proof_token}
 use Rattle.proof_text.specs.declared.unread.Unread.TheVariants.{Misspelt, Cut}
 use Rattle.proof_text.specs.Exact.{FindsExactly}
 use Rattle.proof_text.specs.Fronts.{Parsed, Found, Missing}
@@ -15,7 +15,8 @@ use Rattle.proof_sections.specs.declared.refusal.ProofRefusal.{ProofRefusal}
 use Rattle.proof_sections.specs.declared.refusal.ProofRefusal.TheVariants as why
 use Rattle.proof_sections.specs.declared.refusal.ConfirmError.{ConfirmError}
 use Rattle.proof_sections.specs.declared.refusal.ConfirmError.TheVariants as confirm
-use Rattle.proof_sections.specs.Judgement.{after_part, after_token, and_then, end_judged, ended_or, line_judged, nothing_after, opened, proof_judged}
+use Rattle.proof_sections.specs.Judgement.{after_part, after_token, and_then_judged, end_judged, ended_or, line_judged, nothing_after, opened_tree}
+use Rattle.proof_sections.specs.Judgement.{proof_judged}
 use Rattle.proof_sections.specs.Judgement.{refused_at, section_judged, sections_judged, tree_by, tree_judged}
 
 -- a refusal is the same in the other judgement, unless the bytes end too early; and what is accepted is kept so
@@ -75,11 +76,11 @@ module _ (more : List ℕ) (total longer : ℕ) (grown : longer ≡ total + leng
       {B : Type 0} (Keeps : B → Result B ConfirmError → Type 0) (one other : Result (List ℕ) ConfirmError)
       (next later : List ℕ → Result B ConfirmError) → Stands KeepsRest one other
       → ((rest : List ℕ) → length rest ≤ total → Stands Keeps (next rest) (later (rest ++ more)))
-      → Stands Keeps (and_then one next) (and_then other later)
+      → Stands Keeps (and_then_judged one next) (and_then_judged other later)
   then_stands {B} Keeps (Ok rest) other next later stands go_on =
-      subst (λ (x : Result (List ℕ) ConfirmError). Stands Keeps (next rest) (and_then x later)) (sym stands.1) (go_on rest stands.0)
+      subst (λ (x : Result (List ℕ) ConfirmError). Stands Keeps (next rest) (and_then_judged x later)) (sym stands.1) (go_on rest stands.0)
   then_stands {B} Keeps (Err (confirm.Refused offset cause)) other next later stands go_on =
-      λ early. ap (λ (x : Result (List ℕ) ConfirmError). and_then x later) (stands early)
+      λ early. ap (λ (x : Result (List ℕ) ConfirmError). and_then_judged x later) (stands early)
   then_stands {B} Keeps (Err confirm.NoMemory) other next later stands go_on = tt
 
   module _ {A : Type 0} {front : List ℕ → Parsed A} (stays : StaysFound front) where
@@ -134,14 +135,14 @@ module _ (more : List ℕ) (total longer : ℕ) (grown : longer ≡ total + leng
     tree_by-stands (suc few) (suc many) at left fewer within =
         part_stands parts.tokens KeepsRest left
         (λ tok rest.
-        after_token (total - length left) rest (λ next. tree_by few compare total next rest) (after compare tok at.known at.wanted))
+        after_token (total - length left) rest (λ next. tree_by few compare total next rest) (after_proof_token compare tok at.known at.wanted))
         (λ tok rest.
         after_token (longer - length (left ++ more)) rest (λ next. tree_by many compare longer next rest)
-        (after compare tok at.known at.wanted))
+        (after_proof_token compare tok at.known at.wanted))
         within
         (λ tok rest short.
         token_stands left rest (λ next. tree_by few compare total next rest) (λ next. tree_by many compare longer next (rest ++ more))
-        within short (λ next. tree_by-stands few many next rest (omega arith) short) (after compare tok at.known at.wanted))
+        within short (λ next. tree_by-stands few many next rest (omega arith) short) (after_proof_token compare tok at.known at.wanted))
         (token_front left) refl
 
     tree_stands :
@@ -158,12 +159,12 @@ module _ (more : List ℕ) (total longer : ℕ) (grown : longer ≡ total + leng
     unfolding section_judged
     section_stands p name left within =
         then_stands KeepsRest (line_judged total (ob_front name) left) (line_judged longer (ob_front name) (left ++ more))
-        (λ rest. and_then (tree_judged compare total (opened p) rest) (line_judged total line_end_front))
-        (λ rest. and_then (tree_judged compare longer (opened p) rest) (line_judged longer line_end_front))
+        (λ rest. and_then_judged (tree_judged compare total (opened_tree p) rest) (line_judged total line_end_front))
+        (λ rest. and_then_judged (tree_judged compare longer (opened_tree p) rest) (line_judged longer line_end_front))
         (line_stands (ob_front name) (parts.obs name) left within)
         (λ rest short.
-        then_stands KeepsRest (tree_judged compare total (opened p) rest) (tree_judged compare longer (opened p) (rest ++ more))
-        (line_judged total line_end_front) (line_judged longer line_end_front) (tree_stands (opened p) rest short)
+        then_stands KeepsRest (tree_judged compare total (opened_tree p) rest) (tree_judged compare longer (opened_tree p) (rest ++ more))
+        (line_judged total line_end_front) (line_judged longer line_end_front) (tree_stands (opened_tree p) rest short)
         (line_stands line_end_front parts.line_ends))
 
     sections_stand :
@@ -194,10 +195,10 @@ module _ (more : List ℕ) (total longer : ℕ) (grown : longer ≡ total + leng
   -- the level is what was read first
   level_stands :
       (level : Level) (one other : Result (Unit {0}) ConfirmError) → Stands KeepsNone one other
-      → Stands KeepsNone (and_then one (λ done. Ok level)) (and_then other (λ done. Ok level))
+      → Stands KeepsNone (and_then_judged one (λ done. Ok level)) (and_then_judged other (λ done. Ok level))
   level_stands level (Ok done) other stands = tt
   level_stands level (Err (confirm.Refused offset cause)) other stands =
-      λ early. ap (λ (x : Result (Unit {0}) ConfirmError). and_then x (λ done. Ok level)) (stands early)
+      λ early. ap (λ (x : Result (Unit {0}) ConfirmError). and_then_judged x (λ done. Ok level)) (stands early)
   level_stands level (Err confirm.NoMemory) other stands = tt
 
 module _ {S W : Type 0} (parts : PartsStayFound) (compare : Comparison S) (plan : ObName → MarkedPlan S W)
@@ -211,17 +212,17 @@ module _ {S W : Type 0} (parts : PartsStayFound) (compare : Comparison S) (plan 
       let grown = length-append bytes more in
       part_stands more total longer grown parts.headers KeepsNone bytes
       (λ level rest.
-      and_then (sections_judged compare plan (names level) total rest)
-      (λ behind. and_then (end_judged total behind) (λ done. Ok level)))
+      and_then_judged (sections_judged compare plan (names level) total rest)
+      (λ behind. and_then_judged (end_judged total behind) (λ done. Ok level)))
       (λ level rest.
-      and_then (sections_judged compare plan (names level) longer rest)
-      (λ behind. and_then (end_judged longer behind) (λ done. Ok level)))
+      and_then_judged (sections_judged compare plan (names level) longer rest)
+      (λ behind. and_then_judged (end_judged longer behind) (λ done. Ok level)))
       (omega arith)
       (λ level rest short.
       then_stands more total longer grown KeepsNone (sections_judged compare plan (names level) total rest)
       (sections_judged compare plan (names level) longer (rest ++ more))
-      (λ behind. and_then (end_judged total behind) (λ done. Ok level))
-      (λ behind. and_then (end_judged longer behind) (λ done. Ok level))
+      (λ behind. and_then_judged (end_judged total behind) (λ done. Ok level))
+      (λ behind. and_then_judged (end_judged longer behind) (λ done. Ok level))
       (sections_stand more total longer grown parts compare plan (names level) rest short)
       (λ behind few.
       level_stands more total longer grown level (end_judged total behind) (end_judged longer (behind ++ more))

@@ -10,39 +10,40 @@ use Rattle.proof_trees.specs.Starts.{Comparison}
 use Rattle.proof_trees.specs.Starters.{Starts}
 use Rattle.proof_trees.specs.Tokens.{Wanted}
 use Rattle.proof_check.specs.declared.verdict.ProofError.{ProofError}
-use Rattle.proof_check.specs.Judging.{IsCauseOf, standing_over}
+use Rattle.proof_check.specs.Judging.{IsProofCauseOf, standing_over}
 use Rattle.proof_check.specs.Places.{OpenProof, WantedAt, wanted_of}
-use Rattle.proof_check.specs.Steps.{Standing, after, IsTaken}
+use Rattle.proof_check.specs.Steps.{Standing, after_proof_token, IsTaken}
 use Rattle.proof_text.specs.declared.unread.Unread.{Unread}
 use Rattle.proof_text.specs.declared.unread.Unread.TheVariants.{Misspelt, Cut}
 use Rattle.proof_text.specs.Answers.{Answers}
 use Rattle.proof_text.specs.Exact.{FindsExactly}
 use Rattle.proof_text.specs.Fronts.{Parsed, Found, Missing}
-use Rattle.proof_text.specs.Spelling.{token_text, IsSpellable}
+use Rattle.proof_text.specs.Spelling.{proof_token_text, IsSpellableInProof}
 use Rattle.proof_text.specs.Tokens.{token_front}
 use Rattle.proof_sections.specs.declared.refusal.ConfirmError.{ConfirmError}
 use Rattle.proof_sections.specs.declared.refusal.ConfirmError.TheVariants as confirm
-use Rattle.proof_sections.specs.Judgement.{Judges, LeadsTo, and_then, line_judged, after_token, ended_or, refused_at, tree_by, tree_judged, unread_at}
+use Rattle.proof_sections.specs.Judgement.{Judges, TokenLeadsTo, and_then_judged, line_judged, after_token, ended_or, refused_at, tree_by, tree_judged}
+use Rattle.proof_sections.specs.Judgement.{unread_at}
 
 -- tokens are found where they are spelled
 abbrev pub AreFound : Type 0
-AreFound = FindsExactly token_front token_text IsSpellable
+AreFound = FindsExactly token_front proof_token_text IsSpellableInProof
 
 -- a token has a byte
-token_text-some : (tok : ProofTok) → 0 < length (token_text tok)
-token_text-some token.Ask = omega arith
-token_text-some token.Holds = omega arith
-token_text-some (token.Cycle picks) = omega arith
-token_text-some (token.Lemma ls) = omega arith
-token_text-some (token.Cite number) = omega arith
+proof_token_text-some : (tok : ProofTok) → 0 < length (proof_token_text tok)
+proof_token_text-some token.Ask = omega arith
+proof_token_text-some token.Holds = omega arith
+proof_token_text-some (token.Cycle picks) = omega arith
+proof_token_text-some (token.Lemma ls) = omega arith
+proof_token_text-some (token.Cite number) = omega arith
 
 -- fewer bytes are left after a token
 pub fewer_after : AreFound → (tok : ProofTok) (bytes rest : List ℕ) → token_front bytes ≡ Found tok rest → length rest < length bytes
 fewer_after exact tok bytes rest found =
-    let spelled : bytes ≡ token_text tok ++ rest = ((exact.found tok bytes rest).0 found).1 in
-    let longer : length bytes ≡ length (token_text tok) + length rest =
-    ap (λ (x : List ℕ). length x) spelled ∙ length-append (token_text tok) rest in
-    let some : 0 < length (token_text tok) = token_text-some tok in omega arith
+    let spelled : bytes ≡ proof_token_text tok ++ rest = ((exact.found tok bytes rest).0 found).1 in
+    let longer : length bytes ≡ length (proof_token_text tok) + length rest =
+    ap (λ (x : List ℕ). length x) spelled ∙ length-append (proof_token_text tok) rest in
+    let some : 0 < length (proof_token_text tok) = proof_token_text-some tok in omega arith
 
 module _ {S W : Type 0} (compare : Comparison S) (total : ℕ) where
   -- what comes after a token is told by what comes later
@@ -73,7 +74,7 @@ module _ {S W : Type 0} (compare : Comparison S) (total : ℕ) where
         let fewer : length rest < length (b ∷ left) = fewer_after exact tok (b ∷ left) rest is in
         rw is
         (after_token-same (total - length (b ∷ left)) rest (λ next. tree_by k compare total next rest)
-        (λ next. tree_by m compare total next rest) (after compare tok at.known at.wanted)
+        (λ next. tree_by m compare total next rest) (after_proof_token compare tok at.known at.wanted)
         (λ next. later next rest (omega arith) (omega arith)))
     same_front k m at b left short below later (Missing unread) is = rw is refl
 
@@ -93,14 +94,14 @@ module _ {S W : Type 0} (compare : Comparison S) (total : ℕ) where
     pub tree_judged-found :
         (at : Standing S W) (left rest : List ℕ) (tok : ProofTok) → token_front left ≡ Found tok rest
         → tree_judged compare total at left
-        ≡ after_token (total - length left) rest (λ next. tree_judged compare total next rest) (after compare tok at.known at.wanted)
+        ≡ after_token (total - length left) rest (λ next. tree_judged compare total next rest) (after_proof_token compare tok at.known at.wanted)
     unfolding tree_judged tree_by
     tree_judged-found at [] rest tok found = absurd (cc)
     tree_judged-found at (b ∷ left) rest tok found =
         let fewer : length rest < length (b ∷ left) = fewer_after exact tok (b ∷ left) rest found in
         rw found
         (after_token-same (total - length (b ∷ left)) rest (λ next. tree_by (length left) compare total next rest)
-        (λ next. tree_by (length rest) compare total next rest) (after compare tok at.known at.wanted)
+        (λ next. tree_by (length rest) compare total next rest) (after_proof_token compare tok at.known at.wanted)
         (λ next. tree_by-enough (length left) (length rest) next rest (omega arith) (omega arith)))
 
     -- no token
@@ -138,7 +139,7 @@ module _ {S W : Type 0} (compare : Comparison S) (total : ℕ) where
 
     pub tree_judged-refused :
         (at : Standing S W) (left rest : List ℕ) (tok : ProofTok) (e : ProofError) → token_front left ≡ Found tok rest
-        → after compare tok at.known at.wanted ≡ Err e
+        → after_proof_token compare tok at.known at.wanted ≡ Err e
         → tree_judged compare total at left ≡ Err (refused_at (total - length left) e)
     tree_judged-refused at left rest tok e found refused =
         tree_judged-found at left rest tok found
@@ -160,7 +161,7 @@ module _ {S W : Type 0} (exact : AreFound) (compare : Comparison S) (bytes : Lis
       {N : Type 0} (p : Progress) (next : ℕ) (tok : ProofTok) (starts : Starts N S W) (q : OpenProof N)
       → token_front (drop at bytes) ≡ Found tok (drop next bytes) → IsTaken compare tok old (standing_over starts q)
       → (p ≡ More → 0 < length q.wanted) → (p ≡ Done → q.wanted ≡ [])
-      → LeadsTo compare bytes p old at (standing_over starts q) next
+      → TokenLeadsTo compare bytes p old at (standing_over starts q) next
   token_leads More next tok starts q found taken some none =
       let more : 0 < length (standing_over starts q).wanted = rw length-map (some refl) in
       tree_judged-on compare (length bytes) exact old (standing_over starts q) (drop at bytes) (drop next bytes) tok found taken more
@@ -172,7 +173,7 @@ module _ {S W : Type 0} (exact : AreFound) (compare : Comparison S) (bytes : Lis
     -- a token that is found and refused is what the tree is refused for, at the token's place
     pub token_refused :
         (tok : ProofTok) (rest : List ℕ) (e : ProofError) → token_front (drop at bytes) ≡ Found tok rest
-        → IsCauseOf compare e tok old
+        → IsProofCauseOf compare e tok old
         → Judges bytes (tree_judged compare (length bytes) old (drop at bytes)) (Err (refused_at at e))
     token_refused tok rest e found (inl want) =
         subst
@@ -209,13 +210,13 @@ line_unread front bytes at unread within missing =
 pub judges_then :
     (bytes : List ℕ) (one : Result (List ℕ) ConfirmError) (next : List ℕ → Result (List ℕ) ConfirmError) (at : ℕ)
     (result : Result ℕ ConfirmError)
-    → Judges bytes one (Ok at) → Judges bytes (next (drop at bytes)) result → Judges bytes (and_then one next) result
+    → Judges bytes one (Ok at) → Judges bytes (next (drop at bytes)) result → Judges bytes (and_then_judged one next) result
 judges_then bytes one next at result (within, is) later =
-    subst (λ (x : Result (List ℕ) ConfirmError). Judges bytes (and_then x next) result) (sym is) later
+    subst (λ (x : Result (List ℕ) ConfirmError). Judges bytes (and_then_judged x next) result) (sym is) later
 
 pub judges_not :
     (bytes : List ℕ) (one : Result (List ℕ) ConfirmError) (next : List ℕ → Result (List ℕ) ConfirmError) (e : ConfirmError)
-    → Judges bytes one (Err e) → Judges bytes (and_then one next) (Err e)
+    → Judges bytes one (Err e) → Judges bytes (and_then_judged one next) (Err e)
 judges_not bytes one next (confirm.Refused offset cause) is =
-    ap (λ (x : Result (List ℕ) ConfirmError). and_then x next) is
+    ap (λ (x : Result (List ℕ) ConfirmError). and_then_judged x next) is
 judges_not bytes one next confirm.NoMemory is = tt

@@ -11,7 +11,7 @@ use Rattle.proof_trees.specs.Starts.{MarkedPlan, Comparison}
 use Rattle.proof_trees.specs.Tokens.{Wanted, Tree}
 use Rattle.proof_check.specs.declared.verdict.ProofError.{ProofError}
 use Rattle.proof_check.specs.declared.verdict.ProofError.TheVariants as error
-use Rattle.proof_check.specs.Steps.{Standing, after}
+use Rattle.proof_check.specs.Steps.{Standing, after_proof_token}
 use Rattle.proof_text.specs.declared.unread.Unread.{Unread}
 use Rattle.proof_text.specs.declared.unread.Unread.TheVariants.{Misspelt, Cut}
 use Rattle.proof_text.specs.Fronts.{Parsed, Found, Missing}
@@ -47,9 +47,10 @@ after_part total left (Found a rest) next = next a rest
 after_part total left (Missing unread) next = Err (unread_at total (total - length left) unread)
 
 -- what is judged after what was accepted
-abbrev pub and_then : {A B : Type 0} → Result A ConfirmError → (A → Result B ConfirmError) → Result B ConfirmError
-and_then (Ok a) next = next a
-and_then (Err e) next = Err e
+abbrev pub and_then_judged : {A B : Type 0} → Result A ConfirmError → (A → Result B ConfirmError)
+    → Result B ConfirmError
+and_then_judged (Ok a) next = next a
+and_then_judged (Err e) next = Err e
 
 -- the tree has ended where nothing is wanted any more; else it goes on
 abbrev pub ended_or : {S W : Type 0} → List (Wanted S W) → List ℕ → Result (List ℕ) ConfirmError
@@ -73,14 +74,14 @@ tree_by (suc most) compare total at left =
     after_part total left (token_front left)
     (λ tok rest.
     after_token (total - length left) rest (λ next. tree_by most compare total next rest)
-    (after compare tok at.known at.wanted))
+    (after_proof_token compare tok at.known at.wanted))
 
 unfoldable pub tree_judged : {S W : Type 0} → Comparison S → ℕ → Standing S W → List ℕ → Result (List ℕ) ConfirmError
 tree_judged compare total at left = tree_by (length left) compare total at left
 
 -- a tree of the plan is wanted, under no literals, and no lemmas are known
-abbrev pub opened : {S W : Type 0} → MarkedPlan S W → Standing S W
-opened p = record { known = []; wanted = Tree p [] ∷ [] }
+abbrev pub opened_tree : {S W : Type 0} → MarkedPlan S W → Standing S W
+opened_tree p = record { known = []; wanted = Tree p [] ∷ [] }
 
 -- a line that is looked for at the front of the bytes that are left, and the bytes after it
 abbrev pub line_judged : ℕ → (List ℕ → Parsed (Unit {0})) → List ℕ → Result (List ℕ) ConfirmError
@@ -90,15 +91,15 @@ line_judged total front left = after_part total left (front left) (λ line rest.
 unfoldable pub section_judged :
     {S W : Type 0} → Comparison S → MarkedPlan S W → ObName → ℕ → List ℕ → Result (List ℕ) ConfirmError
 section_judged compare p name total left =
-    and_then (line_judged total (ob_front name) left)
-    (λ rest. and_then (tree_judged compare total (opened p) rest) (line_judged total line_end_front))
+    and_then_judged (line_judged total (ob_front name) left)
+    (λ rest. and_then_judged (tree_judged compare total (opened_tree p) rest) (line_judged total line_end_front))
 
 -- and for all obligations, in order
 unfoldable pub sections_judged :
     {S W : Type 0} → Comparison S → (ObName → MarkedPlan S W) → List ObName → ℕ → List ℕ → Result (List ℕ) ConfirmError
 sections_judged compare plan [] total left = Ok left
 sections_judged compare plan (name ∷ names) total left =
-    and_then (section_judged compare (plan name) name total left) (sections_judged compare plan names total)
+    and_then_judged (section_judged compare (plan name) name total left) (sections_judged compare plan names total)
 
 -- nothing stands after the last line
 abbrev pub nothing_after : ℕ → List ℕ → Result (Unit {0}) ConfirmError
@@ -107,7 +108,7 @@ nothing_after total (b ∷ rest) = Err (confirm.Refused (total - length (b ∷ r
 
 -- the last line
 unfoldable pub end_judged : ℕ → List ℕ → Result (Unit {0}) ConfirmError
-end_judged total left = and_then (line_judged total end_front left) (nothing_after total)
+end_judged total left = and_then_judged (line_judged total end_front left) (nothing_after total)
 
 -- The judgement of bytes: the level of a proof, or the first refusal. The levels have these obligations, of which
 -- each one has a plan with its starts.
@@ -117,8 +118,8 @@ unfoldable pub proof_judged :
 proof_judged compare plan names bytes =
     after_part (length bytes) bytes (header_front bytes)
     (λ level rest.
-    and_then (sections_judged compare plan (names level) (length bytes) rest)
-    (λ behind. and_then (end_judged (length bytes) behind) (λ done. Ok level)))
+    and_then_judged (sections_judged compare plan (names level) (length bytes) rest)
+    (λ behind. and_then_judged (end_judged (length bytes) behind) (λ done. Ok level)))
 
 -- a call answers so of the bytes from a place on, unless memory was wanting
 abbrev pub Judges : List ℕ → Result (List ℕ) ConfirmError → Result ℕ ConfirmError → Type 0
@@ -127,8 +128,9 @@ Judges bytes judged (Err (confirm.Refused offset why)) = judged ≡ Err (confirm
 Judges bytes judged (Err confirm.NoMemory) = Unit {0}
 
 -- a token at a place leads to another one: the tree goes on there, or has ended
-abbrev pub LeadsTo : {S W : Type 0} → Comparison S → List ℕ → Progress → Standing S W → ℕ → Standing S W → ℕ → Type 0
-LeadsTo compare bytes More old at new next =
+abbrev pub TokenLeadsTo : {S W : Type 0} → Comparison S → List ℕ → Progress → Standing S W → ℕ → Standing S W → ℕ
+    → Type 0
+TokenLeadsTo compare bytes More old at new next =
     tree_judged compare (length bytes) old (drop at bytes) ≡ tree_judged compare (length bytes) new (drop next bytes)
-LeadsTo compare bytes Done old at new next = tree_judged compare (length bytes) old (drop at bytes)
+TokenLeadsTo compare bytes Done old at new next = tree_judged compare (length bytes) old (drop at bytes)
     ≡ Ok (drop next bytes)

@@ -2,7 +2,7 @@
 ghost use Rattle.std.specs.Prelude.{◌≡◌, ◌<◌, ◌≤◌, length, drop, None, IfOk, IfErr};
 ghost use Rattle.proof_check.specs.Judging.{standing_at};
 ghost use Rattle.proof_sections.specs.declared.refusal.ConfirmError.TheVariants as confirm;
-ghost use Rattle.proof_sections.specs.Judgement.{Judges, LeadsTo, opened, refused_at, tree_judged, unread_at};
+ghost use Rattle.proof_sections.specs.Judgement.{Judges, TokenLeadsTo, opened_tree, refused_at, tree_judged, unread_at};
 
 use crate::refusal::{ConfirmError, ProofRefusal};
 use proof_check::{CheckError, Progress, ProofChecker, ProofError};
@@ -61,7 +61,7 @@ fn judge_token<A: Starter>(
     requires open { 0 < length checker.old.places.wanted }
     requires fresh { checker.old.refusal ≡ None }
     ensures place { IfOk result (λ r. (at < r.1) × (r.1 ≤ length bytes.now)) }
-    ensures leads { IfOk result (λ r. LeadsTo (A.starts checker.old.asker).compare bytes.now r.0
+    ensures leads { IfOk result (λ r. TokenLeadsTo (A.starts checker.old.asker).compare bytes.now r.0
         (standing_at A.starts checker.old) at (standing_at A.starts checker.new) r.1) }
     ensures open { IfOk result (λ r. r.0 ≡ Progress.More → 0 < length checker.new.places.wanted) }
     ensures fresh { IfOk result (λ r. checker.new.refusal ≡ None) }
@@ -89,8 +89,8 @@ pub fn judge_tree<A: Starter>(
 ) -> Result<usize, ConfirmError>
     requires { start ≤ length bytes.now }
     ensures { Judges bytes.now
-        (tree_judged (A.starts asker).compare (length bytes.now) (opened (A.starts asker).root) (drop start bytes.now))
-        result }
+        (tree_judged (A.starts asker).compare (length bytes.now) (opened_tree (A.starts asker).root)
+        (drop start bytes.now)) result }
 {
     let mut checker = ProofChecker::new(alloc, asker)?;
     let mut tok = ProofTok::Holds;

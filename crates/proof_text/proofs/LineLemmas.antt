@@ -5,7 +5,7 @@ use Rattle.fn_rules.specs.declared.function.Level.TheVariants.{Tp1, Tp2}
 use Rattle.proof_text.specs.declared.unread.Unread.TheVariants.{Misspelt, Cut}
 use Rattle.proof_text.specs.Fronts.{Parsed, Found, Missing, either_front, found_as, fixed_front}
 use Rattle.proof_text.specs.Lines.{header_front}
-use Rattle.proof_text.specs.Spelling.{header_text}
+use Rattle.proof_text.specs.Spelling.{proof_header_text}
 use Rattle.proof_text.proofs.Spells.{Spells, IsAnything, cut_is_not_misspelt, found_as_found, found_as_missing, found_is_not_missing}
 use Rattle.proof_text.proofs.FixedLemmas.{fixed_cut, fixed_read, fixed_spelled}
 use Rattle.proof_text.proofs.Places.{found_behind}
@@ -32,24 +32,25 @@ either_misspelt {A} (Missing Cut) y is = absurd (cut_is_not_misspelt (either_fro
 
 -- the header of a level
 abbrev one_header : Level → List ℕ → Parsed Level
-one_header level bytes = found_as (λ x. level) (fixed_front (header_text level) bytes)
+one_header level bytes = found_as (λ x. level) (fixed_front (proof_header_text level) bytes)
 
-header_read : (level other : Level) (bytes rest : List ℕ) → one_header level bytes ≡ Found other rest → bytes ≡ header_text other ++ rest
+header_read : (level other : Level) (bytes rest : List ℕ) → one_header level bytes ≡ Found other rest → bytes ≡ proof_header_text other ++ rest
 header_read level other bytes rest is =
-    let found = found_as_found (λ x. level) (fixed_front (header_text level) bytes) other rest is in
-    fixed_read (header_text level) bytes rest found.0 found.1 ∙ ap (λ (l : Level). header_text l ++ rest) found.2
+    let found = found_as_found (λ x. level) (fixed_front (proof_header_text level) bytes) other rest is in
+    fixed_read (proof_header_text level) bytes rest found.0 found.1 ∙ ap (λ (l : Level). proof_header_text l ++ rest) found.2
 
-header_cut : (level : Level) (bytes : List ℕ) → one_header level bytes ≡ Missing Cut → (more : List ℕ) × (0 < length more) × (header_text level ≡ bytes ++ more)
-header_cut level bytes is = fixed_cut (header_text level) bytes (found_as_missing (λ x. level) (fixed_front (header_text level) bytes) Cut is)
+header_cut : (level : Level) (bytes : List ℕ) → one_header level bytes ≡ Missing Cut → (more : List ℕ) × (0 < length more)
+    × (proof_header_text level ≡ bytes ++ more)
+header_cut level bytes is = fixed_cut (proof_header_text level) bytes (found_as_missing (λ x. level) (fixed_front (proof_header_text level) bytes) Cut is)
 
 header_misspelt : (level : Level) (bytes more : List ℕ) → one_header level bytes ≡ Missing Misspelt → one_header level (bytes ++ more) ≡ Missing Misspelt
 header_misspelt level bytes more is =
     ap (found_as (λ x. level))
-    ((fixed_spelled (header_text level)).misspelt bytes more
-    (found_as_missing (λ x. level) (fixed_front (header_text level) bytes) Misspelt is))
+    ((fixed_spelled (proof_header_text level)).misspelt bytes more
+    (found_as_missing (λ x. level) (fixed_front (proof_header_text level) bytes) Misspelt is))
 
 -- a header is found exactly where it stands
-pub headers_spelled : Spells header_front header_text (λ level. Unit {0}) IsAnything
+pub headers_spelled : Spells header_front proof_header_text (λ level. Unit {0}) IsAnything
 headers_spelled =
     record {
       written = λ level rest spelled behind. written level rest;
@@ -59,18 +60,18 @@ headers_spelled =
       misspelt = λ bytes more is. misspelt bytes more is;
     }
   where
-    written : (level : Level) (rest : List ℕ) → header_front (header_text level ++ rest) ≡ Found level rest
+    written : (level : Level) (rest : List ℕ) → header_front (proof_header_text level ++ rest) ≡ Found level rest
     written Tp1 rest = refl
     written Tp2 rest = refl
 
-    read : (level : Level) (bytes rest : List ℕ) → header_front bytes ≡ Found level rest → bytes ≡ header_text level ++ rest
+    read : (level : Level) (bytes rest : List ℕ) → header_front bytes ≡ Found level rest → bytes ≡ proof_header_text level ++ rest
     read level bytes rest is =
         ⊎_elim
         (λ (h : one_header Tp1 bytes ≡ Found level rest). header_read Tp1 level bytes rest h)
         (λ (h : (one_header Tp1 bytes ≡ Missing Misspelt) × (one_header Tp2 bytes ≡ Found level rest)). header_read Tp2 level bytes rest h.1)
         (either_found (one_header Tp1 bytes) (one_header Tp2 bytes) level rest is)
 
-    cut : (bytes : List ℕ) → header_front bytes ≡ Missing Cut → (level : Level) × (more : List ℕ) × Unit {0} × (header_text level ≡ bytes ++ more)
+    cut : (bytes : List ℕ) → header_front bytes ≡ Missing Cut → (level : Level) × (more : List ℕ) × Unit {0} × (proof_header_text level ≡ bytes ++ more)
     cut bytes is =
         ⊎_elim
         (λ (h : one_header Tp1 bytes ≡ Missing Cut). let c = header_cut Tp1 bytes h in (Tp1, c.0, tt, c.2))

@@ -11,7 +11,8 @@ use Rattle.proof_trees.specs.declared.token.ProofTok.TheVariants as token
 use Rattle.proof_text.specs.declared.unread.Unread.TheVariants.{Misspelt, Cut}
 use Rattle.proof_text.specs.Fronts.{Parsed, Found, Missing, and_then, found_as}
 use Rattle.proof_text.specs.Numbers.{number_before, number_front, offset_front}
-use Rattle.proof_text.specs.Spelling.{IsShortLiteral, IsShortOffset, IsSpellable, literal_text, literals_text, more_literals_text, offset_text, token_text}
+use Rattle.proof_text.specs.Spelling.{IsShortLiteral, IsShortOffset, IsSpellableInProof, literal_text, literals_text, more_literals_text, offset_text}
+use Rattle.proof_text.specs.Spelling.{proof_token_text}
 use Rattle.proof_text.specs.Tokens.{literal_front, literals_front, numbers_front, some_literals_front, token_from, token_front}
 use Rattle.proof_text.proofs.Spells.{Spells, IsAnything, cut_is_not_misspelt, found_as_found, found_as_missing, found_is_not_missing, pair_front, pair_with}
 use Rattle.proof_text.proofs.Spells.{pairs_spelled, renamed_spelled, same_found, same_spelled}
@@ -235,44 +236,47 @@ first_of b =
     none b bytes ask holds cycle lemma cite = rw (ask, holds, cycle, lemma, cite) refl
 
 -- what is found behind the first byte of a token
-read_ask : (t : ProofTok) (bytes rest : List ℕ) → Found token.Ask bytes ≡ Found t rest → IsSpellable t × Unit {0} × (63 ∷ bytes ≡ token_text t ++ rest)
+read_ask :
+    (t : ProofTok) (bytes rest : List ℕ) → Found token.Ask bytes ≡ Found t rest
+    → IsSpellableInProof t × Unit {0} × (63 ∷ bytes ≡ proof_token_text t ++ rest)
 read_ask t bytes rest is =
     let same = same_found token.Ask t bytes rest is in
-    subst (λ (u : ProofTok). IsSpellable u × Unit {0} × (63 ∷ bytes ≡ token_text u ++ rest)) same.0
+    subst (λ (u : ProofTok). IsSpellableInProof u × Unit {0} × (63 ∷ bytes ≡ proof_token_text u ++ rest)) same.0
     (tt, tt, ap (λ (l : List ℕ). 63 ∷ l) same.1)
 
-read_holds : (t : ProofTok) (bytes rest : List ℕ) → Found token.Holds bytes ≡ Found t rest → IsSpellable t × Unit {0} × (46 ∷ bytes ≡ token_text t ++ rest)
+read_holds : (t : ProofTok) (bytes rest : List ℕ) → Found token.Holds bytes ≡ Found t rest
+    → IsSpellableInProof t × Unit {0} × (46 ∷ bytes ≡ proof_token_text t ++ rest)
 read_holds t bytes rest is =
     let same = same_found token.Holds t bytes rest is in
-    subst (λ (u : ProofTok). IsSpellable u × Unit {0} × (46 ∷ bytes ≡ token_text u ++ rest)) same.0
+    subst (λ (u : ProofTok). IsSpellableInProof u × Unit {0} × (46 ∷ bytes ≡ proof_token_text u ++ rest)) same.0
     (tt, tt, ap (λ (l : List ℕ). 46 ∷ l) same.1)
 
-read_cycle : (t : ProofTok) (bytes rest : List ℕ) → found_as token.Cycle (numbers_front 12 bytes) ≡ Found t rest → IsSpellable t × Unit {0}
-    × (120 ∷ bytes ≡ token_text t ++ rest)
+read_cycle : (t : ProofTok) (bytes rest : List ℕ) → found_as token.Cycle (numbers_front 12 bytes) ≡ Found t rest → IsSpellableInProof t × Unit {0}
+    × (120 ∷ bytes ≡ proof_token_text t ++ rest)
 read_cycle t bytes rest is =
     let found = found_as_found token.Cycle (numbers_front 12 bytes) t rest is in
     let r = cycles_spelled.read found.0 bytes rest found.1 in
-    subst (λ (u : ProofTok). IsSpellable u × Unit {0} × (120 ∷ bytes ≡ token_text u ++ rest)) found.2
+    subst (λ (u : ProofTok). IsSpellableInProof u × Unit {0} × (120 ∷ bytes ≡ proof_token_text u ++ rest)) found.2
     (r.0, tt, ap (λ (l : List ℕ). 120 ∷ l) r.2)
 
-read_lemma : (t : ProofTok) (bytes rest : List ℕ) → found_as token.Lemma (literals_front bytes) ≡ Found t rest → IsSpellable t × Unit {0}
-    × (108 ∷ bytes ≡ token_text t ++ rest)
+read_lemma : (t : ProofTok) (bytes rest : List ℕ) → found_as token.Lemma (literals_front bytes) ≡ Found t rest → IsSpellableInProof t × Unit {0}
+    × (108 ∷ bytes ≡ proof_token_text t ++ rest)
 read_lemma t bytes rest is =
     let found = found_as_found token.Lemma (literals_front bytes) t rest is in
     let r = lemmas_spelled.read found.0 bytes rest found.1 in
-    subst (λ (u : ProofTok). IsSpellable u × Unit {0} × (108 ∷ bytes ≡ token_text u ++ rest)) found.2
+    subst (λ (u : ProofTok). IsSpellableInProof u × Unit {0} × (108 ∷ bytes ≡ proof_token_text u ++ rest)) found.2
     (r.0, tt, ap (λ (l : List ℕ). 108 ∷ l) r.2)
 
-read_cite : (t : ProofTok) (bytes rest : List ℕ) → found_as token.Cite (number_before 59 100000 bytes) ≡ Found t rest → IsSpellable t × Unit {0}
-    × (99 ∷ bytes ≡ token_text t ++ rest)
+read_cite : (t : ProofTok) (bytes rest : List ℕ) → found_as token.Cite (number_before 59 100000 bytes) ≡ Found t rest → IsSpellableInProof t × Unit {0}
+    × (99 ∷ bytes ≡ proof_token_text t ++ rest)
 read_cite t bytes rest is =
     let found = found_as_found token.Cite (number_before 59 100000 bytes) t rest is in
     let r = cites_spelled.read found.0 bytes rest found.1 in
-    subst (λ (u : ProofTok). IsSpellable u × Unit {0} × (99 ∷ bytes ≡ token_text u ++ rest)) found.2
+    subst (λ (u : ProofTok). IsSpellableInProof u × Unit {0} × (99 ∷ bytes ≡ proof_token_text u ++ rest)) found.2
     (r.0, tt, ap (λ (l : List ℕ). 99 ∷ l) r.2)
 
 -- tokens
-pub tokens_spelled : Spells token_front token_text IsSpellable IsAnything
+pub tokens_spelled : Spells token_front proof_token_text IsSpellableInProof IsAnything
 tokens_spelled =
     record {
       written = λ t rest spelled behind. written t rest spelled;
@@ -282,7 +286,7 @@ tokens_spelled =
       misspelt = λ bytes more is. misspelt bytes more is;
     }
   where
-    written : (t : ProofTok) (rest : List ℕ) → IsSpellable t → token_front (token_text t ++ rest) ≡ Found t rest
+    written : (t : ProofTok) (rest : List ℕ) → IsSpellableInProof t → token_front (proof_token_text t ++ rest) ≡ Found t rest
     written token.Ask rest spelled = refl
     written token.Holds rest spelled = refl
     written (token.Cycle picks) rest spelled = ap (found_as token.Cycle) (cycles_spelled.written picks rest spelled tt)
@@ -290,7 +294,7 @@ tokens_spelled =
     written (token.Cite n) rest spelled = ap (found_as token.Cite) (cites_spelled.written n rest spelled tt)
 
     -- a token that is found stands there
-    read : (t : ProofTok) (bytes rest : List ℕ) → token_front bytes ≡ Found t rest → IsSpellable t × Unit {0} × (bytes ≡ token_text t ++ rest)
+    read : (t : ProofTok) (bytes rest : List ℕ) → token_front bytes ≡ Found t rest → IsSpellableInProof t × Unit {0} × (bytes ≡ proof_token_text t ++ rest)
     read t [] rest is = absurd (found_is_not_missing t rest Cut (sym is))
     read t (b ∷ bytes) rest is =
         elim (first_of b) [
@@ -306,7 +310,7 @@ tokens_spelled =
     at_first b first bytes more text e is = ap (λ (l : List ℕ). first ∷ l) is ∙ ap (λ (k : ℕ). k ∷ (bytes ++ more)) (sym e)
 
     -- bytes that end too early are a front of some token
-    cut : (bytes : List ℕ) → token_front bytes ≡ Missing Cut → (t : ProofTok) × (more : List ℕ) × IsSpellable t × (token_text t ≡ bytes ++ more)
+    cut : (bytes : List ℕ) → token_front bytes ≡ Missing Cut → (t : ProofTok) × (more : List ℕ) × IsSpellableInProof t × (proof_token_text t ≡ bytes ++ more)
     cut [] is = (token.Ask, 63 ∷ [], tt, refl)
     cut (b ∷ bytes) is =
         elim (first_of b) [
@@ -347,7 +351,7 @@ tokens_spelled =
           | IsNone none ↦ none (bytes ++ more)
         ]
 
-token_some : (t : ProofTok) → 0 < length (token_text t)
+token_some : (t : ProofTok) → 0 < length (proof_token_text t)
 token_some token.Ask = omega arith
 token_some token.Holds = omega arith
 token_some (token.Cycle picks) = omega arith
@@ -361,4 +365,4 @@ pub token_behind :
     × (drop (length all - length rest) all ≡ rest)
 token_behind all at t rest within is =
     let r = tokens_spelled.read t (drop at all) rest is in
-    found_behind all at (token_text t) rest within r.2 (token_some t)
+    found_behind all at (proof_token_text t) rest within r.2 (token_some t)

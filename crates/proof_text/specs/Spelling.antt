@@ -18,12 +18,12 @@ offset_text (pos n) = decimal n
 offset_text (negsuc n) = 45 ∷ decimal (n + 1)
 
 -- a name and the comma after it
-abbrev pub name_text : ℕ → List ℕ
-name_text n = decimal n ++ 44 ∷ []
+abbrev pub literal_name_text : ℕ → List ℕ
+literal_name_text n = decimal n ++ 44 ∷ []
 
 -- a literal: its names and its offset, with commas between
 abbrev pub literal_text : Lit → List ℕ
-literal_text l = name_text l.x ++ (name_text l.y ++ offset_text l.k)
+literal_text l = literal_name_text l.x ++ (literal_name_text l.y ++ offset_text l.k)
 
 -- further literals, each after `/`
 abbrev pub more_literals_text : List Lit → List ℕ
@@ -37,12 +37,12 @@ literals_text (l ∷ ls) = literal_text l ++ more_literals_text ls
 
 -- a question is `?`, an end `.`; a cycle is `x`, its numbers and `;`, a lemma `l`, its literals and `;`, and a citation
 -- `c`, its number and `;`
-abbrev pub token_text : ProofTok → List ℕ
-token_text token.Ask = 63 ∷ []
-token_text token.Holds = 46 ∷ []
-token_text (token.Cycle picks) = 120 ∷ numbers_text picks ++ 59 ∷ []
-token_text (token.Lemma ls) = 108 ∷ literals_text ls ++ 59 ∷ []
-token_text (token.Cite number) = 99 ∷ decimal number ++ 59 ∷ []
+abbrev pub proof_token_text : ProofTok → List ℕ
+proof_token_text token.Ask = 63 ∷ []
+proof_token_text token.Holds = 46 ∷ []
+proof_token_text (token.Cycle picks) = 120 ∷ numbers_text picks ++ 59 ∷ []
+proof_token_text (token.Lemma ls) = 108 ∷ literals_text ls ++ 59 ∷ []
+proof_token_text (token.Cite number) = 99 ∷ decimal number ++ 59 ∷ []
 
 -- an offset has at most four digits
 abbrev pub IsShortOffset : ℤ → Type 0
@@ -55,16 +55,16 @@ IsShortLiteral l = (l.x < 100) × (l.y < 100) × IsShortOffset l.k
 
 -- the token has a spelling: a cycle has 1 to 12 numbers of at most five digits, a lemma at most 24 short literals, and
 -- the number of a citation at most six digits
-abbrev pub IsSpellable : ProofTok → Type 0
-IsSpellable token.Ask = Unit {0}
-IsSpellable token.Holds = Unit {0}
-IsSpellable (token.Cycle picks) = IsSpellableCycle picks
-IsSpellable (token.Lemma ls) = (length ls ≤ MAX_LITERALS) × AllByRecursion IsShortLiteral ls
-IsSpellable (token.Cite number) = number < 1000000
+abbrev pub IsSpellableInProof : ProofTok → Type 0
+IsSpellableInProof token.Ask = Unit {0}
+IsSpellableInProof token.Holds = Unit {0}
+IsSpellableInProof (token.Cycle picks) = IsSpellableCycle picks
+IsSpellableInProof (token.Lemma ls) = (length ls ≤ MAX_LITERALS) × AllByRecursion IsShortLiteral ls
+IsSpellableInProof (token.Cite number) = number < 1000000
 
 -- the first line of a proof
-abbrev pub header_text : Level → List ℕ
-header_text level = codes "otproof 1 " ++ level_text level ++ 10 ∷ []
+abbrev pub proof_header_text : Level → List ℕ
+proof_header_text level = codes "otproof 1 " ++ level_text level ++ 10 ∷ []
 
 -- the newline after a tree
 abbrev pub newline_text : List ℕ

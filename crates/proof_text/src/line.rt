@@ -4,7 +4,7 @@ ghost use Rattle.cert_text.specs.Spelling.{kind_text, ob_text};
 ghost use Rattle.proof_text.specs.Answers.{Answers};
 ghost use Rattle.proof_text.specs.Fronts.{Found, Missing, fixed_front};
 ghost use Rattle.proof_text.specs.Lines.{end_front, header_front, line_end_front, ob_front};
-ghost use Rattle.proof_text.specs.Spelling.{header_text};
+ghost use Rattle.proof_text.specs.Spelling.{proof_header_text};
 
 use crate::Unread;
 use fn_rules::{Level, ObName};
@@ -103,7 +103,7 @@ pub(crate) fn ob_line(alloc: Global, name: ObName) -> ProofLine
 
 /// The first line of a proof of a level.
 pub(crate) fn header_line(level: Level) -> &'static [u8]
-    ensures { result.now ≡ header_text level }
+    ensures { result.now ≡ proof_header_text level }
 {
     match level {
         Level::Tp1 => b"otproof 1 tp1\n",

@@ -3,8 +3,9 @@ ghost use Rattle.std.specs.Prelude.{◌≡◌, ◌+◌, ◌<◌, ◌∷◌, ◌+
 ghost use Rattle.std.specs.Fmt.{decimal};
 ghost use Rattle.cert_text.specs.Numbers.{more_numbers_text, numbers_text};
 ghost use Rattle.cert_text.specs.Spelling.{ob_text};
-ghost use Rattle.proof_text.specs.Spelling.{header_text, literal_text, literals_text, more_literals_text, name_text};
-ghost use Rattle.proof_text.specs.Spelling.{newline_text, offset_text, token_text};
+ghost use Rattle.proof_text.specs.Spelling.{proof_header_text, literal_text, literals_text, more_literals_text};
+ghost use Rattle.proof_text.specs.Spelling.{literal_name_text};
+ghost use Rattle.proof_text.specs.Spelling.{newline_text, offset_text, proof_token_text};
 ghost use Rattle.ot_outside.specs.Whole.{AppendsFront};
 
 use crate::line::{header_line, ob_line};
@@ -16,8 +17,8 @@ use proof_trees::ProofTok;
 
 /// Appends the first line of a proof of a level. After `NoMemory` a front of it was appended.
 pub fn write_header(level: Level, out: &mut Vec<u8>) -> Result<(), NoMemory>
-    ensures ok { OnOk result (out.new.items ≡ out.old.items ++ header_text level) }
-    ensures err { OnErr result (AppendsFront (Some out.old.items) (header_text level) (Some out.new.items)) }
+    ensures ok { OnOk result (out.new.items ≡ out.old.items ++ proof_header_text level) }
+    ensures err { OnErr result (AppendsFront (Some out.old.items) (proof_header_text level) (Some out.new.items)) }
 {
     append(header_line(level), out)
 }
@@ -41,8 +42,8 @@ pub fn write_line_end(out: &mut Vec<u8>) -> Result<(), NoMemory>
 
 /// Appends a token. After `NoMemory` a front of it was appended.
 pub fn write_token(tok: &ProofTok, out: &mut Vec<u8>) -> Result<(), NoMemory>
-    ensures ok { OnOk result (out.new.items ≡ out.old.items ++ token_text tok.now) }
-    ensures err { OnErr result (AppendsFront (Some out.old.items) (token_text tok.now) (Some out.new.items)) }
+    ensures ok { OnOk result (out.new.items ≡ out.old.items ++ proof_token_text tok.now) }
+    ensures err { OnErr result (AppendsFront (Some out.old.items) (proof_token_text tok.now) (Some out.new.items)) }
 {
     match tok {
         ProofTok::Ask => append_byte(b'?', out),
@@ -155,8 +156,8 @@ fn write_offset(offset: i32, out: &mut Vec<u8>) -> Result<(), NoMemory>
 
 // A name and the comma after it.
 fn write_name(name: u32, out: &mut Vec<u8>) -> Result<(), NoMemory>
-    ensures ok { OnOk result (out.new.items ≡ out.old.items ++ name_text name) }
-    ensures err { OnErr result (AppendsFront (Some out.old.items) (name_text name) (Some out.new.items)) }
+    ensures ok { OnOk result (out.new.items ≡ out.old.items ++ literal_name_text name) }
+    ensures err { OnErr result (AppendsFront (Some out.old.items) (literal_name_text name) (Some out.new.items)) }
 {
     write_number(name, out)?;
     append_byte(b',', out)

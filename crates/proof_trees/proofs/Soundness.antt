@@ -8,7 +8,7 @@ use Rattle.diff_graph.specs.Cycles.{pick_verdict}
 use Rattle.ask_core.specs.Plans.{Plan, value}
 use Rattle.ask_core.specs.Plans as plain
 use Rattle.ask_core.specs.Trees.{with_answer}
-use Rattle.proof_trees.specs.Starts.{MarkedPlan, Ask, Holds, Fails, unmarked, start_of, StandsFor, IsMarkedBy, Comparison, conditions_between, IsLawful}
+use Rattle.proof_trees.specs.Starts.{MarkedPlan, Ask, Holds, Fails, unmarked, start_of, StartStandsFor, IsMarkedBy, Comparison, conditions_between, IsLawful}
 use Rattle.proof_trees.specs.Proofs.{ProofTree, Question, End, Impossible, Lemma, Citation, Learned, with_lemma, learned, EachFollows, FollowsUnder, Serves}
 use Rattle.proof_trees.specs.Proofs.{Shows}
 use Rattle.proof_trees.specs.Truth.{HoldsUnder, AreTrue}
@@ -37,14 +37,14 @@ module _
 
   module _ {S W : Type 0} (compare : Comparison S) (meaning : S → Plan W) (lawful : IsLawful compare meaning) where
     -- the start at the first place stands for the plan
-    StandsFor-start_of : (p : MarkedPlan S W) → IsMarkedBy meaning p → StandsFor meaning (start_of p) (unmarked p)
-    StandsFor-start_of (Ask start l on_yes on_no) marked = marked.0
-    StandsFor-start_of (Holds start) marked = marked
-    StandsFor-start_of (Fails start why) marked = marked
+    StartStandsFor-start_of : (p : MarkedPlan S W) → IsMarkedBy meaning p → StartStandsFor meaning (start_of p) (unmarked p)
+    StartStandsFor-start_of (Ask start l on_yes on_no) marked = marked.0
+    StartStandsFor-start_of (Holds start) marked = marked
+    StartStandsFor-start_of (Fails start why) marked = marked
 
     -- one more lemma that was shown
     AreTrue-with_lemma :
-        (known : List (Learned S W)) (p : MarkedPlan S W) (ls : List Lit) → StandsFor meaning (start_of p) (unmarked p)
+        (known : List (Learned S W)) (p : MarkedPlan S W) (ls : List Lit) → StartStandsFor meaning (start_of p) (unmarked p)
         → AreTrue meaning known → HoldsUnder ls (unmarked p) → AreTrue meaning (with_lemma known p ls)
     AreTrue-with_lemma [] p ls stands are_true holds = ((stands, holds), tt)
     AreTrue-with_lemma (x ∷ known) p ls stands are_true holds =
@@ -52,8 +52,8 @@ module _
 
     -- a lemma that serves at a start shows the plan there
     HoldsUnder-following :
-        (s start : Option S) (q p : Plan W) (ls w : List Lit) (cycles : List (List ℕ)) → StandsFor meaning s q
-        → HoldsUnder ls q → StandsFor meaning start p → FollowsUnder (conditions_between compare s start) ls w cycles
+        (s start : Option S) (q p : Plan W) (ls w : List Lit) (cycles : List (List ℕ)) → StartStandsFor meaning s q
+        → HoldsUnder ls q → StartStandsFor meaning start p → FollowsUnder (conditions_between compare s start) ls w cycles
         → HoldsUnder w p
     HoldsUnder-following None start q p ls w cycles stands_there holds stands follows = absurd follows
     HoldsUnder-following (Some s) None q p ls w cycles stands_there holds stands follows = absurd follows
@@ -70,7 +70,7 @@ module _
     -- a lemma that is known is true
     HoldsUnder-serving :
         (known : List (Learned S W)) (number : ℕ) (start : Option S) (p : Plan W) (w : List Lit) (cycles : List (List ℕ))
-        → StandsFor meaning start p → AreTrue meaning known → Serves compare (slice_get known number) start w cycles
+        → StartStandsFor meaning start p → AreTrue meaning known → Serves compare (slice_get known number) start w cycles
         → HoldsUnder w p
     HoldsUnder-serving [] number start p w cycles stands are_true serves = absurd serves
     HoldsUnder-serving (x ∷ known) zero start p w cycles stands are_true serves =
@@ -107,8 +107,8 @@ module _
     shown_plan_holds (Lemma ls t u) p w known marked are_true shows =
         let first = shown_plan_holds t p ls known marked are_true shows.1 in
         shown_plan_holds u p w (with_lemma (learned t p known) p ls) marked
-        (AreTrue-with_lemma (learned t p known) p ls (StandsFor-start_of p marked) first.0 first.1) shows.2
+        (AreTrue-with_lemma (learned t p known) p ls (StartStandsFor-start_of p marked) first.0 first.1) shows.2
     shown_plan_holds (Citation number cycles) p w known marked are_true shows = (
       are_true,
-      HoldsUnder-serving known number (start_of p) (unmarked p) w cycles (StandsFor-start_of p marked) are_true shows,
+      HoldsUnder-serving known number (start_of p) (unmarked p) w cycles (StartStandsFor-start_of p marked) are_true shows,
     )

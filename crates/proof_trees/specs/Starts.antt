@@ -24,17 +24,17 @@ start_of (Holds start) = start
 start_of (Fails start why) = start
 
 -- the plan is the one that its start stands for
-abbrev pub StandsFor : {S W : Type 0} → (S → Plan W) → Option S → Plan W → Type 0
-StandsFor meaning None p = Unit {0}
-StandsFor meaning (Some s) p = p ≡ meaning s
+abbrev pub StartStandsFor : {S W : Type 0} → (S → Plan W) → Option S → Plan W → Type 0
+StartStandsFor meaning None p = Unit {0}
+StartStandsFor meaning (Some s) p = p ≡ meaning s
 
 -- so is the plan at each of the places
 abbrev pub IsMarkedBy : {S W : Type 0} → (S → Plan W) → MarkedPlan S W → Type 0
 IsMarkedBy meaning (Ask start l on_yes on_no) =
-    StandsFor meaning start (plain.Ask l (unmarked on_yes) (unmarked on_no))
+    StartStandsFor meaning start (plain.Ask l (unmarked on_yes) (unmarked on_no))
     × IsMarkedBy meaning on_yes × IsMarkedBy meaning on_no
-IsMarkedBy meaning (Holds start) = StandsFor meaning start plain.Holds
-IsMarkedBy meaning (Fails start why) = StandsFor meaning start (plain.Fails why)
+IsMarkedBy meaning (Holds start) = StartStandsFor meaning start plain.Holds
+IsMarkedBy meaning (Fails start why) = StartStandsFor meaning start (plain.Fails why)
 
 -- a comparison says of the start of a lemma and a start where it is cited under which conditions the lemma
 -- serves there, or that they do not compare

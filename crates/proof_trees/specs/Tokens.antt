@@ -16,12 +16,12 @@ cycle_tokens [] = []
 cycle_tokens (c ∷ cycles) = token.Cycle c ∷ cycle_tokens cycles
 
 -- the tokens of a tree in preorder
-abbrev pub tokens_of : ProofTree → List ProofTok
-tokens_of (Question t u) = token.Ask ∷ (tokens_of t ++ tokens_of u)
-tokens_of End = token.Holds ∷ []
-tokens_of (Impossible picks) = token.Cycle picks ∷ []
-tokens_of (Lemma ls t u) = token.Lemma ls ∷ (tokens_of t ++ tokens_of u)
-tokens_of (Citation number cycles) = token.Cite number ∷ cycle_tokens cycles
+abbrev pub proof_tokens_of : ProofTree → List ProofTok
+proof_tokens_of (Question t u) = token.Ask ∷ (proof_tokens_of t ++ proof_tokens_of u)
+proof_tokens_of End = token.Holds ∷ []
+proof_tokens_of (Impossible picks) = token.Cycle picks ∷ []
+proof_tokens_of (Lemma ls t u) = token.Lemma ls ∷ (proof_tokens_of t ++ proof_tokens_of u)
+proof_tokens_of (Citation number cycles) = token.Cite number ∷ cycle_tokens cycles
 
 -- what is wanted at a place: a tree that shows the plan after the literals; or a cycle of the literals; or no token,
 -- but the lemma is known from here on
@@ -36,15 +36,17 @@ wanted_cycles w [] = []
 wanted_cycles w (l ∷ ls) = Cycle (with_answer w l false) ∷ wanted_cycles w ls
 
 -- the tokens are, in order, what is wanted, and nothing else, given the lemmas that are known
-abbrev pub Completes : {S W : Type 0} → Comparison S → List ProofTok → List (Wanted S W) → List (Learned S W) → Type 0
-Completes compare tokens [] known = tokens ≡ []
-Completes compare tokens (Tree p w ∷ wanted) known =
-    (t : ProofTree) × (rest : List ProofTok) × Shows compare t p w known × (tokens ≡ tokens_of t ++ rest)
-    × Completes compare rest wanted (learned t p known)
-Completes compare tokens (Cycle w ∷ wanted) known =
+abbrev pub CompletesWanted : {S W : Type 0} → Comparison S → List ProofTok → List (Wanted S W)
+    → List (Learned S W) → Type 0
+CompletesWanted compare tokens [] known = tokens ≡ []
+CompletesWanted compare tokens (Tree p w ∷ wanted) known =
+    (t : ProofTree) × (rest : List ProofTok) × Shows compare t p w known × (tokens ≡ proof_tokens_of t ++ rest)
+    × CompletesWanted compare rest wanted (learned t p known)
+CompletesWanted compare tokens (Cycle w ∷ wanted) known =
     (picks : List ℕ) × (rest : List ProofTok) × IsCycleAmong w picks × (tokens ≡ token.Cycle picks ∷ rest)
-    × Completes compare rest wanted known
-Completes compare tokens (Learn p ls ∷ wanted) known = Completes compare tokens wanted (with_lemma known p ls)
+    × CompletesWanted compare rest wanted known
+CompletesWanted compare tokens (Learn p ls ∷ wanted) known =
+    CompletesWanted compare tokens wanted (with_lemma known p ls)
 
 -- a token has no more numbers and literals than it may have. Their types see to it
 abbrev pub HasFew : ProofTok → Type 0

@@ -4,7 +4,7 @@ use Rattle.std.specs.List.{AllByRecursion}
 use Rattle.diff_graph.specs.declared.lit.Lit.{Lit}
 use Rattle.diff_graph.specs.Literals.{AreMet}
 use Rattle.ask_core.specs.Plans.{Plan, value}
-use Rattle.proof_trees.specs.Starts.{start_of, unmarked, StandsFor}
+use Rattle.proof_trees.specs.Starts.{start_of, unmarked, StartStandsFor}
 use Rattle.proof_trees.specs.Proofs.{Learned}
 
 -- each valuation that meets the literals leads through the plan to `Holds`
@@ -16,5 +16,6 @@ abbrev pub AreTrue : {S W : Type 0} → (S → Plan W) → List (Learned S W) �
 AreTrue meaning known =
     AllByRecursion
     (λ lemma.
-    StandsFor meaning (start_of lemma.plan) (unmarked lemma.plan) × HoldsUnder lemma.literals (unmarked lemma.plan))
+    StartStandsFor meaning (start_of lemma.plan) (unmarked lemma.plan)
+    × HoldsUnder lemma.literals (unmarked lemma.plan))
     known

@@ -3,14 +3,14 @@ use Rattle.std.proofs.Common.{◌≡◌, ◌⊎◌, ℕ, inl, inr, refl, List, [
 use Rattle.std.specs.Prelude.{slice_index_or}
 use Rattle.ask_core.specs.Plans.{Plan}
 use Rattle.proof_search.specs.declared.lemmas.Lemma.{Lemma}
-use Rattle.proof_search.specs.Owning.{AreOwn}
+use Rattle.proof_search.specs.Owning.{AreOwnLemmas}
 use Rattle.proof_trees.specs.Starts.{unmarked}
 use Rattle.proof_trees.specs.Starters.{Starts, KeepsStarts, IsWhole}
 use Rattle.proof_writer.specs.declared.place.TreePlace.{TreePlace}
 use Rattle.proof_writer.specs.declared.place.WriterTask.{WriterTask}
 use Rattle.proof_writer.specs.declared.place.WriterTask.TheVariants.{Part, Cycle, Learn}
 use Rattle.proof_writer.specs.declared.walk.PlanWalk.{PlanWalk}
-use Rattle.proof_writer.specs.Nodes.{IsPresent, Waits, HasNode, AreOwnNodes, HasNoOthers, HasOneMore, HasParts}
+use Rattle.proof_writer.specs.Nodes.{IsPresent, Waits, HasNode, AreOwnNodes, HasNoOthers, HasOneMore, AddsOnlyParts}
 
 module _ {N : Type 0} (n : N) where
   -- a node that waits among one more waits there, or is that of what came
@@ -146,7 +146,7 @@ module _ {N : Type 0} (old new : PlanWalk N) where
         elim (more n has) as (λ x. is_own n) [ inl is ↦ subst is_own is own_one | inr before ↦ own n before ]
 
     pub own_parts :
-        (on_yes on_no : N) → is_own on_yes → is_own on_no → HasParts on_yes on_no old new → AreOwnNodes is_own new
+        (on_yes on_no : N) → is_own on_yes → is_own on_no → AddsOnlyParts on_yes on_no old new → AreOwnNodes is_own new
     own_parts on_yes on_no own_yes own_no parts = λ n has.
         elim (parts n has) as (λ x. is_own n) [
           | inl is ↦ subst is_own is own_yes
@@ -177,5 +177,5 @@ root_kept old new was now whole_was whole_now same =
 -- and the nodes of lemmas
 pub lemmas_kept :
     {N S W : Type 0} {was_own is_own : N → Type 0} {old new : Starts N S W} → KeepsStarts was_own is_own old new
-    → (lemmas : List (Lemma N)) → AreOwn was_own lemmas → AreOwn is_own lemmas
+    → (lemmas : List (Lemma N)) → AreOwnLemmas was_own lemmas → AreOwnLemmas is_own lemmas
 lemmas_kept keeps lemmas own = λ k d below. (keeps.own (slice_index_or lemmas k d).node).0 (own k d below)

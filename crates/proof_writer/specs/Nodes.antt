@@ -34,5 +34,5 @@ abbrev pub HasOneMore : {N : Type 0} → N → PlanWalk N → PlanWalk N → Typ
 HasOneMore {N = N} one old new = (n : N) → HasNode n new → (one ≡ n) ⊎ HasNode n old
 
 -- but for the parts of a question
-abbrev pub HasParts : {N : Type 0} → N → N → PlanWalk N → PlanWalk N → Type 0
-HasParts {N = N} on_yes on_no old new = (n : N) → HasNode n new → (on_yes ≡ n) ⊎ ((on_no ≡ n) ⊎ HasNode n old)
+abbrev pub AddsOnlyParts : {N : Type 0} → N → N → PlanWalk N → PlanWalk N → Type 0
+AddsOnlyParts {N = N} on_yes on_no old new = (n : N) → HasNode n new → (on_yes ≡ n) ⊎ ((on_no ≡ n) ⊎ HasNode n old)

@@ -2,5 +2,5 @@
 use Rattle.std.specs.Prelude.{◌≡◌, ℕ, List, ◌++◌}
 
 -- what stood there still stands in front
-abbrev pub Extends : List ℕ → List ℕ → Type 0
-Extends old new = (more : List ℕ) × (new ≡ old ++ more)
+abbrev pub ExtendsText : List ℕ → List ℕ → Type 0
+ExtendsText old new = (more : List ℕ) × (new ≡ old ++ more)

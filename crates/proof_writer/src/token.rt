@@ -1,6 +1,6 @@
 //! Tokens of a tree that is being written.
 ghost use Rattle.std.specs.Prelude.{◌≡◌, ◌<◌, ◌≤◌, IfSome, length};
-ghost use Rattle.proof_writer.specs.Texts.{Extends};
+ghost use Rattle.proof_writer.specs.Texts.{ExtendsText};
 
 use ask_core::{MAX_PICKS, NoMemory, Picks};
 use diff_graph::Lit;
@@ -10,7 +10,7 @@ use std::alloc::Global;
 
 /// Appends a token.
 pub fn put(tok: &ProofTok, out: &mut Vec<u8>) -> Result<(), NoMemory>
-    ensures { Extends out.old.items out.new.items }
+    ensures { ExtendsText out.old.items out.new.items }
 {
     write_token(tok, out)
 }

@@ -1,8 +1,8 @@
 //! The walk of a writer: the places that are still to be written, and which lemmas are.
 ghost use Rattle.std.specs.Prelude.{◌≡◌, ◌≤◌, OnOk, IfOk, length};
 ghost use Rattle.proof_trees.specs.declared.limits.TheConstants.{MAX_LITERALS};
-ghost use Rattle.proof_writer.specs.Nodes.{HasNode, HasNoOthers, HasOneMore, HasParts};
-ghost use Rattle.proof_writer.specs.Texts.{Extends};
+ghost use Rattle.proof_writer.specs.Nodes.{HasNode, HasNoOthers, HasOneMore, AddsOnlyParts};
+ghost use Rattle.proof_writer.specs.Texts.{ExtendsText};
 
 use crate::place::{TreePlace, WriterStep, WriterTask};
 use crate::token::{cycle_of, literals_of, put};
@@ -55,7 +55,7 @@ impl<N: Copy> PlanWalk<N> {
 
     /// Goes on with what waits, where no place is present.
     pub fn next(&mut self, out: &mut Vec<u8>) -> Result<WriterStep, NoMemory>
-        ensures front { Extends out.old.items out.new.items }
+        ensures front { ExtendsText out.old.items out.new.items }
         ensures nodes { OnOk result (HasNoOthers self.old self.new) }
     {
         match self.waiting.pop() {
@@ -81,7 +81,7 @@ impl<N: Copy> PlanWalk<N> {
 
     /// Writes that the plan holds at the present place.
     pub fn hold(&mut self, out: &mut Vec<u8>) -> Result<WriterStep, NoMemory>
-        ensures front { Extends out.old.items out.new.items }
+        ensures front { ExtendsText out.old.items out.new.items }
         ensures nodes { OnOk result (HasNoOthers self.old self.new) }
     {
         put(&ProofTok::Holds, out)?;
@@ -99,8 +99,8 @@ impl<N: Copy> PlanWalk<N> {
         no: N,
         out: &mut Vec<u8>,
     ) -> Result<WriterStep, NoMemory>
-        ensures front { Extends out.old.items out.new.items }
-        ensures nodes { OnOk result (HasParts yes no self.old self.new) }
+        ensures front { ExtendsText out.old.items out.new.items }
+        ensures nodes { OnOk result (AddsOnlyParts yes no self.old self.new) }
     {
         if self.left == 0 {
             return Ok(WriterStep::Stuck);
@@ -152,7 +152,7 @@ impl<N: Copy> PlanWalk<N> {
         at: TreePlace<N>,
         out: &mut Vec<u8>,
     ) -> Result<WriterStep, NoMemory>
-        ensures front { Extends out.old.items out.new.items }
+        ensures front { ExtendsText out.old.items out.new.items }
         ensures nodes { OnOk result (HasOneMore at.node self.old self.new) }
     {
         let Some(literals) = literals_at(lemmas, lemma) else {
@@ -184,7 +184,7 @@ impl<N: Copy> PlanWalk<N> {
         length: u32,
         out: &mut Vec<u8>,
     ) -> Result<WriterStep, NoMemory>
-        ensures front { Extends out.old.items out.new.items }
+        ensures front { ExtendsText out.old.items out.new.items }
         ensures nodes { OnOk result (HasNoOthers self.old self.new) }
     {
         let Some(number) = self.numbers.number(found.place) else {
@@ -212,7 +212,7 @@ impl<N: Copy> PlanWalk<N> {
         number: u32,
         out: &mut Vec<u8>,
     ) -> Result<bool, NoMemory>
-        ensures front { Extends out.old.items out.new.items }
+        ensures front { ExtendsText out.old.items out.new.items }
         ensures present { OnOk result (self.new.present ≡ self.old.present) }
         ensures waiting { OnOk result (self.new.waiting.items ≡ self.old.waiting.items) }
     {

@@ -1,9 +1,9 @@
 //! The call that writes a tree.
 ghost use Rattle.std.specs.Prelude.{◌≡◌, ◌≤◌, IsTrue, IfOk, IfSome, OnOk, length};
 ghost use Rattle.proof_trees.specs.Starters.{KeepsStarts};
-ghost use Rattle.proof_search.specs.Owning.{AreOwn};
+ghost use Rattle.proof_search.specs.Owning.{AreOwnLemmas};
 ghost use Rattle.proof_writer.specs.Nodes.{AreOwnNodes};
-ghost use Rattle.proof_writer.specs.Texts.{Extends};
+ghost use Rattle.proof_writer.specs.Texts.{ExtendsText};
 
 use crate::place::{TreePlace, WriterStep};
 use crate::walk::PlanWalk;
@@ -22,10 +22,10 @@ pub fn write_tree<A: Finder>(
     most: usize,
     out: &mut Vec<u8>,
 ) -> Result<bool, NoMemory>
-    requires { AreOwn (A.is_own asker.old) lemmas.now }
+    requires { AreOwnLemmas (A.is_own asker.old) lemmas.now }
 
     // What stood there stands in front of the tree.
-    ensures front { Extends out.old.items out.new.items }
+    ensures front { ExtendsText out.old.items out.new.items }
     ensures within { IfOk result (λ done. IsTrue done → length out.new.items ≤ most) }
 
     // The asker is as it was.
@@ -44,8 +44,8 @@ fn walk_through<A: Finder>(
     most: usize,
     out: &mut Vec<u8>,
 ) -> Result<bool, NoMemory>
-    requires { AreOwn (A.is_own asker.old) lemmas.now }
-    ensures front { Extends out.old.items out.new.items }
+    requires { AreOwnLemmas (A.is_own asker.old) lemmas.now }
+    ensures front { ExtendsText out.old.items out.new.items }
     ensures within { IfOk result (λ done. IsTrue done → length out.new.items ≤ most) }
     ensures same { KeepsStarts (A.is_own asker.old) (A.is_own asker.new) (A.starts asker.old) (A.starts asker.new) }
 {
@@ -68,9 +68,9 @@ fn turn<A: Finder>(
     walk: &mut PlanWalk<A::Node>,
     out: &mut Vec<u8>,
 ) -> Result<Option<bool>, NoMemory>
-    requires lemmas { AreOwn (A.is_own asker.old) lemmas.now }
+    requires lemmas { AreOwnLemmas (A.is_own asker.old) lemmas.now }
     requires nodes { AreOwnNodes (A.is_own asker.old) walk.old }
-    ensures front { Extends out.old.items out.new.items }
+    ensures front { ExtendsText out.old.items out.new.items }
     ensures within { IfOk result (λ last. IfSome last (λ done. IsTrue done → length out.new.items ≤ most)) }
     ensures nodes { OnOk result (AreOwnNodes (A.is_own asker.new) walk.new) }
     ensures same { KeepsStarts (A.is_own asker.old) (A.is_own asker.new) (A.starts asker.old) (A.starts asker.new) }
@@ -103,9 +103,9 @@ fn step<A: Finder>(
     walk: &mut PlanWalk<A::Node>,
     out: &mut Vec<u8>,
 ) -> Result<WriterStep, NoMemory>
-    requires lemmas { AreOwn (A.is_own asker.old) lemmas.now }
+    requires lemmas { AreOwnLemmas (A.is_own asker.old) lemmas.now }
     requires nodes { AreOwnNodes (A.is_own asker.old) walk.old }
-    ensures front { Extends out.old.items out.new.items }
+    ensures front { ExtendsText out.old.items out.new.items }
     ensures nodes { OnOk result (AreOwnNodes (A.is_own asker.new) walk.new) }
     ensures same { KeepsStarts (A.is_own asker.old) (A.is_own asker.new) (A.starts asker.old) (A.starts asker.new) }
 {
@@ -128,7 +128,7 @@ fn follow<A: Finder>(
 ) -> Result<WriterStep, NoMemory>
     requires here { A.is_own asker.old place.node }
     requires nodes { AreOwnNodes (A.is_own asker.old) walk.old }
-    ensures front { Extends out.old.items out.new.items }
+    ensures front { ExtendsText out.old.items out.new.items }
     ensures nodes { OnOk result (AreOwnNodes (A.is_own asker.new) walk.new) }
     ensures same { KeepsStarts (A.is_own asker.old) (A.is_own asker.new) (A.starts asker.old) (A.starts asker.new) }
 {
@@ -149,10 +149,10 @@ fn use_lemma<A: Finder>(
     place: TreePlace<A::Node>,
     out: &mut Vec<u8>,
 ) -> Result<Option<WriterStep>, NoMemory>
-    requires lemmas { AreOwn (A.is_own asker.old) lemmas.now }
+    requires lemmas { AreOwnLemmas (A.is_own asker.old) lemmas.now }
     requires here { A.is_own asker.old place.node }
     requires nodes { AreOwnNodes (A.is_own asker.old) walk.old }
-    ensures front { Extends out.old.items out.new.items }
+    ensures front { ExtendsText out.old.items out.new.items }
     ensures nodes { OnOk result (AreOwnNodes (A.is_own asker.new) walk.new) }
     ensures same { KeepsStarts (A.is_own asker.old) (A.is_own asker.new) (A.starts asker.old) (A.starts asker.new) }
 {
@@ -176,7 +176,7 @@ fn unbegun_at<A: Finder>(
     walk: &PlanWalk<A::Node>,
     here: A::Node,
 ) -> Result<Option<usize>, NoMemory>
-    requires lemmas { AreOwn (A.is_own asker.old) lemmas.now }
+    requires lemmas { AreOwnLemmas (A.is_own asker.old) lemmas.now }
     requires here { A.is_own asker.old here }
     ensures { KeepsStarts (A.is_own asker.old) (A.is_own asker.new) (A.starts asker.old) (A.starts asker.new) }
 {

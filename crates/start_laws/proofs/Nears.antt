@@ -16,7 +16,7 @@ use Rattle.ot_terms.specs.declared.goal.GoalProgress.{GoalProgress}
 use Rattle.ot_terms.specs.Standing.{results_of}
 use Rattle.ot_terms.specs.Weights.{transforms_of}
 use Rattle.ot_terms.specs.Belonging.{IsMoved, IsNextResult, AreResults, IsProgressOf, next_operands, reach_of}
-use Rattle.start_laws.specs.Begun.{IsBegun}
+use Rattle.start_laws.specs.Begun.{IsBegunProgress}
 
 by_test : (t : Bool) (m n : ℕ) → m ≤ 1000 → n ≤ 1000 → (if t then m else n) ≤ 1000
 by_test true m n h g = h
@@ -49,7 +49,7 @@ taken_few : {X : Type 0} (n : ℕ) (xs : List X) → length (take n xs) ≤ n
 taken_few n xs = omega (arith, length-take n xs)
 
 -- the results of a progress are few, and at small offsets
-pub progress_begun : (ob : ObName) (plan : GoalProgress) → IsProgressOf ob plan → IsBegun plan None
+pub progress_begun : (ob : ObName) (plan : GoalProgress) → IsProgressOf ob plan → IsBegunProgress plan None
 progress_begun ob plan h =
     let few = taken_few plan.count plan.got in
     let awaited = h.awaited in
@@ -65,7 +65,7 @@ progress_begun ob plan h =
 -- so are they with one more result
 pub result_begun :
     (ob : ObName) (plan : GoalProgress) (r : SymOp) → IsProgressOf ob plan → IsNextResult ob plan.ops (results_of plan) r
-    → IsBegun plan (Some r)
+    → IsBegunProgress plan (Some r)
 result_begun ob plan r h next =
     let before = progress_begun ob plan h in
     let few = taken_few plan.count plan.got in

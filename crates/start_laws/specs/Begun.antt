@@ -18,7 +18,7 @@ start_after progress last =
     record { ob = progress.ob; ops = progress.ops; got = results_with (results_of progress) last }
 
 -- there are few results, at small offsets
-pub record IsBegun (progress : GoalProgress) (last : Option SymOp) : Type 0 where
+pub record IsBegunProgress (progress : GoalProgress) (last : Option SymOp) : Type 0 where
   pub room : length progress.got ≡ 6
   pub few : length (start_after progress last).got ≤ 6
   pub count : progress.count ≤ 6

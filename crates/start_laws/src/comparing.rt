@@ -5,7 +5,7 @@ ghost use Rattle.std.specs.Option.{option_eq};
 ghost use Rattle.std.specs.Cmp.Lexicographic.{pointwise};
 ghost use Rattle.ot_model.specs.Kinds.{is_same_kind};
 ghost use Rattle.ot_questions.specs.Nears.{IsNear, IsNearOp};
-ghost use Rattle.start_laws.specs.Begun.{IsBegun, start_after};
+ghost use Rattle.start_laws.specs.Begun.{IsBegunProgress, start_after};
 ghost use Rattle.start_laws.specs.Starts as starts;
 
 use crate::start::StartAt;
@@ -175,8 +175,8 @@ pub fn compare(
     lemma: &StartAt<'_>,
     here: &StartAt<'_>,
 ) -> Result<Option<List<Lit>>, NoMemory>
-    requires lemma_begun { IsBegun lemma.now.plan.now lemma.now.last }
-    requires here_begun { IsBegun here.now.plan.now here.now.last }
+    requires lemma_begun { IsBegunProgress lemma.now.plan.now lemma.now.last }
+    requires here_begun { IsBegunProgress here.now.plan.now here.now.last }
     ensures { IfOk result (λ found. found
         ≡ starts.compare_starts (start_after lemma.now.plan.now lemma.now.last)
         (start_after here.now.plan.now here.now.last)) }

@@ -7,7 +7,7 @@ ghost use Rattle.ot_questions.specs.declared.place.SymOp.{SymOp};
 ghost use Rattle.ot_terms.specs.declared.goal.GoalProgress.{GoalProgress};
 ghost use Rattle.ot_terms.specs.Standing.{results_of};
 ghost use Rattle.ot_terms.specs.Belonging.{IsProgressOf, IsNextResult};
-ghost use Rattle.start_laws.specs.Begun.{IsBegun};
+ghost use Rattle.start_laws.specs.Begun.{IsBegunProgress};
 ghost use Rattle.start_laws.specs.Starts.{compare_starts, meaning};
 
 /// Integers that meet the conditions between two starts give the plans of both one value, of any function. So a lemma
@@ -21,7 +21,7 @@ pub fn starts_have_one_value()
 /// compared.
 #[tactic(auto, using(crate::proofs::Nears::progress_begun, crate::proofs::Nears::result_begun))]
 pub fn results_stay_near()
-    ensures first { (ob : ObName) (progress : GoalProgress) → IsProgressOf ob progress → IsBegun progress None }
+    ensures first { (ob : ObName) (progress : GoalProgress) → IsProgressOf ob progress → IsBegunProgress progress None }
     ensures delivered { (ob : ObName) (progress : GoalProgress) (r : SymOp) → IsProgressOf ob progress
-        → IsNextResult ob progress.ops (results_of progress) r → IsBegun progress (Some r) }
+        → IsNextResult ob progress.ops (results_of progress) r → IsBegunProgress progress (Some r) }
 {}

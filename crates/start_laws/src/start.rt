@@ -1,6 +1,6 @@
 //! A start in memory.
 ghost use Rattle.std.specs.Prelude.{◌≡◌};
-ghost use Rattle.start_laws.specs.Begun.{IsBegun, start_after};
+ghost use Rattle.start_laws.specs.Begun.{IsBegunProgress, start_after};
 
 use ot_terms::{GoalProgress, SymOp};
 use std::marker::Model;
@@ -36,7 +36,7 @@ impl Model for Results {
 impl StartAt<'_> {
     /// The results before the start, with the one that was delivered.
     pub fn results(&self) -> Results
-        requires { IsBegun self.now.plan.now self.now.last }
+        requires { IsBegunProgress self.now.plan.now self.now.last }
         ensures { result ≡ (start_after self.now.plan.now self.now.last).got }
     {
         let mut got = self.plan.got;

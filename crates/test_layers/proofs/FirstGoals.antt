@@ -11,7 +11,7 @@ use Rattle.ot_questions.specs.declared.place.SymOp.TheVariants.{Nop}
 use Rattle.ot_questions.specs.Places.{place, zero_place, length_and, sym_op}
 use Rattle.ot_terms.specs.Forms.{Le, Eq}
 use Rattle.ot_terms.specs.Goals.{Holds, If}
-use Rattle.ot_terms.specs.Starting.{start_of, enabled_form, first_choice}
+use Rattle.ot_terms.specs.Starting.{start_goal_of, enabled_form, first_choice}
 
 abbrev deletions : Head
 deletions = record { mode = Tomb; ins = false; del = true; upd = false; sites_differ = true; chars_differ = false }
@@ -23,7 +23,7 @@ abbrev b : SymOp
 b = sym_op kinds.Del B
 
 first_goal :
-    start_of deletions (Pair kinds.Del kinds.Del)
+    start_goal_of deletions (Pair kinds.Del kinds.Del)
     ≡ If (Le zero_place (length_and (pos 0)))
     (If (enabled_form a (pos 0))
     (If (enabled_form b (pos 0))

@@ -2,7 +2,7 @@
 ghost use Rattle.std.specs.Prelude.{IsTrue};
 ghost use Rattle.fn_rules.specs.Obligations.{is_obligation};
 ghost use Rattle.fn_rules.specs.Rules.{function_of};
-ghost use Rattle.start_laws.specs.Begun.{IsBegun};
+ghost use Rattle.start_laws.specs.Begun.{IsBegunProgress};
 
 use ask_core::{Asker, NoMemory, Turn};
 use bumpalo::Bump;
@@ -18,7 +18,7 @@ use std::alloc::Global;
 
 // How many results there are before a start.
 fn results_before(start: &StartAt<'_>) -> usize
-    requires { IsBegun start.now.plan.now start.now.last }
+    requires { IsBegunProgress start.now.plan.now start.now.last }
 {
     let results = start.results();
     results.as_slice().len()

@@ -18,7 +18,7 @@ use Rattle.fn_tokens.specs.declared.token.Sign.TheVariants as signs
 use Rattle.fn_moves.specs.Meaning.{to_formulas}
 use Rattle.fn_grammar.specs.Print.{enclosed, guard_tokens}
 use Rattle.fn_grammar.specs.Grammar.{Phrase, Always, Compare, Shifted, Negated, Round, One, Both, Single, Either, written_as, made}
-use Rattle.fn_grammar.specs.Grammar.{atoms_in, nesting_in, is_allowed}
+use Rattle.fn_grammar.specs.Grammar.{atoms_in, nesting_in, is_allowed_phrase}
 
 -- an atom as a phrase, with an offset where there is one
 abbrev pub atom_phrase : Sort → Side → Cmp → ℤ → Phrase Tight
@@ -57,7 +57,7 @@ phrase_for t (formulas.Not g) = tight_at t (Negated (phrase_for Tight g))
 pub record IsPhraseOf {t : Tightness} (chars : Bool) (p : Phrase t) (g : Formula) : Type 0 where
   pub written : written_as p ≡ guard_tokens t g
   pub means : made to_formulas p ≡ g
-  pub allowed : is_allowed chars p ≡ true
+  pub allowed : is_allowed_phrase chars p ≡ true
   pub counted : atoms_in p ≡ atoms_of g
   pub nested : nesting_in p ≡ nesting_of t g
 

@@ -32,7 +32,7 @@ use Rattle.fn_moves.specs.declared.language.Language.{Language}
 use Rattle.fn_moves.specs.declared.language.Language.TheVariants.{One, Two}
 use Rattle.fn_moves.specs.Languages.{language_numbered, number_of}
 use Rattle.fn_moves.specs.Meaning.{Maker}
-use Rattle.fn_text.specs.Reader.{State, Nesting, disjunction, left_for, closed, moved}
+use Rattle.fn_text.specs.Reader.{State, Nesting, disjunction, left_for, closed_parentheses, moved}
 use Rattle.fn_moves.specs.Controls.{lacks_block}
 use Rattle.fn_moves.specs.Kinds.{with_kind, with_pair, has_seen}
 use Rattle.fn_moves.specs.Moves.{move_for}
@@ -312,7 +312,7 @@ module _ {V : Tightness → Type 0} {K B : Type 0} (m : Maker V K B) (s : State 
       ∙ (ap (λ x. drop 1 x) (closed_nots s.control.nots s.outer) ∙ ap (λ x. drop 1 (opened_by x)) same) in
       let left : State V K B = left_for (record s { last = m.round (disjunction m s) }) level levels in
       let there : Stands left.control levels wants.Operator (Close ∷ before) place = assumption in
-      subst (λ x. Stands x.control x.outer x.control.want (Close ∷ before) place) (sym (ap (λ x. closed m s x) same)) there
+      subst (λ x. Stands x.control x.outer x.control.want (Close ∷ before) place) (sym (ap (λ x. closed_parentheses m s x) same)) there
 
   -- after an operand
   operator_keeps : KeepsAt wants.Operator

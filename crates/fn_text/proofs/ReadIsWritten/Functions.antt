@@ -7,7 +7,7 @@ use Rattle.fn_moves.specs.declared.fault.TextFault.{TextFault}
 use Rattle.fn_text.specs.declared.stop.TextError.{TextError}
 use Rattle.fn_tokens.specs.Tokens.{tokens_in}
 use Rattle.fn_moves.specs.Meaning.{to_formulas}
-use Rattle.fn_text.specs.Made.{Gives}
+use Rattle.fn_text.specs.Made.{GivesView}
 use Rattle.fn_text.specs.Reader.{read_from, first_state}
 use Rattle.fn_text.specs.Reading.{built_from, function_in}
 use Rattle.fn_grammar.specs.Grammar.{WrittenBlock, block_made, IsTextOf}
@@ -59,7 +59,7 @@ read_is_buildable bytes parts e =
 
 -- what a call answered that reads the head and the blocks
 pub answer_is_buildable : {X : Type 0} (view : X → Head × List PairCases) (bytes : List ℕ) (answer : Result X TextError) →
-    Gives view answer (read_from to_formulas (first_state to_formulas) (tokens_in bytes)) →
+    GivesView view answer (read_from to_formulas (first_state to_formulas) (tokens_in bytes)) →
     IfOk answer (λ x. IsTrue (is_buildable (view x).0 (view x).1))
 answer_is_buildable view bytes (Ok x) gives = read_is_buildable bytes (view x) gives
 answer_is_buildable view bytes (Err e) gives = tt

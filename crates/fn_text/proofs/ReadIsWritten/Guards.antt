@@ -20,8 +20,8 @@ use Rattle.fn_moves.specs.declared.control.TokenMove.TheVariants as moves
 use Rattle.fn_moves.specs.Controls.{has_chars}
 use Rattle.fn_moves.specs.FixedMoves.{at_fixed}
 use Rattle.fn_moves.specs.GuardMoves.{at_operand, at_operator, at_offset}
-use Rattle.fn_text.specs.Reader.{Nesting, negate, join, choose, disjunction, closed, moved}
-use Rattle.fn_grammar.specs.Grammar.{Phrase, Compare, Shifted, written_as, atoms_in, nesting_in, is_allowed}
+use Rattle.fn_text.specs.Reader.{Nesting, negate, join, choose, disjunction, closed_parentheses, moved}
+use Rattle.fn_grammar.specs.Grammar.{Phrase, Compare, Shifted, written_as, atoms_in, nesting_in, is_allowed_phrase}
 use Rattle.fn_text.proofs.ReadIsWritten.Moves.{by_operand, by_comparison, by_right, by_operator, by_offset, by_number}
 use Rattle.fn_text.proofs.ReadIsWritten.States.{to_phrases, Phrases, front_of, allowed_part, atoms_part, nesting_part, nots_front}
 use Rattle.fn_text.proofs.ReadIsWritten.States.{level_front, levels_front, atoms_of_level, atoms_of_levels, here, guard_front, IsNesting}
@@ -63,7 +63,7 @@ choose_written (Some d) c = sym (append_assoc (written_as d) (Known words.Or ∷
 
 -- a phrase that was read in its parentheses
 pub record IsPhrase {t : Tightness} (chars : Bool) (outside : ℕ) (atoms : ℕ) (p : Phrase t) : Type 0 where
-  pub allowed : is_allowed chars p ≡ true
+  pub allowed : is_allowed_phrase chars p ≡ true
   pub nested : outside + nesting_in p ≤ 32
   pub counted : atoms_in p ≡ atoms
 
@@ -328,7 +328,7 @@ within s levels = record s { outer = levels }
 -- `)` ends the innermost level, and what stood in it is an operand of the next one
 closed_steps : (s : Phrases) (levels : List (Nesting Phrase)) (ts : List Token) → Reached (within s levels) wants.Operator ts →
     0 < s.control.outside →
-    Reached (closed to_phrases (within s levels) levels) (closed to_phrases (within s levels) levels).control.want (ts ++ Close ∷ [])
+    Reached (closed_parentheses to_phrases (within s levels) levels) (closed_parentheses to_phrases (within s levels) levels).control.want (ts ++ Close ∷ [])
 closed_steps s [] ts h some = let none : s.control.outside ≡ 0 = h.0.0.1.around in absurd (omega (arith, none, some))
 closed_steps s (level ∷ levels) ts h some =
     let guard = h.0.0.1 in

@@ -14,7 +14,7 @@ use Rattle.fn_moves.specs.declared.control.TokenMove.{TokenMove}
 use Rattle.fn_moves.specs.declared.control.TokenMove.TheVariants as moves
 use Rattle.fn_moves.specs.Moves.{move_for}
 use Rattle.fn_moves.specs.Meaning.{Maker}
-use Rattle.fn_text.specs.Reader.{Nesting, State, negate, join, choose, conjunction, disjunction, blocks_of, closed, moved, after_move}
+use Rattle.fn_text.specs.Reader.{Nesting, State, negate, join, choose, conjunction, disjunction, blocks_of, closed_parentheses, moved, after_move}
 use Rattle.fn_text.specs.Reader.{ended, read_from}
 use Rattle.fn_grammar.specs.Grammar.{Phrase, made, WrittenBlock, case_made, block_made}
 use Rattle.fn_text.proofs.WrittenIsRead.Guards.{going}
@@ -76,10 +76,10 @@ module _ {V : Tightness → Type 0} {K B : Type 0} (m : Maker V K B) where
       begun_made s.control.begun s.done (record { first = s.control.first; second = s.control.second; cases = s.cases })
 
   closed_made : (s : Phrases) (levels : List (Nesting Phrase)) →
-      closed m (state_made s) (map (level_made) levels) ≡ state_made (closed to_phrases s levels)
+      closed_parentheses m (state_made s) (map (level_made) levels) ≡ state_made (closed_parentheses to_phrases s levels)
   closed_made s [] = refl
   closed_made s (level ∷ levels) =
-      ap (λ x. record (state_made (closed to_phrases s (level ∷ levels))) { last = m.round x }) (disjunction_made s)
+      ap (λ x. record (state_made (closed_parentheses to_phrases s (level ∷ levels))) { last = m.round x }) (disjunction_made s)
 
   -- a move on the image of a state is the image of the move
   pub moved_made : (s : Phrases) (move : TokenMove) → moved m (state_made s) move ≡ state_made (moved to_phrases s move)

@@ -30,7 +30,7 @@ use Rattle.fn_moves.specs.Controls.{has_chars}
 use Rattle.fn_grammar.specs.Print.{kind_tokens, head_tokens, first_lines}
 use Rattle.fn_text.specs.Reader.{Nesting, State, blocks_of}
 use Rattle.fn_grammar.specs.Grammar.{Phrase, Always, Compare, Shifted, Negated, Round, One, Both, Single, Either, written_as, atoms_in}
-use Rattle.fn_grammar.specs.Grammar.{nesting_in, is_allowed, WrittenCase, WrittenBlock, result_written_as, block_written_as}
+use Rattle.fn_grammar.specs.Grammar.{nesting_in, is_allowed_phrase, WrittenCase, WrittenBlock, result_written_as, block_written_as}
 use Rattle.fn_grammar.specs.Grammar.{file_written_as, block_made, is_allowed_result, is_allowed_block, is_allowed_file}
 
 -- phrases are kept as they are
@@ -59,7 +59,7 @@ front_of word (Some p) = written_as p ++ word ∷ []
 
 abbrev pub allowed_part : {t : Tightness} → Bool → Option (Phrase t) → Bool
 allowed_part chars None = true
-allowed_part chars (Some p) = is_allowed chars p
+allowed_part chars (Some p) = is_allowed_phrase chars p
 
 abbrev pub atoms_part : {t : Tightness} → Option (Phrase t) → ℕ
 atoms_part None = 0
@@ -125,7 +125,7 @@ HasGuard s = IsGuard (has_chars s.control) (here s) s.outer
 
 -- an operand behind that
 pub record IsOperand (chars : Bool) (level : Nesting Phrase) (last : Phrase Tight) : Type 0 where
-  pub last_allowed : is_allowed chars last ≡ true
+  pub last_allowed : is_allowed_phrase chars last ≡ true
   pub last_nested : level.outside + level.nots + nesting_in last ≤ 32
 
 abbrev pub HasOperand : Phrases → Type 0
@@ -202,7 +202,7 @@ BehindOperand s = InGuard s (atoms_before s + atoms_in s.last) × HasOperand s
 
 -- a guard that was read
 pub record IsRead (chars : Bool) (guard : Phrase Loose) : Type 0 where
-  pub allowed : is_allowed chars guard ≡ true
+  pub allowed : is_allowed_phrase chars guard ≡ true
   pub few : atoms_in guard ≤ 16
   pub shallow : nesting_in guard ≤ 32
 

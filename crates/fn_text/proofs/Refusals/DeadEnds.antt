@@ -21,7 +21,7 @@ use Rattle.fn_moves.specs.LineMoves.{at_block_first, at_block_second}
 use Rattle.fn_text.specs.Reader.{State, moved, after_move, ended, read_from, first_state}
 use Rattle.fn_grammar.specs.Grammar.{WrittenBlock, file_written_as}
 use Rattle.fn_text.specs.Theorems.{state_behind}
-use Rattle.fn_text.specs.Continuing.{Begins, wants_atom_more, repeats_block, ExceptionsAreDeadEnds}
+use Rattle.fn_text.specs.Continuing.{BeginsFileWithExtra, wants_atom_more, repeats_block, ExceptionsAreDeadEnds}
 use Rattle.fn_tokens.specs.Tokens.{bare}
 use Rattle.fn_text.proofs.WrittenIsRead.Guards.{going}
 use Rattle.fn_text.proofs.WrittenIsRead.Files.{file_is_read}
@@ -119,7 +119,7 @@ never s _ ts rest parts is h test e = absurd (cc)
 -- tokens after which an atom too many or a block too many is wanted begin no file
 file_never : (front : List Placed) (s : State Formulas GuardedCase PairCases) (read : Result Phrases TextFault) →
     state_behind to_phrases (first_state to_phrases) front ≡ read → answer_made to_formulas read ≡ Ok s →
-    (wants_atom_more s.control s.control.want || repeats_block s.control s.control.want) ≡ true → Begins 0 (bare front) → ⊥
+    (wants_atom_more s.control s.control.want || repeats_block s.control s.control.want) ≡ true → BeginsFileWithExtra 0 (bare front) → ⊥
 file_never front s (Ok now) reads e test file =
     let image : state_made to_formulas now ≡ s = cc in
     let same : s.control ≡ now.control = ap (λ x. x.control) (sym image) in

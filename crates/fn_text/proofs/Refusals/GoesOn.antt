@@ -43,7 +43,7 @@ use Rattle.fn_grammar.specs.Print.{head_tokens, first_lines}
 use Rattle.fn_text.specs.Reader.{State, blocks_of, moved, after_move, first_control, first_state}
 use Rattle.fn_grammar.specs.Grammar.{Always, Compare, Shifted, written_as, atoms_in, is_allowed_result, result_written_as, block_made}
 use Rattle.fn_text.specs.Theorems.{state_behind}
-use Rattle.fn_text.specs.Continuing.{Begins, wants_atom_more, repeats_block, TakenTokensGoOn}
+use Rattle.fn_text.specs.Continuing.{BeginsFileWithExtra, wants_atom_more, repeats_block, TakenTokensGoOn}
 use Rattle.fn_tokens.specs.Tokens.{bare}
 use Rattle.fn_grammar.proofs.KindLists.{list_any_by}
 use Rattle.fn_text.proofs.SeenPairs.{has_seen-none, comes_next-first}
@@ -61,7 +61,7 @@ use Rattle.fn_text.proofs.Refusals.OpenCases.{guard_begins, between_begins, begi
 
 -- tokens of a head without assumptions begin a file
 head_begins : (language : Language) (mode : Mode) (ts more : List Token) →
-    ts ++ more ≡ first_lines language mode ++ Known words.Kinds ∷ Known (words.Kind kinds.Ins) ∷ LineEnd ∷ [] → Begins 0 ts
+    ts ++ more ≡ first_lines language mode ++ Known words.Kinds ∷ Known (words.Kind kinds.Ins) ∷ LineEnd ∷ [] → BeginsFileWithExtra 0 ts
 head_begins language mode ts more e =
     let head = with_kind (head_for mode) kinds.Ins in
     let speaks = has_words-more language (head_for mode) kinds.Ins (has_word-ins language) refl in
@@ -72,7 +72,7 @@ head_begins language mode ts more e =
     (ins_line language mode))
 
 -- each front of the tokens that the reader ends a file with begins a file
-ended_begins : (s : Phrases) (ts rest : List Token) → Ended s (ts ++ rest) → Begins 0 ts
+ended_begins : (s : Phrases) (ts rest : List Token) → Ended s (ts ++ rest) → BeginsFileWithExtra 0 ts
 ended_begins s ts rest h =
     let none = no_block_above s.done
     (and_parts (declares_some s.control.head && has_own_blocks s.control.head (map (block_made to_formulas) s.done)) _
@@ -88,7 +88,7 @@ ended_begins s ts rest h =
     }
 
 -- behind the word `assume` characters can be named
-assumed_begins : (s : Phrases) (ts : List Token) → Reached s wants.Assumed ts → Begins 0 ts
+assumed_begins : (s : Phrases) (ts : List Token) → Reached s wants.Assumed ts → BeginsFileWithExtra 0 ts
 assumed_begins s ts h =
     let language = s.control.language in
     let head = s.control.head in
@@ -102,7 +102,7 @@ assumed_begins s ts h =
 
 -- behind the first kind of a block a second one can be named that makes a missing pair
 pair_begins : (s : Phrases) (k l : Kind) (ts : List Token) → HasBlocks s → lacks s.control k l ≡ true →
-    ts ≡ lines_of s ++ Known words.Block ∷ Known (words.Kind k) ∷ [] → Begins 0 ts
+    ts ≡ lines_of s ++ Known words.Block ∷ Known (words.Kind k) ∷ [] → BeginsFileWithExtra 0 ts
 pair_begins s k l ts h missing e =
     let language = s.control.language in
     let head = s.control.head in
@@ -115,20 +115,20 @@ pair_begins s k l ts h missing e =
     (blocks_are_open language head s.control.begun s.control.seen blocks h))
     (block_front ts (head_tokens language head) blocks k l e))
 
-block_begins : (s : Phrases) (k l : Kind) (ts : List Token) → Reached s wants.BlockFirst ts → lacks s.control k l ≡ true → Begins 0 ts
+block_begins : (s : Phrases) (k l : Kind) (ts : List Token) → Reached s wants.BlockFirst ts → lacks s.control k l ≡ true → BeginsFileWithExtra 0 ts
 block_begins s k l ts h missing =
     begins_less 0 ts (Known (words.Kind k) ∷ [])
     (pair_begins s k l (ts ++ Known (words.Kind k) ∷ []) h.0.0 missing (ap (λ x. x ++ Known (words.Kind k) ∷ []) h.1
     ∙ append_assoc (lines_of s) (Known words.Block ∷ []) (Known (words.Kind k) ∷ [])))
 
-first_begins : (s : Phrases) (ts : List Token) → Reached s wants.BlockFirst ts → lacks_block s.control ≡ true → Begins 0 ts
+first_begins : (s : Phrases) (ts : List Token) → Reached s wants.BlockFirst ts → lacks_block s.control ≡ true → BeginsFileWithExtra 0 ts
 first_begins s ts h some =
-    list_any_by (Begins 0 ts) (lacks_with s.control) KINDS some
-    (λ k here. list_any_by (Begins 0 ts) (lacks s.control k) KINDS here (λ l missing. block_begins s k l ts h missing))
+    list_any_by (BeginsFileWithExtra 0 ts) (lacks_with s.control) KINDS some
+    (λ k here. list_any_by (BeginsFileWithExtra 0 ts) (lacks s.control k) KINDS here (λ l missing. block_begins s k l ts h missing))
 
 -- where an operand is wanted, `true` can stand
 operand_begins : (s : Phrases) (ts : List Token) (test : Bool) → nat_eq s.control.atoms 16 ≡ test → Reached s wants.Operand ts →
-    Begins (cond test 1 0) ts
+    BeginsFileWithExtra (cond test 1 0) ts
 operand_begins s ts true e h =
     let guard = h.0.1 in
     let depth = guard.depth in
@@ -152,7 +152,7 @@ operand_begins s ts false e h =
     (in_case (lines_of s) ts (guard_front s) (Known words.True ∷ []) h.1)
 
 -- an atom that was begun can be ended
-comparison_begins : (s : Phrases) (sort : Sort) (left : Side) (ts : List Token) → Reached s (wants.Comparison sort left) ts → Begins 0 ts
+comparison_begins : (s : Phrases) (sort : Sort) (left : Side) (ts : List Token) → Reached s (wants.Comparison sort left) ts → BeginsFileWithExtra 0 ts
 comparison_begins s sort left ts h =
     let guard = h.0.1 in
     let depth = guard.depth in
@@ -167,7 +167,7 @@ comparison_begins s sort left ts h =
 
 -- tokens that stop before the right side of an atom begin a file
 right_begins : (s : Phrases) (sort : Sort) (left : Side) (cmp : Cmp) (ts : List Token) → Reached s (wants.Right sort left cmp) ts →
-    Begins 0 ts
+    BeginsFileWithExtra 0 ts
 right_begins s sort left cmp ts h =
     let guard = h.0.1 in
     let depth = guard.depth in
@@ -180,7 +180,7 @@ right_begins s sort left cmp ts h =
     (retold (lines_of s) ts _ (other ∷ []) _ h.2
     (append_assoc (guard_front s) (Known (words.Thing sort left) ∷ tokens.Comparison cmp ∷ []) (other ∷ [])))
 
-operator_begins : (s : Phrases) (ts : List Token) → Reached s wants.Operator ts → Begins 0 ts
+operator_begins : (s : Phrases) (ts : List Token) → Reached s wants.Operator ts → BeginsFileWithExtra 0 ts
 operator_begins s ts h =
     let atoms = h.0.0.2 in
     let few = h.0.0.3 in
@@ -189,7 +189,7 @@ operator_begins s ts h =
 
 -- tokens that stop before the number of an offset begin a file
 number_begins : (s : Phrases) (left : Side) (cmp : Cmp) (sign : Sign) (ts : List Token) →
-    Reached s (wants.Number left cmp sign) ts → Begins 0 ts
+    Reached s (wants.Number left cmp sign) ts → BeginsFileWithExtra 0 ts
 number_begins s left cmp sign ts h =
     let guard = h.0.0.1 in
     let depth = guard.depth in
@@ -201,17 +201,17 @@ number_begins s left cmp sign ts h =
     (blocks_are_open s.control.language s.control.head s.control.begun s.control.seen _ h.0.0.0.0)
     (retold (lines_of s) ts _ (Number 0 ∷ []) _ h.2 (shifted_front (guard_front s) left cmp sign 0 s.last h.1))
 
-line_begins : (s : Phrases) (ts : List Token) → Reached s wants.Line ts → Begins 0 ts
+line_begins : (s : Phrases) (ts : List Token) → Reached s wants.Line ts → BeginsFileWithExtra 0 ts
 line_begins s ts h = between_begins s ts [] h.0.0 (append-nil ts ∙ h.1)
 
 -- in the line of the kinds it can end, or one can be named
-kinds_end : (s : Phrases) (ts : List Token) → Reached s wants.NextKind ts → declares_some s.control.head ≡ true → Begins 0 ts
+kinds_end : (s : Phrases) (ts : List Token) → Reached s wants.NextKind ts → declares_some s.control.head ≡ true → BeginsFileWithExtra 0 ts
 kinds_end s ts h some =
     begins_less 0 ts (LineEnd ∷ [])
     (line_begins (moved to_phrases s (moves.Skip wants.Line)) (ts ++ LineEnd ∷ []) (kinds_end_steps s ts h some))
 
 kinds_begin : (s : Phrases) (ts : List Token) (some : Bool) → declares_some s.control.head ≡ some → Reached s wants.NextKind ts →
-    Begins 0 ts
+    BeginsFileWithExtra 0 ts
 kinds_begin s ts true some h = kinds_end s ts h some
 kinds_begin s ts false none h =
     let ins = Known (words.Kind kinds.Ins) in
@@ -221,7 +221,7 @@ kinds_begin s ts false none h =
 
 -- a result that some further tokens make whole
 result_begins : (s : Phrases) (w : Written) (ts more : List Token) → BehindColon s → is_allowed_result w ≡ true →
-    ts ++ more ≡ result_front s (result_written_as s.control.first w) → Begins 0 ts
+    ts ++ more ≡ result_front s (result_written_as s.control.first w) → BeginsFileWithExtra 0 ts
 result_begins s w ts more h ok e =
     begins_less 0 ts more
     (begins_less 0 (ts ++ more) (LineEnd ∷ [])
@@ -229,7 +229,7 @@ result_begins s w ts more h ok e =
 
 -- a file begins with the tokens by which a state was reached
 pub reached_begins : (s : Phrases) (want : Want) (ts : List Token) → Reached s want ts → repeats_block s.control want ≡ false →
-    Begins (cond (wants_atom_more s.control want) 1 0) ts
+    BeginsFileWithExtra (cond (wants_atom_more s.control want) 1 0) ts
 reached_begins s wants.Otfn ts h single =
     head_begins languages.One modes.Plain ts
     (Known words.Otfn ∷ Number 1 ∷ LineEnd ∷ Known words.Text ∷ Known (words.Mode modes.Plain) ∷ LineEnd ∷ Known words.Kinds
@@ -270,7 +270,7 @@ reached_begins s wants.Assumed ts h single = assumed_begins s ts h
 reached_begins s wants.Differ ts h single = between_begins s ts (Known words.Differ ∷ LineEnd ∷ []) h.0.0 h.1
 reached_begins s wants.BlockFirst ts h single = first_begins s ts h (not-false _ single)
 reached_begins s (wants.BlockSecond k) ts h single =
-    list_any_by (Begins 0 ts) (lacks s.control k) KINDS (not-false _ single) (λ l missing. pair_begins s k l ts h.0.0 missing h.2)
+    list_any_by (BeginsFileWithExtra 0 ts) (lacks s.control k) KINDS (not-false _ single) (λ l missing. pair_begins s k l ts h.0.0 missing h.2)
 reached_begins s wants.BlockEnd ts h single = between_begins s ts (LineEnd ∷ []) h.0.0 h.1
 reached_begins s wants.Operand ts h single = operand_begins s ts (nat_eq s.control.atoms 16) refl h
 reached_begins s (wants.Comparison sort left) ts h single = comparison_begins s sort left ts h
@@ -341,11 +341,11 @@ reached_behind s now ts (at ∷ rest) h e =
 
 front_begins : (front : List Placed) (s : State Formulas GuardedCase PairCases) (read : Result Phrases TextFault) →
     state_behind to_phrases (first_state to_phrases) front ≡ read → answer_made to_formulas read ≡ Ok s →
-    repeats_block s.control s.control.want ≡ false → Begins (cond (wants_atom_more s.control s.control.want) 1 0) (bare front)
+    repeats_block s.control s.control.want ≡ false → BeginsFileWithExtra (cond (wants_atom_more s.control s.control.want) 1 0) (bare front)
 front_begins front s (Ok now) reads e single =
     let image : state_made to_formulas now ≡ s = cc in
     let same : now.control ≡ s.control = ap (λ x. x.control) image in
-    subst (λ c. Begins (cond (wants_atom_more c c.want) 1 0) (bare front)) same
+    subst (λ c. BeginsFileWithExtra (cond (wants_atom_more c c.want) 1 0) (bare front)) same
     (reached_begins now now.control.want (bare front) (reached_behind (first_state to_phrases) now [] front first_reached reads)
     (ap (λ c. repeats_block c c.want) same ∙ single))
 front_begins front s (Err fault) reads e single = absurd (cc)

@@ -23,13 +23,13 @@ use Rattle.fn_moves.specs.declared.control.TokenMove.TheVariants as moves
 use Rattle.fn_moves.specs.Meaning.{Formulas, to_formulas}
 use Rattle.fn_moves.specs.Controls.{depth_of, lacks_block, allowed}
 use Rattle.fn_moves.specs.Moves.{move_for}
-use Rattle.fn_text.specs.Reader.{State, Nesting, moved, closed, after_move, turn, read_from, first_state}
+use Rattle.fn_text.specs.Reader.{State, Nesting, moved, closed_parentheses, after_move, turn, read_from, first_state}
 use Rattle.fn_grammar.specs.Grammar.{file_written_as}
 use Rattle.fn_text.specs.Theorems.{state_behind}
 use Rattle.fn_text.specs.Counting.{declares, is_behind_block, first_of_block, atoms_before, is_before_operand, nesting_before}
 use Rattle.fn_text.specs.Causes.{block_place}
-use Rattle.fn_text.specs.Continuing.{Begins, wants_atom_more, repeats_block}
-use Rattle.fn_text.specs.GoingOn.{BeginsFile, EndsOperand, IsTakenAlso, GoesOn, is_before_atom_more, repeats_some_block}
+use Rattle.fn_text.specs.Continuing.{BeginsFileWithExtra, wants_atom_more, repeats_block}
+use Rattle.fn_text.specs.GoingOn.{BeginsFile, EndsOperand, IsTakenAlso, CanGoOn, is_before_atom_more, repeats_some_block}
 use Rattle.fn_text.specs.GoingOn.{GoingTokensBegin}
 use Rattle.fn_text.proofs.WrittenIsRead.Guards.{going}
 use Rattle.fn_text.proofs.WrittenIsRead.Files.{file_is_read}
@@ -299,7 +299,7 @@ kind_taken before at k taken test =
     }
 
 -- what is taken besides what begins a file
-also_taken : (before : List Placed) (at : Placed) (t : Token) → (GoesOn (bare before) → Taken before) →
+also_taken : (before : List Placed) (at : Placed) (t : Token) → (CanGoOn (bare before) → Taken before) →
     IsTakenAlso (t ∷ bare before) →
     Takes before at t
 also_taken before at (Known words.And) others also =
@@ -327,7 +327,7 @@ also_taken before at (Known (words.Kind k)) others also = kind_taken before at k
 also_taken before at _ others also = absurd also
 
 -- tokens that can go on are taken
-pub taken : (before : List Placed) → GoesOn (bare before) → Taken before
+pub taken : (before : List Placed) → CanGoOn (bare before) → Taken before
 taken before (inl file) = file_taken before file
 taken [] (inr also) = absurd also
 taken (at ∷ before) (inr also) =
@@ -339,8 +339,8 @@ taken (at ∷ before) (inr also) =
 file_begins : (before : List Placed) (s : Reading) → Leads before s → repeats_block s.control s.control.want ≡ false →
     wants_atom_more s.control s.control.want ≡ false → BeginsFile (bare before)
 file_begins before s leads once few =
-    subst (λ x. Begins 0 x) (bare-reverse before)
-    (subst (λ x. Begins (cond x 1 0) (bare (reverse before))) few (taken_tokens_go_on (reverse before) s leads once))
+    subst (λ x. BeginsFileWithExtra 0 x) (bare-reverse before)
+    (subst (λ x. BeginsFileWithExtra (cond x 1 0) (bare (reverse before))) few (taken_tokens_go_on (reverse before) s leads once))
 
 -- it goes on with a token that is taken, where the state behind that one is no exception
 file_goes : (before : List Placed) (at : Placed) (now : Reading) (move : TokenMove) (want : Want) → Leads before now →
@@ -354,7 +354,7 @@ file_goes before at now move want leads goes is once few =
     (ap (λ w. wants_atom_more next.control w) is ∙ few next.control)
 
 closed_wants : (s : Reading) (outer : List (Nesting Formulas)) →
-    (closed to_formulas s outer).control.want ≡ wants.Operator
+    (closed_parentheses to_formulas s outer).control.want ≡ wants.Operator
 closed_wants s [] = refl
 closed_wants s (level ∷ levels) = refl
 
@@ -506,7 +506,7 @@ some_where false j k e = absurd (cc)
 -- the first kind of a block was declared
 kind_by : (before : List Placed) (at : Placed) (t : Token) (k : Kind) (now : Reading) (move : TokenMove) → Leads before now →
     move_for now.control at now.control.want t ≡ Some move → first_of_block (t ∷ bare before) ≡ Some k →
-    GoesOn (bare before) →
+    CanGoOn (bare before) →
     IsTakenAlso (t ∷ bare before)
 kind_by before at (Known (words.Kind j)) k now move leads goes first others =
     let c = now.control in
@@ -521,7 +521,7 @@ kind_by before at _ k now move leads goes first others = absurd (cc)
 -- where a block would be repeated, the tokens are taken also
 repeated_by : (before : List Placed) (at : Placed) (s : Reading) (want : Want) → s.control.want ≡ want →
     Leads (at ∷ before) s →
-    repeats_block s.control want ≡ true → ((now : Reading) → Leads before now → GoesOn (bare before)) →
+    repeats_block s.control want ≡ true → ((now : Reading) → Leads before now → CanGoOn (bare before)) →
     IsTakenAlso (at.token ∷ bare before)
 repeated_by before at s wants.BlockFirst is leads test others =
     let last = last_move before at s leads in
@@ -549,7 +549,7 @@ full_of c _ test = absurd (cc)
 goes_by : (before : List Placed) (s : Reading) (repeats more : Bool) →
     repeats_block s.control s.control.want ≡ repeats →
     wants_atom_more s.control s.control.want ≡ more → Leads before s →
-    (repeats_block s.control s.control.want ≡ true → IsTakenAlso (bare before)) → GoesOn (bare before)
+    (repeats_block s.control s.control.want ≡ true → IsTakenAlso (bare before)) → CanGoOn (bare before)
 goes_by before s true more again few leads others = inr (others again)
 goes_by before s false true once many leads others =
     let full = full_of s.control s.control.want many in
@@ -557,7 +557,7 @@ goes_by before s false true once many leads others =
 goes_by before s false false once few leads others = inl (file_begins before s leads once few)
 
 -- tokens that are taken can go on
-pub goes_on : (before : List Placed) (s : Reading) → Leads before s → GoesOn (bare before)
+pub goes_on : (before : List Placed) (s : Reading) → Leads before s → CanGoOn (bare before)
 goes_on [] s leads =
     let same : first_state to_formulas ≡ s = cc in
     inl (file_begins [] s leads (ap (λ x. repeats_block x.control x.control.want) (sym same))
@@ -567,19 +567,19 @@ goes_on (at ∷ before) s leads =
     goes_by (at ∷ before) s (repeats_block c c.want) (wants_atom_more c c.want) refl refl leads
     (λ again. repeated_by before at s s.control.want refl leads again (λ now more. goes_on before now more))
 
-begins_for : (before : List Placed) → GoesOn (bare before) → repeats_some_block (bare before) ≡ false →
-    Begins (cond (is_before_atom_more (bare before)) 1 0) (reverse (bare before))
+begins_for : (before : List Placed) → CanGoOn (bare before) → repeats_some_block (bare before) ≡ false →
+    BeginsFileWithExtra (cond (is_before_atom_more (bare before)) 1 0) (reverse (bare before))
 begins_for before goes once =
     let taken = taken before goes in
     let s = taken.now in
     let h = stands before s taken.leads in
-    subst (λ x. Begins (cond (is_before_atom_more (bare before)) 1 0) x) (bare-reverse before)
-    (subst (λ x. Begins (cond x 1 0) (bare (reverse before))) (atom_more_told s before h)
+    subst (λ x. BeginsFileWithExtra (cond (is_before_atom_more (bare before)) 1 0) x) (bare-reverse before)
+    (subst (λ x. BeginsFileWithExtra (cond x 1 0) (bare (reverse before))) (atom_more_told s before h)
     (taken_tokens_go_on (reverse before) s taken.leads (repeats_told s before h ∙ once)))
 
 -- a file begins with tokens that can go on
 pub going_tokens_begin : GoingTokensBegin
 going_tokens_begin before =
-    subst (λ x. GoesOn x → repeats_some_block x ≡ false →
-    Begins (cond (is_before_atom_more x) 1 0) (reverse x)) (bare-placed before)
+    subst (λ x. CanGoOn x → repeats_some_block x ≡ false →
+    BeginsFileWithExtra (cond (is_before_atom_more x) 1 0) (reverse x)) (bare-placed before)
     (begins_for (placed before))

@@ -25,7 +25,7 @@ use Rattle.fn_moves.specs.Kinds.{has_seen, with_pair}
 use Rattle.fn_moves.specs.Meaning.{to_formulas}
 use Rattle.fn_grammar.specs.Print.{head_tokens}
 use Rattle.fn_grammar.specs.Grammar.{WrittenCase, WrittenBlock, block_written_as, block_made, atoms_in}
-use Rattle.fn_text.specs.Continuing.{cases_above, is_allowed_case_with, is_allowed_block_with, is_allowed_file_with, Begins}
+use Rattle.fn_text.specs.Continuing.{cases_above, is_allowed_case_with, is_allowed_block_with, is_allowed_file_with, BeginsFileWithExtra}
 use Rattle.fn_grammar.proofs.KindLists.{each_pair_from, listed_pair_true}
 use Rattle.fn_text.proofs.SeenPairs.{has_seen-with_pair_itself, has_seen-still}
 use Rattle.fn_text.proofs.ReadIsWritten.States.{AreBlocks}
@@ -279,7 +279,7 @@ finish extra language head seen blocks h =
 
 -- tokens that some further ones make into lines of the head and of blocks begin a file
 pub lines_begin : (extra : ℕ) (ts more : List Token) (language : Language) (head : Head) (seen : Pairs) (blocks : List WrittenBlock) →
-    IsOpen extra language head seen blocks → ts ++ more ≡ head_tokens language head ++ flat_map block_written_as blocks → Begins extra ts
+    IsOpen extra language head seen blocks → ts ++ more ≡ head_tokens language head ++ flat_map block_written_as blocks → BeginsFileWithExtra extra ts
 lines_begin extra ts more language head seen blocks h e =
     let rest = finish extra language head seen blocks h in
     record {

@@ -12,7 +12,7 @@ use Rattle.fn_moves.specs.Controls.{has_chars}
 use Rattle.fn_grammar.specs.Print.{head_tokens}
 use Rattle.fn_text.specs.Reader.{Nesting, blocks_of}
 use Rattle.fn_grammar.specs.Grammar.{Phrase, Round, written_as, atoms_in, nesting_in, WrittenCase}
-use Rattle.fn_text.specs.Continuing.{is_allowed_case_with, Begins}
+use Rattle.fn_text.specs.Continuing.{is_allowed_case_with, BeginsFileWithExtra}
 use Rattle.fn_text.proofs.ReadIsWritten.States.{to_phrases, Phrases, level_front, levels_front, atoms_of_level, atoms_of_levels, here}
 use Rattle.fn_text.proofs.ReadIsWritten.States.{guard_front, atoms_before, AreNestings, HasGuard, IsOperand, HasBlocks, lines_of, InCase}
 use Rattle.fn_text.proofs.ReadIsWritten.States.{case_front}
@@ -99,7 +99,7 @@ pub guard_begins : (extra : ℕ) (s : Phrases) (last : Phrase Tight) (ts more : 
     IsOperand (has_chars s.control) (here s) last → atoms_before s + atoms_in last ≤ 16 + extra →
     IsOpen 0 s.control.language s.control.head s.control.seen (blocks_of to_phrases s) →
     ts ++ more ≡ case_front s (guard_front s ++ written_as last) →
-    Begins extra ts
+    BeginsFileWithExtra extra ts
 guard_begins extra s last ts more case guard operand few opened e =
     let c : WrittenCase = record { guard = whole_guard s last; result = written.Nop } in
     let whole = guard_is s last guard operand in
@@ -120,13 +120,13 @@ guard_begins extra s last ts more case guard operand few opened e =
     case.1.begun_so)
 
 -- lines begin a file
-pub between_begins : (s : Phrases) (ts more : List Token) → HasBlocks s → ts ++ more ≡ lines_of s → Begins 0 ts
+pub between_begins : (s : Phrases) (ts more : List Token) → HasBlocks s → ts ++ more ≡ lines_of s → BeginsFileWithExtra 0 ts
 between_begins s ts more h e =
     lines_begin 0 ts more s.control.language s.control.head s.control.seen (blocks_of to_phrases s)
     (blocks_are_open s.control.language s.control.head s.control.begun s.control.seen _ h) e
 
 -- what begins a file with more tokens behind it, begins one
-pub begins_less : (extra : ℕ) (ts more : List Token) → Begins extra (ts ++ more) → Begins extra ts
+pub begins_less : (extra : ℕ) (ts more : List Token) → BeginsFileWithExtra extra (ts ++ more) → BeginsFileWithExtra extra ts
 begins_less extra ts more h = record {
   language = h.language;
   head = h.head;

@@ -16,8 +16,8 @@ use Rattle.fn_moves.specs.Meaning.{Formulas, to_formulas}
 use Rattle.fn_text.specs.Reader.{State, after_move, read_from, first_state}
 use Rattle.fn_text.specs.Theorems.{state_behind}
 use Rattle.fn_text.specs.Reading.{function_in, built_from}
-use Rattle.fn_text.specs.GoingOn.{GoesOn}
-use Rattle.fn_text.specs.Made.{Gives}
+use Rattle.fn_text.specs.GoingOn.{CanGoOn}
+use Rattle.fn_text.specs.Made.{GivesView}
 use Rattle.fn_text.specs.Refusals.{IsRefusedFor, IsAnswerFor, IsAnsweredBy, HasOneAnswer, AnswersAreRead}
 use Rattle.fn_text.proofs.WrittenIsRead.Guards.{going}
 use Rattle.fn_text.proofs.WrittenIsRead.Files.{text_is_read}
@@ -36,7 +36,7 @@ leads_there before s reads =
 stops_there : (before : List Placed) (wrong : Placed) (s : State Formulas GuardedCase PairCases) →
     state_behind to_formulas (first_state to_formulas) before ≡ Ok s →
     move_for s.control wrong s.control.want wrong.token ≡ None →
-    ¬ (GoesOn (wrong.token ∷ bare (reverse before)))
+    ¬ (CanGoOn (wrong.token ∷ bare (reverse before)))
 stops_there before wrong s reads refused goes =
     let all = taken (wrong ∷ reverse before) goes in
     let last = last_move (reverse before) wrong all.now all.leads in
@@ -116,7 +116,7 @@ one_answer bytes = record {
 
 -- so what is answered of bytes is their function or their refusal, unless memory ran out
 pub answered_for : {X : Type 0} (view : X → Function) (bytes : List ℕ) (answer : Result X TextError) →
-    Gives view answer (function_in bytes) → IsAnswerFor view bytes answer
+    GivesView view answer (function_in bytes) → IsAnswerFor view bytes answer
 answered_for view bytes (Ok x) gives = found bytes (view x) gives
 answered_for view bytes (Err (errors.Fault fault)) gives = refusals_are_final bytes fault gives
 answered_for view bytes (Err errors.NoMemory) gives = tt

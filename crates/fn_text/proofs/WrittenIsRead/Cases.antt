@@ -17,7 +17,7 @@ use Rattle.fn_moves.specs.declared.control.TokenMove.TheVariants as moves
 use Rattle.fn_moves.specs.Meaning.{Maker}
 use Rattle.fn_moves.specs.Controls.{has_chars}
 use Rattle.fn_text.specs.Reader.{State, disjunction, moved}
-use Rattle.fn_grammar.specs.Grammar.{written_as, made, atoms_in, nesting_in, is_allowed, WrittenCase, result_written_as, case_written_as}
+use Rattle.fn_grammar.specs.Grammar.{written_as, made, atoms_in, nesting_in, is_allowed_phrase, WrittenCase, result_written_as, case_written_as}
 use Rattle.fn_grammar.specs.Grammar.{case_made, is_allowed_result, is_allowed_case}
 use Rattle.fn_tokens.specs.Tokens.{bare}
 use Rattle.fn_grammar.proofs.KindLists.{is_same_kind-itself}
@@ -92,7 +92,7 @@ module _ {V : Tightness → Type 0} {K B : Type 0} (m : Maker V K B) where
       let s2 = behind m s1 c.guard in
       let s3 = guarded s c in
       let front = (and_parts _ _ (and_parts _ _ ok).0).0 in
-      let valid : is_allowed (has_chars s.control) c.guard ≡ true = (and_parts _ _ front).0 in
+      let valid : is_allowed_phrase (has_chars s.control) c.guard ≡ true = (and_parts _ _ front).0 in
       let few : atoms_in c.guard ≤ 16 = leb-true _ _ (and_parts _ _ front).1 in
       let shallow : nesting_in c.guard ≤ 32 = leb-true _ _ (and_parts _ _ (and_parts _ _ ok).0).1 in
       let depth : s1.control.outside + s1.control.nots + nesting_in c.guard ≤ 32 = let o = line.outside in let n = line.nots in

@@ -28,10 +28,10 @@ use Rattle.fn_moves.specs.Meaning.{Maker, may_compare}
 use Rattle.fn_moves.specs.Controls.{allowed, has_chars, depth_of}
 use Rattle.fn_moves.specs.FixedMoves.{at_fixed}
 use Rattle.fn_moves.specs.GuardMoves.{at_operator, at_offset}
-use Rattle.fn_text.specs.Reader.{Nesting, State, negate, join, choose, conjunction, disjunction, moved, closed, read_from, after_move}
+use Rattle.fn_text.specs.Reader.{Nesting, State, negate, join, choose, conjunction, disjunction, moved, closed_parentheses, read_from, after_move}
 use Rattle.fn_text.specs.Reader.{want_behind}
 use Rattle.fn_grammar.specs.Grammar.{Phrase, Always, Compare, Shifted, Negated, Round, One, Both, Single, Either, written_as, made}
-use Rattle.fn_grammar.specs.Grammar.{atoms_in, nesting_in, is_allowed}
+use Rattle.fn_grammar.specs.Grammar.{atoms_in, nesting_in, is_allowed_phrase}
 
 -- the same in other parentheses
 abbrev pub around : {V : Tightness → Type 0} {K B : Type 0} → State V K B → ℕ → List (Nesting V) → State V K B
@@ -77,8 +77,8 @@ right_goes Site Second cmp = refl
 right_goes Char First cmp = refl
 right_goes Char Second cmp = refl
 
-still_allowed : {t : Tightness} (before now : Bool) (p : Phrase t) → now ≡ before → is_allowed before p ≡ true → is_allowed now p ≡ true
-still_allowed before now p e h = ap (λ x. is_allowed x p) e ∙ h
+still_allowed : {t : Tightness} (before now : Bool) (p : Phrase t) → now ≡ before → is_allowed_phrase before p ≡ true → is_allowed_phrase now p ≡ true
+still_allowed before now p e h = ap (λ x. is_allowed_phrase x p) e ∙ h
 
 module _ {V : Tightness → Type 0} {K B : Type 0} (m : Maker V K B) where
   -- reading goes on, behind some first tokens, in another state
@@ -135,7 +135,7 @@ module _ {V : Tightness → Type 0} {K B : Type 0} (m : Maker V K B) where
 
   -- closing a level that was opened here leaves all but the last operand as it was
   closed_keeps : (s : State V K B) (inner : State V K B) (levels : List (Nesting V)) → levels ≡ inner.outer →
-      forget inner ≡ forget (moved m s moves.Open) → forget (closed m inner levels) ≡ forget s
+      forget inner ≡ forget (moved m s moves.Open) → forget (closed_parentheses m inner levels) ≡ forget s
   closed_keeps s inner [] same kept =
       let outer = ap (λ x. x.outer) kept in absurd (cc)
   closed_keeps s inner (level ∷ levels) same kept =
@@ -161,7 +161,7 @@ module _ {V : Tightness → Type 0} {K B : Type 0} (m : Maker V K B) where
   behind_keeps s (Either d c) =
       behind_keeps (moved m (behind s d) moves.Or) c ∙ behind_keeps s d
 
-  closed_atoms : (s : State V K B) (levels : List (Nesting V)) → (closed m s levels).control.atoms ≡ s.control.atoms
+  closed_atoms : (s : State V K B) (levels : List (Nesting V)) → (closed_parentheses m s levels).control.atoms ≡ s.control.atoms
   closed_atoms s [] = refl
   closed_atoms s (level ∷ levels) = refl
 
@@ -184,7 +184,7 @@ module _ {V : Tightness → Type 0} {K B : Type 0} (m : Maker V K B) where
       let right = behind_atoms (moved m (behind s d) moves.Or) c in
       omega (arith, left, right)
 
-  closed_is_behind : (s : State V K B) (levels : List (Nesting V)) → (closed m s levels).control.want ≡ wants.Operator
+  closed_is_behind : (s : State V K B) (levels : List (Nesting V)) → (closed_parentheses m s levels).control.want ≡ wants.Operator
   closed_is_behind s [] = refl
   closed_is_behind s (level ∷ levels) = refl
 
@@ -223,7 +223,7 @@ module _ {V : Tightness → Type 0} {K B : Type 0} (m : Maker V K B) where
   -- what is written as a phrase is read as that phrase
   pub leads : {t : Tightness} (s : State V K B) (p : Phrase t) (ps : List Placed) (more : List Token) →
       s.control.want ≡ wants.Operand → depth_of s.control + nesting_in p ≤ 32 → s.control.atoms + atoms_in p ≤ 16 →
-      is_allowed (has_chars s.control) p ≡ true → bare ps ≡ written_as p ++ more → Leads s ps (behind s p) more
+      is_allowed_phrase (has_chars s.control) p ≡ true → bare ps ≡ written_as p ++ more → Leads s ps (behind s p) more
   leads s Always ps more want depth atoms ok e =
       let room : s.control.atoms < 16 = omega arith in
       leads_by s ps (Known words.True) more moves.Always e
@@ -308,7 +308,7 @@ module _ {V : Tightness → Type 0} {K B : Type 0} (m : Maker V K B) where
 
   closed_says : (s inner : State V K B) (levels : List (Nesting V)) (value : V Loose) →
       levels ≡ record { outside = s.control.outside; nots = s.control.nots; any = s.any; all = s.all } ∷ s.outer →
-      disjunction m inner ≡ value → Says Tight s (closed m inner levels) (m.round value)
+      disjunction m inner ≡ value → Says Tight s (closed_parentheses m inner levels) (m.round value)
   closed_says s inner [] value same inside = absurd (cc)
   closed_says s inner (level ∷ levels) value same inside =
       let here : level ≡ record { outside = s.control.outside; nots = s.control.nots; any = s.any; all = s.all } = cc in

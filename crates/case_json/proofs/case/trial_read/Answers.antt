@@ -1,7 +1,7 @@
 use Rattle.std.proofs.Common.{◌≡◌, Ok, refl}
 use Rattle.fn_rules.specs.Rules.{function_of}
 use Rattle.case_json.specs.Cases.{case_in, tested, trial_in}
-use Rattle.case_json.specs.Tests.{fault_of}
+use Rattle.case_json.specs.Tests.{case_fault_of}
 use Rattle.case_json.proofs.Readings.{error_passed_on, case_in-few}
 use Rattle.case_json.proofs.case.trial_read.Goals as goal
 
@@ -9,7 +9,7 @@ pub returns-in_err-trial-clause-reading : goal.returns-in_err-trial-clause-readi
 unfolding trial_in
 returns-in_err-trial-clause-reading c =
     error_passed_on c.from_residual.result c.in_err-trial.field-0.0 (case_in c.args.bytes.now)
-    (λ trial. tested (fault_of (function_of c.args.rules.now) trial) trial) c.from_residual.ensures.1 c.in_err-trial.ensures
+    (λ trial. tested (case_fault_of (function_of c.args.rules.now) trial) trial) c.from_residual.ensures.1 c.in_err-trial.ensures
 
 pub fault_of-requires-clause-ops : goal.fault_of-requires-clause-ops
 fault_of-requires-clause-ops c =

@@ -4,7 +4,7 @@ use Rattle.std.proofs.lemmas.List.Elements.{All-nil, All-push, All-same}
 use Rattle.fn_rules.specs.Rules.{function_of}
 use Rattle.ot_terms.specs.Goals.{goal_tree}
 use Rattle.ot_terms.specs.Weights.{goal_weight}
-use Rattle.laid_goals.specs.Sharing.{IsKept}
+use Rattle.laid_goals.specs.Sharing.{IsKeptGoal}
 use Rattle.laid_goals.proofs.LaidGoals.{form_is_low, laid_alike, result_belongs, found_alike, next_is_lighter, next_belongs, next_kept, next_alike}
 use Rattle.laid_goals.proofs.laying.+laid_out.Goals as goal
 
@@ -24,7 +24,7 @@ returns-in-Some-clause-alike t c =
     let f = function_of c.args.rules.now in
     found_alike f (goal_tree c.args.goal.now) c.in_ok-front.front c.in_ok-front.ensures.alike
     c.in-Deliver.op c.in-Deliver.plan c.in-Deliver.is c.found.result c.in-Some.built
-    (c.found.ensures f (subst (λ items. All (IsKept f) items) (sym c.deref.ensures.value) c.requires.known)) c.in-Some.is
+    (c.found.ensures f (subst (λ items. All (IsKeptGoal f) items) (sym c.deref.ensures.value) c.requires.known)) c.in-Some.is
 
 pub next_of-requires : goal.next_of-requires
 next_of-requires t c = (
@@ -49,7 +49,7 @@ laid_out-requires-in-Deliver t c =
               c.in-Deliver.op c.in-Deliver.plan c.in-Deliver.is c.in_ok-next-in-Deliver.field-0 c.in-Some-2.next
               c.in_ok-next-in-Deliver.ensures c.in-Some-2.is c.requires.goal.0 c.requires.goal.1,
         ),
-        All-same (IsKept f) c.new-inner.result.items [] c.new-inner.ensures.items (All-nil (IsKept f)),
+        All-same (IsKeptGoal f) c.new-inner.result.items [] c.new-inner.ensures.items (All-nil (IsKeptGoal f)),
       ),
     )
 
@@ -63,8 +63,8 @@ returns-in_ok-push-in-Deliver-clause-alike t c =
 pub returns-in_ok-push-in-Deliver-clause-known : goal.returns-in_ok-push-in-Deliver-clause-known
 returns-in_ok-push-in-Deliver-clause-known t c =
     let f = function_of c.args.rules.now in
-    All-same (IsKept f) c.push.new.self.items _ c.in_ok-push-in-Deliver.ensures.items
-    (All-push (IsKept f) c.args.known.now.items _ c.requires.known
+    All-same (IsKeptGoal f) c.push.new.self.items _ c.in_ok-push-in-Deliver.ensures.items
+    (All-push (IsKeptGoal f) c.args.known.now.items _ c.requires.known
     (next_kept f (goal_tree c.args.goal.now) c.in_ok-front.front c.in_ok-front.ensures.alike
     c.in-Deliver.op c.in-Deliver.plan c.in-Deliver.is c.in_ok-next-in-Deliver.field-0 c.in-Some-2.next
     c.in_ok-next-in-Deliver.ensures c.in-Some-2.is (goal_tree c.in_ok-built-in-Deliver.built.now)

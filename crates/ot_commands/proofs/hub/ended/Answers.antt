@@ -1,6 +1,6 @@
 use Rattle.std.proofs.Common.{◌≡◌, ◌≢◌, ℕ, List, Option, None, length, map, sym, ap, ◌∙◌, subst, arith}
 use Rattle.ot_model.specs.declared.cell.Cell.{Cell}
-use Rattle.ot_hub.specs.Views.{view_of}
+use Rattle.ot_hub.specs.Views.{hub_view_of}
 use Rattle.ot_replies.specs.declared.reply.ClientEnd.{ClientEnd}
 use Rattle.ot_replies.specs.Texts.{differ_status}
 use Rattle.ot_commands.specs.Hub.{IsFirstApart, client_end}
@@ -14,7 +14,7 @@ none_is_zero found none is =
 
 pub returns-clause-steady : goal.returns-clause-steady
 returns-clause-steady c f =
-    let hub = view_of c.args.hub.now in
+    let hub = hub_view_of c.args.hub.now in
     let found = c.first_apart-differ.result in
     let logged = c.logged-logged.result in
     none_is_zero found

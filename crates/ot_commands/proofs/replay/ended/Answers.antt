@@ -1,5 +1,5 @@
 use Rattle.std.proofs.Common.{arith, ◌≢◌, ◌≡◌, ℕ, List, Option, None, map, subst, ◌∙◌}
-use Rattle.ot_session.specs.Sites.{end_of}
+use Rattle.ot_session.specs.Sites.{site_end_of}
 use Rattle.ot_session.specs.Views.{view_of}
 use Rattle.ot_session.specs.declared.ending.SiteEnd.{SiteEnd}
 use Rattle.ot_replies.specs.declared.reply.Reply.TheVariants.{Replayed}
@@ -16,6 +16,6 @@ none_is_zero ends found none is =
 pub returns-clause-steady : goal.returns-clause-steady
 returns-clause-steady c f =
     let sites = (view_of c.args.session).sites in
-    let is : IsFirstPair 1 (map end_of sites) c.first_pair-differ.result =
+    let is : IsFirstPair 1 (map site_end_of sites) c.first_pair-differ.result =
     subst (λ (l : List SiteEnd). IsFirstPair 1 l c.first_pair-differ.result) (c.as_slice.ensures ∙ c.in_ok-ends.ensures) c.first_pair-differ.ensures in
     none_is_zero c.in_ok-ends.ends c.first_pair-differ.result (none_differ sites c.first_pair-differ.result (c.sites_agree.ensures f.tp1 f.tp2 f.chars) is)

@@ -7,8 +7,8 @@ use Rattle.fn_rules.specs.Rules.{function_of}
 use Rattle.ot_hub.specs.declared.carry.Crossed.{Crossed}
 use Rattle.ot_hub.specs.declared.placed.PlacedOp.{PlacedOp}
 use Rattle.ot_hub.specs.Carry.{crossed, carry, from_place, carried_op}
-use Rattle.ot_hub.specs.Usable.{farthest}
-use Rattle.ot_hub.proofs.Carrying.{no_one, from_true, from_false, rest-dropped, carry-next, carried_op-behind}
+use Rattle.ot_hub.specs.Usable.{farthest_carried}
+use Rattle.ot_hub.proofs.Carrying.{no_one, from_true, from_false, rest-dropped, carry-next, carried_op-carried_behind}
 use Rattle.ot_hub.proofs.Near.{KeepsNear, keeps_near, CanCross, CanCross-next, IsUsable-next, IsUsable-passed}
 use Rattle.ot_hub.proofs.carry.carried.Goals as goal
 use Rattle.ot_hub.proofs.carry.carried.Goals.{then-other-place+in_ok-form, else-other-place}
@@ -20,7 +20,7 @@ pub cross-requires : goal.cross-requires
 cross-requires c =
     let f : Function = function_of c.args.rules.now in
     let i : ℕ = c.loop-other.other-index in
-    let m : ℕ = farthest (length c.args.list.now) in
+    let m : ℕ = farthest_carried (length c.args.list.now) in
     let both : CanCross f c.loop-other.form (get_or c.args.list.now i no_one).op =
     CanCross-next f (keeps_near f c.functions_keep_forms.ensures c.transform_stays_near.ensures c.enabled_operations_are_near.ensures.wider
     c.rules_are_valid.ensures)
@@ -35,7 +35,7 @@ loop-other-preserved c =
     let list : List PlacedOp = c.args.list.now in
     let i : ℕ = c.loop-other.other-index in
     let o : Op = c.loop-other.form in
-    let m : ℕ = farthest (length list) in
+    let m : ℕ = farthest_carried (length list) in
     let here : PlacedOp = get_or list i no_one in
     let inside : i < length list = c.loop-other-test.true in
     let has : KeepsNear f =
@@ -47,7 +47,7 @@ loop-other-preserved c =
           rw w.form-is (record {
             same = c.loop-other.invariant.same
                 ∙ ap carried_op (carry-next f list c.args.place i inside o both (from_true c.args.place here.place w.if-other-place.true) is)
-                ∙ carried_op-behind (record here { op = both.other } ∷ []) (carry f both.own (from_place c.args.place (drop (i + 1) list)));
+                ∙ carried_op-carried_behind (record here { op = both.other } ∷ []) (carry f both.own (from_place c.args.place (drop (i + 1) list)));
             usable = IsUsable-next f has list m i o inside c.loop-other.invariant.usable c.requires.list both is;
           }))
       | else-other-place w ↦ rw w.form-is (record {

@@ -1,12 +1,12 @@
 use Rattle.std.proofs.Common.{◌≡◌, ◌+◌, ◌*◌, length, drop}
 use Rattle.fn_rules.specs.Rules.{function_of}
 use Rattle.ot_hub.specs.Carry.{carry, from_place, carried_op}
-use Rattle.ot_hub.specs.Usable.{IsUsable, farthest}
+use Rattle.ot_hub.specs.Usable.{IsUsable, farthest_carried}
 use Rattle.ot_hub.proofs.carry.carried.Given as goal
 
 abbrev pub invariant-loop-other : goal.invariant-loop-other
 invariant-loop-other l = record {
   same : carried_op (carry (function_of l.rules) l.fn.op (from_place l.place l.list))
       ≡ carried_op (carry (function_of l.rules) l.form (from_place l.place (drop l.other-index l.list)));
-  usable : IsUsable (function_of l.rules) (farthest (length l.list) + 99 * l.other-index) l.form;
+  usable : IsUsable (function_of l.rules) (farthest_carried (length l.list) + 99 * l.other-index) l.form;
 }

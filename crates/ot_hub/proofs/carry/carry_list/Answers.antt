@@ -6,9 +6,9 @@ use Rattle.fn_rules.specs.Functions.{Function}
 use Rattle.fn_rules.specs.Rules.{function_of}
 use Rattle.ot_hub.specs.declared.carry.Crossed.{Crossed}
 use Rattle.ot_hub.specs.declared.placed.PlacedOp.{PlacedOp}
-use Rattle.ot_hub.specs.Carry.{crossed, behind, carry, from_place}
-use Rattle.ot_hub.specs.Usable.{farthest}
-use Rattle.ot_hub.proofs.Carrying.{no_one, from_true, from_false, rest-dropped, carry-next, behind-behind, behind-nothing}
+use Rattle.ot_hub.specs.Carry.{crossed, carried_behind, carry, from_place}
+use Rattle.ot_hub.specs.Usable.{farthest_carried}
+use Rattle.ot_hub.proofs.Carrying.{no_one, from_true, from_false, rest-dropped, carry-next, carried_behind-carried_behind, carried_behind-nothing}
 use Rattle.ot_hub.proofs.Near.{KeepsNear, keeps_near, CanCross-next, IsUsable-next, IsUsable-passed}
 use Rattle.ot_hub.proofs.carry.carry_list.Goals as goal
 use Rattle.ot_hub.proofs.carry.carry_list.Goals.{then-other-place+in-Some+in_ok-push, else-other-place}
@@ -16,7 +16,7 @@ use Rattle.ot_hub.proofs.carry.carry_list.Goals.{then-other-place+in-Some+in_ok-
 pub loop-other-init : goal.loop-other-init
 loop-other-init c =
     let start = carry (function_of c.args.rules.now) c.args.op (from_place c.args.place c.args.list.now) in
-    record { same = rw c.new-new.ensures (sym (behind-nothing start)); usable = rw add-zero c.requires.usable.op }
+    record { same = rw c.new-new.ensures (sym (carried_behind-nothing start)); usable = rw add-zero c.requires.usable.op }
 
 pub cross-requires-clause-own : goal.cross-requires-clause-own
 cross-requires-clause-own c =
@@ -24,7 +24,7 @@ cross-requires-clause-own c =
     let i : ℕ = c.loop-other.other-index in
     (CanCross-next f (keeps_near f c.functions_keep_forms.ensures c.transform_stays_near.ensures c.enabled_operations_are_near.ensures.wider
     c.rules_are_valid.ensures)
-    c.args.list.now (farthest (length c.args.list.now)) i c.loop-other.form c.loop-other-test.true c.loop-other.invariant.usable c.requires.usable.list
+    c.args.list.now (farthest_carried (length c.args.list.now)) i c.loop-other.form c.loop-other-test.true c.loop-other.invariant.usable c.requires.usable.list
     (omega (arith, c.loop-other-test.true, c.requires.usable.few))).own
 
 -- one of the list more: what it becomes was added, or it stands before the place
@@ -34,7 +34,7 @@ loop-other-preserved c =
     let list : List PlacedOp = c.args.list.now in
     let i : ℕ = c.loop-other.other-index in
     let o : Op = c.loop-other.form in
-    let m : ℕ = farthest (length list) in
+    let m : ℕ = farthest_carried (length list) in
     let here : PlacedOp = get_or list i no_one in
     let inside : i < length list = c.loop-other-test.true in
     let has : KeepsNear f =
@@ -47,14 +47,14 @@ loop-other-preserved c =
           let pushed : w.push.new.self ≡ c.loop-other.new ++ moved = w.in_ok-push.ensures.ok in
           rw (w.form-is, w.new-is, pushed) (record {
             same = c.loop-other.invariant.same
-                ∙ ap (option_map (behind c.loop-other.new))
+                ∙ ap (option_map (carried_behind c.loop-other.new))
                 (carry-next f list c.args.place i inside o both (from_true c.args.place here.place w.if-other-place.true) is)
-                ∙ behind-behind c.loop-other.new moved (carry f both.own (from_place c.args.place (drop (i + 1) list)));
+                ∙ carried_behind-carried_behind c.loop-other.new moved (carry f both.own (from_place c.args.place (drop (i + 1) list)));
             usable = IsUsable-next f has list m i o inside c.loop-other.invariant.usable c.requires.usable.list both is;
           }))
       | else-other-place w ↦ rw (w.form-is, w.new-is) (record {
         same = c.loop-other.invariant.same
-            ∙ ap (λ bs. option_map (behind c.loop-other.new) (carry f o bs))
+            ∙ ap (λ bs. option_map (carried_behind c.loop-other.new) (carry f o bs))
             (rest-dropped f list c.args.place i inside (from_false c.args.place here.place w.if-other-place.false));
         usable = IsUsable-passed f has list m i o inside c.loop-other.invariant.usable c.requires.usable.list;
       })

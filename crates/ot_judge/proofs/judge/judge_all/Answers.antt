@@ -5,7 +5,7 @@ use Rattle.fn_rules.specs.Rules.{function_of}
 use Rattle.cert_text.specs.declared.item.Part.TheVariants as part
 use Rattle.cert_text.specs.Reading.{ReaderState}
 use Rattle.ot_sections.specs.Feeding.{fed}
-use Rattle.ot_sections.specs.Stands.{Came, IsMisspeltBehind, offset_of}
+use Rattle.ot_sections.specs.Stands.{Came, IsMisspeltBehind, reader_offset_of}
 use Rattle.ot_judge.proofs.WholeRun.{answered, at_start, behind_header, header_refused, refused_behind}
 use Rattle.ot_judge.proofs.judge.judge_all.Goals as goal
 
@@ -28,7 +28,7 @@ returns-in_err-judge_sections-clause-judged g c =
     let at = at_start f c.args.head.now _ _ c.new-reader.result c.new-reader.ensures c.in_ok-tp1.ensures c.in_ok-tp2.ensures c.requires.head in
     let first = fed c.read_header.new.reader c.read_header.new.feed in
     let header = subst (λ (r : ReaderState). Came g.F.Feed (fed r c.args.feed.now) first
-    (record { offset = offset_of r; part = part.Header c.in_ok-level.level }))
+    (record { offset = reader_offset_of r; part = part.Header c.in_ok-level.level }))
     at c.in_ok-level.ensures.header in
     rw (p.1, p.2)
     (answered g.F.Feed f c.args.feed.now c.judge_sections.new.feed c.in_err-judge_sections.field-0.0
@@ -42,7 +42,7 @@ returns-clause-judged g c =
     let at = at_start f c.args.head.now _ _ c.new-reader.result c.new-reader.ensures c.in_ok-tp1.ensures c.in_ok-tp2.ensures c.requires.head in
     let first = fed c.read_header.new.reader c.read_header.new.feed in
     let header = subst (λ (r : ReaderState). Came g.F.Feed (fed r c.args.feed.now) first
-    (record { offset = offset_of r; part = part.Header c.in_ok-level.level }))
+    (record { offset = reader_offset_of r; part = part.Header c.in_ok-level.level }))
     at c.in_ok-level.ensures.header in
     inr
     (λ all have.

@@ -10,7 +10,7 @@ use Rattle.ot_questions.specs.Obligation.{plan_below}
 use Rattle.ot_decide.specs.declared.verdict.SearchVerdict.{SearchVerdict}
 use Rattle.ot_decide.specs.Proving.{AreSettled}
 use Rattle.ot_decide.specs.Verdicts.{ObQuestions}
-use Rattle.ot_least.specs.Endings.{end_of}
+use Rattle.ot_least.specs.Endings.{failing_end_of}
 use Rattle.ot_least.specs.Lows.{IsBroken, level_of, low_header_text, parts_of}
 use Rattle.ot_least.specs.Shortest.{Falls}
 use Rattle.ot_least.proofs.Descents.{FallsTo, falls_least, falls_on, falls_spent, few_bytes, is_least, is_low, same_level}
@@ -128,7 +128,7 @@ returns-in_ok-next-in-Fails-clause-falls t c =
     c.in_ok-search_all.ensures.settled in
     let next = c.in_ok-next-in-Fails.next in
     IfOk-weaker c.descend.result
-    (λ answer. (turns : List (List (ObQuestions Why))) × Falls f c.args.budget (end_of next) next.cells turns answer)
+    (λ answer. (turns : List (List (ObQuestions Why))) × Falls f c.args.budget (failing_end_of next) next.cells turns answer)
     (λ answer. FallsTo f c.args.budget e obs are before after answer)
     (λ answer.
     falls_on f c.args.budget e obs are before after c.in-Fails.ob c.in-Fails.answers c.in-Fails.why settled next answer

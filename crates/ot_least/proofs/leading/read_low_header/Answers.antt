@@ -3,7 +3,7 @@ use Rattle.std.proofs.lemmas.List.{append-nil}
 use Rattle.ot_sections.specs.Feeding.{Yields}
 use Rattle.ot_least.specs.declared.header.HeaderFit.{HeaderFit}
 use Rattle.ot_least.specs.declared.header.HeaderFit.TheVariants as fits_other
-use Rattle.ot_least.specs.Headers.{FitsHeader, IsFrontOfHeader}
+use Rattle.ot_least.specs.Headers.{FitsLowHeader, IsFrontOfHeader}
 use Rattle.ot_least.specs.Lows.{low_header_text}
 use Rattle.ot_least.proofs.Fronts.{no_header_there, none_is_front}
 use Rattle.ot_least.proofs.leading.read_low_header.Goals as goal
@@ -24,7 +24,7 @@ returns-in-Whole-clause-header g c =
     let line = c.loop-line.line.items in
     let byte = c.in-Some.byte in
     let came : c.extend_from_slice.new.self.items ≡ line ++ byte ∷ [] = c.in_ok-extend_from_slice.ensures.items in
-    let fits = subst (λ (f : HeaderFit). FitsHeader c.deref.result.now f) c.in-Whole.is c.in_ok-level.ensures in
+    let fits = subst (λ (f : HeaderFit). FitsLowHeader c.deref.result.now f) c.in-Whole.is c.in_ok-level.ensures in
     let text : low_header_text c.in-Whole.level c.in-Whole.bound ≡ line ++ byte ∷ [] = fits.1 ∙ c.deref.ensures.value ∙ came in
     let next = rw c.in-Some.is at c.in_ok-byte.ensures.byte in
     λ all rest may.
@@ -38,8 +38,8 @@ returns-in-Other-clause-refused g c =
     let line = c.loop-line.line.items in
     let byte = c.in-Some.byte in
     let came : c.extend_from_slice.new.self.items ≡ line ++ byte ∷ [] = c.in_ok-extend_from_slice.ensures.items in
-    let fits = subst (λ (f : HeaderFit). FitsHeader c.deref.result.now f) c.in-Other.is c.in_ok-level.ensures in
-    let here = subst (λ (l : List ℕ). FitsHeader l fits_other.Other) (c.deref.ensures.value ∙ came) fits in
+    let fits = subst (λ (f : HeaderFit). FitsLowHeader c.deref.result.now f) c.in-Other.is c.in_ok-level.ensures in
+    let here = subst (λ (l : List ℕ). FitsLowHeader l fits_other.Other) (c.deref.ensures.value ∙ came) fits in
     let next = rw c.in-Some.is at c.in_ok-byte.ensures.byte in
     λ refused all have.
     let rest = have.0 in (

@@ -1,5 +1,5 @@
 use Rattle.std.proofs.Common.{ℕ, ◌+◌, ◌≤◌, List, ◌++◌, length}
-use Rattle.ot_sections.specs.Feeding.{IsKept, Whole, Yields}
+use Rattle.ot_sections.specs.Feeding.{IsKeptFeed, Whole, Yields}
 use Rattle.ot_least.specs.Headers.{IsFrontOfHeader}
 use Rattle.ot_least.proofs.leading.read_low_header.Given as goal
 
@@ -10,7 +10,7 @@ invariant-loop-line g l = record {
   bytes :
       (all : Whole) (rest : List ℕ) → Yields g.F.Feed l.feed all rest → Yields g.F.Feed l.fn.feed all (l.line.items ++ rest);
   fewer : g.F.Feed.bound l.feed + length l.line.items ≤ g.F.Feed.bound l.fn.feed;
-  kept : IsKept g.F.Feed.faults g.F.Feed.bound g.F.Feed.held g.F.Feed.keeps l.fn.feed l.feed;
+  kept : IsKeptFeed g.F.Feed.faults g.F.Feed.bound g.F.Feed.held g.F.Feed.keeps l.fn.feed l.feed;
 }
 
 abbrev pub decreases-loop-line : goal.decreases-loop-line

@@ -4,7 +4,7 @@ use Rattle.std.proofs.lemmas.Result.{err_from_is_err_and}
 use Rattle.fn_rules.specs.Rules.{function_of}
 use Rattle.ot_questions.specs.Obligation.{plan_below}
 use Rattle.ot_sections.specs.Feeding.{fed}
-use Rattle.ot_sections.specs.Stands.{place_of, stand}
+use Rattle.ot_sections.specs.Stands.{reader_place_of, stand}
 use Rattle.ot_sections.proofs.Leading.{leads_on, refused_through}
 use Rattle.ot_sections.proofs.Leaving.{goes_on_by, leaves_on}
 use Rattle.ot_sections.proofs.Listed.{line_at}
@@ -13,7 +13,7 @@ use Rattle.ot_sections.proofs.section.judge_each.Goals as goal
 pub judge_section-requires-clause-line : goal.judge_section-requires-clause-line
 judge_section-requires-clause-line g c = (
   drop (c.loop-ob.ob-index + 1) c.args.names.now,
-  line_at c.args.names.now c.loop-ob.ob-index _ (place_of c.loop-ob.reader) c.loop-ob-test.true c.loop-ob.invariant.lines,
+  line_at c.args.names.now c.loop-ob.ob-index _ (reader_place_of c.loop-ob.reader) c.loop-ob-test.true c.loop-ob.invariant.lines,
 )
 
 -- one section more was judged
@@ -23,7 +23,7 @@ loop-ob-preserved g c =
       between = c.in_ok-judge_section.ensures.behind.0;
       lines =
           c.in_ok-judge_section.ensures.behind.1 (drop (c.loop-ob.ob-index + 1) c.args.names.now)
-          (line_at c.args.names.now c.loop-ob.ob-index _ (place_of c.loop-ob.reader) c.loop-ob-test.true c.loop-ob.invariant.lines);
+          (line_at c.args.names.now c.loop-ob.ob-index _ (reader_place_of c.loop-ob.reader) c.loop-ob-test.true c.loop-ob.invariant.lines);
       leads =
           leads_on g.F.Feed (plan_below (function_of c.args.rules.now) c.args.below) (stand (fed c.args.reader.now c.args.feed.now) [])
           (stand (fed c.loop-ob.reader c.loop-ob.feed) []) (stand (fed c.judge_section.new.reader c.judge_section.new.feed) []) c.loop-ob.invariant.leads

@@ -4,7 +4,7 @@ use Rattle.std.proofs.lemmas.Result.{err_from_is_err_and}
 use Rattle.ask_core.specs.Trees.{Branch}
 use Rattle.cert_check.specs.Judging.{open_branches}
 use Rattle.ot_sections.specs.Feeding.{fed}
-use Rattle.ot_sections.specs.Stands.{IsTreeOf, Leads, opened, place_of, stand}
+use Rattle.ot_sections.specs.Stands.{IsTreeOf, StandLeads, opened, reader_place_of, stand}
 use Rattle.ot_sections.proofs.Leading.{behind_token, between_parts, leads_on}
 use Rattle.ot_sections.proofs.Leaving.{goes_on_by, leaves_as, leaves_on, leaves_with, token_no_failure, token_not_early}
 use Rattle.ot_sections.proofs.TreeRun.{counted, leads_token, no_branch, none_open, refused_bytes, refused_token, tree_is}
@@ -31,15 +31,15 @@ pub loop-tok-preserved : goal.loop-tok-preserved
 loop-tok-preserved g c =
     let counts : length (open_branches g.A.Asker.plan c.loop-tok.checker) ≡ length c.loop-tok.checker.places =
     counted (g.A.Asker.plan c.loop-tok.checker.asker) c.loop-tok.checker.places in
-    let here : IsTreeOf (length (open_branches g.A.Asker.plan c.loop-tok.checker)) (place_of c.loop-tok.reader) =
-    subst (λ (n : ℕ). IsTreeOf n (place_of c.loop-tok.reader)) (sym counts) c.loop-tok.invariant.tree in
+    let here : IsTreeOf (length (open_branches g.A.Asker.plan c.loop-tok.checker)) (reader_place_of c.loop-tok.reader) =
+    subst (λ (n : ℕ). IsTreeOf n (reader_place_of c.loop-tok.reader)) (sym counts) c.loop-tok.invariant.tree in
     let behind = behind_token g.F.Feed (fed c.loop-tok.reader c.loop-tok.feed) (fed c.next_token.new.reader c.next_token.new.feed) c.in_ok-offset.offset
     c.next_token.new.tok (open_branches g.A.Asker.plan c.loop-tok.checker) (open_branches g.A.Asker.plan c.judge.new.self) c.in_ok-offset.ensures.token here
     c.in-Ok-More.ensures.step in
     record {
       between = c.take_at_hand.ensures.between;
       tree =
-          subst (λ (n : ℕ). IsTreeOf n (place_of c.take_at_hand.new.reader))
+          subst (λ (n : ℕ). IsTreeOf n (reader_place_of c.take_at_hand.new.reader))
           (counted (g.A.Asker.plan c.take_at_hand.new.checker.asker) c.take_at_hand.new.checker.places) c.take_at_hand.ensures.tree;
       some = c.is_open.ensures.0 c.if-not-is_open.false;
       same_tree = c.take_at_hand.ensures.same_tree ∙ behind.1 ∙ c.loop-tok.invariant.same_tree;
@@ -71,7 +71,7 @@ returns-then-not-is_open-clause-leads g c =
     (none_open c.is_open.result c.take_at_hand.new.checker.places c.if-not-is_open.true c.is_open.ensures) in
     λ plan.
     subst
-    (λ (b : List (Branch _)). Leads g.F.Feed plan (stand (fed c.args.reader.now c.args.feed.now) (opened (g.A.Asker.root c.args.asker)))
+    (λ (b : List (Branch _)). StandLeads g.F.Feed plan (stand (fed c.args.reader.now c.args.feed.now) (opened (g.A.Asker.root c.args.asker)))
     (stand (fed c.take_at_hand.new.reader c.take_at_hand.new.feed) b)) none
     (leads_on g.F.Feed plan (stand (fed c.args.reader.now c.args.feed.now) (opened (g.A.Asker.root c.args.asker)))
     (stand (fed c.next_token.new.reader c.next_token.new.feed) (open_branches g.A.Asker.plan c.judge.new.self))
@@ -97,15 +97,15 @@ pub returns-in-Ok-Done-clause-closed : goal.returns-in-Ok-Done-clause-closed
 returns-in-Ok-Done-clause-closed g c =
     let counts : length (open_branches g.A.Asker.plan c.loop-tok.checker) ≡ length c.loop-tok.checker.places =
     counted (g.A.Asker.plan c.loop-tok.checker.asker) c.loop-tok.checker.places in
-    let here : IsTreeOf (length (open_branches g.A.Asker.plan c.loop-tok.checker)) (place_of c.loop-tok.reader) =
-    subst (λ (n : ℕ). IsTreeOf n (place_of c.loop-tok.reader)) (sym counts) c.loop-tok.invariant.tree in
+    let here : IsTreeOf (length (open_branches g.A.Asker.plan c.loop-tok.checker)) (reader_place_of c.loop-tok.reader) =
+    subst (λ (n : ℕ). IsTreeOf n (reader_place_of c.loop-tok.reader)) (sym counts) c.loop-tok.invariant.tree in
     let closed : c.judge.new.self.places ≡ [] = c.in-Ok-Done.ensures.closed (cc) in
     let none = no_branch (g.A.Asker.plan c.judge.new.self.asker) c.judge.new.self.places closed in
     let behind = behind_token g.F.Feed (fed c.loop-tok.reader c.loop-tok.feed) (fed c.next_token.new.reader c.next_token.new.feed) c.in_ok-offset.offset
     c.next_token.new.tok (open_branches g.A.Asker.plan c.loop-tok.checker) [] c.in_ok-offset.ensures.token here
     (c.in-Ok-Done.ensures.step ∙ ap Ok none) in (
       between_parts g.F.Feed (fed c.loop-tok.reader c.loop-tok.feed) (fed c.next_token.new.reader c.next_token.new.feed) _ c.in_ok-offset.ensures.token,
-      tree_is (place_of c.next_token.new.reader) 0 behind.0 ∙ behind.1 ∙ c.loop-tok.invariant.same_tree,
+      tree_is (reader_place_of c.next_token.new.reader) 0 behind.0 ∙ behind.1 ∙ c.loop-tok.invariant.same_tree,
     )
 
 pub returns-in-Ok-Done-clause-leads : goal.returns-in-Ok-Done-clause-leads

@@ -10,7 +10,7 @@ use Rattle.ot_causal.specs.Past.{Past, maker, IsOpening}
 use Rattle.ot_causal.specs.Forms.{form}
 use Rattle.ot_causal.specs.Counting.{FormName, name_of, sought, count_sought, from_site}
 use Rattle.ot_session.specs.declared.form.FormError.{FormError}
-use Rattle.ot_session.specs.Past.{past_of, most_cells}
+use Rattle.ot_session.specs.Past.{past_of, most_session_cells}
 use Rattle.ot_session.specs.Lists.{clock}
 use Rattle.ot_session.specs.Entries.{HasForms, IsTable, MaySeek, Seeks, HasSought}
 use Rattle.ot_session.proofs.BothParts.{new-unstored, exhausted, missing, stored}
@@ -188,7 +188,7 @@ transform-requires-clause-a_declared t c =
     c.open_members_may_be_taken_out.ensures.opening past o l x m.orderly m.sought.ready (sym c.in-Some.ensures) in
     (form-usable f past o (without x l) c.in_ok-own.own m.usable opening.next.made (omega (arith, opening.shorter, c.requires.few)) is
     (c.forms_keep_all_but_the_position.ensures.kept f past o (without x l) c.in_ok-own.own is)
-    (c.forms_keep_all_but_the_position.ensures.near f past most_cells o (without x l) c.in_ok-own.own c.rules_are_valid.ensures
+    (c.forms_keep_all_but_the_position.ensures.near f past most_session_cells o (without x l) c.in_ok-own.own c.rules_are_valid.ensures
     (λ y _. m.usable.near y) opening.next.made (c.members_were_made.ensures.made past (without x l) opening.closed) is)).0)
 
 -- the operation's own form is in range
@@ -206,7 +206,7 @@ transform-requires-clause-a_in_range t c =
     c.open_members_may_be_taken_out.ensures.opening past o l x m.orderly m.sought.ready (sym c.in-Some.ensures) in
     (form-usable f past o (without x l) c.in_ok-own.own m.usable opening.next.made (omega (arith, opening.shorter, c.requires.few)) is
     (c.forms_keep_all_but_the_position.ensures.kept f past o (without x l) c.in_ok-own.own is)
-    (c.forms_keep_all_but_the_position.ensures.near f past most_cells o (without x l) c.in_ok-own.own c.rules_are_valid.ensures
+    (c.forms_keep_all_but_the_position.ensures.near f past most_session_cells o (without x l) c.in_ok-own.own c.rules_are_valid.ensures
     (λ y _. m.usable.near y) opening.next.made (c.members_were_made.ensures.made past (without x l) opening.closed) is)).1)
 
 -- the form of the member that is taken out is of a declared kind
@@ -223,7 +223,7 @@ transform-requires-clause-b_declared t c =
     c.open_members_may_be_taken_out.ensures.opening past c.args.number l x m.orderly m.sought.ready (sym c.in-Some.ensures) in
     (form-usable f past x (without x l) c.in_ok-by.by m.usable opening.made (omega (arith, opening.shorter, c.requires.few)) is
     (c.forms_keep_all_but_the_position.ensures.kept f past x (without x l) c.in_ok-by.by is)
-    (c.forms_keep_all_but_the_position.ensures.near f past most_cells x (without x l) c.in_ok-by.by c.rules_are_valid.ensures
+    (c.forms_keep_all_but_the_position.ensures.near f past most_session_cells x (without x l) c.in_ok-by.by c.rules_are_valid.ensures
     (λ y _. m.usable.near y) opening.made (c.members_were_made.ensures.made past (without x l) opening.closed) is)).0)
 
 -- the form of the member that is taken out is in range
@@ -240,7 +240,7 @@ transform-requires-clause-b_in_range t c =
     c.open_members_may_be_taken_out.ensures.opening past c.args.number l x m.orderly m.sought.ready (sym c.in-Some.ensures) in
     (form-usable f past x (without x l) c.in_ok-by.by m.usable opening.made (omega (arith, opening.shorter, c.requires.few)) is
     (c.forms_keep_all_but_the_position.ensures.kept f past x (without x l) c.in_ok-by.by is)
-    (c.forms_keep_all_but_the_position.ensures.near f past most_cells x (without x l) c.in_ok-by.by c.rules_are_valid.ensures
+    (c.forms_keep_all_but_the_position.ensures.near f past most_session_cells x (without x l) c.in_ok-by.by c.rules_are_valid.ensures
     (λ y _. m.usable.near y) opening.made (c.members_were_made.ensures.made past (without x l) opening.closed) is)).1)
 
 -- the search of the form of the member that is taken out stopped

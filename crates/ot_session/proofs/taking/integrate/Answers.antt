@@ -11,7 +11,7 @@ use Rattle.ot_session.specs.declared.form.FormError.TheVariants.{NoForm, Spent}
 use Rattle.ot_session.specs.declared.site.Site.{Site}
 use Rattle.ot_session.specs.Past.{past_of}
 use Rattle.ot_session.specs.Entries.{IsTable, MaySeek}
-use Rattle.ot_session.proofs.Integrating.{Changes, Changes-executed, MaySeek-next, IsTable-kept, IsStuck-missing, count_behind-missing, IsSpent-sought}
+use Rattle.ot_session.proofs.Integrating.{Changes, Changes-executed, MaySeek-next, IsTable-kept, IsStuck-missing, count_behind-missing, IsCountSpent-sought}
 use Rattle.ot_session.proofs.Integrating.{IsStuck-refused, count_behind-sought, HasIntegrated-sought, CanTake-sought}
 use Rattle.ot_session.proofs.taking.integrate.Goals as goal
 
@@ -95,7 +95,7 @@ returns-in_err-form-clause-spent c = λ none.
     let e : FormError = c.in_err-form.field-0.0 in
     let same : c.from_residual-in_err-form.result ≡ Err e = search rules in
     let is : e ≡ Spent = let errs : Err e ≡ Err Spent = sym same ∙ none in cc in
-    IsSpent-sought (function_of c.args.rules.now) (past_of c.args.made.now) c.args.site.now c.args.number c.args.total.now c.form_behind.new.counted
+    IsCountSpent-sought (function_of c.args.rules.now) (past_of c.args.made.now) c.args.site.now c.args.number c.args.total.now c.form_behind.new.counted
     c.form_behind.new.table c.deref-2.result.now c.deref-4.result.now (c.deref-2.ensures.value ∙ items) (c.deref-4.ensures.value ∙ items)
     c.requires.total c.requires.can c.requires.next e is c.in_err-form.ensures.sought
 

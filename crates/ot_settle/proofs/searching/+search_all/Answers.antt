@@ -4,7 +4,7 @@ use Rattle.ot_questions.specs.declared.why.Why.{Why}
 use Rattle.ot_questions.specs.Obligation.{plan_of}
 use Rattle.ot_settle.specs.declared.ended.Ended.{Ended}
 use Rattle.ot_settle.specs.declared.ending.FailingEnd.{FailingEnd}
-use Rattle.ot_settle.specs.Searching.{EndsBy, IsFailingEnd}
+use Rattle.ot_settle.specs.Searching.{FailsOnlySo, IsFailingEnd}
 use Rattle.ot_settle.proofs.FirstFailing.{first_fails, others_fail}
 use Rattle.ot_settle.proofs.searching.+search_all.Goals as goal
 
@@ -17,5 +17,5 @@ pub returns-in-Fails-clause-ended : goal.returns-in-Fails-clause-ended
 returns-in-Fails-clause-ended t c =
     let f = function_of c.args.rules.now in
     first_fails f c.args.names.now c.in-Some.ob.now c.in-Some.others.now c.in-Some.ensures.cases.0 c.requires.listed c.in-Fails.end
-    (subst (λ (e : Ended (FailingEnd Why)). EndsBy (IsFailingEnd (plan_of f c.in-Some.ob.now)) e) c.in-Fails.is
+    (subst (λ (e : Ended (FailingEnd Why)). FailsOnlySo (IsFailingEnd (plan_of f c.in-Some.ob.now)) e) c.in-Fails.is
     c.in_ok-first.ensures.ended)

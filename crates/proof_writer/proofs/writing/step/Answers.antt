@@ -1,5 +1,5 @@
 use Rattle.proof_search.proofs.Keeping.{KeepsStarts-trans}
-use Rattle.proof_writer.proofs.Extending.{Extends-trans}
+use Rattle.proof_writer.proofs.Extending.{ExtendsText-trans}
 use Rattle.proof_writer.proofs.Walking.{own_others, present_own}
 use Rattle.proof_writer.proofs.writing.step.Goals as goal
 
@@ -19,7 +19,7 @@ returns-in_default-clause-nodes g c =
 
 pub returns-clause-front : goal.returns-clause-front
 returns-clause-front g c =
-    Extends-trans c.args.out.now.items c.use_lemma.new.out.items c.follow.new.out.items c.use_lemma.ensures.front
+    ExtendsText-trans c.args.out.now.items c.use_lemma.new.out.items c.follow.new.out.items c.use_lemma.ensures.front
     c.follow.ensures.front
 
 pub returns-clause-same : goal.returns-clause-same

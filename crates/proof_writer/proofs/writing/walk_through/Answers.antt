@@ -1,6 +1,6 @@
 use Rattle.std.proofs.Common.{subst}
 use Rattle.proof_search.proofs.Keeping.{KeepsStarts-trans}
-use Rattle.proof_writer.proofs.Extending.{Extends-refl, Extends-trans}
+use Rattle.proof_writer.proofs.Extending.{ExtendsText-refl, ExtendsText-trans}
 use Rattle.proof_writer.proofs.Walking.{lemmas_kept}
 use Rattle.proof_writer.proofs.writing.walk_through.Goals as goal
 
@@ -8,7 +8,7 @@ pub turns-init : goal.turns-init
 turns-init g c = record {
   lemmas = lemmas_kept c.first.ensures.same c.args.lemmas.now c.requires;
   nodes = λ n has. subst (g.A.Asker.is_own c.first.new.self) (c.in_ok-walk.ensures n has) c.in_ok-first.ensures.begins.0;
-  front = Extends-refl c.args.out.now.items;
+  front = ExtendsText-refl c.args.out.now.items;
   same = c.first.ensures.same;
 }
 
@@ -19,20 +19,20 @@ turns-preserved g c =
       lemmas = lemmas_kept c.turn.ensures.same c.args.lemmas.now known.lemmas;
       nodes = c.in_ok-done.ensures.nodes;
       front =
-          Extends-trans c.args.out.now.items c.turns.out.items c.turn.new.out.items known.front c.turn.ensures.front;
+          ExtendsText-trans c.args.out.now.items c.turns.out.items c.turn.new.out.items known.front c.turn.ensures.front;
       same = KeepsStarts-trans known.same c.turn.ensures.same;
     }
 
 pub returns-in-Some-clause-front : goal.returns-in-Some-clause-front
 returns-in-Some-clause-front g c =
-    Extends-trans c.args.out.now.items c.turns.out.items c.turn.new.out.items c.turns.invariant.front c.turn.ensures.front
+    ExtendsText-trans c.args.out.now.items c.turns.out.items c.turn.new.out.items c.turns.invariant.front c.turn.ensures.front
 
 pub returns-in-Some-clause-same : goal.returns-in-Some-clause-same
 returns-in-Some-clause-same g c = KeepsStarts-trans c.turns.invariant.same c.turn.ensures.same
 
 pub returns-in_err-done-clause-front : goal.returns-in_err-done-clause-front
 returns-in_err-done-clause-front g c =
-    Extends-trans c.args.out.now.items c.turns.out.items c.turn.new.out.items c.turns.invariant.front c.turn.ensures.front
+    ExtendsText-trans c.args.out.now.items c.turns.out.items c.turn.new.out.items c.turns.invariant.front c.turn.ensures.front
 
 pub returns-in_err-done-clause-same : goal.returns-in_err-done-clause-same
 returns-in_err-done-clause-same g c = KeepsStarts-trans c.turns.invariant.same c.turn.ensures.same

@@ -12,13 +12,13 @@ use Rattle.ot_hub.specs.InStep.{AreInStep}
 use Rattle.ot_hub.specs.Clients.{client_at}
 use Rattle.ot_hub.specs.Usable.{IsUsable, reach}
 use Rattle.ot_hub.specs.Steps.{Step, To, step_map, client_step, HasStepped}
-use Rattle.ot_hub.specs.Views.{HubData, view_of, IsClient, down_step, HasMoved}
-use Rattle.ot_hub.proofs.Keeping.{one-kept, CanTake-kept, IsClientKept-stepped, IsHubKept-down, SteppedTo, stepped_to, IsClientStepped}
+use Rattle.ot_hub.specs.Views.{HubData, hub_view_of, IsClient, down_step, HasMoved}
+use Rattle.ot_hub.proofs.Keeping.{one-kept, CanTakeEntry-kept, IsClientKept-stepped, IsHubKept-down, SteppedTo, stepped_to, IsClientStepped}
 use Rattle.ot_hub.proofs.Kept.{All-at}
 use Rattle.ot_hub.proofs.Near.{KeepsNear, keeps_near}
 use Rattle.ot_hub.proofs.Stepping.{refused-same, down-done, down-refused}
 use Rattle.ot_hub.proofs.Acting.{inside_of, client_read, items_set, items_same}
-use Rattle.ot_hub.proofs.Together.{led_to, not_stuck, AreCounted-same, AreInStep-down}
+use Rattle.ot_hub.proofs.Together.{led_to, not_stuck, AreCountedEdits-same, AreInStep-down}
 use Rattle.ot_hub.proofs.Ways.{LeadsTo}
 use Rattle.ot_hub.proofs.hub.Hub.down.Goals as goal
 
@@ -42,7 +42,7 @@ take_at-requires-clause-client c =
     let next : slice_get s.server.log one.received ≡ Some entry = rw client_is (sym c.in-Some.ensures) in
     let has : KeepsNear f =
     keeps_near f c.functions_keep_forms.ensures c.transform_stays_near.ensures c.enabled_operations_are_near.ensures.wider c.rules_are_valid.ensures in
-    rw c.deref_mut.ensures.value (CanTake-kept f has c.documents_grow_by_one_cell_at_most.ensures f.head.mode (length s.server.log) one
+    rw c.deref_mut.ensures.value (CanTakeEntry-kept f has c.documents_grow_by_one_cell_at_most.ensures f.head.mode (length s.server.log) one
     (one-kept f s.made s.server all s.kept place inside) s.kept.server.few (slice_get_within s.server.log one.received entry next) entry.op
     (All-at (λ e. IsUsable f (reach (length s.server.log)) e.op) s.server.log one.received entry s.kept.server.log next))
 
@@ -75,7 +75,7 @@ invariant_of-self-in-Ok c =
     record {
       small = s.small;
       kept = rw items (IsHubKept-down f s.made s.server all s.kept place inside to.client same.kept same.edits same.messages);
-      counted = rw items (AreCounted-same s.server.log all s.counted c.args.client there to.client same.edits same.messages);
+      counted = rw items (AreCountedEdits-same s.server.log all s.counted c.args.client there to.client same.edits same.messages);
       in_step = λ tp1 chars. rw items (∥∥₁_map {B = AreInStep f s.first s.server (slice_set all place to.client)} (s.in_step tp1 chars) (λ k.
           led_to (λ (client : Client). AreInStep f s.first s.server (slice_set all place client)) (client_step f c.args.client entry one) to.client
           (AreInStep-down f (c.functions_keep_forms.ensures f) (c.tp1_holds_of_forms.ensures f tp1) chars (c.transform_keeps_all_but_the_position.ensures f)
@@ -99,7 +99,7 @@ returns-in-Ok-clause-moved c =
     let to : SteppedTo all place (client_step f (place + 1) entry one) new = stepped_to all place (client_step f (place + 1) entry one) new step in
     let items : (with_items s.clients new).items ≡ new =
     items_set s.clients place to.client new to.new_is ∙ sym to.new_is in
-    (there, rw items (down-done (view_of s) c.args.client there entry next new step))
+    (there, rw items (down-done (hub_view_of s) c.args.client there entry next new step))
 
 pub invariant_of-self-in-Err : goal.invariant_of-self-in-Err
 invariant_of-self-in-Err c =
@@ -132,7 +132,7 @@ returns-in-Err-clause-moved c =
     c.in-Err.ensures in
     let same : new ≡ all = refused-same all new (step_map (slice_set all place) (client_step f (place + 1) entry one)) c.in-Err.refusal refused in
     let items : (with_items s.clients new).items ≡ new = items_same s.clients new same ∙ sym same in
-    let hub : HubData = view_of s in
+    let hub : HubData = hub_view_of s in
     subst (λ (clients : List Client). HasMoved hub (record hub { clients = clients; is_open = false }) c.args.client (down_step hub c.args.client)
     (Err c.in-Err.refusal))
     (sym items) (down-refused hub c.args.client there entry next new c.in-Err.refusal refused)

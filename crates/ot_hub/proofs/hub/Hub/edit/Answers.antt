@@ -13,7 +13,7 @@ use Rattle.ot_hub.specs.Steps.{edited}
 use Rattle.ot_hub.specs.Views.{IsClient}
 use Rattle.ot_hub.proofs.Keeping.{CanEdit-kept, IsHubKept-edited, IsForKind-declared}
 use Rattle.ot_hub.proofs.Acting.{inside_of, items_set}
-use Rattle.ot_hub.proofs.Together.{AreCounted-set, AreInStep-edited}
+use Rattle.ot_hub.proofs.Together.{AreCountedEdits-set, AreInStep-edited}
 use Rattle.ot_hub.proofs.hub.Hub.edit.Goals as goal
 
 pub edit_at-requires-clause-client : goal.edit_at-requires-clause-client
@@ -51,7 +51,7 @@ invariant_of-self-in-Ok c =
           c.enabled_operations_are_near.ensures.wider c.enabled_operations_are_near.ensures.enabled c.documents_grow_by_one_cell_at_most.ensures
           f.head.mode c.args.op (CanEdit-kept f s.made s.server all s.kept place inside c.args.op enabled few)
           declared few);
-      counted = rw items (AreCounted-set s.server.log all s.counted c.args.client there (edited f.head.mode c.args.op one)
+      counted = rw items (AreCountedEdits-set s.server.log all s.counted c.args.client there (edited f.head.mode c.args.op one)
           (omega (arith, length-append one.messages (record { place = one.received; op = c.args.op } ∷ []))));
       in_step = λ tp1 chars. rw items (∥∥₁_map (s.in_step tp1 chars) (λ k. AreInStep-edited f (c.functions_keep_forms.ensures f)
           (c.tp1_holds_of_forms.ensures f tp1) chars (c.transform_keeps_all_but_the_position.ensures f) s.first s.server all k c.args.client there c.args.op

@@ -10,21 +10,21 @@ use Rattle.ot_hub.specs.declared.client.Client.{Client}
 use Rattle.ot_hub.specs.declared.placed.PlacedOp.{PlacedOp}
 use Rattle.ot_hub.specs.declared.placed.Entry.{Entry}
 use Rattle.ot_hub.specs.declared.answer.Move.TheVariants as moves
-use Rattle.ot_hub.specs.InStep.{AreInStep, AreCounted}
+use Rattle.ot_hub.specs.InStep.{AreInStep, AreCountedEdits}
 use Rattle.ot_hub.specs.declared.server.Server.{Server}
 use Rattle.ot_hub.specs.Clients.{client_at, sent}
 use Rattle.ot_hub.specs.declared.limits.TheConstants.{MAX_EDITS}
 use Rattle.ot_hub.specs.Carry.{carry, from_place}
 use Rattle.ot_hub.specs.Kept.{IsServerKept}
-use Rattle.ot_hub.specs.Usable.{IsUsable, most_cells}
+use Rattle.ot_hub.specs.Usable.{IsUsable, most_hub_cells}
 use Rattle.ot_hub.specs.Steps.{server_step, server_after, ahead_of, Step, step_map}
 use Rattle.ot_hub.proofs.Keeping.{WentOn, goes_on-to, one-kept, one-messages, IsServerKept-after, IsHubKept-up}
 use Rattle.ot_hub.proofs.Kept.{All-at}
 use Rattle.ot_hub.proofs.Near.{KeepsNear, keeps_near}
-use Rattle.ot_hub.specs.Views.{HubData, view_of, IsClient, HasMoved}
+use Rattle.ot_hub.specs.Views.{HubData, hub_view_of, IsClient, HasMoved}
 use Rattle.ot_hub.proofs.Stepping.{up_with-first, some_first, HasMoved-refused}
 use Rattle.ot_hub.proofs.Acting.{inside_of, client_read, items_set}
-use Rattle.ot_hub.proofs.Together.{led_to, not_stuck, AreCounted-up, AreInStep-up}
+use Rattle.ot_hub.proofs.Together.{led_to, not_stuck, AreCountedEdits-up, AreInStep-up}
 use Rattle.ot_hub.proofs.hub.Hub.up.Goals as goal
 
 -- the hub stays kept, counted and in step where the server took the message
@@ -49,8 +49,8 @@ invariant_of-self c =
     (λ carried. server_after mode c.args.client carried s.server) new =
     goes_on-to (carry f message.op (from_place message.place (ahead_of s.server c.args.client))) (length s.server.doc)
     (λ carried. server_after mode c.args.client carried s.server) new c.in-Ok.ensures in
-    let usable : IsUsable f most_cells message.op =
-    All-at (λ b. IsUsable f most_cells b.op) one.messages 0 message (one-kept f s.made s.server all s.kept place inside).messages (sym first) in
+    let usable : IsUsable f most_hub_cells message.op =
+    All-at (λ b. IsUsable f most_hub_cells b.op) one.messages 0 message (one-kept f s.made s.server all s.kept place inside).messages (sym first) in
     let few : length s.server.log < MAX_EDITS = omega (arith, some, s.kept.few, one-messages f s.made s.server all s.kept place inside) in
     let new_kept : IsServerKept f new = subst (λ (server : Server). IsServerKept f server) went.new_is
     (IsServerKept-after f has c.documents_grow_by_one_cell_at_most.ensures mode c.args.client went.it s.server s.kept.server few message.place message.op usable
@@ -68,9 +68,9 @@ invariant_of-self c =
     record {
       small = s.small;
       kept = rw items (IsHubKept-up f has.wider s.made s.server new all s.kept place inside some new_kept longer sides);
-      counted = rw items (subst (λ (log : List Entry). AreCounted log (slice_set all place (sent one)))
+      counted = rw items (subst (λ (log : List Entry). AreCountedEdits log (slice_set all place (sent one)))
           (ap (λ (server : Server). server.log) went.new_is)
-          (AreCounted-up s.server.log all s.counted c.args.client there went.it.op some));
+          (AreCountedEdits-up s.server.log all s.counted c.args.client there went.it.op some));
       in_step = λ tp1 chars. rw items (∥∥₁_map (s.in_step tp1 chars) (λ k.
           led_to (λ (server : Server). AreInStep f s.first server (slice_set all place (sent one))) (server_step f c.args.client message s.server) new
           (AreInStep-up f (c.functions_keep_forms.ensures f) (c.tp1_holds_of_forms.ensures f tp1) chars (c.transform_keeps_all_but_the_position.ensures f)
@@ -92,7 +92,7 @@ returns-in-Ok-clause-moved c =
     let is : clients ≡ slice_set all place (sent one) = rw (← c.deref_mut.ensures.value) c.sent_at.ensures in
     let items : (with_items s.clients clients).items ≡ slice_set all place (sent one) =
     items_set s.clients place (sent one) clients is in
-    let hub : HubData = view_of s in
+    let hub : HubData = hub_view_of s in
     let whole : Server → HubData = λ server. record hub { server = server; clients = slice_set all place (sent one) } in
     (there, up_with-first hub c.args.client one.messages message first ∙ rw items (ap (step_map whole) c.in-Ok.ensures))
 
@@ -108,7 +108,7 @@ returns-in-Err-clause-moved c =
     let there : IsClient (length all) c.args.client = c.if-not-has_client.ensures.0 refl in
     let client_is : one ≡ c.index.result.now = client_read all c.args.client c.index.result.now there c.index.ensures in
     let first : Some message ≡ slice_get one.messages 0 = rw client_is c.in-Some.ensures in
-    let hub : HubData = view_of s in
+    let hub : HubData = hub_view_of s in
     let after : HubData = record hub { server = c.take.new.self; is_open = false } in
     let whole : Server → HubData = λ server. record hub { server = server; clients = slice_set all place (sent one) } in
     subst (λ (step : Step HubData). HasMoved hub after c.args.client step (Err c.in-Err.refusal))

@@ -20,12 +20,12 @@ use Rattle.ot_causal.specs.Sessions.{SessionData, IsSite, IsSound, Makes, MayMak
 use Rattle.ot_session.specs.declared.made.Made.{Made}
 use Rattle.ot_session.specs.declared.site.Site.{Site}
 use Rattle.ot_session.specs.declared.limits.TheConstants.{MAX_MADE}
-use Rattle.ot_session.specs.Sites.{view_site, document_in, data_of, ExecutesAt, IsSorted, IsKept}
+use Rattle.ot_session.specs.Sites.{view_site, site_document, data_of, ExecutesAt, IsSorted, IsKeptSession}
 use Rattle.ot_session.specs.Past.{is_marked, past_of}
 use Rattle.ot_session.specs.Views.{View, HasMade}
 use Rattle.ot_session.proofs.Lists.{AllByRecursion-at}
-use Rattle.ot_session.proofs.Making.{all-marked, extends-executed, Makes-executed, known-executed, held-executed, may_make, makes, IsKept-executed}
-use Rattle.ot_session.proofs.Making.{counts-executed, KeepsForms-executed}
+use Rattle.ot_session.proofs.Making.{all-marked, extends-executed, Makes-executed, known-executed, held-executed, may_make, makes, IsKeptSession-executed}
+use Rattle.ot_session.proofs.Making.{counts-executed, SiteKeepsForms-executed}
 use Rattle.ot_session.proofs.session.Session.make.Goals as goal
 
 -- a fact of what is found, if something is
@@ -48,7 +48,7 @@ execute_at-requires-clause-enabled c =
     (IfSome-from (λ site. IsEnabled c.args.op (length site.doc)) (slice_get sites i)
     (λ site is.
     subst (λ (d : List Cell). IsEnabled c.args.op (length d))
-    (ap document_in (slice_get-map view_site sites i ∙ ap (option_map view_site) is)) enabled))
+    (ap site_document (slice_get-map view_site sites i ∙ ap (option_map view_site) is)) enabled))
 
 -- where memory was wanting the sites are as they were, and the session is not open
 pub invariant_of-self-in-Err : goal.invariant_of-self-in-Err
@@ -107,15 +107,15 @@ invariant_of-self-in-Ok-1 c =
       most = rw items (omega (arith, len, s.most));
       within = s.within;
       kept = ∥∥₁_map s.kept (λ k. rw items
-          (IsKept-executed f s.first t o made new_made sites new_sites at step few own declared k law));
+          (IsKeptSession-executed f s.first t o made new_made sites new_sites at step few own declared k law));
       forms = λ is. ∥∥₁_map₂ s.kept (s.forms is) (λ k forms. rw items
-          (KeepsForms-executed f s.first t o made new_made sites new_sites at step few own declared k law
+          (SiteKeepsForms-executed f s.first t o made new_made sites new_sites at step few own declared k law
           (c.members_were_made.ensures.made past)
           (λ l. c.making_more_changes_nothing.ensures.closed past new_past l extends)
           (λ n l. c.making_more_changes_nothing.ensures.forms f past new_past n l extends)
           (λ l. c.counted_forms_need_not_be_sought.ensures.counted new_past l
           (c.open_members_may_be_taken_out.ensures.order f new_past s.first
-          (IsKept-executed f s.first t o made new_made sites new_sites at step few own declared k law).sound.past))
+          (IsKeptSession-executed f s.first t o made new_made sites new_sites at step few own declared k law).sound.past))
           (c.steps_count_what_they_seek.ensures.made f (data_of s.first made (map view_site sites)) (data_of s.first new_made (map view_site new_sites)) t o
           k.sound (may_make f s.first t o made new_made sites new_sites at step own declared)
           (makes f s.first t o made new_made sites new_sites at step few own declared k law))
@@ -145,7 +145,7 @@ returns-in-Ok-clause-made c =
     let at : IsSite (length sites) t = subst (λ (n : ℕ). IsSite n t) (length-map sites view_site) site in
     let len : length new_sites ≡ length sites = ap length step.is ∙ length-set sites (t - 1) step.after in
     let items : new_sites ≡ (with_items s.sites new_sites).items = sym (with_items_is s.sites new_sites (len ∙ sym s.sites.ok.0)) in
-    let sorted : IsKept f s.first made sites → IsSorted (length made) step.before =
+    let sorted : IsKeptSession f s.first made sites → IsSorted (length made) step.before =
     λ k. AllByRecursion-at (IsSorted (length made)) sites (t - 1) step.before k.sorted step.was in
     let marks : (x : ℕ) → is_marked step.before.integrated x ≡ has (reverse step.before.seen.items) x =
     λ x. ∥∥₁_elim s.kept (Coded-set coded_bool _ _) (λ k. (sorted k).marked.marks x) in

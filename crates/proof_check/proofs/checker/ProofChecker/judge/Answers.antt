@@ -1,5 +1,6 @@
 use Rattle.proof_check.specs.Judging.{standing_over}
-use Rattle.proof_check.proofs.Taking.{IsUnderWay-taken, none_begun, none_open, plan_holds, refusal_stands, step_done, step_more, under_way, under_way_still}
+use Rattle.proof_check.proofs.Taking.{IsProofUnderWay-taken, none_begun, none_open, plan_holds, refusal_stands, step_done, step_more, under_way}
+use Rattle.proof_check.proofs.Taking.{under_way_still}
 use Rattle.proof_check.proofs.checker.ProofChecker.judge.Goals as goal
 
 pub take_token-requires-clause-own : goal.take_token-requires-clause-own
@@ -11,7 +12,7 @@ invariant_of-self g c =
     let now = c.take_token in
     let way = under_way c.self.inside.refusal _ _ _ c.in_default.not-Some c.self.invariant in
     under_way_still c.self.inside.refusal _ _ _
-    (IsUnderWay-taken now.ensures.same c.self.inside.places way.own c.args.tok.now now.new.places way c.in-Ok.ensures.own
+    (IsProofUnderWay-taken now.ensures.same c.self.inside.places way.own c.args.tok.now now.new.places way c.in-Ok.ensures.own
     c.in-Ok.ensures.few c.in-Ok.ensures.ok)
 
 pub invariant_of-self-in-Ok-2 : goal.invariant_of-self-in-Ok-2
@@ -19,7 +20,7 @@ invariant_of-self-in-Ok-2 g c =
     let now = c.take_token in
     let way = under_way c.self.inside.refusal _ _ _ c.in_default.not-Some c.self.invariant in
     under_way_still c.self.inside.refusal _ _ _
-    (IsUnderWay-taken now.ensures.same c.self.inside.places way.own c.args.tok.now now.new.places way c.in-Ok-2.ensures.own
+    (IsProofUnderWay-taken now.ensures.same c.self.inside.places way.own c.args.tok.now now.new.places way c.in-Ok-2.ensures.own
     c.in-Ok-2.ensures.few c.in-Ok-2.ensures.ok)
 
 pub returns-in-Ok-clause-completes : goal.returns-in-Ok-clause-completes
@@ -44,7 +45,7 @@ returns-in-Ok-2-clause-done g c done v =
     let asker = now.new.asker in
     let way = under_way c.self.inside.refusal _ _ _ c.in_default.not-Some c.self.invariant in
     let after =
-    IsUnderWay-taken now.ensures.same c.self.inside.places way.own c.args.tok.now now.new.places way c.in-Ok-2.ensures.own
+    IsProofUnderWay-taken now.ensures.same c.self.inside.places way.own c.args.tok.now now.new.places way c.in-Ok-2.ensures.own
     c.in-Ok-2.ensures.few c.in-Ok-2.ensures.ok in
     rw (← c.self.view_is, ← now.ensures.root)
     (plan_holds (g.A.Asker.is_own asker) (g.A.Starter.starts asker) (g.A.Asker.root asker) now.new.places after
