@@ -1,5 +1,5 @@
 //! Tokens of each kind, and two cycles one behind the other.
-use ask_core::{Picks, Tok, Tree};
+use ask_core::{Picks, Tok, Tree, append_few};
 use std::alloc::Global;
 use std::test::Fail;
 
@@ -33,5 +33,14 @@ fn tokens_come_back_in_their_order(rt: HostRuntime) -> Result<(), Fail> {
     assert!(rt; is_cycle(&tokens.next(alloc), &[7]));
     assert!(rt; matches!(tokens.next(alloc), Some(Tok::Holds)));
     assert!(rt; tokens.next(alloc).is_none());
+    Ok(())
+}
+
+#[test]
+fn numbers_are_put_behind_others(rt: HostRuntime) -> Result<(), Fail> {
+    let mut numbers = Vec::new(rt.alloc());
+    append_few(&mut numbers, &[11])?;
+    append_few(&mut numbers, &[14, 7])?;
+    assert_eq!(rt; numbers.as_slice(), [11, 14, 7].as_slice());
     Ok(())
 }

@@ -3,7 +3,7 @@
 use crate::functions::{MARKS, staying};
 use fn_rules::Head;
 use ot_model::{Doc, Op};
-use ot_session::{Make, Session, Took};
+use ot_session::{Make, Session, SiteEnd, Took};
 use std::process::Abort;
 use std::test::Fail;
 
@@ -18,6 +18,18 @@ fn takes(rt: &impl Abort, session: &mut Session, number: u32) {
         matches!(session.take(1, number), Ok(Took::Done(_))),
         "{number}"
     );
+}
+
+// The second site has taken nothing.
+fn are_ends(ends: &[SiteEnd]) -> bool {
+    match ends {
+        [first, second] => {
+            first.doc.len() == 7
+                && second.doc.len() == 4
+                && second.seen.as_slice() == [4, 5, 6, 7].as_slice()
+        }
+        _ => false,
+    }
 }
 
 #[test]
@@ -48,5 +60,6 @@ fn each_form_is_counted_once(rt: HostRuntime) -> Result<(), Fail> {
     assert!(rt; session.before(0, 3) && !session.before(3, 4) && session.has_site(1));
     assert_eq!(rt; session.seen(1), [0, 1, 2, 3, 4, 5, 6].as_slice());
     assert_eq!(rt; session.doc(1).len(), 7);
+    assert!(rt; are_ends(session.into_ends()?.as_slice()));
     Ok(())
 }

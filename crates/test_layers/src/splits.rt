@@ -38,6 +38,14 @@ fn parts_are_left<'a>(rt: &impl Abort, bump: &'a Bump) -> Result<(), NoMemory> {
 }
 
 #[test]
+fn places_of_one_name_are_compared_at_once(rt: HostRuntime) -> Result<(), Fail> {
+    assert!(rt; matches!(Y.is_at_most(Y), Some(true)));
+    assert!(rt; matches!(Y.is_at_most(Place { var: 6, off: 1 }), Some(false)));
+    assert!(rt; X.is_at_most(Y).is_none());
+    Ok(())
+}
+
+#[test]
 fn forms_are_split_at_their_first_question(rt: HostRuntime) -> Result<(), Fail> {
     let bump = Bump::new(rt.alloc());
     less_is_split(&rt, &bump)?;
