@@ -6,8 +6,12 @@ use Rattle.diff_graph.specs.declared.hop.Hop.{Hop}
 use Rattle.diff_graph.specs.Tables.{Numbered, literals_of, kept_of, StandsFor, AreSmall, Follows}
 use Rattle.diff_graph.specs.Steps.{leaves_room, IsSquare}
 
+-- the rows of a table: the row of y has what is kept for each name x and y
+abbrev pub Rows : Type 0
+Rows = List (List (Option Hop))
+
 -- rows for n names, at most 16, which stand for some list of numbered literals with small offsets
-pub record AreBounds (n : ℕ) (rows : List (List (Option Hop))) : Type 0 where
+pub record AreBounds (n : ℕ) (rows : Rows) : Type 0 where
   pub few : n ≤ 16
   pub len : length rows ≡ n
   pub square : IsSquare rows

@@ -38,6 +38,11 @@ with_thirds pairs (m ∷ others) = map (with_third m) pairs ++ with_thirds pairs
 abbrev pub triples_of : List Kind → List ObName
 triples_of kinds = with_thirds (pairs_of kinds) kinds
 
+-- the level whose property an obligation is a part of
+abbrev pub level_of : ObName → Level
+level_of (Pair k l) = Tp1
+level_of (Triple k l m) = Tp2
+
 -- the obligations of a level
 abbrev pub obligations_of : Head → Level → List ObName
 obligations_of head Tp1 = pairs_of (declared_kinds head)

@@ -1,3 +1,4 @@
 pub mod CasesLeft
 mod CellExamples
 mod MoveExamples
+pub mod FormsThrough

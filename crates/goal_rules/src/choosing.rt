@@ -56,14 +56,11 @@ pub(crate) fn choose<'a>(
     let Some(first) = a.kind() else {
         return Ok(Front::Deliver {
             op: SymOp::Nop,
-            plan: progress,
+            progress,
         });
     };
     let Some(second) = b.kind() else {
-        return Ok(Front::Deliver {
-            op: a,
-            plan: progress,
-        });
+        return Ok(Front::Deliver { op: a, progress });
     };
     let cases = rules.cases(first, second);
     Ok(choose_case(bump, &cases[case as usize..], case, a, b, progress)?)

@@ -113,7 +113,7 @@ pub(crate) fn deliver<'a>(
             case: 0,
             a,
             b,
-            plan: next.placed(bump)?,
+            progress: next.placed(bump)?,
         }),
         None => Ok(end_goal(bump, rules.head().mode, next.ob, &next.ops, got)?),
     }

@@ -25,13 +25,13 @@ pub enum Front<'a> {
         case: u32,
         a: SymOp,
         b: SymOp,
-        plan: &'a GoalProgress,
+        progress: &'a GoalProgress,
     },
 
     /// The operation is the next result.
     Deliver {
         op: SymOp,
-        plan: &'a GoalProgress,
+        progress: &'a GoalProgress,
     },
 
     /// The two cells are the same for every document that both ways may come from.
@@ -67,8 +67,18 @@ impl<'a> Front<'a> {
                 yes,
                 no,
             },
-            Goal::Choose { case, a, b, plan } => Front::Choose { case, a, b, plan },
-            Goal::Deliver { op, plan } => Front::Deliver { op, plan },
+            Goal::Choose {
+                case,
+                a,
+                b,
+                plan: progress,
+            } => Front::Choose {
+                case,
+                a,
+                b,
+                progress,
+            },
+            Goal::Deliver { op, plan: progress } => Front::Deliver { op, progress },
             Goal::Same { left, right } => Front::Same {
                 left: *left,
                 right: *right,
@@ -89,8 +99,13 @@ impl<'a> Front<'a> {
                 yes,
                 no,
             )?),
-            Front::Choose { case, a, b, plan } => Ok(Goal::choose(bump, case, a, b, plan)?),
-            Front::Deliver { op, plan } => Ok(Goal::deliver(bump, op, plan)?),
+            Front::Choose {
+                case,
+                a,
+                b,
+                progress,
+            } => Ok(Goal::choose(bump, case, a, b, progress)?),
+            Front::Deliver { op, progress } => Ok(Goal::deliver(bump, op, progress)?),
             Front::Same { left, right } => Ok(Goal::same(
                 bump,
                 placed_cell(bump, left)?,

@@ -32,8 +32,13 @@ pub fn rewrite<'a>(
         Front::Holds => Ok(None),
         Front::Fails(_) => Ok(None),
         Front::If { form, yes, no } => Ok(by_form(bump, form, yes, no)?),
-        Front::Choose { case, a, b, plan } => Ok(Some(choose(bump, rules, case, a, b, plan)?)),
-        Front::Deliver { op, plan } => Ok(Some(deliver(bump, rules, op, plan)?)),
+        Front::Choose {
+            case,
+            a,
+            b,
+            progress,
+        } => Ok(Some(choose(bump, rules, case, a, b, progress)?)),
+        Front::Deliver { op, progress } => Ok(Some(deliver(bump, rules, op, progress)?)),
         Front::Same { left, right } => Ok(compare(bump, left, right)?),
     }
 }

@@ -6,14 +6,15 @@ use Rattle.fn_rules.specs.Functions.{Function}
 use Rattle.ot_questions.specs.declared.place.Place.{Place}
 use Rattle.ot_questions.specs.Names.{name_count}
 use Rattle.ot_questions.specs.Places.{plus}
-use Rattle.ot_questions.specs.Questions.{ask_le, ask_lt, ask_eq}
+use Rattle.ot_questions.specs.Questions.{ask_places}
 use Rattle.ot_terms.specs.Belonging.{IsPlace, IsLowerable, HasPlaces, HasParts, IsGoalOf}
 use Rattle.ot_terms.specs.Forms.{FormTree, True, Le, Lt, Eq, And, Or, Not}
-use Rattle.ot_terms.specs.Goals.{GoalTree, If}
+use Rattle.ot_terms.specs.Goals.{GoalTree, If, order_goal, laid_order, laid_form}
 use Rattle.ot_terms.specs.Standing.{ask_form, ask_goal}
 use Rattle.ot_terms.specs.Weights.{form_weight, goal_weight}
+use Rattle.ot_terms.proofs.ByForms.{form_through}
 use Rattle.ot_rewrite.specs.Splits.{HasLowOffsets}
-use Rattle.laid_goals.specs.Sharing.{StandsAlike, laid_form, laid_order}
+use Rattle.laid_goals.specs.Sharing.{StandsAlike}
 
 pub alike_on : (f : Function) (g h i : GoalTree) → StandsAlike f g h → StandsAlike f h i → StandsAlike f g i
 alike_on f g h i first next =
@@ -37,30 +38,10 @@ pub low_offsets_of : (f : Function) (ob : ObName) (g : FormTree) (y n : GoalTree
 low_offsets_of f ob g y n h = low_offsets (name_count ob) g h.parts.0
 
 module _ (f : Function) where
-  order_asks_by_tests :
-      (x y : Place) (p q : GoalTree) (b c : Bool) → nat_eq x.var y.var ≡ b → int_le x.off y.off ≡ c
-      → ask_goal f (if b then (if c then p else q) else If (Le x y) p q) ≡ ask_le x y (ask_goal f p) (ask_goal f q)
-  unfolding ask_goal ask_form ask_le
-  order_asks_by_tests x y p q true true e o = rw e (rw o refl)
-  order_asks_by_tests x y p q true false e o = rw e (rw o refl)
-  order_asks_by_tests x y p q false c e o = refl
-
-  order_asks : (x y : Place) (p q : GoalTree) → ask_goal f (laid_order x y p q) ≡ ask_le x y (ask_goal f p) (ask_goal f q)
-  order_asks x y p q = order_asks_by_tests x y p q (nat_eq x.var y.var) (int_le x.off y.off) refl refl
-
   -- a form that is laid out asks what the form asks
   laid_asks : (g : FormTree) (p q : GoalTree) → ask_goal f (laid_form g p q) ≡ ask_form g (ask_goal f p) (ask_goal f q)
-  unfolding ask_form ask_lt ask_eq
-  laid_asks True p q = refl
-  laid_asks (Le x y) p q = order_asks x y p q
-  laid_asks (Lt x y) p q = order_asks x (plus y (negsuc 0)) p q
-  laid_asks (Eq x y) p q =
-      order_asks x y (laid_order y x p q) q ∙ ap (λ t. ask_le x y t (ask_goal f q)) (order_asks y x p q)
-  laid_asks (And g h) p q =
-      laid_asks g (laid_form h p q) q ∙ ap (λ t. ask_form g t (ask_goal f q)) (laid_asks h p q)
-  laid_asks (Or g h) p q =
-      laid_asks g p (laid_form h p q) ∙ ap (λ t. ask_form g (ask_goal f p) t) (laid_asks h p q)
-  laid_asks (Not g) p q = laid_asks g q p
+  unfolding ask_goal ask_form
+  laid_asks = form_through order_goal ask_places (ask_goal f) (λ x y p q differ. rw differ refl)
 
   -- the parts are of the obligation where those of the goals are
   module _ (ob : ObName) where

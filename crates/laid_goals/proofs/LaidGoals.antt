@@ -8,14 +8,14 @@ use Rattle.ot_terms.specs.declared.goal.Goal.{Goal}
 use Rattle.ot_terms.specs.declared.goal.GoalProgress.{GoalProgress}
 use Rattle.ot_terms.specs.Belonging.{IsGoalOf}
 use Rattle.ot_terms.specs.Forms.{form_tree}
-use Rattle.ot_terms.specs.Goals.{GoalTree, If, Deliver, goal_tree}
+use Rattle.ot_terms.specs.Goals.{GoalTree, If, Deliver, goal_tree, laid_form}
 use Rattle.ot_terms.specs.Weights.{goal_weight}
 use Rattle.goal_rules.specs.declared.front.Front.{Front}
 use Rattle.goal_rules.specs.declared.front.Front.TheVariants as rust
 use Rattle.ot_rewrite.specs.Reaching.{IsStep}
 use Rattle.ot_rewrite.specs.Splits.{HasLowOffsets}
 use Rattle.goal_rules.specs.Steps.{front_tree}
-use Rattle.laid_goals.specs.Sharing.{StandsAlike, laid_form}
+use Rattle.laid_goals.specs.Sharing.{StandsAlike}
 use Rattle.laid_goals.proofs.LaidForms.{alike_on, alike_laid, low_offsets_of}
 
 pub alike_step : (f : Function) (g h : GoalTree) → IsStep f g h → StandsAlike f g h

@@ -43,12 +43,12 @@ pub fn is_same_progress(left: &GoalProgress, right: &GoalProgress) -> bool
 
 fn is_for(known: &Behind<'_>, op: SymOp, progress: &GoalProgress) -> bool
     ensures op { IsTrue result → op ≡ known.now.op }
-    ensures progress { IsTrue result → progress.now ≡ known.now.plan.now }
+    ensures progress { IsTrue result → progress.now ≡ known.now.progress.now }
 {
     if op != known.op {
         return false;
     }
-    is_same_progress(progress, known.plan)
+    is_same_progress(progress, known.progress)
 }
 
 /// What is left behind the result, if it is known.

@@ -5,6 +5,6 @@ use ot_terms::{Goal, GoalProgress, SymOp};
 #[derive(Clone, Copy)]
 pub struct Behind<'a> {
     pub op: SymOp,
-    pub plan: &'a GoalProgress,
+    pub progress: &'a GoalProgress,
     pub goal: &'a Goal<'a>,
 }

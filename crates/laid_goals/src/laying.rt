@@ -5,12 +5,12 @@ ghost use Rattle.fn_rules.specs.declared.function.ObName.{ObName};
 ghost use Rattle.fn_rules.specs.Rules.{function_of};
 ghost use Rattle.ot_terms.specs.Belonging.{IsGoalOf};
 ghost use Rattle.ot_terms.specs.Forms.{form_tree};
-ghost use Rattle.ot_terms.specs.Goals.{goal_tree, Deliver};
+ghost use Rattle.ot_terms.specs.Goals.{goal_tree, laid_form, laid_order, Deliver};
 ghost use Rattle.ot_terms.specs.Weights.{goal_weight};
 ghost use Rattle.ot_rewrite.specs.Reaching.{IsStep};
 ghost use Rattle.ot_rewrite.specs.Splits.{HasLowOffsets};
 ghost use Rattle.goal_rules.specs.Steps.{front_tree};
-ghost use Rattle.laid_goals.specs.Sharing.{StandsAlike, IsKeptGoal, laid_form, laid_order};
+ghost use Rattle.laid_goals.specs.Sharing.{StandsAlike, IsKeptGoal};
 
 use crate::behind::found;
 use crate::kept::Behind;
@@ -141,18 +141,18 @@ pub fn laid_out<'a>(
             let on_yes = laid_out(bump, rules, known, yes)?;
             Ok(by_form(bump, &form, on_yes, on_no)?)
         }
-        Front::Deliver { op, plan } => {
-            if let Some(built) = found(known, op, plan) {
+        Front::Deliver { op, progress } => {
+            if let Some(built) = found(known, op, progress) {
                 return Ok(built);
             }
-            let Some(next) = next_of(bump, rules, op, plan)? else {
-                return Ok(Goal::deliver(bump, op, plan)?);
+            let Some(next) = next_of(bump, rules, op, progress)? else {
+                return Ok(Goal::deliver(bump, op, progress)?);
             };
             let mut inner = Vec::new(bump);
             let built = laid_out(bump, rules, &mut inner, next)?;
             known.push(Behind {
                 op,
-                plan,
+                progress,
                 goal: built,
             })?;
             Ok(built)

@@ -16,6 +16,7 @@ use Rattle.ot_questions.specs.declared.place.Place.{Place}
 use Rattle.ot_questions.specs.declared.place.SymOp.{SymOp}
 use Rattle.ot_questions.specs.declared.place.SymOp.TheVariants.{Nop}
 use Rattle.ot_questions.specs.declared.why.Why.{Why}
+use Rattle.ot_questions.specs.Places.{by_order}
 use Rattle.ot_terms.specs.declared.goal.GoalProgress.{GoalProgress}
 use Rattle.ot_terms.specs.Belonging.{IsGoalOf, HasParts, IsProgressOf, AreOperandsOf, next_operands}
 use Rattle.ot_terms.specs.Forms as forms
@@ -24,7 +25,7 @@ use Rattle.ot_terms.specs.Standing.{ask_after, results_of}
 use Rattle.ot_terms.specs.Weights.{transforms_of}
 use Rattle.start_laws.specs.Begun.{start_after}
 use Rattle.start_laws.specs.Starts.{Start}
-use Rattle.marked_goals.specs.Marking.{Marked, with_start, marked_le, marked_form, marked_transform, marked_next, marked_after, marked_goal}
+use Rattle.marked_goals.specs.Marking.{Marked, with_start, marked_places, marked_form, marked_transform, marked_next, marked_after, marked_goal}
 use Rattle.marked_goals.specs.Settled.{is_begun, front_start, is_settled}
 
 start_of-with_start : (start : Option Start) (p : Marked) → start_of (with_start start p) ≡ start
@@ -61,26 +62,26 @@ next_there (Triple k l m) os got made h =
     of_three (x ∷ y ∷ z ∷ u ∷ v ∷ []) h = refl
     of_three (x ∷ y ∷ z ∷ u ∷ v ∷ w ∷ got) h = absurd (omega arith)
 
-count_with : (plan : GoalProgress) (r : SymOp) → plan.count ≤ length plan.got → length (results_of plan ++ r ∷ []) ≡ 1 + plan.count
-count_with plan r h =
-    let there : length (results_of plan) ≡ plan.count = length-take-le plan.count plan.got h in
-    let more : length (results_of plan ++ r ∷ []) ≡ length (results_of plan) + 1 = length-append (results_of plan) (r ∷ []) in
+count_with : (progress : GoalProgress) (r : SymOp) → progress.count ≤ length progress.got → length (results_of progress ++ r ∷ []) ≡ 1 + progress.count
+count_with progress r h =
+    let there : length (results_of progress) ≡ progress.count = length-take-le progress.count progress.got h in
+    let more : length (results_of progress ++ r ∷ []) ≡ length (results_of progress) + 1 = length-append (results_of progress) (r ∷ []) in
     omega arith
 
-room_for : (ob : ObName) (plan : GoalProgress) → IsProgressOf ob plan → plan.count ≤ length plan.got
-room_for (Pair k l) plan h = let room : length plan.got ≡ 6 = h.room in let awaited : plan.count < 2 = h.awaited in omega arith
-room_for (Triple k l m) plan h = let room : length plan.got ≡ 6 = h.room in let awaited : plan.count < 6 = h.awaited in omega arith
+room_for : (ob : ObName) (progress : GoalProgress) → IsProgressOf ob progress → progress.count ≤ length progress.got
+room_for (Pair k l) progress h = let room : length progress.got ≡ 6 = h.room in let awaited : progress.count < 2 = h.awaited in omega arith
+room_for (Triple k l m) progress h = let room : length progress.got ≡ 6 = h.room in let awaited : progress.count < 6 = h.awaited in omega arith
 
 -- a transformation begins at the front exactly where a start is there
 pub begun_is_some : (g : GoalTree) → is_begun g ≡ is_some (front_start g)
 begun_is_some Holds = refl
 begun_is_some (Fails why) = refl
 begun_is_some (If g on_yes on_no) = refl
-begun_is_some (Choose zero a b plan) = refl
-begun_is_some (Choose (suc case) a b plan) = refl
-begun_is_some (Deliver o plan) = by_test (nat_lt (1 + plan.count) (transforms_of plan.ob))
+begun_is_some (Choose zero a b progress) = refl
+begun_is_some (Choose (suc case) a b progress) = refl
+begun_is_some (Deliver o progress) = by_test (nat_lt (1 + progress.count) (transforms_of progress.ob))
   where
-    by_test : (b : Bool) → b ≡ is_some (if b then Some (start_after plan (Some o)) else None)
+    by_test : (b : Bool) → b ≡ is_some (if b then Some (start_after progress (Some o)) else None)
     by_test true = refl
     by_test false = refl
 begun_is_some (Same left right) = refl
@@ -109,20 +110,19 @@ module _ (f : Function) where
 
   -- where a result is delivered, the plan has the start at the goal's front, if one is there
   start_of-result :
-      (ob : ObName) (o : SymOp) (plan : GoalProgress) → HasParts f ob (Deliver o plan)
-      → start_of (marked_goal f (Deliver o plan)) ≡ front_start (Deliver o plan)
+      (ob : ObName) (o : SymOp) (progress : GoalProgress) → HasParts f ob (Deliver o progress)
+      → start_of (marked_goal f (Deliver o progress)) ≡ front_start (Deliver o progress)
   unfolding marked_goal
-  start_of-result ob o plan h =
-      let left = transforms_of plan.ob - (1 + plan.count) in
-      let made : AreOperandsOf plan.ob plan.ops = subst (λ t. AreOperandsOf t plan.ops) (sym h.0.same) h.0.made in
-      let count : length (results_of plan ++ o ∷ []) ≡ 1 + plan.count = count_with plan o (room_for ob plan h.0) in
-      start_of-after left (start_after plan (Some o)) (nat_lt (1 + plan.count) (transforms_of plan.ob))
-      (same_test plan.count (transforms_of plan.ob))
-      (λ (some : 0 < left). next_there plan.ob plan.ops (results_of plan ++ o ∷ []) made (omega arith))
+  start_of-result ob o progress h =
+      let left = transforms_of progress.ob - (1 + progress.count) in
+      let made : AreOperandsOf progress.ob progress.ops = subst (λ t. AreOperandsOf t progress.ops) (sym h.0.same) h.0.made in
+      let count : length (results_of progress ++ o ∷ []) ≡ 1 + progress.count = count_with progress o (room_for ob progress h.0) in
+      start_of-after left (start_after progress (Some o)) (nat_lt (1 + progress.count) (transforms_of progress.ob))
+      (same_test progress.count (transforms_of progress.ob))
+      (λ (some : 0 < left). next_there progress.ob progress.ops (results_of progress ++ o ∷ []) made (omega arith))
 
   start_of-question :
-      (x y : Place) (p q : Marked) (b : Bool) → nat_eq x.var y.var ≡ b → not b ≡ true → start_of (marked_le x y p q) ≡ None
-  unfolding marked_le
+      (x y : Place) (p q : Marked) (b : Bool) → nat_eq x.var y.var ≡ b → not b ≡ true → start_of (by_order marked_places x y p q) ≡ None
   start_of-question x y p q true e asked = absurd (cc)
   start_of-question x y p q false e asked = rw e refl
 
@@ -140,7 +140,7 @@ module _ (f : Function) where
   starts_at_front ob (If (forms.And a b) on_yes on_no) h settled = absurd (cc)
   starts_at_front ob (If (forms.Or a b) on_yes on_no) h settled = absurd (cc)
   starts_at_front ob (If (forms.Not a) on_yes on_no) h settled = absurd (cc)
-  starts_at_front ob (Choose zero a b plan) h settled = start_of-with_start (Some (start_after plan None)) _
-  starts_at_front ob (Choose (suc case) a b plan) h settled = absurd (cc)
-  starts_at_front ob (Deliver o plan) h settled = start_of-result ob o plan h.parts
+  starts_at_front ob (Choose zero a b progress) h settled = start_of-with_start (Some (start_after progress None)) _
+  starts_at_front ob (Choose (suc case) a b progress) h settled = absurd (cc)
+  starts_at_front ob (Deliver o progress) h settled = start_of-result ob o progress h.parts
   starts_at_front ob (Same left right) h settled = absurd (cc)

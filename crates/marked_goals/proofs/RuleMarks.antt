@@ -1,5 +1,5 @@
 -- What the rules keep of the starts of a goal: all of them, but that a choice of the first case has one.
-use Rattle.std.proofs.Common.{◌≡◌, ℕ, zero, suc, ◌+◌, ◌-◌, ◌<◌, negsuc, ◌+ℤ◌, Bool, true, false, if◌then◌else◌, nat_eq, int_le, Option, Some, None, List, []}
+use Rattle.std.proofs.Common.{◌≡◌, ℕ, zero, suc, ◌+◌, ◌-◌, ◌<◌, ◌+ℤ◌, Bool, true, false, if◌then◌else◌, Option, Some, None, List, []}
 use Rattle.std.proofs.Common.{◌∷◌, ◌++◌, drop, take, slice_set, length, refl, ap, sym, subst, ◌∙◌, arith}
 use Rattle.std.specs.Ordering.{int_eq}
 use Rattle.ot_model.specs.declared.op.Kind.{Kind}
@@ -18,28 +18,29 @@ use Rattle.ot_questions.specs.declared.place.Place.{Place}
 use Rattle.ot_questions.specs.declared.place.SymOp.{SymOp}
 use Rattle.ot_questions.specs.declared.why.Why.{Why}
 use Rattle.ot_questions.specs.declared.why.Why.TheVariants.{Lengths}
-use Rattle.ot_questions.specs.Places.{plus, sym_kind, sym_at, sym_result, growth}
-use Rattle.ot_questions.specs.Questions.{ask_le, ask_lt, ask_eq}
+use Rattle.ot_questions.specs.Places.{sym_kind, sym_at, sym_result, growth}
+use Rattle.ot_questions.specs.Questions.{ask_places}
 use Rattle.ot_questions.specs.Reading.{cells_cause, is_same_flag}
 use Rattle.ot_terms.specs.declared.goal.GoalProgress.{GoalProgress}
 use Rattle.ot_terms.specs.Belonging.{IsGoalOf, IsProgressOf, next_operands}
 use Rattle.ot_terms.specs.Cells as cells
 use Rattle.ot_terms.specs.Cells.{CellTree}
 use Rattle.ot_terms.specs.Changes.{doc_of}
-use Rattle.ot_terms.specs.Forms as forms
 use Rattle.ot_terms.specs.Forms.{FormTree}
 use Rattle.ot_terms.specs.Goals.{GoalTree, Holds, Fails, If, Choose, Deliver, Same}
 use Rattle.ot_terms.specs.Placing.{guard_form}
 use Rattle.ot_terms.specs.Standing.{ask_form, ask_goal, ask_after, results_of}
 use Rattle.ot_terms.specs.Weights.{transforms_of}
+use Rattle.ot_terms.proofs.ByForms.{form_through}
 use Rattle.cell_rules.specs.Cells.{read_step, finished_cell}
 use Rattle.goal_rules.specs.Ends.{end_goal, end_of_pair, end_of_triple, same_documents, same_lengths, one_place}
 use Rattle.goal_rules.specs.Table.{rewrite_if, choose_case, choose_by_kinds, rewrite_choose, with_result, go_on, rewrite_deliver, same_source, both_finished}
 use Rattle.goal_rules.specs.Table.{parted, rewrite_right, rewrite_left, rewrite_same, rewritten}
+use Rattle.goal_rules.proofs.FormsThrough.{by_name, rule_through}
 use Rattle.start_laws.specs.Begun.{start_after}
 use Rattle.start_laws.specs.Starts.{Start}
-use Rattle.marked_goals.specs.Marking.{Marked, with_start, marked_le, marked_form, marked_cases, marked_by_kinds, marked_transform, marked_next, marked_after}
-use Rattle.marked_goals.specs.Marking.{marked_with, marked_goal}
+use Rattle.marked_goals.specs.Marking.{Marked, with_start, marked_places, marked_form, marked_cases, marked_by_kinds, marked_transform, marked_next}
+use Rattle.marked_goals.specs.Marking.{marked_after, marked_with, marked_goal}
 use Rattle.marked_goals.specs.Settled.{is_begun}
 
 -- a list behind the element at a number
@@ -55,43 +56,23 @@ taken_set (y ∷ ys) zero x h = refl
 taken_set (y ∷ ys) (suc n) x h = ap (λ t. y ∷ t) (taken_set ys n x (omega arith))
 
 -- there is room for one more result
-within_room : (ob : ObName) (plan : GoalProgress) → IsProgressOf ob plan → plan.count < length plan.got
-within_room (Pair k l) plan h = let room : length plan.got ≡ 6 = h.room in let awaited : plan.count < 2 = h.awaited in omega arith
-within_room (Triple k l m) plan h = let room : length plan.got ≡ 6 = h.room in let awaited : plan.count < 6 = h.awaited in omega arith
+within_room : (ob : ObName) (progress : GoalProgress) → IsProgressOf ob progress → progress.count < length progress.got
+within_room (Pair k l) progress h = let room : length progress.got ≡ 6 = h.room in let awaited : progress.count < 2 = h.awaited in omega arith
+within_room (Triple k l m) progress h = let room : length progress.got ≡ 6 = h.room in let awaited : progress.count < 6 = h.awaited in omega arith
 
 -- goals in which no transformation is left
 abbrev IsQuiet : GoalTree → Type 0
 IsQuiet Holds = Unit {0}
 IsQuiet (Fails why) = Unit {0}
 IsQuiet (If g on_yes on_no) = IsQuiet on_yes × IsQuiet on_no
-IsQuiet (Choose case a b plan) = ⊥
-IsQuiet (Deliver o plan) = ⊥
+IsQuiet (Choose case a b progress) = ⊥
+IsQuiet (Deliver o progress) = ⊥
 IsQuiet (Same left right) = Unit {0}
-
-le_startless_by_tests :
-    (x y : Place) (p q : Plan Why) (b c : Bool) → nat_eq x.var y.var ≡ b → int_le x.off y.off ≡ c
-    → marked_le x y (startless p) (startless q) ≡ startless (ask_le x y p q)
-unfolding marked_le ask_le
-le_startless_by_tests x y p q true true e o = rw e (rw o refl)
-le_startless_by_tests x y p q true false e o = rw e (rw o refl)
-le_startless_by_tests x y p q false c e o = rw e refl
-
-le_startless : (x y : Place) (p q : Plan Why) → marked_le x y (startless p) (startless q) ≡ startless (ask_le x y p q)
-le_startless x y p q = le_startless_by_tests x y p q (nat_eq x.var y.var) (int_le x.off y.off) refl refl
 
 -- a form in front of two plans without starts has none
 form_startless : (g : FormTree) (p q : Plan Why) → marked_form g (startless p) (startless q) ≡ startless (ask_form g p q)
-unfolding marked_form ask_form ask_lt ask_eq
-form_startless forms.True p q = refl
-form_startless (forms.Le x y) p q = le_startless x y p q
-form_startless (forms.Lt x y) p q = le_startless x (plus y (negsuc 0)) p q
-form_startless (forms.Eq x y) p q =
-    ap (λ t. marked_le x y t (startless q)) (le_startless y x p q) ∙ le_startless x y (ask_le y x p q) q
-form_startless (forms.And g h) p q =
-    ap (λ t. marked_form g t (startless q)) (form_startless h p q) ∙ form_startless g (ask_form h p q) q
-form_startless (forms.Or g h) p q =
-    ap (λ t. marked_form g (startless p) t) (form_startless h p q) ∙ form_startless g p (ask_form h p q)
-form_startless (forms.Not g) p q = form_startless g q p
+unfolding marked_form ask_form
+form_startless g p q = sym (form_through ask_places marked_places startless (λ x y p q differ. refl) g p q)
 
 module _ (f : Function) where
   -- a goal in which no transformation is left has no starts
@@ -103,8 +84,8 @@ module _ (f : Function) where
       ap (λ t. marked_form g t (marked_goal f on_no)) (quiet_startless on_yes h.0)
       ∙ ap (λ t. marked_form g (startless (ask_goal f on_yes)) t) (quiet_startless on_no h.1)
       ∙ form_startless g (ask_goal f on_yes) (ask_goal f on_no)
-  quiet_startless (Choose case a b plan) h = absurd h
-  quiet_startless (Deliver o plan) h = absurd h
+  quiet_startless (Choose case a b progress) h = absurd h
+  quiet_startless (Deliver o progress) h = absurd h
   quiet_startless (Same left right) h = refl
 
   -- the ends of obligations are quiet
@@ -188,107 +169,92 @@ module _ (f : Function) where
   inner_marks Holds = marked_goal f Holds
   inner_marks (Fails why) = marked_goal f (Fails why)
   inner_marks (If g on_yes on_no) = marked_goal f (If g on_yes on_no)
-  inner_marks (Choose case a b plan) = marked_transform f case a b (marked_with f plan)
-  inner_marks (Deliver o plan) = marked_goal f (Deliver o plan)
+  inner_marks (Choose case a b progress) = marked_transform f case a b (marked_with f progress)
+  inner_marks (Deliver o progress) = marked_goal f (Deliver o progress)
   inner_marks (Same left right) = marked_goal f (Same left right)
 
-  -- the goal that a rule names is the one that it gives
-  named : (g h : GoalTree) (p : Marked) → Some g ≡ Some h → marked_goal f g ≡ p → marked_goal f h ≡ p
-  named g h p e marks = let same : g ≡ h = cc in subst (λ t. marked_goal f t ≡ p) same marks
-
-  offset_marks :
-      (x y : Place) (p q : GoalTree) (b c : Bool) → nat_eq x.var y.var ≡ b → int_le x.off y.off ≡ c → (h : GoalTree)
-      → (if b then Some (if c then p else q) else None) ≡ Some h → marked_goal f h ≡ marked_le x y (marked_goal f p) (marked_goal f q)
-  unfolding marked_le
-  offset_marks x y p q true true e o h given = named p h _ given (rw e (rw o refl))
-  offset_marks x y p q true false e o h given = named q h _ given (rw e (rw o refl))
-  offset_marks x y p q false c e o h given = absurd (cc)
+  abbrev named : (g h : GoalTree) (p : Marked) → Some g ≡ Some h → marked_goal f g ≡ p → marked_goal f h ≡ p
+  named = by_name (marked_goal f)
 
   if_marks :
       (g : FormTree) (y n h : GoalTree) → rewrite_if g y n ≡ Some h → marked_goal f h ≡ marked_form g (marked_goal f y) (marked_goal f n)
   unfolding marked_goal marked_form
-  if_marks forms.True y n h e = named y h _ e refl
-  if_marks (forms.Le s t) y n h e = offset_marks s t y n (nat_eq s.var t.var) (int_le s.off t.off) refl refl h e
-  if_marks (forms.Lt s t) y n h e = named (If (forms.Le s (plus t (negsuc 0))) y n) h _ e refl
-  if_marks (forms.Eq s t) y n h e = named (If (forms.Le s t) (If (forms.Le t s) y n) n) h _ e refl
-  if_marks (forms.And a b) y n h e = named (If a (If b y n) n) h _ e refl
-  if_marks (forms.Or a b) y n h e = named (If a y (If b y n)) h _ e refl
-  if_marks (forms.Not a) y n h e = named (If a n y) h _ e refl
+  if_marks = rule_through marked_places (marked_goal f) (λ g y n. refl)
 
   -- the next case, with those after it
-  module _ (case : ℕ) (a b : SymOp) (plan : GoalProgress) where
+  module _ (case : ℕ) (a b : SymOp) (progress : GoalProgress) where
     later_marks :
         (k l : Kind) (c : GuardedCase) (cs : List GuardedCase) → sym_kind a ≡ Some k → sym_kind b ≡ Some l
         → drop case (f.cases k l) ≡ c ∷ cs
-        → marked_transform f (suc case) a b (marked_with f plan) ≡ marked_cases cs a b (marked_with f plan)
+        → marked_transform f (suc case) a b (marked_with f progress) ≡ marked_cases cs a b (marked_with f progress)
     unfolding marked_by_kinds
     later_marks k l c cs ka kb e =
-        rw ka (rw kb (ap (λ t. marked_cases t a b (marked_with f plan)) (drop_next (f.cases k l) case c cs e)))
+        rw ka (rw kb (ap (λ t. marked_cases t a b (marked_with f progress)) (drop_next (f.cases k l) case c cs e)))
 
     case_marks :
         (k l : Kind) (cs : List GuardedCase) → sym_kind a ≡ Some k → sym_kind b ≡ Some l → drop case (f.cases k l) ≡ cs
-        → marked_goal f (choose_case cs case a b plan) ≡ marked_cases cs a b (marked_with f plan)
+        → marked_goal f (choose_case cs case a b progress) ≡ marked_cases cs a b (marked_with f progress)
     unfolding marked_goal marked_cases
     case_marks k l [] ka kb e = refl
     case_marks k l (c ∷ cs) ka kb e =
-        ap (λ t. marked_form (guard_form c.guard a b) (marked_with f plan (sym_result c.res a b)) t) (later_marks k l c cs ka kb e)
+        ap (λ t. marked_form (guard_form c.guard a b) (marked_with f progress (sym_result c.res a b)) t) (later_marks k l c cs ka kb e)
 
     choice_marks :
         (k l : Option Kind) → sym_kind a ≡ k → sym_kind b ≡ l
-        → marked_goal f (choose_by_kinds f case a b k l plan) ≡ marked_by_kinds f case a b k l (marked_with f plan)
+        → marked_goal f (choose_by_kinds f case a b k l progress) ≡ marked_by_kinds f case a b k l (marked_with f progress)
     unfolding marked_goal marked_by_kinds
     choice_marks None l ka kb = refl
     choice_marks (Some k) None ka kb = refl
     choice_marks (Some k) (Some l) ka kb = case_marks k l (drop case (f.cases k l)) ka kb refl
 
   -- one more result
-  module _ (ob : ObName) (r : SymOp) (plan : GoalProgress)
-      (asked : ask_goal f (rewrite_deliver f r plan) ≡ ask_goal f (Deliver r plan))
-      (belongs : IsGoalOf f ob (rewrite_deliver f r plan)) (same_ob : plan.ob ≡ ob)
-      (room : plan.count < length plan.got) where
+  module _ (ob : ObName) (r : SymOp) (progress : GoalProgress)
+      (asked : ask_goal f (rewrite_deliver f r progress) ≡ ask_goal f (Deliver r progress))
+      (belongs : IsGoalOf f ob (rewrite_deliver f r progress)) (same_ob : progress.ob ≡ ob)
+      (room : progress.count < length progress.got) where
     abbrev got : List SymOp
-    got = results_of (with_result plan r)
+    got = results_of (with_result progress r)
 
-    got_is : got ≡ results_of plan ++ r ∷ []
-    got_is = taken_set plan.got plan.count r room
+    got_is : got ≡ results_of progress ++ r ∷ []
+    got_is = taken_set progress.got progress.count r room
 
     -- where a transformation follows, its result is still to come
     more_awaited :
-        (pair : SymOp × SymOp) → next_operands plan.ob plan.ops got ≡ Some pair → suc plan.count < transforms_of plan.ob
+        (pair : SymOp × SymOp) → next_operands progress.ob progress.ops got ≡ Some pair → suc progress.count < transforms_of progress.ob
     more_awaited pair e =
-        let choice : IsGoalOf f ob (go_on f (with_result plan r) (Some pair))
-        = subst (λ o. IsGoalOf f ob (go_on f (with_result plan r) o)) e belongs in
-        subst (λ o. suc plan.count < transforms_of o) (sym same_ob) choice.parts.progress.awaited
+        let choice : IsGoalOf f ob (go_on f (with_result progress r) (Some pair))
+        = subst (λ o. IsGoalOf f ob (go_on f (with_result progress r) o)) e belongs in
+        subst (λ o. suc progress.count < transforms_of o) (sym same_ob) choice.parts.progress.awaited
 
-    end_marks : next_operands plan.ob plan.ops got ≡ None
-        → marked_goal f (go_on f (with_result plan r) None) ≡ startless (ask_after f plan.ob plan.ops got)
+    end_marks : next_operands progress.ob progress.ops got ≡ None
+        → marked_goal f (go_on f (with_result progress r) None) ≡ startless (ask_after f progress.ob progress.ops got)
     unfolding ask_goal
     end_marks e =
-        quiet_startless (end_goal f.head.mode plan.ob plan.ops got) (quiet_end f.head.mode plan.ob plan.ops got)
+        quiet_startless (end_goal f.head.mode progress.ob progress.ops got) (quiet_end f.head.mode progress.ob progress.ops got)
         ∙ ap (λ t. startless t)
-        (subst (λ o. ask_goal f (go_on f (with_result plan r) o) ≡ ask_goal f (Deliver r plan)) e asked
-        ∙ ap (ask_after f plan.ob plan.ops) (sym got_is))
+        (subst (λ o. ask_goal f (go_on f (with_result progress r) o) ≡ ask_goal f (Deliver r progress)) e asked
+        ∙ ap (ask_after f progress.ob progress.ops) (sym got_is))
 
     -- what comes after the result, the next transformation or the end, has the starts of what is left
     go_on_marks :
-        (most : ℕ) (next : Option (SymOp × SymOp)) → most ≡ transforms_of plan.ob - (1 + plan.count)
-        → next_operands plan.ob plan.ops got ≡ next
-        → marked_goal f (go_on f (with_result plan r) next) ≡ marked_after most f plan.ob plan.ops got
+        (most : ℕ) (next : Option (SymOp × SymOp)) → most ≡ transforms_of progress.ob - (1 + progress.count)
+        → next_operands progress.ob progress.ops got ≡ next
+        → marked_goal f (go_on f (with_result progress r) next) ≡ marked_after most f progress.ob progress.ops got
     unfolding marked_goal marked_after marked_next
     go_on_marks zero None left e = end_marks e
-    go_on_marks zero (Some pair) left e = let more : suc plan.count < transforms_of plan.ob = more_awaited pair e in absurd (omega arith)
+    go_on_marks zero (Some pair) left e = let more : suc progress.count < transforms_of progress.ob = more_awaited pair e in absurd (omega arith)
     go_on_marks (suc most) None left e = end_marks e ∙ sym (rw e refl)
     go_on_marks (suc most) (Some pair) left e =
-        let same : transforms_of plan.ob - (1 + suc plan.count) ≡ most = omega arith in
-        let next_plan : ℕ → Marked = λ n. with_start (Some (start_after (with_result plan r) None))
-        (marked_transform f 0 pair.0 pair.1 (λ x. marked_after n f plan.ob plan.ops (got ++ x ∷ []))) in
-        let after : marked_after (suc most) f plan.ob plan.ops got ≡ next_plan most = rw e refl in
+        let same : transforms_of progress.ob - (1 + suc progress.count) ≡ most = omega arith in
+        let next_plan : ℕ → Marked = λ n. with_start (Some (start_after (with_result progress r) None))
+        (marked_transform f 0 pair.0 pair.1 (λ x. marked_after n f progress.ob progress.ops (got ++ x ∷ []))) in
+        let after : marked_after (suc most) f progress.ob progress.ops got ≡ next_plan most = rw e refl in
         ap next_plan same ∙ sym after
 
-    deliver_marks : marked_goal f (rewrite_deliver f r plan) ≡ marked_with f plan r
+    deliver_marks : marked_goal f (rewrite_deliver f r progress) ≡ marked_with f progress r
     deliver_marks =
-        go_on_marks (transforms_of plan.ob - (1 + plan.count)) (next_operands plan.ob plan.ops got) refl refl
-        ∙ ap (marked_after (transforms_of plan.ob - (1 + plan.count)) f plan.ob plan.ops) got_is
+        go_on_marks (transforms_of progress.ob - (1 + progress.count)) (next_operands progress.ob progress.ops got) refl refl
+        ∙ ap (marked_after (transforms_of progress.ob - (1 + progress.count)) f progress.ob progress.ops) got_is
 
   module _ (ob : ObName)
       (asks : (g h : GoalTree) → IsGoalOf f ob g → rewritten f g ≡ Some h → ask_goal f h ≡ ask_goal f g)
@@ -307,12 +273,12 @@ module _ (f : Function) where
     rule_marks Holds h of e = absurd (cc)
     rule_marks (Fails why) h of e = absurd (cc)
     rule_marks (If g on_yes on_no) h of e = if_marks g on_yes on_no h e
-    rule_marks (Choose case a b plan) h of e =
-        named (rewrite_choose f case a b plan) h _ e (choice_marks case a b plan (sym_kind a) (sym_kind b) refl refl)
-    rule_marks (Deliver r plan) h of e =
-        named (rewrite_deliver f r plan) h _ e
-        (deliver_marks ob r plan (asks (Deliver r plan) (rewrite_deliver f r plan) of refl)
-        (stays (Deliver r plan) (rewrite_deliver f r plan) of refl) of.parts.0.same (within_room ob plan of.parts.0))
+    rule_marks (Choose case a b progress) h of e =
+        named (rewrite_choose f case a b progress) h _ e (choice_marks case a b progress (sym_kind a) (sym_kind b) refl refl)
+    rule_marks (Deliver r progress) h of e =
+        named (rewrite_deliver f r progress) h _ e
+        (deliver_marks ob r progress (asks (Deliver r progress) (rewrite_deliver f r progress) of refl)
+        (stays (Deliver r progress) (rewrite_deliver f r progress) of refl) of.parts.0.same (within_room ob progress of.parts.0))
     rule_marks (Same left right) h of e =
         same_marks left right h (rewrite_same left right) refl e (asks (Same left right) h of e)
         (quiet_left left right (read_step left))
@@ -329,9 +295,9 @@ module _ (f : Function) where
   inner_opened Holds = refl
   inner_opened (Fails why) = refl
   inner_opened (If g on_yes on_no) = refl
-  inner_opened (Choose zero a b plan) = sym (with_start-twice None (Some (start_after plan None)) _)
-  inner_opened (Choose (suc case) a b plan) = refl
-  inner_opened (Deliver o plan) = refl
+  inner_opened (Choose zero a b progress) = sym (with_start-twice None (Some (start_after progress None)) _)
+  inner_opened (Choose (suc case) a b progress) = refl
+  inner_opened (Deliver o progress) = refl
   inner_opened (Same left right) = refl
 
   inner_same : (g : GoalTree) → is_begun g ≡ false → inner_marks f g ≡ marked_goal f g
@@ -339,9 +305,9 @@ module _ (f : Function) where
   inner_same Holds e = refl
   inner_same (Fails why) e = refl
   inner_same (If g on_yes on_no) e = refl
-  inner_same (Choose zero a b plan) e = absurd (cc)
-  inner_same (Choose (suc case) a b plan) e = refl
-  inner_same (Deliver o plan) e = refl
+  inner_same (Choose zero a b progress) e = absurd (cc)
+  inner_same (Choose (suc case) a b progress) e = refl
+  inner_same (Deliver o progress) e = refl
   inner_same (Same left right) e = refl
 
   module _ (ob : ObName)

@@ -1,6 +1,6 @@
 -- Each start of a goal's plan stands for the plan that is there.
-use Rattle.std.proofs.Common.{◌≡◌, ℕ, zero, suc, ◌+◌, ◌-◌, negsuc, Bool, true, false, nat_eq, int_le, Option, Some, None, List, [], ◌∷◌, ◌++◌, drop, IsTrue}
-use Rattle.std.proofs.Common.{refl, sym, subst, ◌∙◌}
+use Rattle.std.proofs.Common.{◌≡◌, ℕ, zero, suc, ◌+◌, ◌-◌, negsuc, Bool, true, false, if◌then◌else◌, nat_eq, int_le, Option, Some, None, List, []}
+use Rattle.std.proofs.Common.{◌∷◌, ◌++◌, drop, IsTrue, refl, sym, subst, ◌∙◌}
 use Rattle.ot_model.specs.declared.op.Kind.{Kind}
 use Rattle.fn_rules.specs.declared.function.ObName.{ObName}
 use Rattle.fn_rules.specs.Functions.{Function, GuardedCase}
@@ -9,7 +9,7 @@ use Rattle.proof_trees.specs.Starts.{Ask, Holds, Fails, unmarked, IsMarkedBy}
 use Rattle.proof_trees.specs.Startless.{IsMarkedBy-startless}
 use Rattle.ot_questions.specs.declared.place.Place.{Place}
 use Rattle.ot_questions.specs.declared.place.SymOp.{SymOp}
-use Rattle.ot_questions.specs.Places.{plus, sym_kind, sym_result}
+use Rattle.ot_questions.specs.Places.{plus, by_order, sym_kind, sym_result}
 use Rattle.ot_terms.specs.declared.goal.GoalProgress.{GoalProgress}
 use Rattle.ot_terms.specs.Belonging.{IsGoalOf, HasParts, IsChoiceOf, next_operands}
 use Rattle.ot_terms.specs.Forms as forms
@@ -23,8 +23,8 @@ use Rattle.ot_terms.specs.Weights.{transforms_of}
 use Rattle.ot_terms.proofs.StartParts.{start_of_belongs}
 use Rattle.start_laws.specs.Begun.{start_after}
 use Rattle.start_laws.specs.Starts.{Start, meaning}
-use Rattle.marked_goals.specs.Marking.{Marked, with_start, marked_le, marked_form, marked_cases, marked_by_kinds, marked_transform, marked_next, marked_after}
-use Rattle.marked_goals.specs.Marking.{marked_with, begun_transform, marked_goal, marked_plan}
+use Rattle.marked_goals.specs.Marking.{Marked, with_start, marked_places, marked_form, marked_cases, marked_by_kinds, marked_transform, marked_next}
+use Rattle.marked_goals.specs.Marking.{marked_after, marked_with, begun_transform, marked_goal, marked_plan}
 use Rattle.marked_goals.proofs.Unmarked.{unmarked-transform, unmarked-choice, unmarked-after, next_asks}
 
 module _ (f : Function) where
@@ -36,23 +36,22 @@ module _ (f : Function) where
   with_start-kept s (Holds other) e h = e
   with_start-kept s (Fails other why) e h = e
 
-  le_by_tests :
-      (x y : Place) (p q : Marked) (b c : Bool) → nat_eq x.var y.var ≡ b → int_le x.off y.off ≡ c → AreLawful p → AreLawful q
-      → AreLawful (marked_le x y p q)
-  unfolding marked_le
-  le_by_tests x y p q true true e o hp hq = rw e (rw o hp)
-  le_by_tests x y p q true false e o hp hq = rw e (rw o hq)
-  le_by_tests x y p q false c e o hp hq = rw e (tt, hp, hq)
+  by_tests-kept :
+      (x y : Place) (p q : Marked) (b c : Bool) → AreLawful p → AreLawful q
+      → AreLawful (if b then (if c then p else q) else marked_places x y p q)
+  by_tests-kept x y p q true true hp hq = hp
+  by_tests-kept x y p q true false hp hq = hq
+  by_tests-kept x y p q false c hp hq = (tt, hp, hq)
 
-  le-kept : (x y : Place) (p q : Marked) → AreLawful p → AreLawful q → AreLawful (marked_le x y p q)
-  le-kept x y p q hp hq = le_by_tests x y p q (nat_eq x.var y.var) (int_le x.off y.off) refl refl hp hq
+  order-kept : (x y : Place) (p q : Marked) → AreLawful p → AreLawful q → AreLawful (by_order marked_places x y p q)
+  order-kept x y p q = by_tests-kept x y p q (nat_eq x.var y.var) (int_le x.off y.off)
 
   form-kept : (g : FormTree) (p q : Marked) → AreLawful p → AreLawful q → AreLawful (marked_form g p q)
   unfolding marked_form
   form-kept forms.True p q hp hq = hp
-  form-kept (forms.Le x y) p q hp hq = le-kept x y p q hp hq
-  form-kept (forms.Lt x y) p q hp hq = le-kept x (plus y (negsuc 0)) p q hp hq
-  form-kept (forms.Eq x y) p q hp hq = le-kept x y (marked_le y x p q) q (le-kept y x p q hp hq) hq
+  form-kept (forms.Le x y) p q hp hq = order-kept x y p q hp hq
+  form-kept (forms.Lt x y) p q hp hq = order-kept x (plus y (negsuc 0)) p q hp hq
+  form-kept (forms.Eq x y) p q hp hq = order-kept x y (by_order marked_places y x p q) q (order-kept y x p q hp hq) hq
   form-kept (forms.And g h) p q hp hq = form-kept g (marked_form h p q) q (form-kept h p q hp hq) hq
   form-kept (forms.Or g h) p q hp hq = form-kept g p (marked_form h p q) hp (form-kept h p q hp hq)
   form-kept (forms.Not g) p q hp hq = form-kept g q p hq hp
@@ -93,21 +92,21 @@ module _ (f : Function) where
       (λ r. marked_after most f ob os (got ++ r ∷ [])) refl (λ r. unmarked-after f most ob os (got ++ r ∷ []))
       (λ r. after-kept most ob os (got ++ r ∷ []))
 
-  with-kept : (plan : GoalProgress) (r : SymOp) → AreLawful (marked_with f plan r)
-  with-kept plan r = after-kept (transforms_of plan.ob - (1 + plan.count)) plan.ob plan.ops (results_of plan ++ r ∷ [])
+  with-kept : (progress : GoalProgress) (r : SymOp) → AreLawful (marked_with f progress r)
+  with-kept progress r = after-kept (transforms_of progress.ob - (1 + progress.count)) progress.ob progress.ops (results_of progress ++ r ∷ [])
 
-  choice-kept : (case : ℕ) (a b : SymOp) (plan : GoalProgress) → AreLawful (marked_transform f case a b (marked_with f plan))
-  choice-kept case a b plan = transform-kept a b (marked_with f plan) (with-kept plan) case
+  choice-kept : (case : ℕ) (a b : SymOp) (progress : GoalProgress) → AreLawful (marked_transform f case a b (marked_with f progress))
+  choice-kept case a b progress = transform-kept a b (marked_with f progress) (with-kept progress) case
 
   begun_transform-kept :
-      (ob : ObName) (case : ℕ) (a b : SymOp) (plan : GoalProgress) → IsChoiceOf f ob case a b plan
-      → AreLawful (begun_transform case plan (marked_transform f case a b (marked_with f plan)))
-  begun_transform-kept ob zero a b plan h =
-      with_start-kept (start_after plan None) (marked_transform f 0 a b (marked_with f plan))
-      (unmarked-choice f 0 a b plan ∙ next_asks f (start_after plan None) (a, b)
-      (subst (λ o. next_operands o plan.ops (results_of plan) ≡ Some (a, b)) (sym h.progress.same) h.next))
-      (choice-kept 0 a b plan)
-  begun_transform-kept ob (suc case) a b plan h = choice-kept (suc case) a b plan
+      (ob : ObName) (case : ℕ) (a b : SymOp) (progress : GoalProgress) → IsChoiceOf f ob case a b progress
+      → AreLawful (begun_transform case progress (marked_transform f case a b (marked_with f progress)))
+  begun_transform-kept ob zero a b progress h =
+      with_start-kept (start_after progress None) (marked_transform f 0 a b (marked_with f progress))
+      (unmarked-choice f 0 a b progress ∙ next_asks f (start_after progress None) (a, b)
+      (subst (λ o. next_operands o progress.ops (results_of progress) ≡ Some (a, b)) (sym h.progress.same) h.next))
+      (choice-kept 0 a b progress)
+  begun_transform-kept ob (suc case) a b progress h = choice-kept (suc case) a b progress
 
   parts-kept : (ob : ObName) (g : GoalTree) → HasParts f ob g → AreLawful (marked_goal f g)
   unfolding marked_goal
@@ -115,8 +114,8 @@ module _ (f : Function) where
   parts-kept ob (goals.Fails why) h = tt
   parts-kept ob (goals.If g on_yes on_no) h =
       form-kept g (marked_goal f on_yes) (marked_goal f on_no) (parts-kept ob on_yes h.1) (parts-kept ob on_no h.2)
-  parts-kept ob (goals.Choose case a b plan) h = begun_transform-kept ob case a b plan h
-  parts-kept ob (goals.Deliver o plan) h = with-kept plan o
+  parts-kept ob (goals.Choose case a b progress) h = begun_transform-kept ob case a b progress h
+  parts-kept ob (goals.Deliver o progress) h = with-kept progress o
   parts-kept ob (goals.Same left right) h = IsMarkedBy-startless (meaning f) (ask_goal f (goals.Same left right))
 
   pub starts_kept : (ob : ObName) (g : GoalTree) → IsGoalOf f ob g → IsMarkedBy (meaning f) (marked_goal f g)

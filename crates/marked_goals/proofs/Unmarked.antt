@@ -1,5 +1,5 @@
 -- The plan of a goal with its starts, without them, is the plan of the goal.
-use Rattle.std.proofs.Common.{◌≡◌, ℕ, zero, suc, ◌+◌, ◌-◌, negsuc, Bool, true, false, nat_eq, int_le, Option, Some, None, List, [], ◌∷◌, ◌++◌, drop, refl, ap}
+use Rattle.std.proofs.Common.{◌≡◌, ℕ, zero, suc, ◌+◌, ◌-◌, Option, Some, None, List, [], ◌∷◌, ◌++◌, drop, refl, ap}
 use Rattle.std.proofs.Common.{subst, ◌∙◌}
 use Rattle.ot_model.specs.declared.op.Kind.{Kind}
 use Rattle.fn_rules.specs.declared.function.ObName.{ObName}
@@ -8,15 +8,13 @@ use Rattle.fn_rules.specs.Functions.{Function, GuardedCase}
 use Rattle.ask_core.specs.Plans.{Plan}
 use Rattle.proof_trees.specs.Starts.{Ask, Holds, Fails, unmarked}
 use Rattle.proof_trees.specs.Startless.{unmarked-startless}
-use Rattle.ot_questions.specs.declared.place.Place.{Place}
 use Rattle.ot_questions.specs.declared.place.SymOp.{SymOp}
 use Rattle.ot_questions.specs.declared.why.Why.{Why}
 use Rattle.ot_questions.specs.Obligation.{ask_converge, ask_behind, ask_commute, plan_of}
-use Rattle.ot_questions.specs.Places.{plus, sym_kind, sym_result}
-use Rattle.ot_questions.specs.Questions.{ask_le, ask_lt, ask_eq, ask_guard, ask_first_result, ask_result_by_kinds, ask_transform, or_undefined}
+use Rattle.ot_questions.specs.Places.{sym_kind, sym_result}
+use Rattle.ot_questions.specs.Questions.{ask_places, ask_guard, ask_first_result, ask_result_by_kinds, ask_transform, or_undefined}
 use Rattle.ot_terms.specs.declared.goal.GoalProgress.{GoalProgress}
 use Rattle.ot_terms.specs.Belonging.{next_operands}
-use Rattle.ot_terms.specs.Forms as forms
 use Rattle.ot_terms.specs.Forms.{FormTree}
 use Rattle.ot_terms.specs.Goals as goals
 use Rattle.ot_terms.specs.Goals.{GoalTree}
@@ -24,42 +22,23 @@ use Rattle.ot_terms.specs.Placing.{guard_form}
 use Rattle.ot_terms.specs.Standing.{ask_form, ask_goal, ask_after, ask_pair_after, ask_second_way_after, ask_triple_after, ask_with, from_case, results_of}
 use Rattle.ot_terms.specs.Starting.{start_goal_of}
 use Rattle.ot_terms.specs.Weights.{transforms_of}
+use Rattle.ot_terms.proofs.ByForms.{form_through}
 use Rattle.ot_terms.proofs.GuardForms.{ask_form_guard_form}
 use Rattle.ot_terms.proofs.Starts.{ask_goal_start_of}
 use Rattle.start_laws.specs.Starts.{Start}
-use Rattle.marked_goals.specs.Marking.{Marked, with_start, marked_le, marked_form, marked_cases, marked_by_kinds, marked_transform, marked_next, marked_after}
-use Rattle.marked_goals.specs.Marking.{marked_with, begun_transform, marked_goal, marked_plan}
+use Rattle.marked_goals.specs.Marking.{Marked, with_start, marked_places, marked_form, marked_cases, marked_by_kinds, marked_transform, marked_next}
+use Rattle.marked_goals.specs.Marking.{marked_after, marked_with, begun_transform, marked_goal, marked_plan}
 
 pub unmarked-with_start : (start : Option Start) (p : Marked) → unmarked (with_start start p) ≡ unmarked p
 unmarked-with_start start (Ask other l on_yes on_no) = refl
 unmarked-with_start start (Holds other) = refl
 unmarked-with_start start (Fails other why) = refl
 
-le_by_tests :
-    (x y : Place) (p q : Marked) (b c : Bool) → nat_eq x.var y.var ≡ b → int_le x.off y.off ≡ c
-    → unmarked (marked_le x y p q) ≡ ask_le x y (unmarked p) (unmarked q)
-unfolding marked_le ask_le
-le_by_tests x y p q true true e o = rw e (rw o refl)
-le_by_tests x y p q true false e o = rw e (rw o refl)
-le_by_tests x y p q false c e o = rw e refl
-
-unmarked-le : (x y : Place) (p q : Marked) → unmarked (marked_le x y p q) ≡ ask_le x y (unmarked p) (unmarked q)
-unmarked-le x y p q = le_by_tests x y p q (nat_eq x.var y.var) (int_le x.off y.off) refl refl
-
 -- without its starts, a form in front of two plans asks what the form asks
 pub unmarked-form :
     (g : FormTree) (p q : Marked) → unmarked (marked_form g p q) ≡ ask_form g (unmarked p) (unmarked q)
-unfolding marked_form ask_form ask_lt ask_eq
-unmarked-form forms.True p q = refl
-unmarked-form (forms.Le x y) p q = unmarked-le x y p q
-unmarked-form (forms.Lt x y) p q = unmarked-le x (plus y (negsuc 0)) p q
-unmarked-form (forms.Eq x y) p q =
-    unmarked-le x y (marked_le y x p q) q ∙ ap (λ t. ask_le x y t (unmarked q)) (unmarked-le y x p q)
-unmarked-form (forms.And g h) p q =
-    unmarked-form g (marked_form h p q) q ∙ ap (λ t. ask_form g t (unmarked q)) (unmarked-form h p q)
-unmarked-form (forms.Or g h) p q =
-    unmarked-form g p (marked_form h p q) ∙ ap (λ t. ask_form g (unmarked p) t) (unmarked-form h p q)
-unmarked-form (forms.Not g) p q = unmarked-form g q p
+unfolding marked_form ask_form
+unmarked-form = form_through marked_places ask_places unmarked (λ x y p q differ. refl)
 
 -- a transformation that goes on with plans whose starts are left out
 module _ (a b : SymOp) (go : SymOp → Marked) (plain : SymOp → Plan Why) (same : (r : SymOp) → unmarked (go r) ≡ plain r) where
@@ -135,18 +114,18 @@ module _ (f : Function) where
       unmarked-next (record { ob = ob; ops = os; got = got }) (next_operands ob os got)
       (λ r. marked_after most f ob os (got ++ r ∷ [])) refl (λ r. unmarked-after most ob os (got ++ r ∷ []))
 
-  unmarked-with : (plan : GoalProgress) (r : SymOp) → unmarked (marked_with f plan r) ≡ ask_with f plan r
-  unmarked-with plan r =
-      unmarked-after (transforms_of plan.ob - (1 + plan.count)) plan.ob plan.ops (results_of plan ++ r ∷ [])
+  unmarked-with : (progress : GoalProgress) (r : SymOp) → unmarked (marked_with f progress r) ≡ ask_with f progress r
+  unmarked-with progress r =
+      unmarked-after (transforms_of progress.ob - (1 + progress.count)) progress.ob progress.ops (results_of progress ++ r ∷ [])
 
-  unmarked-begun_transform : (case : ℕ) (plan : GoalProgress) (p : Marked) → unmarked (begun_transform case plan p) ≡ unmarked p
-  unmarked-begun_transform zero plan p = unmarked-with_start _ p
-  unmarked-begun_transform (suc case) plan p = refl
+  unmarked-begun_transform : (case : ℕ) (progress : GoalProgress) (p : Marked) → unmarked (begun_transform case progress p) ≡ unmarked p
+  unmarked-begun_transform zero progress p = unmarked-with_start _ p
+  unmarked-begun_transform (suc case) progress p = refl
 
   pub unmarked-choice :
-      (case : ℕ) (a b : SymOp) (plan : GoalProgress)
-      → unmarked (marked_transform f case a b (marked_with f plan)) ≡ ask_transform (from_case case f) a b (ask_with f plan)
-  unmarked-choice case a b plan = unmarked-transform a b (marked_with f plan) (ask_with f plan) (unmarked-with plan) f case
+      (case : ℕ) (a b : SymOp) (progress : GoalProgress)
+      → unmarked (marked_transform f case a b (marked_with f progress)) ≡ ask_transform (from_case case f) a b (ask_with f progress)
+  unmarked-choice case a b progress = unmarked-transform a b (marked_with f progress) (ask_with f progress) (unmarked-with progress) f case
 
   -- without its starts, the plan of a goal is what the goal asks
   pub unmarked-goal : (g : GoalTree) → unmarked (marked_goal f g) ≡ ask_goal f g
@@ -157,9 +136,9 @@ module _ (f : Function) where
       unmarked-form g (marked_goal f on_yes) (marked_goal f on_no)
       ∙ ap (λ t. ask_form g t (unmarked (marked_goal f on_no))) (unmarked-goal on_yes)
       ∙ ap (λ t. ask_form g (ask_goal f on_yes) t) (unmarked-goal on_no)
-  unmarked-goal (goals.Choose case a b plan) =
-      unmarked-begun_transform case plan (marked_transform f case a b (marked_with f plan)) ∙ unmarked-choice case a b plan
-  unmarked-goal (goals.Deliver o plan) = unmarked-with plan o
+  unmarked-goal (goals.Choose case a b progress) =
+      unmarked-begun_transform case progress (marked_transform f case a b (marked_with f progress)) ∙ unmarked-choice case a b progress
+  unmarked-goal (goals.Deliver o progress) = unmarked-with progress o
   unmarked-goal (goals.Same left right) = unmarked-startless Start (ask_goal f (goals.Same left right))
 
   pub unmarked-plan : (ob : ObName) → unmarked (marked_plan f ob) ≡ plan_of f ob

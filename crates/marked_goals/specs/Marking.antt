@@ -1,5 +1,5 @@
 -- The plan that a goal stands for, with a start at each place where a transformation begins.
-use Rattle.std.specs.Prelude.{ℕ, zero, suc, ◌+◌, ◌-◌, negsuc, ◌-ℤ◌, if◌then◌else◌, nat_eq, int_le, Option, Some, None}
+use Rattle.std.specs.Prelude.{ℕ, zero, suc, ◌+◌, ◌-◌, ◌-ℤ◌, Option, Some, None}
 use Rattle.std.specs.Prelude.{List, [], ◌∷◌, ◌++◌, drop}
 use Rattle.ot_model.specs.declared.op.Kind.{Kind}
 use Rattle.fn_rules.specs.declared.function.ObName.{ObName}
@@ -11,11 +11,10 @@ use Rattle.ot_questions.specs.declared.place.SymOp.{SymOp}
 use Rattle.ot_questions.specs.declared.place.SymOp.TheVariants.{Nop}
 use Rattle.ot_questions.specs.declared.why.Why.{Why}
 use Rattle.ot_questions.specs.declared.why.Why.TheVariants.{Undefined}
-use Rattle.ot_questions.specs.Places.{plus, sym_kind, sym_result}
+use Rattle.ot_questions.specs.Places.{sym_kind, sym_result}
 use Rattle.ot_terms.specs.declared.goal.GoalProgress.{GoalProgress}
 use Rattle.ot_terms.specs.Belonging.{next_operands}
-use Rattle.ot_terms.specs.Forms as forms
-use Rattle.ot_terms.specs.Forms.{FormTree}
+use Rattle.ot_terms.specs.Forms.{FormTree, by_form}
 use Rattle.ot_terms.specs.Goals as goals
 use Rattle.ot_terms.specs.Goals.{GoalTree}
 use Rattle.ot_terms.specs.Placing.{guard_form}
@@ -36,19 +35,11 @@ with_start start (Holds other) = Holds start
 with_start start (Fails other why) = Fails start why
 
 -- The questions of a form have no starts. Where nothing is asked, the first place is that of the plan that follows.
-unfoldable pub marked_le : Place → Place → Marked → Marked → Marked
-marked_le x y on_yes on_no =
-    if nat_eq x.var y.var then (if int_le x.off y.off then on_yes else on_no)
-    else Ask None (record { x = x.var; y = y.var; k = y.off -ℤ x.off }) on_yes on_no
+abbrev pub marked_places : Place → Place → Marked → Marked → Marked
+marked_places x y on_yes on_no = Ask None (record { x = x.var; y = y.var; k = y.off -ℤ x.off }) on_yes on_no
 
 unfoldable pub marked_form : FormTree → Marked → Marked → Marked
-marked_form forms.True on_yes on_no = on_yes
-marked_form (forms.Le x y) on_yes on_no = marked_le x y on_yes on_no
-marked_form (forms.Lt x y) on_yes on_no = marked_le x (plus y (negsuc 0)) on_yes on_no
-marked_form (forms.Eq x y) on_yes on_no = marked_le x y (marked_le y x on_yes on_no) on_no
-marked_form (forms.And g h) on_yes on_no = marked_form g (marked_form h on_yes on_no) on_no
-marked_form (forms.Or g h) on_yes on_no = marked_form g on_yes (marked_form h on_yes on_no)
-marked_form (forms.Not g) on_yes on_no = marked_form g on_no on_yes
+marked_form g on_yes on_no = by_form marked_places g on_yes on_no
 
 -- the cases in their order, until the guard of one is true; goes on with its result
 unfoldable pub marked_cases : List GuardedCase → SymOp → SymOp → (SymOp → Marked) → Marked

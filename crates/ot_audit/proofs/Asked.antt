@@ -23,14 +23,14 @@ use Rattle.ot_questions.specs.declared.place.SymOp.{SymOp}
 use Rattle.ot_questions.specs.declared.why.Why.{Why}
 use Rattle.ot_questions.specs.Nears.{IsNear, HasNearAtoms, IsNearCase}
 use Rattle.ot_questions.specs.Places.{offset_of, sym_site, sym_char}
-use Rattle.ot_questions.specs.Questions.{ask_compared, ask_atom, ask_guard, ask_differ, ask_allowed}
+use Rattle.ot_questions.specs.Questions.{ask_compared, ask_atom, ask_guard, ask_differ, ask_allowed, ask_le, ask_lt, ask_eq}
 use Rattle.ot_terms.specs.Goals.{GoalTree}
 use Rattle.ot_terms.specs.Placing.{compared, atom_form, guard_form}
 use Rattle.ot_terms.specs.Standing.{ask_form, ask_goal}
 use Rattle.ot_terms.specs.Starting.{if_differ, if_assumed, if_allowed}
 
 ask_form-compared : (c : Cmp) (x y : Place) (p q : Plan Why) → ask_form (compared c x y) p q ≡ ask_compared c x y p q
-unfolding ask_form ask_compared
+unfolding ask_form ask_compared ask_le ask_lt ask_eq
 ask_form-compared cmp.Lt x y p q = refl
 ask_form-compared cmp.Le x y p q = refl
 ask_form-compared cmp.Eq x y p q = refl
@@ -41,7 +41,7 @@ ask_form-atom_form atom a b p q = ask_form-compared atom.cmp _ _ p q
 
 -- a guard as a form asks what the guard asks
 pub ask_form-guard_form : (g : Formula) (a b : SymOp) (p q : Plan Why) → ask_form (guard_form g a b) p q ≡ ask_guard g a b p q
-unfolding ask_form ask_guard
+unfolding ask_form ask_guard ask_le ask_lt ask_eq
 ask_form-guard_form Always a b p q = refl
 ask_form-guard_form (Compare atom) a b p q = ask_form-atom_form atom a b p q
 ask_form-guard_form (And g h) a b p q =
@@ -54,7 +54,7 @@ ask_form-guard_form (Not g) a b p q = ask_form-guard_form g a b q p
 
 module _ (f : Function) where
   ask_goal-if_differ : (x y : Option ℕ) (next : GoalTree) → ask_goal f (if_differ x y next) ≡ ask_differ x y (ask_goal f next)
-  unfolding ask_goal ask_form ask_differ
+  unfolding ask_goal ask_form ask_differ ask_le ask_lt ask_eq
   ask_goal-if_differ None y next = refl
   ask_goal-if_differ (Some x) None next = refl
   ask_goal-if_differ (Some x) (Some y) next = refl

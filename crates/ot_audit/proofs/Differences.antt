@@ -22,7 +22,7 @@ use Rattle.ot_questions.specs.Instances.{StandsForOperation, GoesOnWith}
 use Rattle.ot_questions.specs.Names.{zero_name}
 use Rattle.ot_questions.specs.Obligation.{ask_same_form, ask_one_place}
 use Rattle.ot_questions.specs.Places.{sym_op, sym_kind, sym_at, sym_result}
-use Rattle.ot_questions.specs.Questions.{ask_first_result, ask_guard, ask_result}
+use Rattle.ot_questions.specs.Questions.{ask_first_result, ask_guard, ask_result, ask_le, ask_lt, ask_eq}
 use Rattle.ot_terms.specs.Goals.{GoalTree}
 use Rattle.ot_terms.specs.Standing.{ask_form, ask_goal}
 use Rattle.ot_audit.specs.Goals.{with_first_result, unless_one_place, unless_same, unless_agreed, difference_goal}
@@ -90,7 +90,7 @@ module _ (asks_guard : AsksGuard) (h : Function) where
 
 one_place_asked :
     (h : Function) (j k : Option Kind) (at there : Place) → ask_goal h (unless_one_place j k at there) ≡ ask_one_place j k at there
-unfolding ask_goal ask_form ask_one_place
+unfolding ask_goal ask_form ask_one_place ask_le ask_lt ask_eq
 one_place_asked h None None at there = refl
 one_place_asked h None (Some l) at there = refl
 one_place_asked h (Some k) None at there = refl

@@ -22,7 +22,7 @@ use Rattle.ot_questions.specs.declared.why.Why.TheVariants.{Operations}
 use Rattle.ot_questions.specs.Instances.{StandsForOperation}
 use Rattle.ot_questions.specs.Names.{zero_name, position_name}
 use Rattle.ot_questions.specs.Places.{place, zero_place, integer_at, sym_op}
-use Rattle.ot_questions.specs.Questions.{ask_le, ask_guard, ask_allowed}
+use Rattle.ot_questions.specs.Questions.{ask_le, ask_guard, ask_allowed, ask_lt, ask_eq}
 use Rattle.ot_terms.specs.Goals.{GoalTree, Holds, If}
 use Rattle.ot_terms.specs.Placing.{guard_form}
 use Rattle.ot_terms.specs.Standing.{ask_form, ask_goal}
@@ -101,7 +101,7 @@ module _ (at_most : EndsAtMost) (f : Function) (v : ℕ → ℤ) (z : v zero_nam
       (who : Who) (next : GoalTree)
       → end_of (ask_goal f (if_there who next)) v
       ≡ (if int_le (v 0 +ℤ pos 0) (v (position_name who) +ℤ pos 0) then end_of (ask_goal f next) v else None)
-  unfolding ask_goal ask_form
+  unfolding ask_goal ask_form ask_le ask_lt ask_eq
   end_there who next = at_most v zero_place (place (position_name who) (pos 0)) (ask_goal f next) plans.Holds
 
   -- a goal that asks a position fails only where the position is not negative

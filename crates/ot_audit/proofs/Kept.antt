@@ -32,7 +32,7 @@ use Rattle.ot_questions.specs.Names.{position_name, site_name, char_name}
 use Rattle.ot_questions.specs.Nears.{IsNear}
 use Rattle.ot_questions.specs.Obligation.{ask_same_form}
 use Rattle.ot_questions.specs.Places.{place, zero_place, sym_op, sym_kind}
-use Rattle.ot_questions.specs.Questions.{ask_le, ask_guard, ask_result, ask_allowed}
+use Rattle.ot_questions.specs.Questions.{ask_le, ask_guard, ask_result, ask_allowed, ask_lt, ask_eq}
 use Rattle.ot_terms.specs.Goals.{GoalTree, Holds, If}
 use Rattle.ot_terms.specs.Placing.{guard_form}
 use Rattle.ot_terms.specs.Standing.{ask_form, ask_goal}
@@ -205,7 +205,7 @@ module _ (named : StandsNamed) (comparison : KeepsComparison) (guard : KeepsGuar
   there_kept :
       (m : ℕ) (who : Who) (next : GoalTree) → PlaceStands (IsBelow 9) 500 Pos (place (position_name who) (pos 0))
       → IsKept 9 m (ask_goal f next) → IsKept 9 (m + 1) (ask_goal f (if_there who next))
-  unfolding ask_goal ask_form
+  unfolding ask_goal ask_form ask_le ask_lt ask_eq
   there_kept m who next at kept =
       comparison 9 m Pos zero_place (place (position_name who) (pos 0)) (ask_goal f next) plans.Holds (lit< tt)
       (record { is = refl; free = lit< tt; steady = tt; near = near_zero }) at kept (holds_kept m)

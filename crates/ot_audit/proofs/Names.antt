@@ -284,7 +284,7 @@ module _ (P : ℕ → Type 0) where
       by_test false = (hx, hy, hp, hq)
 
   asks_form : (g : FormTree) (p q : Plan Why) → PlacesOf OfName g → AsksOf p → AsksOf q → AsksOf (ask_form g p q)
-  unfolding ask_form ask_lt ask_eq
+  unfolding ask_form ask_lt ask_eq ask_le
   asks_form True p q h hp hq = hp
   asks_form (Le x y) p q h hp hq = asks_le x y p q h.0 h.1 hp hq
   asks_form (Lt x y) p q h hp hq = asks_le x (plus y (negsuc 0)) p q h.0 h.1 hp hq

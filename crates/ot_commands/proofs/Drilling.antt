@@ -9,7 +9,7 @@ use Rattle.fn_rules.specs.declared.function.Level.{Level}
 use Rattle.fn_rules.specs.declared.function.Level.TheVariants.{Tp1, Tp2}
 use Rattle.fn_rules.specs.declared.function.ObName.{ObName}
 use Rattle.fn_rules.specs.Functions.{Function}
-use Rattle.fn_rules.specs.Obligations.{is_obligation, obligations_of}
+use Rattle.fn_rules.specs.Obligations.{level_of, is_obligation, obligations_of}
 use Rattle.fn_rules.specs.Properties.{AreConcurrent, HasTp1, HasTp2}
 use Rattle.fn_rules.specs.Validity.{is_valid}
 use Rattle.ot_questions.specs.declared.why.Why.{Why}
@@ -23,7 +23,7 @@ use Rattle.ot_decide.specs.declared.verdict.Verdict.TheVariants as verdicts
 use Rattle.ot_sections.specs.Certificates.{IsCertificate}
 use Rattle.ot_judge.specs.Refusals.{IsWant}
 use Rattle.ot_decide.specs.Verdicts.{ObQuestions, AreAsked, IsDecidedAs, IsVerdictWithin, count_in}
-use Rattle.ot_counter.specs.Counters.{Breaks, level_of}
+use Rattle.ot_counter.specs.Counters.{Breaks}
 use Rattle.ask_core.specs.Leading.{LeadTo}
 use Rattle.ot_values.specs.Values.{floors_of, ops_at}
 use Rattle.ot_counter.specs.Documents.{document_at}

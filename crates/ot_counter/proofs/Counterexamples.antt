@@ -13,7 +13,7 @@ use Rattle.ot_model.specs.Operations.{char_of}
 use Rattle.fn_rules.specs.declared.function.ObName.{ObName}
 use Rattle.fn_rules.specs.declared.function.ObName.TheVariants.{Pair, Triple}
 use Rattle.fn_rules.specs.Functions.{Function}
-use Rattle.fn_rules.specs.Obligations.{is_obligation}
+use Rattle.fn_rules.specs.Obligations.{level_of, is_obligation}
 use Rattle.fn_rules.specs.Properties.{AreConcurrent, ConvergesAt, CommutesAt}
 use Rattle.fn_rules.specs.Validity.{is_valid}
 use Rattle.ask_core.specs.Plans.{Plan, end_of}
@@ -29,7 +29,7 @@ use Rattle.ot_questions.specs.Instances.{StandsForOperation, NamesPair, NamesTri
 use Rattle.ot_questions.specs.Sorts.{AreLike, AsksLike}
 use Rattle.ot_values.specs.Values.{floors_of, ops_at, IsSmallAt}
 use Rattle.ot_counter.specs.Documents.{document_at}
-use Rattle.ot_counter.specs.Counters.{level_of, Breaks, BreaksBy}
+use Rattle.ot_counter.specs.Counters.{Breaks, BreaksBy}
 use Rattle.ot_counter.proofs.Shown.{IsFresh, fresh_at, length-document_at, document_shows}
 
 -- what is said of the ends of plans at valuations

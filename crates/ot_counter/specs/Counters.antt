@@ -7,8 +7,8 @@ use Rattle.diff_graph.specs.Solutions.{AreLeast, valuation_of}
 use Rattle.fn_rules.specs.declared.function.Level.{Level}
 use Rattle.fn_rules.specs.declared.function.Level.TheVariants.{Tp1, Tp2}
 use Rattle.fn_rules.specs.declared.function.ObName.{ObName}
-use Rattle.fn_rules.specs.declared.function.ObName.TheVariants.{Pair, Triple}
 use Rattle.fn_rules.specs.Functions.{Function}
+use Rattle.fn_rules.specs.Obligations.{level_of}
 use Rattle.fn_rules.specs.Properties.{AreConcurrent, ConvergesAt, CommutesAt}
 use Rattle.ot_questions.specs.declared.why.Why.{Why}
 use Rattle.ot_questions.specs.Instances.{PairFails, TripleFails}
@@ -16,11 +16,6 @@ use Rattle.ot_counter.specs.declared.counter.Counter.{Counter}
 use Rattle.ot_values.specs.Values.{floors_of, ops_at}
 use Rattle.ot_counter.specs.Documents.{document_at}
 use Rattle.ot_counter.specs.Ways.{left_at, right_at}
-
--- a pair is of TP1, a triple of TP2
-abbrev pub level_of : ObName → Level
-level_of (Pair k l) = Tp1
-level_of (Triple k l m) = Tp2
 
 -- all that it says is read off the values: the operations that they name, the document that shows the
 -- cause, and what the interpreter gives there

@@ -6,7 +6,7 @@ ghost use Rattle.diff_graph.specs.Literals.{IsPossible};
 ghost use Rattle.diff_graph.specs.Solutions.{AreLeast, IsPossibleAbove, valuation_of};
 ghost use Rattle.fn_rules.specs.declared.function.ObName.{ObName};
 ghost use Rattle.fn_rules.specs.Functions.{Function};
-ghost use Rattle.fn_rules.specs.Obligations.{is_obligation};
+ghost use Rattle.fn_rules.specs.Obligations.{level_of, is_obligation};
 ghost use Rattle.fn_rules.specs.Validity.{is_valid};
 ghost use Rattle.ot_questions.specs.declared.name.Who.{Who};
 ghost use Rattle.ot_questions.specs.declared.why.Why.{Why};
@@ -15,7 +15,7 @@ ghost use Rattle.ot_questions.specs.Obligation.{plan_of};
 ghost use Rattle.ask_core.specs.Leading.{LeadTo};
 ghost use Rattle.ot_values.specs.Values.{floors_of, ops_at, IsSmallAt};
 ghost use Rattle.ot_counter.specs.Documents.{document_at};
-ghost use Rattle.ot_counter.specs.Counters.{level_of, Breaks, BreaksBy};
+ghost use Rattle.ot_counter.specs.Counters.{Breaks, BreaksBy};
 
 use ask_core::answers_lead_to_ends;
 use ot_questions::{

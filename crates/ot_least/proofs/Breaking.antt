@@ -10,7 +10,7 @@ use Rattle.fn_rules.specs.declared.function.Head.{Head}
 use Rattle.fn_rules.specs.declared.function.ObName.{ObName}
 use Rattle.fn_rules.specs.declared.function.ObName.TheVariants.{Pair, Triple}
 use Rattle.fn_rules.specs.Functions.{Function, HasDeclaredKind, is_declared}
-use Rattle.fn_rules.specs.Obligations.{is_obligation}
+use Rattle.fn_rules.specs.Obligations.{level_of, is_obligation}
 use Rattle.fn_rules.specs.Properties.{HasTp1At, HasTp2At}
 use Rattle.fn_rules.specs.Validity.{is_valid}
 use Rattle.ask_core.specs.Plans.{end_of}
@@ -18,7 +18,7 @@ use Rattle.ot_questions.specs.declared.why.Why.{Why}
 use Rattle.ot_questions.specs.Meaning.{HasPair, HasTriple, HoldsAtLength}
 use Rattle.ot_questions.specs.Obligation.{plan_of}
 use Rattle.ot_values.specs.Values.{live_cells}
-use Rattle.ot_least.specs.Lows.{HasAt, level_of}
+use Rattle.ot_least.specs.Lows.{HasAt}
 
 declared_from : (head : Head) (o : Option Kind) (k : Kind) → o ≡ Some k → is_declared head k ≡ true → HasDeclaredKind head o
 declared_from head o k is declared = subst (λ (x : Option Kind). HasDeclaredKind head x) (sym is) declared

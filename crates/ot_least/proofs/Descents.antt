@@ -14,7 +14,7 @@ use Rattle.fn_rules.specs.declared.function.Level.TheVariants.{Tp1, Tp2}
 use Rattle.fn_rules.specs.declared.function.ObName.{ObName}
 use Rattle.fn_rules.specs.declared.function.ObName.TheVariants.{Pair, Triple}
 use Rattle.fn_rules.specs.Functions.{Function}
-use Rattle.fn_rules.specs.Obligations.{is_obligation, obligations_of}
+use Rattle.fn_rules.specs.Obligations.{level_of, is_obligation, obligations_of}
 use Rattle.fn_rules.specs.Properties.{HasTp1}
 use Rattle.fn_rules.specs.Validity.{is_valid}
 use Rattle.ask_core.specs.Leading.{LeadTo}
@@ -39,7 +39,7 @@ use Rattle.ot_least.specs.declared.ending.Ending.{Ending}
 use Rattle.ot_least.specs.declared.short.Short.{Short}
 use Rattle.ot_least.specs.declared.short.Short.TheVariants as short
 use Rattle.ot_least.specs.Endings.{IsEnding, failing_end_of}
-use Rattle.ot_least.specs.Lows.{HasAt, IsBroken, IsLow, level_of, low_header_text, parts_of}
+use Rattle.ot_least.specs.Lows.{HasAt, IsBroken, IsLow, low_header_text, parts_of}
 use Rattle.ot_least.proofs.Listed.{end_is_listed}
 use Rattle.ot_least.specs.Shortest.{EndHasCells, Falls, IsLeast, behind_first, end_by}
 

@@ -6,14 +6,14 @@ use Rattle.diff_graph.specs.Solutions.{valuation_of}
 use Rattle.fn_rules.specs.declared.function.Level.TheVariants.{Tp2}
 use Rattle.fn_rules.specs.declared.function.ObName.{ObName}
 use Rattle.fn_rules.specs.Functions.{Function}
-use Rattle.fn_rules.specs.Obligations.{obligations_of}
+use Rattle.fn_rules.specs.Obligations.{level_of, obligations_of}
 use Rattle.ot_questions.specs.declared.why.Why.{Why}
 use Rattle.ot_questions.specs.Names.{length_name}
 use Rattle.ot_questions.specs.Obligation.{plan_below, plan_of}
 use Rattle.ot_decide.specs.Verdicts.{AreAsked, FailingOb, ObQuestions, failing_in}
 use Rattle.ot_least.specs.declared.short.Short.{Short}
 use Rattle.ot_least.specs.declared.short.Short.TheVariants.{Fine, Least, TooLong, Spent}
-use Rattle.ot_least.specs.Lows.{level_of, parts_of}
+use Rattle.ot_least.specs.Lows.{parts_of}
 use Rattle.ot_least.proofs.Shorter.{has_length}
 use Rattle.ot_least.specs.Shortest.{AreAlikeAnswers, BeginsTurns, Comes, EndHasCells, Falls, HasCells, IsShort, TellsLeast, behind_first}
 

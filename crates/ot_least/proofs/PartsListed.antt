@@ -8,8 +8,8 @@ use Rattle.fn_rules.specs.declared.function.Level.{Level}
 use Rattle.fn_rules.specs.declared.function.Level.TheVariants.{Tp1, Tp2}
 use Rattle.fn_rules.specs.declared.function.ObName.{ObName}
 use Rattle.fn_rules.specs.declared.function.ObName.TheVariants.{Pair, Triple}
-use Rattle.fn_rules.specs.Obligations.{declared_kinds, is_obligation, obligations_of, pairs_of, triples_of, with_third, with_thirds}
-use Rattle.ot_least.specs.Lows.{level_of, parts_of}
+use Rattle.fn_rules.specs.Obligations.{level_of, declared_kinds, is_obligation, obligations_of, pairs_of, triples_of, with_third, with_thirds}
+use Rattle.ot_least.specs.Lows.{parts_of}
 
 -- what is so of all is so of those behind others
 all_behind : (p : ObName → Bool) (xs ys : List ObName) → list_all p (xs ++ ys) ≡ true → list_all p ys ≡ true

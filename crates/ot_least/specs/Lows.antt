@@ -5,7 +5,6 @@ use Rattle.fn_rules.specs.declared.function.Head.{Head}
 use Rattle.fn_rules.specs.declared.function.Level.{Level}
 use Rattle.fn_rules.specs.declared.function.Level.TheVariants.{Tp1, Tp2}
 use Rattle.fn_rules.specs.declared.function.ObName.{ObName}
-use Rattle.fn_rules.specs.declared.function.ObName.TheVariants.{Pair, Triple}
 use Rattle.fn_rules.specs.Functions.{Function}
 use Rattle.fn_rules.specs.Obligations.{declared_kinds, pairs_of, triples_of}
 use Rattle.fn_rules.specs.Properties.{HasTp1, HasTp2, HasTp1At, HasTp2At}
@@ -25,11 +24,6 @@ HasAt f Tp2 n = HasTp2At f n
 abbrev pub IsBroken : Function → Level → Type 0
 IsBroken f Tp1 = ¬ HasTp1 f
 IsBroken f Tp2 = HasTp1 f × ¬ HasTp2 f
-
--- the level whose property an obligation is a part of
-abbrev pub level_of : ObName → Level
-level_of (Pair k l) = Tp1
-level_of (Triple k l m) = Tp2
 
 -- the obligations of the property alone
 abbrev pub parts_of : Head → Level → List ObName

@@ -7,7 +7,7 @@ use Rattle.fn_rules.specs.declared.function.Level.{Level}
 use Rattle.fn_rules.specs.declared.function.Level.TheVariants.{Tp2}
 use Rattle.fn_rules.specs.declared.function.ObName.{ObName}
 use Rattle.fn_rules.specs.Functions.{Function}
-use Rattle.fn_rules.specs.Obligations.{is_obligation, obligations_of}
+use Rattle.fn_rules.specs.Obligations.{level_of, is_obligation, obligations_of}
 use Rattle.fn_rules.specs.Properties.{HasTp1, HasTp2}
 use Rattle.ask_core.specs.Plans.{Fails}
 use Rattle.ask_core.specs.Trees.{AnswerTree}
@@ -24,7 +24,7 @@ use Rattle.ot_decide.specs.Verdicts.{AreAsked, AskTheQuestions, FailingOb, ObQue
 use Rattle.ot_values.specs.Values.{floors_of}
 use Rattle.ot_least.specs.declared.short.Short.{Short}
 use Rattle.ot_least.specs.declared.short.Short.TheVariants.{Fine, Least, TooLong, Spent}
-use Rattle.ot_least.specs.Lows.{HasAt, IsBroken, IsLow, level_of, low_header_text, parts_of}
+use Rattle.ot_least.specs.Lows.{HasAt, IsBroken, IsLow, low_header_text, parts_of}
 
 -- the least values that meet the answers give so many cells to the document
 abbrev pub HasCells : ObName → List Lit → ℕ → Type 0

@@ -1,11 +1,12 @@
 //! The search of the shortest document, from failing end to shorter failing end.
 ghost use Rattle.std.specs.Prelude.{◌≡◌, ◌≤◌, ℕ, List, IfOk};
+ghost use Rattle.fn_rules.specs.Obligations.{level_of as part_level};
 ghost use Rattle.fn_rules.specs.Rules.{function_of};
 ghost use Rattle.ot_questions.specs.declared.why.Why.{Why};
 ghost use Rattle.ot_sections.specs.declared.premise.TheConstants.{MAX_BOUND};
 ghost use Rattle.ot_decide.specs.Verdicts.{ObQuestions};
 ghost use Rattle.ot_least.specs.Endings.{IsEnding, failing_end_of};
-ghost use Rattle.ot_least.specs.Lows.{IsBroken, level_of as part_level};
+ghost use Rattle.ot_least.specs.Lows.{IsBroken};
 ghost use Rattle.ot_least.specs.Shortest.{BeginsTurns, Falls, IsShort, IsShortWithin, IsTrueOf};
 
 use crate::ending::{Ending, ending_at, shorter_ending};

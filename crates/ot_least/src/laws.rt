@@ -7,7 +7,7 @@ ghost use Rattle.diff_graph.specs.Solutions.{AreLeast, valuation_of};
 ghost use Rattle.fn_rules.specs.declared.function.Level.{Level};
 ghost use Rattle.fn_rules.specs.declared.function.ObName.{ObName};
 ghost use Rattle.fn_rules.specs.Functions.{Function};
-ghost use Rattle.fn_rules.specs.Obligations.{is_obligation};
+ghost use Rattle.fn_rules.specs.Obligations.{level_of, is_obligation};
 ghost use Rattle.fn_rules.specs.Validity.{is_valid};
 ghost use Rattle.ask_core.specs.Leading.{LeadTo};
 ghost use Rattle.ot_questions.specs.declared.why.Why.{Why};
@@ -18,7 +18,7 @@ ghost use Rattle.ot_sections.specs.declared.refusal.JudgeError.{JudgeError};
 ghost use Rattle.ot_least.specs.declared.short.Short.{Short};
 ghost use Rattle.ot_least.specs.declared.short.Short.TheVariants.{TooLong};
 ghost use Rattle.ot_least.specs.Judgements.{IsJudgedLow, IsLowJudgement};
-ghost use Rattle.ot_least.specs.Lows.{HasAt, IsLow, level_of};
+ghost use Rattle.ot_least.specs.Lows.{HasAt, IsLow};
 ghost use Rattle.ot_least.specs.Shortest.{AreAlikeAnswers, IsShort};
 
 use ask_core::{answers_lead_to_ends, fitting_trees_hold};

@@ -3,8 +3,8 @@ ghost use Rattle.std.specs.Prelude.{◌≡◌, ◌≤◌, true, IfOk, length};
 ghost use Rattle.std.specs.List.{AllByRecursion, list_all};
 ghost use Rattle.fn_rules.specs.declared.function.Head.{Head};
 ghost use Rattle.fn_rules.specs.declared.function.Level.{Level};
-ghost use Rattle.fn_rules.specs.Obligations.{is_obligation};
-ghost use Rattle.ot_least.specs.Lows.{level_of as part_level, parts_of};
+ghost use Rattle.fn_rules.specs.Obligations.{level_of as part_level, is_obligation};
+ghost use Rattle.ot_least.specs.Lows.{parts_of};
 
 use ask_core::NoMemory;
 use fn_rules::{

@@ -73,7 +73,7 @@ module _ (count : ℕ) where
 
   -- a form asks fine literals, and on a path at most as many as it compares
   form_goes_on : (g : FormTree) (p q : Plan Why) → HasPlaces count g → GoesOn count (comparisons_left g) p q (ask_form g p q)
-  unfolding ask_form ask_lt ask_eq
+  unfolding ask_form ask_lt ask_eq ask_le
   form_goes_on True p q h = record { literals = λ hp hq. hp; paths = omega arith }
   form_goes_on (Le x y) p q h = le_goes_on x y p q h.0 h.1
   form_goes_on (Lt x y) p q h = le_goes_on x (plus y (negsuc 0)) p q h.0 (IsPlace-before count y h.1)

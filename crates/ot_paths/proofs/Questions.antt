@@ -12,7 +12,7 @@ use Rattle.ot_questions.specs.declared.why.Why.{Why}
 use Rattle.ot_questions.specs.Names.{name_count}
 use Rattle.ot_questions.specs.Nears.{IsNear}
 use Rattle.ot_questions.specs.Obligation.{plan_of}
-use Rattle.ot_questions.specs.Questions.{ask_le}
+use Rattle.ot_questions.specs.Questions.{ask_le, ask_lt, ask_eq}
 use Rattle.ot_terms.specs.declared.form.Form.{Form}
 use Rattle.ot_terms.specs.Forms.{FormTree, Le, form_tree}
 use Rattle.ot_terms.specs.Goals as goals
@@ -48,7 +48,7 @@ pub ask_goal_question :
     (f : Function) (x y : Place) (on_yes on_no : GoalTree) → nat_eq x.var y.var ≡ false
     → ask_goal f (If (Le x y) on_yes on_no)
     ≡ plans.Ask (literal x y) (ask_goal f on_yes) (ask_goal f on_no)
-unfolding ask_goal ask_form ask_le
+unfolding ask_goal ask_form ask_le ask_lt ask_eq
 ask_goal_question f x y on_yes on_no differ = rw differ
 
 -- both parts of a question keep the limits where it does

@@ -6,7 +6,8 @@ use Rattle.diff_graph.specs.declared.lit.Lit.{Lit}
 use Rattle.diff_graph.specs.Literals.{answered_of}
 use Rattle.ask_core.specs.Trees.{with_answer}
 use Rattle.diff_graph.specs.Tables.{kept_of}
-use Rattle.ot_prove.specs.Sides.{Rows, IsTableOf, AreJudged, JudgesSides, AddsAnswer, ClosesCycle, last_rows}
+use Rattle.diff_bounds.specs.Kept.{Rows}
+use Rattle.ot_prove.specs.Sides.{IsTableOf, AreJudged, JudgesSides, AddsAnswer, ClosesCycle, last_rows}
 use Rattle.ot_prove.proofs.Possible.{IsCycleAmong-closed}
 
 -- a last element is the first from behind

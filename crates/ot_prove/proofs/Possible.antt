@@ -10,7 +10,8 @@ use Rattle.diff_graph.specs.Tables.{IsNamed, Numbered, literals_of, numbered_fro
 use Rattle.diff_graph.specs.Steps.{keeps, leaves_room}
 use Rattle.ask_core.specs.Trees.{IsCycleAmong, with_answer}
 use Rattle.ot_prove.specs.declared.split.TheConstants.{MAX_NAMES}
-use Rattle.ot_prove.specs.Sides.{Rows, IsTableOf, AddsAnswer, ClosesCycle}
+use Rattle.diff_bounds.specs.Kept.{Rows}
+use Rattle.ot_prove.specs.Sides.{IsTableOf, AddsAnswer, ClosesCycle}
 
 -- ---- literals under their places
 pub literals_of-numbered_from : (place : ℕ) (ls : List Lit) → literals_of (numbered_from place ls) ≡ ls

@@ -19,7 +19,8 @@ use Rattle.ot_prove.specs.declared.outcome.Outcome.TheVariants.{Yes, Spent}
 use Rattle.ot_prove.specs.Outcomes.{AreAllPossible, IsDecided}
 use Rattle.ot_prove.specs.declared.split.Room.{Room}
 use Rattle.ot_prove.specs.declared.split.Room.TheVariants.{Both, OnlyYes, OnlyNo}
-use Rattle.ot_prove.specs.Sides.{Rows, IsTableOf, IsAsked, StandsForSome, AreJudged, JudgesSides, cycles_of}
+use Rattle.diff_bounds.specs.Kept.{Rows}
+use Rattle.ot_prove.specs.Sides.{IsTableOf, IsAsked, StandsForSome, AreJudged, JudgesSides, cycles_of}
 use Rattle.ot_prove.specs.Searching.{plan_weight, weight_of, HasCome, answers_at, AgreesWithLists, AreShortBranches, LeadsTo, AreReached, IsSearching, known_by}
 use Rattle.ot_prove.specs.Searching.{GoesOnAfterQuestion}
 use Rattle.ot_prove.proofs.Literals.{fine_question}

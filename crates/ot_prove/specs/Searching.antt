@@ -17,7 +17,8 @@ use Rattle.ot_prove.specs.declared.outcome.Outcome.{Outcome}
 use Rattle.ot_prove.specs.declared.search.PlanSearch.{PlanSearch}
 use Rattle.ot_prove.specs.declared.split.Room.{Room}
 use Rattle.ot_prove.specs.declared.split.Room.TheVariants.{Both, OnlyYes, OnlyNo}
-use Rattle.ot_prove.specs.Sides.{Rows, AreJudged, JudgesSides, cycles_of}
+use Rattle.diff_bounds.specs.Kept.{Rows}
+use Rattle.ot_prove.specs.Sides.{AreJudged, JudgesSides, cycles_of}
 
 -- how many questions and ends a plan has
 abbrev pub plan_weight : {W : Type 0} → Plan W → ℕ

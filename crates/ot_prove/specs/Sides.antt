@@ -7,16 +7,12 @@ use Rattle.diff_graph.specs.declared.lit.TheConstants.{MAX_LITERAL_OFFSET}
 use Rattle.diff_graph.specs.declared.hop.Hop.{Hop}
 use Rattle.diff_graph.specs.Literals.{answered_of}
 use Rattle.diff_graph.specs.Tables.{Numbered, StandsFor, IsCycleOf, kept_of, numbered_from}
-use Rattle.diff_bounds.specs.Kept.{has_room}
+use Rattle.diff_bounds.specs.Kept.{Rows, has_room}
 use Rattle.ask_core.specs.declared.picks.TheConstants.{MAX_PICKS}
 use Rattle.ask_core.specs.Trees.{IsCycleAmong, with_answer}
 use Rattle.ot_prove.specs.declared.split.TheConstants.{MAX_NAMES}
 use Rattle.ot_prove.specs.declared.split.Room.{Room}
 use Rattle.ot_prove.specs.declared.split.Room.TheVariants.{Both, OnlyYes, OnlyNo}
-
--- the rows of a table: the row of y has what is kept for each name x and y
-abbrev pub Rows : Type 0
-Rows = List (List (Option Hop))
 
 -- the table stands for the answers, each under its place
 abbrev pub IsTableOf : List Lit → Rows → Type 0

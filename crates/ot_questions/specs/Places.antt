@@ -1,5 +1,5 @@
 -- Operations whose parts are names: the picture of an operation of which nothing is known but its kind.
-use Rattle.std.specs.Prelude.{ℕ, ℤ, pos, negsuc, ◌+ℤ◌, Option, Some, None}
+use Rattle.std.specs.Prelude.{ℕ, ℤ, pos, negsuc, ◌+ℤ◌, if◌then◌else◌, nat_eq, int_le, Option, Some, None}
 use Rattle.ot_model.specs.declared.op.Kind.{Kind}
 use Rattle.ot_model.specs.declared.op.Kind.TheVariants as kinds
 use Rattle.ot_model.specs.declared.op.Mode.{Mode}
@@ -37,6 +37,12 @@ plus at off = place at.var (at.off +ℤ off)
 -- the integer at a place
 abbrev pub integer_at : (ℕ → ℤ) → Place → ℤ
 integer_at v at = v at.var +ℤ at.off
+
+-- what is left by the order of two places, of two ends: places of one name are compared at once, and of others `ask`
+-- says what is left
+abbrev pub by_order : {A : Type 0} → (Place → Place → A → A → A) → Place → Place → A → A → A
+by_order ask x y on_yes on_no =
+    if nat_eq x.var y.var then (if int_le x.off y.off then on_yes else on_no) else ask x y on_yes on_no
 
 -- an operation of a kind, each part of which is a name of its own
 abbrev pub sym_op : Kind → Who → SymOp

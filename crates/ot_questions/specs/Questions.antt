@@ -1,6 +1,6 @@
 -- The questions about operations, as plans that go on with other plans: each takes what follows where
 -- the answer is yes and where it is no.
-use Rattle.std.specs.Prelude.{ℕ, ℤ, pos, negsuc, ◌-ℤ◌, if◌then◌else◌, nat_eq, int_le, Option, Some, None, List, [], ◌∷◌}
+use Rattle.std.specs.Prelude.{ℕ, ℤ, pos, negsuc, ◌-ℤ◌, if◌then◌else◌, Option, Some, None, List, [], ◌∷◌}
 use Rattle.ot_model.specs.declared.op.Kind.{Kind}
 use Rattle.fn_rules.specs.declared.function.Head.{Head}
 use Rattle.fn_rules.specs.declared.guard.Cmp.{Cmp}
@@ -14,15 +14,16 @@ use Rattle.ot_questions.specs.declared.place.SymOp.{SymOp}
 use Rattle.ot_questions.specs.declared.place.SymOp.TheVariants.{Ins, Del, Upd, Nop}
 use Rattle.ot_questions.specs.declared.why.Why.{Why}
 use Rattle.ot_questions.specs.declared.why.Why.TheVariants.{Undefined}
-use Rattle.ot_questions.specs.Places.{place, zero_place, length_and, plus, sym_kind, sym_site, sym_char, sym_result}
-use Rattle.ot_questions.specs.Places.{sym_thing}
+use Rattle.ot_questions.specs.Places.{place, zero_place, length_and, plus, by_order, sym_kind, sym_site, sym_char}
+use Rattle.ot_questions.specs.Places.{sym_result, sym_thing}
 
--- whether the first place is at most the second: asked as a literal, but for one name with itself,
--- which the offsets decide
+-- whether the first place is at most the second, as a literal
+abbrev pub ask_places : Place → Place → Plan Why → Plan Why → Plan Why
+ask_places a b on_yes on_no = Ask (record { x = a.var; y = b.var; k = b.off -ℤ a.off }) on_yes on_no
+
+-- the same, but for one name with itself, which the offsets decide
 unfoldable pub ask_le : Place → Place → Plan Why → Plan Why → Plan Why
-ask_le a b on_yes on_no =
-    if nat_eq a.var b.var then (if int_le a.off b.off then on_yes else on_no)
-    else Ask (record { x = a.var; y = b.var; k = b.off -ℤ a.off }) on_yes on_no
+ask_le a b on_yes on_no = by_order ask_places a b on_yes on_no
 
 -- whether it is less: at most the place before the second
 unfoldable pub ask_lt : Place → Place → Plan Why → Plan Why → Plan Why

@@ -24,7 +24,7 @@ use Rattle.ot_questions.specs.declared.why.Why.TheVariants.{Operations, Undefine
 use Rattle.ot_questions.specs.Instances.{NamesPair, StandsForOperation}
 use Rattle.ot_questions.specs.Names.{length_name, zero_name}
 use Rattle.ot_questions.specs.Places.{length_and, sym_kind, sym_op, zero_place}
-use Rattle.ot_questions.specs.Questions.{ask_enabled, ask_first_result, ask_result, ask_result_by_kinds}
+use Rattle.ot_questions.specs.Questions.{ask_enabled, ask_first_result, ask_result, ask_result_by_kinds, ask_le, ask_lt, ask_eq}
 use Rattle.ot_terms.specs.Goals.{GoalTree}
 use Rattle.ot_terms.specs.Standing.{ask_form, ask_goal}
 use Rattle.ot_terms.specs.Starting.{if_all_enabled, if_allowed, if_enabled, if_length}
@@ -107,7 +107,7 @@ module _ (at_most : EndsAtMost) (ends_enabled : EndsEnabled) (ends_allowed : End
   second_kind = kind_named v l B b names.second
 
   end_length : (next : GoalTree) → ended (if_length next) ≡ (if int_le (v 0 +ℤ pos 0) (v 1 +ℤ pos 0) then ended next else None)
-  unfolding ask_goal ask_form
+  unfolding ask_goal ask_form ask_le ask_lt ask_eq
   end_length next = at_most v zero_place (length_and (pos 0)) (ask_goal f next) plans.Holds
 
   length_passes : (next : GoalTree) → ended (if_length next) ≡ ended next

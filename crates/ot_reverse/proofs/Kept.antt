@@ -17,7 +17,7 @@ use Rattle.ot_questions.specs.declared.why.Why.{Why}
 use Rattle.ot_questions.specs.Asked.{IsBelow, IsKept, OpStands}
 use Rattle.ot_questions.specs.Nears.{IsNear}
 use Rattle.ot_questions.specs.Places.{length_and, sym_kind, sym_op, sym_result, zero_place}
-use Rattle.ot_questions.specs.Questions.{ask_enabled}
+use Rattle.ot_questions.specs.Questions.{ask_enabled, ask_le, ask_lt, ask_eq}
 use Rattle.ot_terms.specs.Goals.{GoalTree, Holds}
 use Rattle.ot_terms.specs.Standing.{ask_form, ask_goal}
 use Rattle.ot_terms.specs.Starting.{if_allowed, if_enabled, if_length}
@@ -135,7 +135,7 @@ module _ (named : StandsNamed) (comparison : KeepsComparison) (enabled : KeepsEn
       (enabled 9 m o (pos 0) (ask_goal f next) plans.Holds (lit< tt) near_499 (op_wider 0 499 o wider_0_499 stands) kept (holds_kept m))
 
   length_kept : (m : ℕ) (next : GoalTree) → IsKept 9 m (ask_goal f next) → IsKept 9 (m + 1) (ask_goal f (if_length next))
-  unfolding ask_goal ask_form
+  unfolding ask_goal ask_form ask_le ask_lt ask_eq
   length_kept m next kept =
       comparison 9 m Pos zero_place (length_and (pos 0)) (ask_goal f next) plans.Holds (lit< tt)
       (record { is = refl; free = lit< tt; steady = tt; near = near_zero })

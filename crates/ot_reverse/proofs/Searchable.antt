@@ -17,7 +17,7 @@ use Rattle.ot_questions.specs.Asked.{IsKept}
 use Rattle.ot_questions.specs.Names.{length_name, position_name, zero_name}
 use Rattle.ot_questions.specs.Nears.{IsNearCase}
 use Rattle.ot_questions.specs.Places.{length_and, place, plus, sym_op, zero_place}
-use Rattle.ot_questions.specs.Questions.{ask_lt}
+use Rattle.ot_questions.specs.Questions.{ask_lt, ask_le, ask_eq}
 use Rattle.ot_questions.specs.Sorts.{HasNoNegativePosition}
 use Rattle.ot_terms.specs.Forms.{Le, Lt}
 use Rattle.ot_terms.specs.Goals.{GoalTree}
@@ -41,7 +41,7 @@ module _ (at_most : EndsAtMost) (f : Function) (v : ℕ → ℤ) (z : v zero_nam
       omega (arith, ints)
 
   length_passed : (next : GoalTree) (why : Why) → ended (if_length next) ≡ Some why → (pos 0 ≤ℤ v length_name) × (ended next ≡ Some why)
-  unfolding ask_goal ask_form
+  unfolding ask_goal ask_form ask_le ask_lt ask_eq
   length_passed next why failed =
       let both =
       some_passed (int_le (v 0 +ℤ pos 0) (v 1 +ℤ pos 0)) (ended next) why
@@ -53,7 +53,7 @@ module _ (at_most : EndsAtMost) (f : Function) (v : ℕ → ℤ) (z : v zero_nam
       (who : Who) (last : plans.Plan Why) (why : Why)
       → end_of (ask_form (Le zero_place (place (position_name who) (pos 0))) last plans.Holds) v ≡ Some why
       → (pos 0 ≤ℤ v (position_name who)) × (end_of last v ≡ Some why)
-  unfolding ask_form
+  unfolding ask_form ask_le ask_lt ask_eq
   first_passed who last why failed =
       let both =
       some_passed (int_le (v 0 +ℤ pos 0) (v (position_name who) +ℤ pos 0)) (end_of last v) why
@@ -64,7 +64,7 @@ module _ (at_most : EndsAtMost) (f : Function) (v : ℕ → ℤ) (z : v zero_nam
       (who : Who) (next : GoalTree) (why : Why)
       → end_of (ask_form (Le (place (position_name who) (pos 0)) (length_and (pos 0))) (ask_goal f next) plans.Holds) v ≡ Some why
       → ended next ≡ Some why
-  unfolding ask_form
+  unfolding ask_form ask_le ask_lt ask_eq
   end_passed who next why failed =
       let at = place (position_name who) (pos 0) in
       (some_passed (int_le (v (position_name who) +ℤ pos 0) (v 1 +ℤ pos 0)) (ended next) why
@@ -74,7 +74,7 @@ module _ (at_most : EndsAtMost) (f : Function) (v : ℕ → ℤ) (z : v zero_nam
       (who : Who) (next : GoalTree) (why : Why)
       → end_of (ask_form (Lt (place (position_name who) (pos 0)) (length_and (pos 0))) (ask_goal f next) plans.Holds) v ≡ Some why
       → ended next ≡ Some why
-  unfolding ask_form ask_lt
+  unfolding ask_form ask_lt ask_le ask_eq
   cell_passed who next why failed =
       let at = place (position_name who) (pos 0) in
       (some_passed (int_le (v (position_name who) +ℤ pos 0) (v 1 +ℤ (pos 0 +ℤ negsuc 0))) (ended next) why
@@ -84,7 +84,7 @@ module _ (at_most : EndsAtMost) (f : Function) (v : ℕ → ℤ) (z : v zero_nam
   enabled_passed :
       (k : Kind) (who : Who) (next : GoalTree) (why : Why) → ended (if_enabled (sym_op k who) next) ≡ Some why
       → (pos 0 ≤ℤ v (position_name who)) × (ended next ≡ Some why)
-  unfolding ask_goal ask_form
+  unfolding ask_goal ask_form ask_le ask_lt ask_eq
   enabled_passed kinds.Ins who next why failed =
       let first = first_passed who (ask_form (Le (place (position_name who) (pos 0)) (length_and (pos 0))) (ask_goal f next) plans.Holds) why failed in
       (first.0, end_passed who next why first.1)

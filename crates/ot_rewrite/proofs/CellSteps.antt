@@ -9,7 +9,7 @@ use Rattle.ot_questions.specs.declared.cell.Finished.{Finished}
 use Rattle.ot_questions.specs.declared.place.Place.{Place}
 use Rattle.ot_questions.specs.declared.why.Why.{Why}
 use Rattle.ot_questions.specs.Places.{plus, index_and}
-use Rattle.ot_questions.specs.Questions.{ask_le, ask_lt}
+use Rattle.ot_questions.specs.Questions.{ask_le, ask_lt, ask_eq}
 use Rattle.ot_questions.specs.Reading.{put_cell, buried_cell, replaced_cell, ask_cell}
 use Rattle.ot_terms.specs.Forms as forms
 use Rattle.ot_terms.specs.Documents as documents
@@ -58,7 +58,7 @@ module _ (d : DocTree) (at j : Place) (here : j.var ≡ 2) (go : Finished → Pl
       (mode : Mode) (ch : ℕ)
       → ask_read mode (If (forms.Lt j at) (At d j) (If (forms.Le j at) (Char ch) (At d (plus j (negsuc 0))))) go
       ≡ ask_read mode (At (documents.Put d at ch) j) go
-  unfolding ask_read ask_cell ask_form
+  unfolding ask_read ask_cell ask_form ask_le ask_lt ask_eq
   put_asked mode ch =
       ap
       (λ x.
@@ -69,7 +69,7 @@ module _ (d : DocTree) (at j : Place) (here : j.var ≡ 2) (go : Finished → Pl
   cut_asked :
       (mode : Mode) → mode ≡ Plain
       → ask_read mode (If (forms.Lt j at) (At d j) (At d (plus j (pos 1)))) go ≡ ask_read mode (At (documents.Cut d at) j) go
-  unfolding ask_read ask_cell ask_form
+  unfolding ask_read ask_cell ask_form ask_le ask_lt ask_eq
   cut_asked Plain is =
       ap (λ x. ask_lt x at (ask_cell Plain (changes_of d) j.off go) (ask_cell Plain (changes_of d) (j.off +ℤ pos 1) go))
       (sym (index_place j here))
@@ -80,7 +80,7 @@ module _ (d : DocTree) (at j : Place) (here : j.var ≡ 2) (go : Finished → Pl
       (mode : Mode) → mode ≡ Tomb
       → ask_read mode (If (forms.Lt j at) (At d j) (If (forms.Le j at) (Dead (At d j)) (At d j))) go
       ≡ ask_read mode (At (documents.Mark d at) j) go
-  unfolding ask_read ask_cell ask_form
+  unfolding ask_read ask_cell ask_form ask_le ask_lt ask_eq
   mark_asked Plain is = absurd (cc)
   mark_asked Tomb is =
       ap
@@ -95,7 +95,7 @@ module _ (d : DocTree) (at j : Place) (here : j.var ≡ 2) (go : Finished → Pl
       (mode : Mode) (ch : ℕ)
       → ask_read mode (If (forms.Lt j at) (At d j) (If (forms.Le j at) (Over ch (At d j)) (At d j))) go
       ≡ ask_read mode (At (documents.Over d at ch) j) go
-  unfolding ask_read ask_cell ask_form
+  unfolding ask_read ask_cell ask_form ask_le ask_lt ask_eq
   over_asked mode ch =
       ap
       (λ x.

@@ -57,12 +57,12 @@ case_falls g w rest form before after e d h = omega arith
 
 -- what may come of the two operations of the next transformation may be the next result
 next_result :
-    (ob : ObName) (plan : GoalProgress) (a b r : SymOp) → next_operands ob plan.ops (results_of plan) ≡ Some (a, b)
-    → (r ≡ ops.Nop) ⊎ IsMoved (name_count ob) (reach_of ob (length (results_of plan))) a r
-    → IsNextResult ob plan.ops (results_of plan) r
-next_result ob plan a b r next h =
+    (ob : ObName) (progress : GoalProgress) (a b r : SymOp) → next_operands ob progress.ops (results_of progress) ≡ Some (a, b)
+    → (r ≡ ops.Nop) ⊎ IsMoved (name_count ob) (reach_of ob (length (results_of progress))) a r
+    → IsNextResult ob progress.ops (results_of progress) r
+next_result ob progress a b r next h =
     subst
-    (λ t. MatchOption t ⊥ (λ pair. (r ≡ ops.Nop) ⊎ IsMoved (name_count ob) (reach_of ob (length (results_of plan))) pair.0 r))
+    (λ t. MatchOption t ⊥ (λ pair. (r ≡ ops.Nop) ⊎ IsMoved (name_count ob) (reach_of ob (length (results_of progress))) pair.0 r))
     (sym next) h
 
 -- of two operations of which neither is nop
@@ -81,23 +81,23 @@ module _ (f : Function) (a b : SymOp) (k l : Kind) (there : sym_kind a ≡ Some 
       ∙ ap (λ t. ask_result_by_kinds (from_case n f) a b (Some k) t (or_undefined go)) other
 
   asked_of_cases :
-      (cs : List GuardedCase) (n : ℕ) (plan : GoalProgress) → drop n (f.cases k l) ≡ cs
-      → ask_goal f (choose_case cs n a b plan) ≡ ask_first_result cs a b (or_undefined (ask_with f plan))
+      (cs : List GuardedCase) (n : ℕ) (progress : GoalProgress) → drop n (f.cases k l) ≡ cs
+      → ask_goal f (choose_case cs n a b progress) ≡ ask_first_result cs a b (or_undefined (ask_with f progress))
   unfolding ask_goal
-  asked_of_cases [] n plan e = refl
-  asked_of_cases (c ∷ cs) n plan e =
-      ask_form_guard_form c.guard a b (ask_with f plan (sym_result c.res a b)) (ask_transform (from_case (suc n) f) a b (ask_with f plan))
-      ∙ ap (λ p. ask_guard c.guard a b (ask_with f plan (sym_result c.res a b)) p)
-      (ask_from_case (suc n) (ask_with f plan)
-      ∙ ap (λ t. ask_first_result t a b (or_undefined (ask_with f plan))) (drop_next (f.cases k l) n c cs e))
+  asked_of_cases [] n progress e = refl
+  asked_of_cases (c ∷ cs) n progress e =
+      ask_form_guard_form c.guard a b (ask_with f progress (sym_result c.res a b)) (ask_transform (from_case (suc n) f) a b (ask_with f progress))
+      ∙ ap (λ p. ask_guard c.guard a b (ask_with f progress (sym_result c.res a b)) p)
+      (ask_from_case (suc n) (ask_with f progress)
+      ∙ ap (λ t. ask_first_result t a b (or_undefined (ask_with f progress))) (drop_next (f.cases k l) n c cs e))
 
   -- the choice by the first case that is left is lighter than the goal
   lighter_of_cases :
-      (cs : List GuardedCase) (n : ℕ) (plan : GoalProgress) → drop n (f.cases k l) ≡ cs
-      → goal_weight f (choose_case cs n a b plan) < goal_weight f (Choose n a b plan)
-  lighter_of_cases [] n plan e = omega arith
-  lighter_of_cases (c ∷ cs) n plan e =
-      case_falls (guard_weight c.guard) (cases_weight cs) (rest_weight f plan) (form_weight (guard_form c.guard a b))
+      (cs : List GuardedCase) (n : ℕ) (progress : GoalProgress) → drop n (f.cases k l) ≡ cs
+      → goal_weight f (choose_case cs n a b progress) < goal_weight f (Choose n a b progress)
+  lighter_of_cases [] n progress e = omega arith
+  lighter_of_cases (c ∷ cs) n progress e =
+      case_falls (guard_weight c.guard) (cases_weight cs) (rest_weight f progress) (form_weight (guard_form c.guard a b))
       (cases_weight (drop n (cases_of_kinds f (sym_kind a) (sym_kind b))))
       (cases_weight (drop (suc n) (cases_of_kinds f (sym_kind a) (sym_kind b))))
       (guard_form_weight c.guard a b)
@@ -108,19 +108,19 @@ module _ (f : Function) (a b : SymOp) (k l : Kind) (there : sym_kind a ≡ Some 
   module _ (ob : ObName) (valid : IsTrue (is_valid f)) where
     -- the choice by the first case that is left has parts of the obligation
     parts_of_cases :
-        (cs : List GuardedCase) (n : ℕ) (plan : GoalProgress) → drop n (f.cases k l) ≡ cs → IsTrue (is_obligation f.head ob)
-        → IsChoiceOf f ob n a b plan → HasParts f ob (choose_case cs n a b plan)
-    parts_of_cases [] n plan e d h = tt
-    parts_of_cases (c ∷ cs) n plan e d h =
+        (cs : List GuardedCase) (n : ℕ) (progress : GoalProgress) → drop n (f.cases k l) ≡ cs → IsTrue (is_obligation f.head ob)
+        → IsChoiceOf f ob n a b progress → HasParts f ob (choose_case cs n a b progress)
+    parts_of_cases [] n progress e d h = tt
+    parts_of_cases (c ∷ cs) n progress e d h =
         let near : IsNearCase c = of_next IsNearCase (f.cases k l) n c cs (AreNear-cases f k l valid) e in
-        let both = next_are_operands f ob plan.ops (results_of plan) a b d h.progress.made h.progress.results h.next in
+        let both = next_are_operands f ob progress.ops (results_of progress) a b d h.progress.made h.progress.results h.next in
         let some : 2 < name_count ob = some_names ob in
         let below : n < length (f.cases k l) = drop_within (f.cases k l) n c cs e in (
           guard_form_has_places c.guard (name_count ob) a b near.0 (omega arith) both.0.names both.1.names h.a_near h.b_near,
           (
             h.progress,
-            next_result ob plan a b (sym_result c.res a b) h.next
-                (result_moves f ob (length (results_of plan)) a b k there both.0 both.1 c.res near.1),
+            next_result ob progress a b (sym_result c.res a b) h.next
+                (result_moves f ob (length (results_of progress)) a b k there both.0 both.1 c.res near.1),
           ),
           record {
             progress = h.progress;
@@ -133,44 +133,44 @@ module _ (f : Function) (a b : SymOp) (k l : Kind) (there : sym_kind a ≡ Some 
           },
         )
 
-module _ (f : Function) (ob : ObName) (case : ℕ) (a b : SymOp) (plan : GoalProgress) where
+module _ (f : Function) (ob : ObName) (case : ℕ) (a b : SymOp) (progress : GoalProgress) where
   -- the choice by the kinds of the two operations asks what the transformation asks
   asked_of_kinds :
       (ka kb : Option Kind) → sym_kind a ≡ ka → sym_kind b ≡ kb
-      → ask_goal f (choose_by_kinds f case a b ka kb plan) ≡ ask_goal f (Choose case a b plan)
+      → ask_goal f (choose_by_kinds f case a b ka kb progress) ≡ ask_goal f (Choose case a b progress)
   unfolding ask_goal ask_transform
   asked_of_kinds None kb there other =
-      ap (λ t. ask_result_by_kinds (from_case case f) a b t (sym_kind b) (or_undefined (ask_with f plan))) (sym there)
+      ap (λ t. ask_result_by_kinds (from_case case f) a b t (sym_kind b) (or_undefined (ask_with f progress))) (sym there)
   asked_of_kinds (Some k) None there other =
-      ap (λ t. ask_result_by_kinds (from_case case f) a b (Some k) t (or_undefined (ask_with f plan))) (sym other)
-      ∙ ap (λ t. ask_result_by_kinds (from_case case f) a b t (sym_kind b) (or_undefined (ask_with f plan))) (sym there)
+      ap (λ t. ask_result_by_kinds (from_case case f) a b (Some k) t (or_undefined (ask_with f progress))) (sym other)
+      ∙ ap (λ t. ask_result_by_kinds (from_case case f) a b t (sym_kind b) (or_undefined (ask_with f progress))) (sym there)
   asked_of_kinds (Some k) (Some l) there other =
-      asked_of_cases f a b k l there other (drop case (f.cases k l)) case plan refl
-      ∙ sym (ask_from_case f a b k l there other case (ask_with f plan))
+      asked_of_cases f a b k l there other (drop case (f.cases k l)) case progress refl
+      ∙ sym (ask_from_case f a b k l there other case (ask_with f progress))
 
   lighter_of_kinds :
       (ka kb : Option Kind) → sym_kind a ≡ ka → sym_kind b ≡ kb
-      → goal_weight f (choose_by_kinds f case a b ka kb plan) < goal_weight f (Choose case a b plan)
+      → goal_weight f (choose_by_kinds f case a b ka kb progress) < goal_weight f (Choose case a b progress)
   lighter_of_kinds None kb there other = omega arith
   lighter_of_kinds (Some k) None there other = omega arith
   lighter_of_kinds (Some k) (Some l) there other =
-      lighter_of_cases f a b k l there other (drop case (f.cases k l)) case plan refl
+      lighter_of_cases f a b k l there other (drop case (f.cases k l)) case progress refl
 
   module _ (valid : IsTrue (is_valid f)) (d : IsTrue (is_obligation f.head ob)) where
     -- so has the choice by the kinds of the two operations
     parts_of_kinds :
-        (ka kb : Option Kind) → sym_kind a ≡ ka → sym_kind b ≡ kb → IsChoiceOf f ob case a b plan
-        → HasParts f ob (choose_by_kinds f case a b ka kb plan)
-    parts_of_kinds None kb there other h = (h.progress, next_result ob plan a b ops.Nop h.next (inl refl))
+        (ka kb : Option Kind) → sym_kind a ≡ ka → sym_kind b ≡ kb → IsChoiceOf f ob case a b progress
+        → HasParts f ob (choose_by_kinds f case a b ka kb progress)
+    parts_of_kinds None kb there other h = (h.progress, next_result ob progress a b ops.Nop h.next (inl refl))
     parts_of_kinds (Some k) None there other h =
-        let both = next_are_operands f ob plan.ops (results_of plan) a b d h.progress.made h.progress.results h.next in (
+        let both = next_are_operands f ob progress.ops (results_of progress) a b d h.progress.made h.progress.results h.next in (
           h.progress,
-          next_result ob plan a b a h.next (first_stays f ob (length (results_of plan)) a b k there both.0 both.1),
+          next_result ob progress a b a h.next (first_stays f ob (length (results_of progress)) a b k there both.0 both.1),
         )
     parts_of_kinds (Some k) (Some l) there other h =
-        parts_of_cases f a b k l there other ob valid (drop case (f.cases k l)) case plan refl d h
+        parts_of_cases f a b k l there other ob valid (drop case (f.cases k l)) case progress refl d h
 
-    pub choose_rule : IsRewriting f ob (Choose case a b plan) (rewrite_choose f case a b plan)
+    pub choose_rule : IsRewriting f ob (Choose case a b progress) (rewrite_choose f case a b progress)
     choose_rule = record {
       asked = asked_of_kinds (sym_kind a) (sym_kind b) refl refl;
       parts = λ h. parts_of_kinds (sym_kind a) (sym_kind b) refl refl h;

@@ -15,7 +15,7 @@ use Rattle.ot_questions.specs.declared.place.SymOp.TheVariants.{Ins, Del, Upd, N
 use Rattle.ot_questions.specs.declared.why.Why.{Why}
 use Rattle.ot_questions.specs.declared.why.Why.TheVariants.{OutOfRange, Lengths}
 use Rattle.ot_questions.specs.Places.{zero_place, length_and, index_and, sym_kind, sym_at, growth}
-use Rattle.ot_questions.specs.Questions.{ask_le, ask_lt, ask_enabled}
+use Rattle.ot_questions.specs.Questions.{ask_le, ask_lt, ask_enabled, ask_eq}
 use Rattle.ot_questions.specs.Reading.{put_cell, buried_cell, replaced_cell, ask_cell, ask_same}
 use Rattle.ot_questions.specs.Obligation.{ask_documents, ask_lengths, ask_ways, ask_one_place, ask_same_form}
 use Rattle.ot_terms.specs.Goals.{GoalTree, Fails}
@@ -60,7 +60,7 @@ ask_cell-changes mode (Upd at ch site ∷ os) off go =
 ask_cell-changes mode (Nop ∷ os) off go = ask_cell-changes mode os off go
 
 enabled_asks : (o : SymOp) (off : ℤ) (p q : Plan Why) → ask_form (enabled_form o off) p q ≡ ask_enabled o off p q
-unfolding ask_form ask_enabled
+unfolding ask_form ask_enabled ask_le ask_lt ask_eq
 enabled_asks (Ins at ch site) off p q = refl
 enabled_asks (Del at site) off p q = refl
 enabled_asks (Upd at ch site) off p q = refl
@@ -70,7 +70,7 @@ module _ (f : Function) where
   -- two forms of one operation
   one_place_asks :
       (k l : Option Kind) (at there : Place) → ask_goal f (one_place k l at there) ≡ ask_one_place k l at there
-  unfolding ask_goal ask_form ask_one_place
+  unfolding ask_goal ask_form ask_one_place ask_le ask_lt ask_eq
   one_place_asks None None at there = refl
   one_place_asks None (Some l) at there = refl
   one_place_asks (Some k) None at there = refl
@@ -85,7 +85,7 @@ module _ (f : Function) where
       (left right : List SymOp) (off : ℤ)
       → ask_goal f (same_documents (doc_of f.head.mode left) (doc_of f.head.mode right) off)
       ≡ ask_documents f.head.mode left right off
-  unfolding ask_goal ask_form ask_read ask_documents
+  unfolding ask_goal ask_form ask_read ask_documents ask_le ask_lt ask_eq
   documents_ask left right off =
       let mode = f.head.mode in
       ap

@@ -238,59 +238,59 @@ AreResults-more ob os before (x ∷ got) r h next = (
       (subst (λ t. IsNextResult ob os t r) (sym (append_assoc before (x ∷ []) got)) next),
 )
 
-within_room : (ob : ObName) (plan : GoalProgress) → IsProgressOf ob plan → plan.count < length plan.got
-within_room (Pair k l) plan h = let room : length plan.got ≡ 6 = h.room in let awaited : plan.count < 2 = h.awaited in omega arith
-within_room (Triple k l m) plan h = let room : length plan.got ≡ 6 = h.room in let awaited : plan.count < 6 = h.awaited in omega arith
+within_room : (ob : ObName) (progress : GoalProgress) → IsProgressOf ob progress → progress.count < length progress.got
+within_room (Pair k l) progress h = let room : length progress.got ≡ 6 = h.room in let awaited : progress.count < 2 = h.awaited in omega arith
+within_room (Triple k l m) progress h = let room : length progress.got ≡ 6 = h.room in let awaited : progress.count < 6 = h.awaited in omega arith
 
 -- a result of the obligation that the progress is of
-module _ (f : Function) (r : SymOp) (plan : GoalProgress) (d : IsTrue (is_obligation f.head plan.ob)) where
+module _ (f : Function) (r : SymOp) (progress : GoalProgress) (d : IsTrue (is_obligation f.head progress.ob)) where
   results_more :
-      IsProgressOf plan.ob plan → IsNextResult plan.ob plan.ops (results_of plan) r
-      → AreResults plan.ob plan.ops [] (results_of (with_result plan r))
+      IsProgressOf progress.ob progress → IsNextResult progress.ob progress.ops (results_of progress) r
+      → AreResults progress.ob progress.ops [] (results_of (with_result progress r))
   results_more h next =
-      subst (λ t. AreResults plan.ob plan.ops [] t)
-      (sym (results_of-with_result plan r (within_room plan.ob plan h)))
-      (AreResults-more plan.ob plan.ops [] (results_of plan) r h.results next)
+      subst (λ t. AreResults progress.ob progress.ops [] t)
+      (sym (results_of-with_result progress r (within_room progress.ob progress h)))
+      (AreResults-more progress.ob progress.ops [] (results_of progress) r h.results next)
 
   -- what comes after a result, the next transformation or the end, has parts of the obligation
   go_on_has_parts :
-      (next : Option (SymOp × SymOp)) → next_operands plan.ob plan.ops (results_of (with_result plan r)) ≡ next
-      → HasParts f plan.ob (Deliver r plan) → HasParts f plan.ob (go_on f (with_result plan r) next)
+      (next : Option (SymOp × SymOp)) → next_operands progress.ob progress.ops (results_of (with_result progress r)) ≡ next
+      → HasParts f progress.ob (Deliver r progress) → HasParts f progress.ob (go_on f (with_result progress r) next)
   go_on_has_parts None e h =
-      end_has_parts f plan.ob plan.ops (results_of (with_result plan r)) d h.0.made (results_more h.0 h.1)
+      end_has_parts f progress.ob progress.ops (results_of (with_result progress r)) d h.0.made (results_more h.0 h.1)
   go_on_has_parts (Some pair) e h =
-      let got = results_of (with_result plan r) in
+      let got = results_of (with_result progress r) in
       let results = results_more h.0 h.1 in
-      let both = next_are_operands f plan.ob plan.ops got pair.0 pair.1 d h.0.made results e in
-      let reach = operand_reach plan.ob (length got) in
-      let near = operand_reach_low plan.ob (length got) in
+      let both = next_are_operands f progress.ob progress.ops got pair.0 pair.1 d h.0.made results e in
+      let reach = operand_reach progress.ob (length got) in
+      let near = operand_reach_low progress.ob (length got) in
       record {
         progress = record {
           same = refl;
           made = h.0.made;
           results = results;
-          awaited = awaits_next plan r pair (within_room plan.ob plan h.0) e;
-          room = length-set plan.got plan.count r ∙ h.0.room;
+          awaited = awaits_next progress r pair (within_room progress.ob progress h.0) e;
+          room = length-set progress.got progress.count r ∙ h.0.room;
         };
         next = e;
         a_declared = both.0.declared;
         b_declared = both.1.declared;
-        a_near = (IsOperand-more f plan.ob reach 99 pair.0 near both.0).near;
-        b_near = (IsOperand-more f plan.ob reach 99 pair.1 near both.1).near;
+        a_near = (IsOperand-more f progress.ob reach 99 pair.0 near both.0).near;
+        b_near = (IsOperand-more f progress.ob reach 99 pair.1 near both.1).near;
         cases = omega arith;
       }
 
-  own_rule : HasParts f plan.ob (Deliver r plan) → IsRewriting f plan.ob (Deliver r plan) (rewrite_deliver f r plan)
+  own_rule : HasParts f progress.ob (Deliver r progress) → IsRewriting f progress.ob (Deliver r progress) (rewrite_deliver f r progress)
   own_rule h = record {
-    asked = deliver_asks f r plan h.0.made (within_room plan.ob plan h.0);
-    parts = go_on_has_parts (next_operands plan.ob plan.ops (results_of (with_result plan r))) refl;
-    lighter = deliver_falls f r plan (within_room plan.ob plan h.0);
+    asked = deliver_asks f r progress h.0.made (within_room progress.ob progress h.0);
+    parts = go_on_has_parts (next_operands progress.ob progress.ops (results_of (with_result progress r))) refl;
+    lighter = deliver_falls f r progress (within_room progress.ob progress h.0);
   }
 
 pub deliver_rule :
-    (f : Function) (ob : ObName) (r : SymOp) (plan : GoalProgress) → IsTrue (is_obligation f.head ob) → HasParts f ob (Deliver r plan)
-    → IsRewriting f ob (Deliver r plan) (rewrite_deliver f r plan)
-deliver_rule f ob r plan d h =
+    (f : Function) (ob : ObName) (r : SymOp) (progress : GoalProgress) → IsTrue (is_obligation f.head ob) → HasParts f ob (Deliver r progress)
+    → IsRewriting f ob (Deliver r progress) (rewrite_deliver f r progress)
+deliver_rule f ob r progress d h =
     subst
-    (λ o. IsTrue (is_obligation f.head o) → HasParts f o (Deliver r plan) → IsRewriting f o (Deliver r plan) (rewrite_deliver f r plan))
-    h.0.same (own_rule f r plan) d h
+    (λ o. IsTrue (is_obligation f.head o) → HasParts f o (Deliver r progress) → IsRewriting f o (Deliver r progress) (rewrite_deliver f r progress))
+    h.0.same (own_rule f r progress) d h

@@ -24,8 +24,8 @@ taken_set (y ∷ ys) (suc n) x h = ap (λ t. y ∷ t) (taken_set ys n x (omega a
 
 -- one more result stands behind those that are there
 pub results_of-with_result :
-    (plan : GoalProgress) (r : SymOp) → plan.count < length plan.got → results_of (with_result plan r) ≡ results_of plan ++ r ∷ []
-results_of-with_result plan r h = taken_set plan.got plan.count r h
+    (progress : GoalProgress) (r : SymOp) → progress.count < length progress.got → results_of (with_result progress r) ≡ results_of progress ++ r ∷ []
+results_of-with_result progress r h = taken_set progress.got progress.count r h
 
 -- a triple has three operations
 fewer_made : (k l m : Kind) (os : List SymOp) → length os < 3 → AreOperandsOf (Triple k l m) os → ⊥
@@ -38,11 +38,11 @@ module _ (f : Function) where
   ask_on ob os got None = ask_goal f (end_goal f.head.mode ob os got)
 
   go_on_asks :
-      (plan : GoalProgress) (next : Option (SymOp × SymOp))
-      → ask_goal f (go_on f plan next) ≡ ask_on plan.ob plan.ops (results_of plan) next
+      (progress : GoalProgress) (next : Option (SymOp × SymOp))
+      → ask_goal f (go_on f progress next) ≡ ask_on progress.ob progress.ops (results_of progress) next
   unfolding ask_goal
-  go_on_asks plan (Some pair) = refl
-  go_on_asks plan None = refl
+  go_on_asks progress (Some pair) = refl
+  go_on_asks progress None = refl
 
   -- the next transformation, or the end, asks what is left after the results
   next_asks :
@@ -65,10 +65,10 @@ module _ (f : Function) where
   next_asks (Triple k l m) (a ∷ b ∷ c ∷ os) (x ∷ y ∷ left ∷ u ∷ v ∷ right ∷ got) made = one_form_asks f left right
 
   pub deliver_asks :
-      (r : SymOp) (plan : GoalProgress) → AreOperandsOf plan.ob plan.ops → plan.count < length plan.got
-      → ask_goal f (rewrite_deliver f r plan) ≡ ask_goal f (Deliver r plan)
+      (r : SymOp) (progress : GoalProgress) → AreOperandsOf progress.ob progress.ops → progress.count < length progress.got
+      → ask_goal f (rewrite_deliver f r progress) ≡ ask_goal f (Deliver r progress)
   unfolding ask_goal
-  deliver_asks r plan made h =
-      go_on_asks (with_result plan r) (next_operands plan.ob plan.ops (results_of (with_result plan r)))
-      ∙ (next_asks plan.ob plan.ops (results_of (with_result plan r)) made
-      ∙ ap (ask_after f plan.ob plan.ops) (results_of-with_result plan r h))
+  deliver_asks r progress made h =
+      go_on_asks (with_result progress r) (next_operands progress.ob progress.ops (results_of (with_result progress r)))
+      ∙ (next_asks progress.ob progress.ops (results_of (with_result progress r)) made
+      ∙ ap (ask_after f progress.ob progress.ops) (results_of-with_result progress r h))

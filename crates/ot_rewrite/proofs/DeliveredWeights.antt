@@ -66,20 +66,20 @@ next_within (Triple k l m) (a ∷ b ∷ c ∷ os) (x ∷ y ∷ z ∷ u ∷ v ∷
 next_within (Triple k l m) (a ∷ b ∷ c ∷ os) (x ∷ y ∷ z ∷ u ∷ v ∷ w ∷ got) pair e = absurd (cc)
 
 pub count_with_result :
-    (plan : GoalProgress) (r : SymOp) → plan.count < length plan.got → length (results_of (with_result plan r)) ≡ suc plan.count
-count_with_result plan r h =
-    let there : length (results_of plan) ≡ plan.count = length-take-le plan.count plan.got (omega arith) in
-    let more : length (results_of plan ++ r ∷ []) ≡ length (results_of plan) + 1 = length-append (results_of plan) (r ∷ []) in
-    let all : length (results_of (with_result plan r)) ≡ length (results_of plan ++ r ∷ []) =
-    ap length (results_of-with_result plan r h) in
+    (progress : GoalProgress) (r : SymOp) → progress.count < length progress.got → length (results_of (with_result progress r)) ≡ suc progress.count
+count_with_result progress r h =
+    let there : length (results_of progress) ≡ progress.count = length-take-le progress.count progress.got (omega arith) in
+    let more : length (results_of progress ++ r ∷ []) ≡ length (results_of progress) + 1 = length-append (results_of progress) (r ∷ []) in
+    let all : length (results_of (with_result progress r)) ≡ length (results_of progress ++ r ∷ []) =
+    ap length (results_of-with_result progress r h) in
     omega arith
 
 pub awaits_next :
-    (plan : GoalProgress) (r : SymOp) (pair : SymOp × SymOp) → plan.count < length plan.got
-    → next_operands plan.ob plan.ops (results_of (with_result plan r)) ≡ Some pair → suc plan.count < transforms_of plan.ob
-awaits_next plan r pair h e =
-    let within = next_within plan.ob plan.ops (results_of (with_result plan r)) pair e in
-    let count : length (results_of (with_result plan r)) ≡ suc plan.count = count_with_result plan r h in
+    (progress : GoalProgress) (r : SymOp) (pair : SymOp × SymOp) → progress.count < length progress.got
+    → next_operands progress.ob progress.ops (results_of (with_result progress r)) ≡ Some pair → suc progress.count < transforms_of progress.ob
+awaits_next progress r pair h e =
+    let within = next_within progress.ob progress.ops (results_of (with_result progress r)) pair e in
+    let count : length (results_of (with_result progress r)) ≡ suc progress.count = count_with_result progress r h in
     omega arith
 
 -- the weight of the ends
@@ -169,19 +169,19 @@ module _ (f : Function) where
 
   -- what comes after a result is lighter than its delivery
   go_on_falls :
-      (r : SymOp) (plan : GoalProgress) (next : Option (SymOp × SymOp)) → plan.count < length plan.got
-      → next_operands plan.ob plan.ops (results_of (with_result plan r)) ≡ next
-      → goal_weight f (go_on f (with_result plan r) next) < goal_weight f (Deliver r plan)
-  go_on_falls r plan (Some pair) h e =
-      rest_falls (transforms_of plan.ob) plan.count (cases_weight (cases_of_kinds f (sym_kind pair.0) (sym_kind pair.1)))
-      (function_weight f) (awaits_next plan r pair h e) (block_weight f (sym_kind pair.0) (sym_kind pair.1))
-  go_on_falls r plan None h e =
-      end_falls (goal_weight f (end_goal f.head.mode plan.ob plan.ops (results_of (with_result plan r))))
-      ((transforms_of plan.ob - (1 + plan.count)) * (3 + function_weight f))
-      (end_goal_weight f.head.mode plan.ob plan.ops (results_of (with_result plan r)))
+      (r : SymOp) (progress : GoalProgress) (next : Option (SymOp × SymOp)) → progress.count < length progress.got
+      → next_operands progress.ob progress.ops (results_of (with_result progress r)) ≡ next
+      → goal_weight f (go_on f (with_result progress r) next) < goal_weight f (Deliver r progress)
+  go_on_falls r progress (Some pair) h e =
+      rest_falls (transforms_of progress.ob) progress.count (cases_weight (cases_of_kinds f (sym_kind pair.0) (sym_kind pair.1)))
+      (function_weight f) (awaits_next progress r pair h e) (block_weight f (sym_kind pair.0) (sym_kind pair.1))
+  go_on_falls r progress None h e =
+      end_falls (goal_weight f (end_goal f.head.mode progress.ob progress.ops (results_of (with_result progress r))))
+      ((transforms_of progress.ob - (1 + progress.count)) * (3 + function_weight f))
+      (end_goal_weight f.head.mode progress.ob progress.ops (results_of (with_result progress r)))
 
   pub deliver_falls :
-      (r : SymOp) (plan : GoalProgress) → plan.count < length plan.got
-      → goal_weight f (rewrite_deliver f r plan) < goal_weight f (Deliver r plan)
-  deliver_falls r plan h =
-      go_on_falls r plan (next_operands plan.ob plan.ops (results_of (with_result plan r))) h refl
+      (r : SymOp) (progress : GoalProgress) → progress.count < length progress.got
+      → goal_weight f (rewrite_deliver f r progress) < goal_weight f (Deliver r progress)
+  deliver_falls r progress h =
+      go_on_falls r progress (next_operands progress.ob progress.ops (results_of (with_result progress r))) h refl

@@ -31,7 +31,7 @@ module _ (f : Function) (ob : ObName) (y n : GoalTree) where
   rule_of_offsets :
       (s t : Place) (b c : Bool) → nat_eq s.var t.var ≡ b → int_le s.off t.off ≡ c → (h : GoalTree)
       → (if b then Some (if c then y else n) else None) ≡ Some h → IsRewriting f ob (If (Le s t) y n) h
-  unfolding ask_goal ask_form ask_le
+  unfolding ask_goal ask_form ask_le ask_lt ask_eq
   rule_of_offsets s t true true e o h given_by =
       given f ob (If (Le s t) y n) y h given_by
       (record { asked = rw e (rw o refl); parts = λ p. p.1; lighter = omega arith })
@@ -42,7 +42,7 @@ module _ (f : Function) (ob : ObName) (y n : GoalTree) where
 
   -- each rule of a form keeps what is asked and the parts of the goal, which it makes lighter
   pub form_rule : (g : FormTree) (h : GoalTree) → rewrite_if g y n ≡ Some h → IsRewriting f ob (If g y n) h
-  unfolding ask_goal ask_form ask_lt ask_eq
+  unfolding ask_goal ask_form ask_lt ask_eq ask_le
   form_rule True h e =
       given f ob (If True y n) y h e (record { asked = refl; parts = λ p. p.1; lighter = omega arith })
   form_rule (Le s t) h e =

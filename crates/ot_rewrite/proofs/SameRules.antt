@@ -8,6 +8,7 @@ use Rattle.fn_rules.specs.declared.function.ObName.TheVariants.{Pair, Triple}
 use Rattle.fn_rules.specs.Functions.{Function}
 use Rattle.ask_core.specs.Plans.{Plan}
 use Rattle.ask_core.specs.Plans as plans
+use Rattle.ot_questions.specs.Questions.{ask_le, ask_lt, ask_eq}
 use Rattle.ot_questions.specs.declared.cell.Finished.{Finished}
 use Rattle.ot_questions.specs.declared.cell.Source.{Source}
 use Rattle.ot_questions.specs.declared.cell.Source.TheVariants as sources
@@ -165,7 +166,7 @@ module _ (f : Function) (ob : ObName) (why : Why) where
   sources_compared :
       (s t : Source) → IsSourceOf (name_count ob) s → IsSourceOf (name_count ob) t
       → IsComparison f ob (ask_same_source s t (plans.Fails why)) (same_source s t why)
-  unfolding ask_same_source ask_goal ask_form
+  unfolding ask_same_source ask_goal ask_form ask_le ask_lt ask_eq
   sources_compared (sources.Base off) (sources.Base there) hs ht =
       tested (int_eq off there) plans.Holds (plans.Fails why) goals.Holds (goals.Fails why) holds fails
   sources_compared (sources.Base off) (sources.Named d) hs ht = fails

@@ -68,7 +68,7 @@ same_name_le x y v same = sym (int_le-same_name (v x.var) (v y.var) x.off y.off 
 -- one name compared with itself is yes or no
 le_decided :
     (x y : Place) (c : Bool) → nat_eq x.var y.var ≡ true → int_le x.off y.off ≡ c → IsSplit (forms.Le x y) (if c then Yes else No)
-unfolding ask_form ask_le
+unfolding ask_form ask_le ask_lt ask_eq
 le_decided x y true same is =
     record {
       ends = λ f on_yes on_no. le_leads f x y true on_yes on_no same is;
@@ -92,7 +92,7 @@ by_truth true = refl
 by_truth false = refl
 
 le_asked : (x y : Place) → nat_eq x.var y.var ≡ false → IsSplit (forms.Le x y) (Ask x y forms.True (forms.Not forms.True))
-unfolding ask_form
+unfolding ask_form ask_le ask_lt ask_eq
 le_asked x y other =
     record {
       ends = (eqb-false x.var y.var other, λ f on_yes on_no. (on_yes, on_no, there));
@@ -134,7 +134,7 @@ fewer_of_more k h (Ask x y a b) more e = (omega (arith, e.0), omega (arith, e.1)
 
 -- less is at most the place before
 lt_split : (x y : Place) (s : SplitTree) → IsSplit (forms.Le x (plus y (negsuc 0))) s → IsSplit (forms.Lt x y) s
-unfolding ask_form ask_lt rewritten
+unfolding ask_form ask_lt rewritten ask_le ask_eq
 lt_split x y s e =
     let before = forms.Le x (plus y (negsuc 0)) in
     record {
@@ -168,7 +168,7 @@ le_asks x y c p q same is = rw same (rw is refl)
 eq_decided :
     (x y : Place) (c d : Bool) → nat_eq x.var y.var ≡ true → nat_eq y.var x.var ≡ true → int_le x.off y.off ≡ c
     → int_le y.off x.off ≡ d → IsSplit (forms.Eq x y) (if c then (if d then Yes else No) else No)
-unfolding ask_form ask_eq rewritten
+unfolding ask_form ask_eq rewritten ask_le ask_lt
 eq_decided x y true true same other is back =
     record {
       ends = λ f on_yes on_no.
@@ -207,7 +207,7 @@ eq_decided x y false d same other is back =
 
 -- an equality of two names asks at first whether the one is at most the other
 eq_asked : (x y : Place) → nat_eq x.var y.var ≡ false → IsSplit (forms.Eq x y) (Ask x y (forms.Le y x) (forms.Not forms.True))
-unfolding ask_form ask_eq rewritten
+unfolding ask_form ask_eq rewritten ask_le ask_lt
 eq_asked x y other =
     record {
       ends = (eqb-false x.var y.var other, λ f on_yes on_no. (If (forms.Le y x) on_yes on_no, on_no, by_rule refl there));

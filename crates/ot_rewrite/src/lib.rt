@@ -7,7 +7,7 @@ mod simplifying;
 mod splitting;
 mod stepping;
 
-pub use laws::rules_keep_what_is_asked;
+pub use laws::{rules_keep_what_is_asked, rules_leave_what_forms_leave};
 pub use question::Split;
 pub use simplifying::{front_of, simplify};
 pub use splitting::split;

@@ -22,11 +22,11 @@ use std::alloc::Global;
 
 // What is read of a start.
 fn read_of(start: &StartAt<'_>, facts: Option<&Facts>) -> Read
-    requires { IsBegunProgress start.now.plan.now start.now.last }
+    requires { IsBegunProgress start.now.progress.now start.now.last }
 {
     let results = start.results();
     let got = results.as_slice();
-    Read::new(got.len(), still_read(start.plan.ob, got), facts)
+    Read::new(got.len(), still_read(start.progress.ob, got), facts)
 }
 
 /// What an obligation of a function asks, with a start wherever a transformation begins, and a number for each of these

@@ -1,45 +1,23 @@
 -- A form that is laid out keeps the starts of its two goals.
-use Rattle.std.proofs.Common.{◌≡◌, ◌<◌, ◌≤◌, negsuc, Bool, true, false, if◌then◌else◌, nat_eq, int_le, refl, sym, subst, ap, ◌∙◌, arith}
+use Rattle.std.proofs.Common.{◌≡◌, ◌<◌, ◌≤◌, refl, sym, subst, ap, ◌∙◌, arith}
 use Rattle.fn_rules.specs.declared.function.ObName.{ObName}
 use Rattle.fn_rules.specs.Functions.{Function}
-use Rattle.ot_questions.specs.declared.place.Place.{Place}
-use Rattle.ot_questions.specs.Places.{plus}
 use Rattle.ot_terms.specs.Belonging.{IsGoalOf}
 use Rattle.ot_terms.specs.Weights.{goal_weight}
-use Rattle.ot_terms.specs.Forms.{FormTree, True, Le, Lt, Eq, And, Or, Not}
-use Rattle.ot_terms.specs.Goals.{GoalTree, If}
+use Rattle.ot_terms.specs.Forms.{FormTree}
+use Rattle.ot_terms.specs.Goals.{GoalTree, If, order_goal, laid_form}
+use Rattle.ot_terms.proofs.ByForms.{form_through}
 use Rattle.ot_rewrite.specs.Splits.{HasLowOffsets}
-use Rattle.laid_goals.specs.Sharing.{laid_form, laid_order}
 use Rattle.laid_goals.proofs.LaidForms.{alike_laid, low_offsets_of, part_of_yes, part_of_no, yes_is_lighter, no_is_lighter}
-use Rattle.marked_goals.specs.Marking.{marked_le, marked_form, marked_goal}
+use Rattle.marked_goals.specs.Marking.{marked_places, marked_form, marked_goal}
 use Rattle.marked_goals.specs.Settled.{StandsMarked}
 use Rattle.ot_starts.proofs.Turns.{alike_asks}
 
 module _ (f : Function) where
-  order_marks_by_tests :
-      (x y : Place) (p q : GoalTree) (b c : Bool) → nat_eq x.var y.var ≡ b → int_le x.off y.off ≡ c
-      → marked_goal f (if b then (if c then p else q) else If (Le x y) p q) ≡ marked_le x y (marked_goal f p) (marked_goal f q)
-  unfolding marked_goal marked_form marked_le
-  order_marks_by_tests x y p q true true e o = rw e (rw o refl)
-  order_marks_by_tests x y p q true false e o = rw e (rw o refl)
-  order_marks_by_tests x y p q false c e o = refl
-
-  order_marks : (x y : Place) (p q : GoalTree) → marked_goal f (laid_order x y p q) ≡ marked_le x y (marked_goal f p) (marked_goal f q)
-  order_marks x y p q = order_marks_by_tests x y p q (nat_eq x.var y.var) (int_le x.off y.off) refl refl
-
   -- a form that is laid out has the starts of its two goals, where the form has them
   laid_marks : (g : FormTree) (p q : GoalTree) → marked_goal f (laid_form g p q) ≡ marked_form g (marked_goal f p) (marked_goal f q)
-  unfolding marked_form
-  laid_marks True p q = refl
-  laid_marks (Le x y) p q = order_marks x y p q
-  laid_marks (Lt x y) p q = order_marks x (plus y (negsuc 0)) p q
-  laid_marks (Eq x y) p q =
-      order_marks x y (laid_order y x p q) q ∙ ap (λ t. marked_le x y t (marked_goal f q)) (order_marks y x p q)
-  laid_marks (And g h) p q =
-      laid_marks g (laid_form h p q) q ∙ ap (λ t. marked_form g t (marked_goal f q)) (laid_marks h p q)
-  laid_marks (Or g h) p q =
-      laid_marks g p (laid_form h p q) ∙ ap (λ t. marked_form g (marked_goal f p) t) (laid_marks h p q)
-  laid_marks (Not g) p q = laid_marks g q p
+  unfolding marked_goal marked_form
+  laid_marks = form_through order_goal marked_places (marked_goal f) (λ x y p q differ. rw differ refl)
 
   pub marked_laid :
       (g : FormTree) (y n p q : GoalTree) → StandsMarked f y p → StandsMarked f n q → StandsMarked f (If g y n) (laid_form g p q)

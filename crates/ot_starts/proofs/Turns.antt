@@ -25,7 +25,7 @@ use Rattle.ot_terms.specs.Goals.{GoalTree, If, goal_tree}
 use Rattle.ot_terms.specs.Standing.{ask_goal}
 use Rattle.ot_rewrite.specs.Fronts.{is_question}
 use Rattle.ot_paths.specs.Nodes.{IsNode, literal}
-use Rattle.marked_goals.specs.Marking.{Marked, marked_le, marked_form, marked_goal, with_start}
+use Rattle.marked_goals.specs.Marking.{Marked, marked_form, marked_goal, with_start}
 use Rattle.marked_goals.specs.Settled.{is_settled, StandsMarked, OpensStart}
 use Rattle.marked_goals.proofs.Unmarked.{unmarked-goal, unmarked-with_start}
 use Rattle.ot_starts.specs.Nodes.{IsStop}
@@ -73,7 +73,7 @@ module _ (f : Function) where
   question_marks :
       (x y : Place) (on_yes on_no : GoalTree) → nat_eq x.var y.var ≡ false
       → marked_goal f (If (Le x y) on_yes on_no) ≡ Ask None (literal x y) (marked_goal f on_yes) (marked_goal f on_no)
-  unfolding marked_goal marked_form marked_le
+  unfolding marked_goal marked_form
   question_marks x y on_yes on_no differ = rw differ refl
 
   -- the places of a question are near

@@ -56,9 +56,9 @@ impl<'a> StartAsker<'a> {
     /// The start at a node, if a transformation begins there.
     pub fn start_at(&self, node: &'a Goal<'a>) -> Option<StartAt<'a>>
         requires { IsStop (function_of self.now.laid) self.now.ob (goal_tree node.now) }
-        ensures start { option_map (λ s. start_after s.plan.now s.last) result
+        ensures start { option_map (λ s. start_after s.progress.now s.last) result
             ≡ start_of (marked_goal (function_of self.now.laid) (goal_tree node.now)) }
-        ensures begun { IfSome result (λ s. IsBegunProgress s.plan.now s.last) }
+        ensures begun { IfSome result (λ s. IsBegunProgress s.progress.now s.last) }
     {
         rules_keep_starts();
         start_at(node)

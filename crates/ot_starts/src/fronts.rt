@@ -65,17 +65,25 @@ pub(crate) fn is_at_front(goal: &Goal<'_>) -> bool
 /// The start at the front of the goal, if a transformation begins there.
 #[inline]
 pub(crate) fn start_at<'a>(goal: &Goal<'a>) -> Option<StartAt<'a>>
-    ensures start { option_map (λ s. start_after s.plan.now s.last) result ≡ marks.front_start (goal_tree goal.now) }
+    ensures start { option_map (λ s. start_after s.progress.now s.last) result
+        ≡ marks.front_start (goal_tree goal.now) }
     ensures begun { (f : Function) (ob : ObName) → IsGoalOf f ob (goal_tree goal.now)
-        → IfSome result (λ s. IsBegunProgress s.plan.now s.last) }
+        → IfSome result (λ s. IsBegunProgress s.progress.now s.last) }
 {
     results_stay_near();
     match *goal {
-        Goal::Choose { case: 0, plan, .. } => Some(StartAt { plan, last: None }),
-        Goal::Deliver { op, plan } => {
-            if u32::from(plan.count) + 1 < transforms(plan.ob) {
+        Goal::Choose {
+            case: 0,
+            plan: progress,
+            ..
+        } => Some(StartAt {
+            progress,
+            last: None,
+        }),
+        Goal::Deliver { op, plan: progress } => {
+            if u32::from(progress.count) + 1 < transforms(progress.ob) {
                 return Some(StartAt {
-                    plan,
+                    progress,
                     last: Some(op),
                 });
             }

@@ -2,6 +2,7 @@
 use Rattle.std.proofs.Common.{◌≡◌, ℕ, ℤ, if◌then◌else◌, refl, ap, ◌∙◌}
 use Rattle.ask_core.specs.Plans.{Plan, end_of}
 use Rattle.ot_questions.specs.declared.why.Why.{Why}
+use Rattle.ot_questions.specs.Questions.{ask_le, ask_lt, ask_eq}
 use Rattle.ot_questions.proofs.Tests.{if_and, if_or, if_not}
 use Rattle.ot_questions.proofs.Values.{by_test, end-le, end-lt, end-eq}
 use Rattle.ot_terms.specs.Forms.{FormTree, True, Le, Lt, Eq, And, Or, Not, form_holds}
@@ -10,7 +11,7 @@ use Rattle.ot_terms.specs.Standing.{ask_form}
 -- a form goes on by its truth at the valuation
 pub end_form :
     (t : FormTree) (p q : Plan Why) (v : ℕ → ℤ) → end_of (ask_form t p q) v ≡ by_test (form_holds v t) p q v
-unfolding ask_form
+unfolding ask_form ask_le ask_lt ask_eq
 end_form True p q v = refl
 end_form (Le x y) p q v = end-le x y p q v
 end_form (Lt x y) p q v = end-lt x y p q v

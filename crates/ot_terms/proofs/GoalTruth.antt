@@ -35,8 +35,12 @@ module _ (f : Function) (v : ℕ → ℤ) where
       subst (λ x. HoldsAfter 6 f v (Triple k l m) x got ↔ (end_of (ask_after f (Triple k l m) x got) v ≡ None)) (sym made.3)
       (triple_after v f k l m made.0 made.1 made.2 [] got)
 
-  with_holds : (ob : ObName) (plan : GoalProgress) (r : SymOp) → IsProgressOf ob plan → HoldsWith f v plan r ↔ (end_of (ask_with f plan r) v ≡ None)
-  with_holds ob plan r h = after_holds plan.ob plan.ops (results_of plan ++ r ∷ []) (subst (λ o. AreOperandsOf o plan.ops) (sym h.same) h.made)
+  with_holds :
+      (ob : ObName) (progress : GoalProgress) (r : SymOp) → IsProgressOf ob progress
+      → HoldsWith f v progress r ↔ (end_of (ask_with f progress r) v ≡ None)
+  with_holds ob progress r h =
+      after_holds progress.ob progress.ops (results_of progress ++ r ∷ [])
+      (subst (λ o. AreOperandsOf o progress.ops) (sym h.same) h.made)
 
   -- a goal with the parts of an obligation is true exactly where its plan ends in `Holds`
   parts_hold : (ob : ObName) (g : GoalTree) → HasParts f ob g → goal_holds f v g ↔ (end_of (ask_goal f g) v ≡ None)
@@ -46,9 +50,9 @@ module _ (f : Function) (v : ℕ → ℤ) where
   parts_hold ob (goals.If g on_yes on_no) h =
       along _ _ _ (end_form g (ask_goal f on_yes) (ask_goal f on_no) v)
       (by_test_holds (form_holds v g) _ _ _ _ (parts_hold ob on_yes h.1) (parts_hold ob on_no h.2))
-  parts_hold ob (goals.Choose case a b plan) h =
-      result_holds v a b f case (HoldsWith f v plan) (ask_with f plan) (λ r. with_holds ob plan r h.progress)
-  parts_hold ob (goals.Deliver o plan) h = with_holds ob plan o h.0
+  parts_hold ob (goals.Choose case a b progress) h =
+      result_holds v a b f case (HoldsWith f v progress) (ask_with f progress) (λ r. with_holds ob progress r h.progress)
+  parts_hold ob (goals.Deliver o progress) h = with_holds ob progress o h.0
   parts_hold ob (goals.Same left right) h =
       let compared = compared_over_all v f (name_count ob) left right h.0 h.1 in
       (compared.1, compared.0)

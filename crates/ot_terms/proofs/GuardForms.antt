@@ -12,7 +12,7 @@ use Rattle.ot_questions.specs.declared.place.SymOp.{SymOp}
 use Rattle.ot_questions.specs.declared.why.Why.{Why}
 use Rattle.ot_questions.specs.declared.why.Why.TheVariants.{Undefined}
 use Rattle.ot_questions.specs.Instances.{StandsForOperation}
-use Rattle.ot_questions.specs.Questions.{ask_compared, ask_atom, ask_guard}
+use Rattle.ot_questions.specs.Questions.{ask_le, ask_lt, ask_eq, ask_compared, ask_atom, ask_guard}
 use Rattle.ot_questions.proofs.QuestionValuations.{guard_ends}
 use Rattle.ot_terms.specs.Forms.{form_holds}
 use Rattle.ot_terms.specs.Placing.{compared, atom_form, guard_form}
@@ -20,7 +20,7 @@ use Rattle.ot_terms.specs.Standing.{ask_form}
 use Rattle.ot_terms.proofs.Forms.{end_form}
 
 ask_form-compared : (c : Cmp) (x y : Place) (p q : Plan Why) → ask_form (compared c x y) p q ≡ ask_compared c x y p q
-unfolding ask_form ask_compared
+unfolding ask_form ask_compared ask_le ask_lt ask_eq
 ask_form-compared cmp.Lt x y p q = refl
 ask_form-compared cmp.Le x y p q = refl
 ask_form-compared cmp.Eq x y p q = refl

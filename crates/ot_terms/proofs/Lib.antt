@@ -1,4 +1,5 @@
 pub mod Forms
+pub mod ByForms
 pub mod GuardForms
 pub mod Starts
 pub mod StartParts

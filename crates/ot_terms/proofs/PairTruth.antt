@@ -13,7 +13,7 @@ use Rattle.ot_questions.specs.declared.place.SymOp.{SymOp}
 use Rattle.ot_questions.specs.declared.why.Why.{Why}
 use Rattle.ot_questions.specs.declared.why.Why.TheVariants.{OutOfRange, Lengths}
 use Rattle.ot_questions.specs.Places.{index_and, growth}
-use Rattle.ot_questions.specs.Questions.{ask_enabled, ask_transform}
+use Rattle.ot_questions.specs.Questions.{ask_enabled, ask_transform, ask_le, ask_lt, ask_eq}
 use Rattle.ot_questions.specs.Reading.{ask_cell, ask_same}
 use Rattle.ot_questions.specs.Obligation.{ask_documents, ask_lengths, ask_ways, ask_converge}
 use Rattle.ot_questions.proofs.Values.{if_end, by_test, end-cell, seen}
@@ -42,7 +42,7 @@ module _ (v : ℕ → ℤ) where
     cells_end = end_of (ask_same (seen v mode left (pos 0)) (seen v mode right (pos 0))) v
 
     end-documents : (off : ℤ) → end_of (ask_documents mode left right off) v ≡ (if form_holds v (index_form off) then cells_end else None)
-    unfolding ask_documents ask_form
+    unfolding ask_documents ask_form ask_le ask_lt ask_eq
     end-documents off =
         let compared = ask_cell mode left (pos 0) (λ x. ask_cell mode right (pos 0) (λ y. ask_same x y)) in
         end_form (index_form off) compared Holds v

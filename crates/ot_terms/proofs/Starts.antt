@@ -11,7 +11,7 @@ use Rattle.ot_questions.specs.declared.place.SymOp.{SymOp}
 use Rattle.ot_questions.specs.declared.place.SymOp.TheVariants.{Ins, Del, Upd, Nop}
 use Rattle.ot_questions.specs.declared.why.Why.{Why}
 use Rattle.ot_questions.specs.Places.{zero_place, length_and, sym_op, sym_site, sym_char}
-use Rattle.ot_questions.specs.Questions.{ask_le, ask_enabled, ask_differ, ask_allowed}
+use Rattle.ot_questions.specs.Questions.{ask_le, ask_enabled, ask_differ, ask_allowed, ask_lt, ask_eq}
 use Rattle.ot_questions.specs.Obligation.{ask_converge, ask_all_enabled, ask_pair, ask_behind, ask_commute, ask_triple, plan_of}
 use Rattle.ot_terms.specs.Goals.{GoalTree}
 use Rattle.ot_terms.specs.Standing.{ask_form, ask_goal, ask_after, ask_pair_after, ask_triple_after, ask_second_way_after}
@@ -19,7 +19,7 @@ use Rattle.ot_terms.specs.Starting.{enabled_form, if_differ, if_assumed, if_allo
 
 pub ask_form-enabled_form :
     (o : SymOp) (off : ℤ) (p q : Plan Why) → ask_form (enabled_form o off) p q ≡ ask_enabled o off p q
-unfolding ask_form ask_enabled
+unfolding ask_form ask_enabled ask_le ask_lt ask_eq
 ask_form-enabled_form (Ins at ch site) off p q = refl
 ask_form-enabled_form (Del at site) off p q = refl
 ask_form-enabled_form (Upd at ch site) off p q = refl
@@ -28,7 +28,7 @@ ask_form-enabled_form Nop off p q = refl
 module _ (f : Function) where
   ask_goal-if_differ :
       (x y : Option ℕ) (next : GoalTree) → ask_goal f (if_differ x y next) ≡ ask_differ x y (ask_goal f next)
-  unfolding ask_goal ask_form ask_differ
+  unfolding ask_goal ask_form ask_differ ask_le ask_lt ask_eq
   ask_goal-if_differ None y next = refl
   ask_goal-if_differ (Some x) None next = refl
   ask_goal-if_differ (Some x) (Some y) next = refl
@@ -57,7 +57,7 @@ module _ (f : Function) where
 
   ask_goal-if_length :
       (next : GoalTree) → ask_goal f (if_length next) ≡ ask_le zero_place (length_and (pos 0)) (ask_goal f next) plans.Holds
-  unfolding ask_goal ask_form
+  unfolding ask_goal ask_form ask_le ask_lt ask_eq
   ask_goal-if_length next = refl
 
   ask_goal-first_of_two : (k l : Kind) (a b : SymOp) → ask_goal f (first_choice (Pair k l) a b Nop) ≡ ask_converge f a b

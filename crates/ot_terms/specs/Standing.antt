@@ -11,11 +11,11 @@ use Rattle.ot_questions.specs.declared.place.SymOp.{SymOp}
 use Rattle.ot_questions.specs.declared.place.SymOp.TheVariants as ops
 use Rattle.ot_questions.specs.declared.why.Why.{Why}
 use Rattle.ot_questions.specs.Names.{zero_name}
-use Rattle.ot_questions.specs.Questions.{ask_le, ask_lt, ask_eq, ask_transform}
+use Rattle.ot_questions.specs.Questions.{ask_places, ask_transform}
 use Rattle.ot_questions.specs.Reading.{put_cell, buried_cell, replaced_cell, ask_cell, ask_same}
 use Rattle.ot_questions.specs.Obligation.{ask_converge, ask_ways, ask_behind, ask_commute, ask_same_form}
 use Rattle.ot_terms.specs.declared.goal.GoalProgress.{GoalProgress}
-use Rattle.ot_terms.specs.Forms.{FormTree, True, Le, Lt, Eq, And, Or, Not}
+use Rattle.ot_terms.specs.Forms.{FormTree, by_form}
 use Rattle.ot_terms.specs.Documents as documents
 use Rattle.ot_terms.specs.Documents.{DocTree}
 use Rattle.ot_terms.specs.Cells as cells
@@ -23,15 +23,9 @@ use Rattle.ot_terms.specs.Cells.{CellTree}
 use Rattle.ot_terms.specs.Goals as goals
 use Rattle.ot_terms.specs.Goals.{GoalTree}
 
--- whether a form is true: the second part of `and` and `or` is asked only where the first leaves it open
+-- whether a form is true, asked by literals
 unfoldable pub ask_form : FormTree → Plan Why → Plan Why → Plan Why
-ask_form True on_yes on_no = on_yes
-ask_form (Le x y) on_yes on_no = ask_le x y on_yes on_no
-ask_form (Lt x y) on_yes on_no = ask_lt x y on_yes on_no
-ask_form (Eq x y) on_yes on_no = ask_eq x y on_yes on_no
-ask_form (And g h) on_yes on_no = ask_form g (ask_form h on_yes on_no) on_no
-ask_form (Or g h) on_yes on_no = ask_form g on_yes (ask_form h on_yes on_no)
-ask_form (Not g) on_yes on_no = ask_form g on_no on_yes
+ask_form g on_yes on_no = by_form ask_places g on_yes on_no
 
 -- the operations that made the document, the last one first; reading asks for no site
 abbrev pub changes_of : DocTree → List SymOp

@@ -34,7 +34,6 @@ pub fn cells_are_compared_over_all_documents()
 
 /// A goal of a function and an obligation is true at a valuation exactly where the plan that it stands for
 /// ends in `Holds` there. So two goals that stand for one plan are true at the same valuations.
-#[tactic(auto, using(crate::proofs::GoalTruth::goal_holds_ends, crate::proofs::GoalTruth::goal_holds_value, crate::proofs::GoalTruth::goal_holds_alike))]
 pub fn goals_are_true_as_their_plans()
     ensures end { (f : Function) (ob : ObName) (g : GoalTree) (v : ℕ → ℤ) → IsGoalOf f ob g
         → goal_holds f v g ↔ (end_of (ask_goal f g) v ≡ None) }

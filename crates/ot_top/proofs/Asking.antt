@@ -10,11 +10,10 @@ use Rattle.fn_rules.specs.declared.function.Level.{Level}
 use Rattle.fn_rules.specs.declared.function.Level.TheVariants.{Tp1, Tp2}
 use Rattle.fn_rules.specs.declared.function.ObName.{ObName}
 use Rattle.fn_rules.specs.declared.function.ObName.TheVariants.{Pair}
-use Rattle.fn_rules.specs.Obligations.{declared_kinds, obligations_of, pairs_of}
+use Rattle.fn_rules.specs.Obligations.{level_of, declared_kinds, obligations_of, pairs_of}
 use Rattle.ask_core.specs.Plans.{Plan}
 use Rattle.ask_core.specs.Questions.{FailingEnd, Questions, QuestionList}
 use Rattle.ot_decide.specs.Verdicts.{ObQuestions, FailingOb, AreAsked, failing_in}
-use Rattle.ot_counter.specs.Counters.{level_of}
 use Rattle.ot_top.specs.Shown.{IsAskedAt}
 
 -- each property is asked at level tp2, and of the obligations of level tp1 none asks TP2

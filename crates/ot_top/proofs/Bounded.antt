@@ -9,7 +9,7 @@ use Rattle.fn_rules.specs.declared.function.Level.TheVariants.{Tp2}
 use Rattle.fn_rules.specs.declared.function.ObName.{ObName}
 use Rattle.fn_rules.specs.declared.function.ObName.TheVariants.{Pair, Triple}
 use Rattle.fn_rules.specs.Functions.{Function}
-use Rattle.fn_rules.specs.Obligations.{is_obligation}
+use Rattle.fn_rules.specs.Obligations.{level_of, is_obligation}
 use Rattle.fn_rules.specs.Validity.{is_valid}
 use Rattle.fn_grammar.specs.Grammar.{IsTextOf}
 use Rattle.fn_text.specs.Reading.{function_in}
@@ -22,13 +22,12 @@ use Rattle.ot_questions.specs.Obligation.{plan_of}
 use Rattle.ot_sections.specs.declared.refusal.JudgeError.{JudgeError}
 use Rattle.ot_values.specs.Values.{floors_of, ops_at}
 use Rattle.ot_counter.specs.declared.counter.Counter.{Counter}
-use Rattle.ot_counter.specs.Counters.{Breaks, BreaksBy, IsCounter, level_of}
+use Rattle.ot_counter.specs.Counters.{Breaks, BreaksBy, IsCounter}
 use Rattle.ot_counter.specs.Documents.{cells_by_place, document_at, shown_cell}
 use Rattle.ot_least.specs.declared.short.Short.{Short}
 use Rattle.ot_least.specs.declared.short.Short.TheVariants as shorts
 use Rattle.ot_least.specs.Judgements.{IsLowJudgement}
 use Rattle.ot_least.specs.Lows.{HasAt, IsBroken, IsLow}
-use Rattle.ot_least.specs.Lows.{level_of as part_level}
 use Rattle.ot_least.specs.Shortest.{HasCells, IsLeast, IsShortWithin, IsTrueOf}
 use Rattle.ot_replies.specs.declared.reply.FileKind.TheVariants as files
 use Rattle.ot_replies.specs.declared.reply.Reply.{Reply}
@@ -69,13 +68,8 @@ document_count f ob w why counter cells is (values, least, count) =
 low_of : (f : Function) (bytes : List ℕ) (shown : Level × ℕ) → IsLowJudgement f bytes (Ok shown) → IsLow bytes f shown.0 shown.1
 low_of f bytes (level, bound) is = is
 
--- the property that an obligation is a part of
-property_of : (ob : ObName) → level_of ob ≡ part_level ob
-property_of (Pair k l) = refl
-property_of (Triple k l m) = refl
-
 -- TP2 is looked at where TP1 holds
-before : (f : Function) (ob : ObName) → IsBroken f (part_level ob) → HasBefore f (level_of ob)
+before : (f : Function) (ob : ObName) → IsBroken f (level_of ob) → HasBefore f (level_of ob)
 before f (Pair k l) broken = tt
 before f (Triple k l m) broken = broken.0
 
@@ -150,7 +144,7 @@ module _ (is_text : (bytes : List ℕ) (f : Function) → function_in bytes ≡ 
         → IsLeast f ob answers why cells cert → IsCounter f ob (answered_by answers) why counter
         → r ≡ replies.Shortest counter cells → IsShortestWritten f cells IsWritten
     shortest_shown ob answers why cells cert counter is counts same =
-        let property : counter.level ≡ part_level ob = counts.read.level ∙ property_of ob in
+        let property : counter.level ≡ level_of ob = counts.read.level in
         let breaks =
         counter_breaks broken_there by_the_cause f Tp2 ob (answered_by answers) why counter (is_within_limits bytes f text) is.listed
         (literals_lead why (plan_of f ob) answers is.way) (asked_at ob) (before f ob is.broken) counts in (
@@ -169,14 +163,14 @@ module _ (is_text : (bytes : List ℕ) (f : Function) → function_in bytes ≡ 
         (ob : ObName) (answers : List Answer) (why : Why) (cells : ℕ) (cert : List ℕ) → IsLeast f ob answers why cells cert
         → length cert ≤ limit_of files.Certificate → r ≡ replies.Certified cert → IsCertifiedWritten f bytes cells IsWritten
     certified_shown ob answers why cells cert is within same = (
-      part_level ob,
+      level_of ob,
       cert,
       is.broken,
       is.breaks,
       is.holds_below,
       is.low,
       within,
-      bounded_at f cert (part_level ob) cells is.low within bytes small (texts_are_read bytes f text),
+      bounded_at f cert (level_of ob) cells is.low within bytes small (texts_are_read bytes f text),
       subst IsWritten (ap (λ x. text_of x) same) written,
     )
 

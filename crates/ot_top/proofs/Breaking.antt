@@ -7,7 +7,7 @@ use Rattle.fn_rules.specs.declared.function.Level.{Level}
 use Rattle.fn_rules.specs.declared.function.ObName.{ObName}
 use Rattle.fn_rules.specs.declared.function.ObName.TheVariants.{Pair, Triple}
 use Rattle.fn_rules.specs.Functions.{Function}
-use Rattle.fn_rules.specs.Obligations.{is_obligation}
+use Rattle.fn_rules.specs.Obligations.{level_of, is_obligation}
 use Rattle.fn_rules.specs.Validity.{is_valid}
 use Rattle.ask_core.specs.Leading.{LeadTo}
 use Rattle.ot_questions.specs.declared.name.Who.TheVariants.{A, B, C}
@@ -17,7 +17,7 @@ use Rattle.ot_questions.specs.Obligation.{plan_of}
 use Rattle.ot_questions.specs.Places.{sym_op}
 use Rattle.ot_values.specs.Values.{floors_of, ops_at}
 use Rattle.ot_counter.specs.declared.counter.Counter.{Counter}
-use Rattle.ot_counter.specs.Counters.{Breaks, BreaksBy, IsCounter, level_of}
+use Rattle.ot_counter.specs.Counters.{Breaks, BreaksBy, IsCounter}
 use Rattle.ot_counter.specs.Documents.{document_at}
 use Rattle.ot_counter.specs.Ways.{left_at, right_at}
 use Rattle.ot_top.specs.Shown.{AreBothWays, HasBefore, IsAskedAt}

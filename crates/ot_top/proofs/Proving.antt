@@ -12,7 +12,7 @@ use Rattle.fn_rules.specs.declared.function.Level.TheVariants.{Tp1, Tp2}
 use Rattle.fn_rules.specs.declared.function.ObName.{ObName}
 use Rattle.fn_rules.specs.declared.function.ObName.TheVariants.{Pair, Triple}
 use Rattle.fn_rules.specs.Functions.{Function}
-use Rattle.fn_rules.specs.Obligations.{is_obligation, obligations_of}
+use Rattle.fn_rules.specs.Obligations.{level_of, is_obligation, obligations_of}
 use Rattle.fn_rules.specs.Properties.{HasTp1}
 use Rattle.fn_rules.specs.Validity.{is_valid}
 use Rattle.fn_grammar.specs.Grammar.{IsTextOf}
@@ -29,7 +29,7 @@ use Rattle.ot_sections.specs.Certificates.{IsCertificate}
 use Rattle.ot_judge.specs.Refusals.{IsJudgement}
 use Rattle.ot_decide.specs.Verdicts.{AreAsked, ObQuestions, IsDecidedAs, IsVerdict, IsVerdictWithin, count_in, failing_in}
 use Rattle.ot_counter.specs.declared.counter.Counter.{Counter}
-use Rattle.ot_counter.specs.Counters.{Breaks, BreaksBy, level_of}
+use Rattle.ot_counter.specs.Counters.{Breaks, BreaksBy}
 use Rattle.ask_core.specs.Leading.{LeadTo}
 use Rattle.ot_values.specs.Values.{floors_of, ops_at}
 use Rattle.ot_counter.specs.Documents.{document_at}

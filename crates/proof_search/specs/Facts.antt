@@ -1,15 +1,11 @@
 -- What becomes of facts to which a literal is added.
-use Rattle.std.specs.Prelude.{◌≡◌, ℕ, List, [], ◌∷◌, ◌++◌, Option}
+use Rattle.std.specs.Prelude.{◌≡◌, ℕ, List, [], ◌∷◌, ◌++◌}
 use Rattle.diff_graph.specs.declared.lit.Lit.{Lit}
-use Rattle.diff_graph.specs.declared.hop.Hop.{Hop}
 use Rattle.diff_graph.specs.Tables.{Numbered, StandsFor, IsPossibleWith, IsNamed, IsSmall, kept_of, literals_of}
+use Rattle.diff_bounds.specs.Kept.{Rows}
 use Rattle.proof_search.specs.declared.facts.TheConstants.{MAX_NAMES}
 use Rattle.proof_search.specs.declared.facts.Added.{Added}
 use Rattle.proof_search.specs.declared.facts.Added.TheVariants.{Yes, Excluded, OutOfRange}
-
--- what a table keeps, the row of each name
-abbrev pub Rows : Type 0
-Rows = List (List (Option Hop))
 
 -- the literal stands at the end of each list that the facts stand for; or they are as they were, since no integers
 -- meet it with them, or since it is out of range

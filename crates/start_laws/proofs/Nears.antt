@@ -49,31 +49,31 @@ taken_few : {X : Type 0} (n : ℕ) (xs : List X) → length (take n xs) ≤ n
 taken_few n xs = omega (arith, length-take n xs)
 
 -- the results of a progress are few, and at small offsets
-pub progress_begun : (ob : ObName) (plan : GoalProgress) → IsProgressOf ob plan → IsBegunProgress plan None
-progress_begun ob plan h =
-    let few = taken_few plan.count plan.got in
+pub progress_begun : (ob : ObName) (progress : GoalProgress) → IsProgressOf ob progress → IsBegunProgress progress None
+progress_begun ob progress h =
+    let few = taken_few progress.count progress.got in
     let awaited = h.awaited in
     let most = few_transforms ob in
     record {
       room = h.room;
       few = omega arith;
       count = omega arith;
-      near = each_near plan.ob plan.ops [] (results_of plan)
-          (subst (λ o. AreResults o plan.ops [] (results_of plan)) (sym h.same) h.results);
+      near = each_near progress.ob progress.ops [] (results_of progress)
+          (subst (λ o. AreResults o progress.ops [] (results_of progress)) (sym h.same) h.results);
     }
 
 -- so are they with one more result
 pub result_begun :
-    (ob : ObName) (plan : GoalProgress) (r : SymOp) → IsProgressOf ob plan → IsNextResult ob plan.ops (results_of plan) r
-    → IsBegunProgress plan (Some r)
-result_begun ob plan r h next =
-    let before = progress_begun ob plan h in
-    let few = taken_few plan.count plan.got in
+    (ob : ObName) (progress : GoalProgress) (r : SymOp) → IsProgressOf ob progress → IsNextResult ob progress.ops (results_of progress) r
+    → IsBegunProgress progress (Some r)
+result_begun ob progress r h next =
+    let before = progress_begun ob progress h in
+    let few = taken_few progress.count progress.got in
     let awaited = h.awaited in
     let most = few_transforms ob in
     record {
       room = h.room;
-      few = omega (arith, length-append (results_of plan) (r ∷ []));
+      few = omega (arith, length-append (results_of progress) (r ∷ []));
       count = before.count;
-      near = each_appended (IsNearOp 1000) (results_of plan) (r ∷ []) before.near (next_near ob plan.ops (results_of plan) r next, tt);
+      near = each_appended (IsNearOp 1000) (results_of progress) (r ∷ []) before.near (next_near ob progress.ops (results_of progress) r next, tt);
     }

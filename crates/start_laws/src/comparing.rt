@@ -155,15 +155,15 @@ fn conditions(
     requires there_near { AllByRecursion (IsNearOp 1000) there.now }
     requires here_near { AllByRecursion (IsNearOp 1000) got.now }
     ensures { IfOk result (λ r. r ≡ starts.compare_starts
-        (record { ob = lemma.now.plan.now.ob; ops = lemma.now.plan.now.ops; got = there.now })
-        (record { ob = here.now.plan.now.ob; ops = here.now.plan.now.ops; got = got.now })) }
+        (record { ob = lemma.now.progress.now.ob; ops = lemma.now.progress.now.ops; got = there.now })
+        (record { ob = here.now.progress.now.ob; ops = here.now.progress.now.ops; got = got.now })) }
 {
     if there.len() == got.len()
-        && is_same_ob(lemma.plan.ob, here.plan.ob)
-        && are_same_ops(&lemma.plan.ops, &here.plan.ops)
+        && is_same_ob(lemma.progress.ob, here.progress.ob)
+        && are_same_ops(&lemma.progress.ops, &here.progress.ops)
     {
-        let read = still_read(lemma.plan.ob, there);
-        return Ok(with_each(List::new(alloc), read, still_read(here.plan.ob, got))?);
+        let read = still_read(lemma.progress.ob, there);
+        return Ok(with_each(List::new(alloc), read, still_read(here.progress.ob, got))?);
     }
     Ok(None)
 }
@@ -175,11 +175,11 @@ pub fn compare(
     lemma: &StartAt<'_>,
     here: &StartAt<'_>,
 ) -> Result<Option<List<Lit>>, NoMemory>
-    requires lemma_begun { IsBegunProgress lemma.now.plan.now lemma.now.last }
-    requires here_begun { IsBegunProgress here.now.plan.now here.now.last }
+    requires lemma_begun { IsBegunProgress lemma.now.progress.now lemma.now.last }
+    requires here_begun { IsBegunProgress here.now.progress.now here.now.last }
     ensures { IfOk result (λ found. found
-        ≡ starts.compare_starts (start_after lemma.now.plan.now lemma.now.last)
-        (start_after here.now.plan.now here.now.last)) }
+        ≡ starts.compare_starts (start_after lemma.now.progress.now lemma.now.last)
+        (start_after here.now.progress.now here.now.last)) }
 {
     let there = lemma.results();
     let got = here.results();

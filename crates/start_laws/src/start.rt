@@ -9,9 +9,9 @@ use std::marker::Model;
 /// one was.
 #[derive(Clone, Copy)]
 pub struct StartAt<'a> {
-    pub plan: &'a GoalProgress,
+    pub progress: &'a GoalProgress,
 
-    /// The result that comes after those of `plan`; none where the first transformation begins.
+    /// The result that comes after those of `progress`; none where the first transformation begins.
     pub last: Option<SymOp>,
 }
 
@@ -36,11 +36,11 @@ impl Model for Results {
 impl StartAt<'_> {
     /// The results before the start, with the one that was delivered.
     pub fn results(&self) -> Results
-        requires { IsBegunProgress self.now.plan.now self.now.last }
-        ensures { result ≡ (start_after self.now.plan.now self.now.last).got }
+        requires { IsBegunProgress self.now.progress.now self.now.last }
+        ensures { result ≡ (start_after self.now.progress.now self.now.last).got }
     {
-        let mut got = self.plan.got;
-        let count = self.plan.count as usize;
+        let mut got = self.progress.got;
+        let count = self.progress.count as usize;
         if let Some(last) = self.last {
             got[count] = last;
             return Results {

@@ -18,7 +18,7 @@ use std::alloc::Global;
 
 // How many results there are before a start.
 fn results_before(start: &StartAt<'_>) -> usize
-    requires { IsBegunProgress start.now.plan.now start.now.last }
+    requires { IsBegunProgress start.now.progress.now start.now.last }
 {
     let results = start.results();
     results.as_slice().len()

@@ -23,14 +23,14 @@ pub returns-in-Some-clause-alike : goal.returns-in-Some-clause-alike
 returns-in-Some-clause-alike t c =
     let f = function_of c.args.rules.now in
     found_alike f (goal_tree c.args.goal.now) c.in_ok-front.front c.in_ok-front.ensures.alike
-    c.in-Deliver.op c.in-Deliver.plan c.in-Deliver.is c.found.result c.in-Some.built
+    c.in-Deliver.op c.in-Deliver.progress c.in-Deliver.is c.found.result c.in-Some.built
     (c.found.ensures f (subst (λ items. All (IsKeptGoal f) items) (sym c.deref.ensures.value) c.requires.known)) c.in-Some.is
 
 pub next_of-requires : goal.next_of-requires
 next_of-requires t c = (
   c.requires.goal.0,
   result_belongs (function_of c.args.rules.now) (goal_tree c.args.goal.now) c.in_ok-front.front c.in_ok-front.ensures.alike
-      c.in-Deliver.op c.in-Deliver.plan c.in-Deliver.is c.requires.goal.0 c.requires.goal.1,
+      c.in-Deliver.op c.in-Deliver.progress c.in-Deliver.is c.requires.goal.0 c.requires.goal.1,
 )
 
 -- the goal behind the result is lighter, and of the obligation; nothing is known within it
@@ -39,14 +39,14 @@ laid_out-requires-in-Deliver t c =
     let f = function_of c.args.rules.now in
     let falls : goal_weight f (goal_tree c.in-Some-2.next.now) < goal_weight f (goal_tree c.args.goal.now)
     = next_is_lighter f (goal_tree c.args.goal.now) c.in_ok-front.front c.in_ok-front.ensures.alike
-    c.in-Deliver.op c.in-Deliver.plan c.in-Deliver.is c.in_ok-next-in-Deliver.field-0 c.in-Some-2.next
+    c.in-Deliver.op c.in-Deliver.progress c.in-Deliver.is c.in_ok-next-in-Deliver.field-0 c.in-Some-2.next
     c.in_ok-next-in-Deliver.ensures c.in-Some-2.is c.in_ok-front.ensures.weighs in (
       search (rules, falls),
       (
         (
           c.requires.goal.0,
           next_belongs f (goal_tree c.args.goal.now) c.in_ok-front.front c.in_ok-front.ensures.alike
-              c.in-Deliver.op c.in-Deliver.plan c.in-Deliver.is c.in_ok-next-in-Deliver.field-0 c.in-Some-2.next
+              c.in-Deliver.op c.in-Deliver.progress c.in-Deliver.is c.in_ok-next-in-Deliver.field-0 c.in-Some-2.next
               c.in_ok-next-in-Deliver.ensures c.in-Some-2.is c.requires.goal.0 c.requires.goal.1,
         ),
         All-same (IsKeptGoal f) c.new-inner.result.items [] c.new-inner.ensures.items (All-nil (IsKeptGoal f)),
@@ -56,7 +56,7 @@ laid_out-requires-in-Deliver t c =
 pub returns-in_ok-push-in-Deliver-clause-alike : goal.returns-in_ok-push-in-Deliver-clause-alike
 returns-in_ok-push-in-Deliver-clause-alike t c =
     next_alike (function_of c.args.rules.now) (goal_tree c.args.goal.now) c.in_ok-front.front c.in_ok-front.ensures.alike
-    c.in-Deliver.op c.in-Deliver.plan c.in-Deliver.is c.in_ok-next-in-Deliver.field-0 c.in-Some-2.next
+    c.in-Deliver.op c.in-Deliver.progress c.in-Deliver.is c.in_ok-next-in-Deliver.field-0 c.in-Some-2.next
     c.in_ok-next-in-Deliver.ensures c.in-Some-2.is (goal_tree c.in_ok-built-in-Deliver.built.now)
     c.in_ok-built-in-Deliver.ensures.alike
 
@@ -66,6 +66,6 @@ returns-in_ok-push-in-Deliver-clause-known t c =
     All-same (IsKeptGoal f) c.push.new.self.items _ c.in_ok-push-in-Deliver.ensures.items
     (All-push (IsKeptGoal f) c.args.known.now.items _ c.requires.known
     (next_kept f (goal_tree c.args.goal.now) c.in_ok-front.front c.in_ok-front.ensures.alike
-    c.in-Deliver.op c.in-Deliver.plan c.in-Deliver.is c.in_ok-next-in-Deliver.field-0 c.in-Some-2.next
+    c.in-Deliver.op c.in-Deliver.progress c.in-Deliver.is c.in_ok-next-in-Deliver.field-0 c.in-Some-2.next
     c.in_ok-next-in-Deliver.ensures c.in-Some-2.is (goal_tree c.in_ok-built-in-Deliver.built.now)
     c.in_ok-built-in-Deliver.ensures.alike))

@@ -6,9 +6,10 @@ use Rattle.ot_questions.specs.Names.{name_count}
 use Rattle.ot_questions.specs.Obligation.{plan_of}
 use Rattle.ot_questions.specs.Sorts.{HasNoNegativePosition}
 use Rattle.diff_graph.specs.Solutions.{AreLeast, valuation_of}
+use Rattle.fn_rules.specs.Obligations.{level_of}
 use Rattle.fn_rules.specs.Rules.{function_of}
 use Rattle.ot_values.specs.Values.{floors_of, IsPossibleAtPositions}
-use Rattle.ot_counter.specs.Counters.{IsReadOff, level_of}
+use Rattle.ot_counter.specs.Counters.{IsReadOff}
 use Rattle.ot_counter.proofs.Instances.{breaks_there, breaks_by_there, concurrent_where_broken}
 use Rattle.ot_counter.proofs.Counterexamples.{least_length}
 use Rattle.ot_counter.proofs.building.build.Goals as goal

@@ -1,6 +1,7 @@
 -- A turn of the search: it asks too much, or gives a low certificate, or goes on from a shorter failing end.
 use Rattle.std.proofs.Common.{◌≡◌, ℕ, ◌≤◌, List, ◌++◌, length, Some, rules, arith, sym, ap, subst, ◌∙◌}
 use Rattle.std.proofs.lemmas.Result.{IfOk-weaker}
+use Rattle.fn_rules.specs.Obligations.{level_of}
 use Rattle.fn_rules.specs.declared.function.Head.{Head}
 use Rattle.fn_rules.specs.declared.function.Level.{Level}
 use Rattle.fn_rules.specs.declared.function.ObName.{ObName}
@@ -11,7 +12,7 @@ use Rattle.ot_decide.specs.declared.verdict.SearchVerdict.{SearchVerdict}
 use Rattle.ot_decide.specs.Proving.{AreSettled}
 use Rattle.ot_decide.specs.Verdicts.{ObQuestions}
 use Rattle.ot_least.specs.Endings.{failing_end_of}
-use Rattle.ot_least.specs.Lows.{IsBroken, level_of, low_header_text, parts_of}
+use Rattle.ot_least.specs.Lows.{IsBroken, low_header_text, parts_of}
 use Rattle.ot_least.specs.Shortest.{Falls}
 use Rattle.ot_least.proofs.Descents.{FallsTo, falls_least, falls_on, falls_spent, few_bytes, is_least, is_low, same_level}
 use Rattle.ot_least.proofs.descent.+descend.Goals as goal

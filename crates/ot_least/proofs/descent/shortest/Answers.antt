@@ -2,14 +2,13 @@
 use Rattle.std.proofs.Common.{sym, ap, subst, ◌∙◌}
 use Rattle.fn_rules.specs.declared.function.Level.TheVariants.{Tp2}
 use Rattle.fn_rules.specs.declared.function.ObName.{ObName}
-use Rattle.fn_rules.specs.Obligations.{obligations_of}
+use Rattle.fn_rules.specs.Obligations.{level_of, obligations_of}
 use Rattle.fn_rules.specs.Rules.{function_of}
 use Rattle.ask_core.specs.Questions.{FailingEnd}
 use Rattle.ot_prove.specs.Outcomes.{answered_by}
 use Rattle.ot_questions.specs.declared.why.Why.{Why}
 use Rattle.ot_decide.specs.declared.verdict.Verdict.{Verdict}
 use Rattle.ot_decide.specs.Verdicts.{IsDecidedAs}
-use Rattle.ot_least.specs.Lows.{level_of}
 use Rattle.ot_least.proofs.Descents.{answers_hold, breaks_at, broken_at, first_holds}
 use Rattle.ot_least.proofs.descent.shortest.Goals as goal
 

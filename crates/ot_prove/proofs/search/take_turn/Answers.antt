@@ -5,7 +5,7 @@ use Rattle.ask_core.specs.declared.tree.Tok.{Tok}
 use Rattle.ask_core.specs.declared.tree.Tok.TheVariants as token
 use Rattle.ask_core.specs.Paths.{OpenPlace, first_answers, first_plan}
 use Rattle.ask_core.specs.Questions.{QuestionList}
-use Rattle.ot_prove.specs.Sides.{Rows}
+use Rattle.diff_bounds.specs.Kept.{Rows}
 use Rattle.ot_prove.specs.Searching.{LeadsTo, IsSearching, known_by}
 use Rattle.ot_prove.specs.Outcomes.{AreAnswersTo}
 use Rattle.ot_prove.proofs.Steps.{IsSearching-same, IsSearching-asked, IsSearching-holds, spent_at_first, failing_at_first, first_is_reached, first_has_table}

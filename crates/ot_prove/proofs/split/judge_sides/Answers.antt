@@ -1,7 +1,8 @@
 use Rattle.std.proofs.Common.{◌≡◌, ℕ, ◌-◌, true, false, List, length, sym, subst, arith}
 use Rattle.diff_graph.specs.Literals.{answered_of}
 use Rattle.diff_graph.specs.Tables.{kept_of}
-use Rattle.ot_prove.specs.Sides.{Rows, AddsAnswer, ClosesCycle}
+use Rattle.diff_bounds.specs.Kept.{Rows}
+use Rattle.ot_prove.specs.Sides.{AddsAnswer, ClosesCycle}
 use Rattle.ot_prove.proofs.Judged.{JudgesSides-both, JudgesSides-only_yes, JudgesSides-only_no, last_at}
 use Rattle.ot_prove.proofs.split.judge_sides.Goals as goal
 
