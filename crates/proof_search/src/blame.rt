@@ -42,8 +42,12 @@ fn innermost_excused<N: Copy>(
 ) -> Result<Option<usize>, NoMemory>
     ensures { IfOk result (λ found. IfSome found (λ number. number < length levels.now)) }
 {
+    if excuse.is_impossible(levels, answers)? {
+        return Ok(None);
+    }
     for number in (0..levels.len()).rev() {
-        if excuse.find(levels, number, answers)? {
+        // What a level assumes follows from what is around it. So what was added for one begins that for the next.
+        if excuse.is_shut_around(levels, number, answers)? {
             return Ok(Some(number));
         }
     }
@@ -85,6 +89,7 @@ impl<N: Copy> Search<N> {
         let answers = self.levels[number].answers;
         self.levels.truncate(number);
         self.waiting.truncate(waiting);
+        self.followed.truncate(waiting);
         self.answers.truncate(answers);
     }
 

@@ -120,6 +120,38 @@ impl Excuse {
         Ok(self.is_shut_by(known)?)
     }
 
+    /// Whether no integers meet what the innermost of the levels assumes and the answers since it was begun, to which
+    /// others are added from now on.
+    pub fn is_impossible<N: Copy>(
+        &mut self,
+        levels: &[LemmaLevel<N>],
+        answers: &[Lit],
+    ) -> Result<bool, NoMemory> {
+        self.clear();
+        let inner = part(answers, answers_before(levels), answers.len());
+        Ok(self.is_shut_by(assumed(levels))? || self.is_shut_by(inner)?)
+    }
+
+    /// Whether literals from around a level shut out the end that the answers lead to, with what was added so far.
+    /// Those that do are found then.
+    pub fn is_shut_around<N: Copy>(
+        &mut self,
+        levels: &[LemmaLevel<N>],
+        number: usize,
+        answers: &[Lit],
+    ) -> Result<bool, NoMemory>
+        requires { number < length levels.now }
+    {
+        let around = &levels[..number];
+        let own = self.literals.len();
+        let known = part(answers, answers_before(around), levels[number].answers);
+        if self.is_shut_by(assumed(around))? || self.is_shut_by(known)? {
+            choose(&self.literals, &self.cycle, own, &mut self.found)?;
+            return Ok(true);
+        }
+        Ok(false)
+    }
+
     /// Whether literals from around a level shut out the end that the answers lead to. Those that do are found then.
     pub fn find<N: Copy>(
         &mut self,
@@ -129,19 +161,9 @@ impl Excuse {
     ) -> Result<bool, NoMemory>
         requires { number < length levels.now }
     {
-        self.clear();
-        let around = &levels[..number];
-        let level = &levels[number];
-        let inner = part(answers, level.answers, answers.len());
-        if self.is_shut_by(level.literals.as_slice())? || self.is_shut_by(inner)? {
+        if self.is_impossible(&levels[..number + 1], answers)? {
             return Ok(false);
         }
-        let own = self.literals.len();
-        let known = part(answers, answers_before(around), level.answers);
-        if self.is_shut_by(assumed(around))? || self.is_shut_by(known)? {
-            choose(&self.literals, &self.cycle, own, &mut self.found)?;
-            return Ok(true);
-        }
-        Ok(false)
+        self.is_shut_around(levels, number, answers)
     }
 }

@@ -10,18 +10,17 @@ use crate::levels::{LemmaLevel, assumed};
 use diff_graph::{Lit, negate};
 use std::alloc::Global;
 
-/// A part for no that waits: its node, how many answers it shares with the open place, its own answer after these, and
-/// what followed from all of them and from what the innermost level assumed when the question was asked.
+/// A part for no that waits: its node, how many answers it shares with the open place, and its own answer after these.
 #[derive(Clone, Copy)]
 pub(crate) struct WaitingPart<N> {
     pub node: N,
     pub answers: usize,
     pub answer: Lit,
-    pub facts: Facts,
 }
 
 /// A search under way: the node of the open place, or none where that was closed; the lemmas that are being shown, the
-/// innermost one last; the parts that wait; the answers to the questions that were open both ways; what follows from
+/// innermost one last; the parts that wait, and what followed from the answers of each and from what the innermost
+/// level assumed when the question was asked; the answers to the questions that were open both ways; what follows from
 /// what the innermost level assumes and from the answers since it was begun; the lemmas that were shown, and how many
 /// questions were asked.
 #[derive(Drop)]
@@ -29,11 +28,20 @@ pub(crate) struct Search<N: Copy> {
     pub at: Option<N>,
     pub levels: Vec<LemmaLevel<N>>,
     pub waiting: Vec<WaitingPart<N>>,
+    pub followed: Vec<Facts>,
     pub answers: Vec<Lit>,
     pub facts: Facts,
     pub lemmas: Lemmas<N>,
     pub asked: u64,
     pub excuse: Excuse,
+}
+
+/// Adds a literal to the facts that stand last.
+#[inline(always)]
+fn add_to_last(followed: &mut [Facts], lit: Lit) {
+    if let Some(facts) = followed.last_mut() {
+        facts.try_add(lit, 0);
+    }
 }
 
 impl<N: Copy> Search<N> {
@@ -50,6 +58,7 @@ impl<N: Copy> Search<N> {
             at: Some(first),
             levels: Vec::new(alloc),
             waiting: Vec::new(alloc),
+            followed: Vec::new(alloc),
             answers: Vec::new(alloc),
             facts: Facts::new(),
             lemmas: Lemmas::new(alloc),
@@ -91,13 +100,12 @@ impl<N: Copy> Search<N> {
             return Ok(());
         }
         let answer = negate(lit);
-        let mut facts = self.facts;
-        facts.try_add(answer, 0);
+        self.followed.push(self.facts)?;
+        add_to_last(&mut self.followed, answer);
         self.waiting.push(WaitingPart {
             node: no,
             answers: self.answers.len(),
             answer,
-            facts,
         })?;
         self.answers.push(lit)?;
         self.facts.try_add(lit, 0);
@@ -105,14 +113,20 @@ impl<N: Copy> Search<N> {
         Ok(())
     }
 
-    /// Takes the answers of a part that waited, and what follows from them. What the innermost level assumes by now is
-    /// added to that, since it may be more than when the question was asked. False where no integers meet all of them.
-    pub fn answer(&mut self, shared: usize, lit: Lit, facts: &Facts) -> Result<bool, NoMemory>
-        ensures { self.new ≡ record self.old { answers = self.new.answers; facts = self.new.facts } }
+    /// Takes the answers of the innermost part that waited, and what follows from them. What the innermost level
+    /// assumes by now is added to that, since it may be more than when the question was asked. False where no integers
+    /// meet all of them.
+    pub fn answer(&mut self, shared: usize, lit: Lit) -> Result<bool, NoMemory>
+        ensures { self.new ≡ record self.old
+            { answers = self.new.answers; followed = self.new.followed; facts = self.new.facts } }
     {
         self.answers.truncate(shared);
         self.answers.push(lit)?;
-        self.facts = *facts;
+        if let Some(facts) = self.followed.last() {
+            self.facts = *facts;
+        }
+        self.followed
+            .truncate(self.followed.len().saturating_sub(1));
         Ok(self.facts.try_add_all(assumed(&self.levels), 0))
     }
 }

@@ -103,7 +103,7 @@ fn go_on<N: Copy>(search: &mut Search<N>) -> Result<(), NoMemory>
     let Some(part) = search.waiting.pop() else {
         return Ok(());
     };
-    if search.answer(part.answers, part.answer, &part.facts)? {
+    if search.answer(part.answers, part.answer)? {
         search.at = Some(part.node);
         return Ok(());
     }

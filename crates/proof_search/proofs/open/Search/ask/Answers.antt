@@ -8,9 +8,9 @@ returns g c = record {
   waiting =
       inr
       (record {
-        item = record { node = c.args.no; answers = c.len.result; answer = c.negate-answer.result; facts = c.try_add.new.self };
+        item = record { node = c.args.no; answers = c.len.result; answer = c.negate-answer.result };
         at_node = refl;
-        items = c.in_ok-push.ensures.items;
+        items = c.in_ok-push-2.ensures.items;
       });
   levels = refl;
   lemmas = refl;
