@@ -1,15 +1,16 @@
-//! What is laid out where transformations begin, kept so that each of these places is laid out once.
+//! What is laid out where transformations begin, and after the last of them, kept so that each of these places is laid
+//! out once.
 ghost use Rattle.std.specs.Prelude.{◌≡◌, IsTrue, IfSome};
 ghost use Rattle.std.specs.List.{All};
 ghost use Rattle.fn_rules.specs.Functions.{Function};
 ghost use Rattle.ot_terms.specs.Goals.{goal_tree};
-ghost use Rattle.marked_goals.specs.Settled.{OpensStart};
-ghost use Rattle.ot_starts.specs.Kept.{IsKeptStart};
+ghost use Rattle.marked_goals.specs.Settled.{OpensStart, StandsMarked};
+ghost use Rattle.ot_starts.specs.Kept.{IsKeptStart, IsKeptEnd};
 
 use laid_goals::is_same_progress;
 use ot_terms::{Goal, SymOp};
 
-/// The goal that is laid out where a transformation begins.
+/// The goal that is laid out where a transformation begins, or where the last result is delivered.
 #[derive(Clone, Copy)]
 pub struct Kept<'a> {
     pub at: &'a Goal<'a>,
@@ -61,8 +62,10 @@ fn is_same_goal(left: &Goal<'_>, right: &Goal<'_>) -> bool
 
 /// What is laid out there, if it is kept. A scan over all that is kept, from what was kept last.
 pub(crate) fn found<'a>(kept: &[Kept<'a>], at: &Goal<'_>) -> Option<&'a Goal<'a>>
-    ensures { (f : Function) → All (IsKeptStart f) kept.now
+    ensures start { (f : Function) → All (IsKeptStart f) kept.now
         → IfSome result (λ g. OpensStart f (goal_tree at.now) (goal_tree g.now)) }
+    ensures end { (f : Function) → All (IsKeptEnd f) kept.now
+        → IfSome result (λ g. StandsMarked f (goal_tree at.now) (goal_tree g.now)) }
 {
     for passed in 0..kept.len() {
         let one = &kept[kept.len() - 1 - passed];

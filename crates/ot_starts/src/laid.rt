@@ -25,7 +25,8 @@ use std::marker::Model;
 pub struct Laid<'a> {
     bump: &'a Bump,
     rules: &'a Rules,
-    entries: Vec<Kept<'a>, &'a Bump>,
+    starts: Vec<Kept<'a>, &'a Bump>,
+    ends: Vec<Kept<'a>, &'a Bump>,
 }
 
 impl<'a> Model for Laid<'a> {
@@ -34,7 +35,7 @@ impl<'a> Model for Laid<'a> {
     ghost use Rattle.fn_rules.specs.contracts.rules.Rules as row;
     ghost use Rattle.fn_rules.specs.declared.rules.Rules.{Rules};
     ghost use Rattle.fn_rules.specs.Rules.{function_of};
-    ghost use Rattle.ot_starts.specs.Kept.{IsKeptStart};
+    ghost use Rattle.ot_starts.specs.Kept.{IsKeptStart, IsKeptEnd};
 
     ghost Value = { Rules };
 
@@ -42,7 +43,8 @@ impl<'a> Model for Laid<'a> {
 
     ghost view = { λ s. s.rules.now };
 
-    ghost invariant = { λ s. All (IsKeptStart (function_of s.rules.now)) s.entries.items };
+    ghost invariant = { λ s. All (IsKeptStart (function_of s.rules.now)) s.starts.items
+        × All (IsKeptEnd (function_of s.rules.now)) s.ends.items };
 }
 
 impl<'a> Laid<'a> {
@@ -53,7 +55,8 @@ impl<'a> Laid<'a> {
         Laid {
             bump,
             rules,
-            entries: Vec::new(bump),
+            starts: Vec::new(bump),
+            ends: Vec::new(bump),
         }
     }
 
@@ -82,6 +85,12 @@ impl<'a> Laid<'a> {
         ensures turns { IfOk result (λ t. TurnsAs (function_of self.old) (goal_tree goal.now) t) }
         ensures same { self.new ≡ self.old }
     {
-        Ok(turn_of(self.bump, self.rules, &mut self.entries, goal)?)
+        Ok(turn_of(
+            self.bump,
+            self.rules,
+            &mut self.starts,
+            &mut self.ends,
+            goal,
+        )?)
     }
 }

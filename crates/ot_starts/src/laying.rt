@@ -1,12 +1,15 @@
 //! Goals whose questions are laid out, as far as to where transformations begin.
 ghost use Rattle.std.specs.Prelude.{IfOk};
+ghost use Rattle.std.specs.List.{All};
 ghost use Rattle.fn_rules.specs.declared.function.ObName.{ObName};
 ghost use Rattle.fn_rules.specs.Rules.{function_of};
 ghost use Rattle.ot_terms.specs.Belonging.{IsGoalOf};
 ghost use Rattle.ot_terms.specs.Goals.{goal_tree};
 ghost use Rattle.marked_goals.specs.Settled.{StandsMarked};
+ghost use Rattle.ot_starts.specs.Kept.{IsKeptEnd};
 
 use crate::fronts::is_begun;
+use crate::kept::{Kept, found};
 use crate::settling::next_of;
 use ask_core::NoMemory;
 use bumpalo::Bump;
@@ -15,14 +18,17 @@ use laid_goals::by_form;
 use ot_terms::Goal;
 
 /// The goal with its questions laid out in the arena, up to its ends and to where transformations begin. It stands for
-/// the same plan with the same starts.
+/// the same plan with the same starts. What follows the last transformation is laid out once for each result, and kept.
 pub(crate) fn laid<'a>(
     bump: &'a Bump,
     rules: &Rules,
+    ends: &mut Vec<Kept<'a>, &'a Bump>,
     goal: &'a Goal<'a>,
 ) -> Result<&'a Goal<'a>, NoMemory>
-    requires { (ob : ObName) × IsGoalOf (function_of rules.now) ob (goal_tree goal.now) }
-    ensures { IfOk result (λ r. StandsMarked (function_of rules.now) (goal_tree goal.now) (goal_tree r.now)) }
+    requires goal { (ob : ObName) × IsGoalOf (function_of rules.now) ob (goal_tree goal.now) }
+    requires kept { All (IsKeptEnd (function_of rules.now)) ends.old.items }
+    ensures stands { IfOk result (λ r. StandsMarked (function_of rules.now) (goal_tree goal.now) (goal_tree r.now)) }
+    ensures kept { All (IsKeptEnd (function_of rules.now)) ends.new.items }
 {
     if is_begun(goal) {
         return Ok(goal);
@@ -31,13 +37,25 @@ pub(crate) fn laid<'a>(
         Goal::Holds => Ok(goal),
         Goal::Fails(_) => Ok(goal),
         Goal::If { form, yes, no } => {
-            let on_no = laid(bump, rules, no)?;
-            let on_yes = laid(bump, rules, yes)?;
+            let on_no = laid(bump, rules, ends, no)?;
+            let on_yes = laid(bump, rules, ends, yes)?;
             Ok(by_form(bump, form, on_yes, on_no)?)
+        }
+        Goal::Deliver { .. } => {
+            if let Some(known) = found(ends, goal) {
+                return Ok(known);
+            }
+            let next = next_of(bump, rules, goal)?;
+            let built = laid(bump, rules, ends, next)?;
+            ends.push(Kept {
+                at: goal,
+                goal: built,
+            })?;
+            Ok(built)
         }
         _ => {
             let next = next_of(bump, rules, goal)?;
-            Ok(laid(bump, rules, next)?)
+            Ok(laid(bump, rules, ends, next)?)
         }
     }
 }

@@ -6,7 +6,7 @@ ghost use Rattle.fn_rules.specs.Rules.{function_of};
 ghost use Rattle.ot_terms.specs.Belonging.{IsGoalOf};
 ghost use Rattle.ot_terms.specs.Goals.{goal_tree};
 ghost use Rattle.marked_goals.specs.Settled.{OpensStart};
-ghost use Rattle.ot_starts.specs.Kept.{IsKeptStart};
+ghost use Rattle.ot_starts.specs.Kept.{IsKeptStart, IsKeptEnd};
 
 use crate::fronts::is_begun;
 use crate::kept::{Kept, found};
@@ -25,43 +25,46 @@ const ROOM: usize = 134_217_728;
 fn laid_behind<'a>(
     bump: &'a Bump,
     rules: &Rules,
+    ends: &mut Vec<Kept<'a>, &'a Bump>,
     goal: &'a Goal<'a>,
 ) -> Result<&'a Goal<'a>, NoMemory>
-    requires { (ob : ObName) × IsGoalOf (function_of rules.now) ob (goal_tree goal.now) }
-    ensures { IfOk result (λ r. OpensStart (function_of rules.now) (goal_tree goal.now) (goal_tree r.now)) }
+    requires goal { (ob : ObName) × IsGoalOf (function_of rules.now) ob (goal_tree goal.now) }
+    requires ends { All (IsKeptEnd (function_of rules.now)) ends.old.items }
+    ensures opens { IfOk result (λ r. OpensStart (function_of rules.now) (goal_tree goal.now) (goal_tree r.now)) }
+    ensures ends { All (IsKeptEnd (function_of rules.now)) ends.new.items }
 {
     rules_keep_starts();
     rules_are_valid(rules);
     match step(bump, rules, goal)? {
-        Some(next) => Ok(laid(bump, rules, next)?),
+        Some(next) => Ok(laid(bump, rules, ends, next)?),
         None => Ok(goal),
     }
 }
 
-/// What is laid out where a transformation begins, which is kept then. Any other goal, and one for which the arena has
-/// no room, is the answer itself.
-pub(crate) fn laid_at<'a>(
+// What is laid out where a transformation begins, which is kept then. A goal for which the arena has no room is the answer
+// itself.
+fn laid_at<'a>(
     bump: &'a Bump,
     rules: &Rules,
-    entries: &mut Vec<Kept<'a>, &'a Bump>,
+    starts: &mut Vec<Kept<'a>, &'a Bump>,
+    ends: &mut Vec<Kept<'a>, &'a Bump>,
     goal: &'a Goal<'a>,
 ) -> Result<&'a Goal<'a>, NoMemory>
     requires goal { (ob : ObName) × IsGoalOf (function_of rules.now) ob (goal_tree goal.now) }
-    requires kept { All (IsKeptStart (function_of rules.now)) entries.old.items }
+    requires starts { All (IsKeptStart (function_of rules.now)) starts.old.items }
+    requires ends { All (IsKeptEnd (function_of rules.now)) ends.old.items }
     ensures opens { IfOk result (λ r. OpensStart (function_of rules.now) (goal_tree goal.now) (goal_tree r.now)) }
-    ensures kept { All (IsKeptStart (function_of rules.now)) entries.new.items }
+    ensures starts { All (IsKeptStart (function_of rules.now)) starts.new.items }
+    ensures ends { All (IsKeptEnd (function_of rules.now)) ends.new.items }
 {
-    if !is_begun(goal) {
-        return Ok(goal);
-    }
-    if let Some(known) = found(entries, goal) {
+    if let Some(known) = found(starts, goal) {
         return Ok(known);
     }
     if bump.allocated_bytes() > ROOM {
         return Ok(goal);
     }
-    let built = laid_behind(bump, rules, goal)?;
-    entries.push(Kept {
+    let built = laid_behind(bump, rules, ends, goal)?;
+    starts.push(Kept {
         at: goal,
         goal: built,
     })?;
@@ -73,18 +76,21 @@ pub(crate) fn laid_at<'a>(
 pub(crate) fn laid_on<'a>(
     bump: &'a Bump,
     rules: &Rules,
-    entries: &mut Vec<Kept<'a>, &'a Bump>,
+    starts: &mut Vec<Kept<'a>, &'a Bump>,
+    ends: &mut Vec<Kept<'a>, &'a Bump>,
     goal: &'a Goal<'a>,
     most: u32,
 ) -> Result<&'a Goal<'a>, NoMemory>
     requires goal { (ob : ObName) × IsGoalOf (function_of rules.now) ob (goal_tree goal.now) }
-    requires kept { All (IsKeptStart (function_of rules.now)) entries.old.items }
+    requires starts { All (IsKeptStart (function_of rules.now)) starts.old.items }
+    requires ends { All (IsKeptEnd (function_of rules.now)) ends.old.items }
     ensures opens { IfOk result (λ r. OpensStart (function_of rules.now) (goal_tree goal.now) (goal_tree r.now)) }
-    ensures kept { All (IsKeptStart (function_of rules.now)) entries.new.items }
+    ensures starts { All (IsKeptStart (function_of rules.now)) starts.new.items }
+    ensures ends { All (IsKeptEnd (function_of rules.now)) ends.new.items }
 {
-    if most == 0 {
+    if most == 0 || !is_begun(goal) {
         return Ok(goal);
     }
-    let next = laid_at(bump, rules, entries, goal)?;
-    Ok(laid_on(bump, rules, entries, next, most - 1)?)
+    let next = laid_at(bump, rules, starts, ends, goal)?;
+    Ok(laid_on(bump, rules, starts, ends, next, most - 1)?)
 }

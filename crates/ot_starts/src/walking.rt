@@ -11,7 +11,7 @@ ghost use Rattle.ot_rewrite.specs.Fronts as fronts;
 ghost use Rattle.goal_rules.specs.Steps.{front_tree};
 ghost use Rattle.ot_paths.specs.Nodes as nodes;
 ghost use Rattle.marked_goals.specs.Settled.{OpensStart};
-ghost use Rattle.ot_starts.specs.Kept.{IsKeptStart};
+ghost use Rattle.ot_starts.specs.Kept.{IsKeptStart, IsKeptEnd};
 ghost use Rattle.ot_starts.specs.Turns.{TurnsAs};
 
 use crate::fronts::question;
@@ -106,15 +106,18 @@ fn opened<'a>(bump: &'a Bump, rules: &Rules, goal: &'a Goal<'a>) -> Result<Front
 pub(crate) fn turn_of<'a>(
     bump: &'a Bump,
     rules: &Rules,
-    entries: &mut Vec<Kept<'a>, &'a Bump>,
+    starts: &mut Vec<Kept<'a>, &'a Bump>,
+    ends: &mut Vec<Kept<'a>, &'a Bump>,
     goal: &'a Goal<'a>,
 ) -> Result<Turn<&'a Goal<'a>, Why>, NoMemory>
     requires goal { (ob : ObName) × IsGoalOf (function_of rules.now) ob (goal_tree goal.now) }
-    requires kept { All (IsKeptStart (function_of rules.now)) entries.old.items }
+    requires starts { All (IsKeptStart (function_of rules.now)) starts.old.items }
+    requires ends { All (IsKeptEnd (function_of rules.now)) ends.old.items }
     ensures turns { IfOk result (λ t. TurnsAs (function_of rules.now) (goal_tree goal.now) t) }
-    ensures kept { All (IsKeptStart (function_of rules.now)) entries.new.items }
+    ensures starts { All (IsKeptStart (function_of rules.now)) starts.new.items }
+    ensures ends { All (IsKeptEnd (function_of rules.now)) ends.new.items }
 {
-    let near = laid_on(bump, rules, entries, goal, MOST_TRANSFORMS)?;
+    let near = laid_on(bump, rules, starts, ends, goal, MOST_TRANSFORMS)?;
     let front = opened(bump, rules, near)?;
     Ok(turn_at(bump, rules, front)?)
 }
