@@ -4,8 +4,9 @@
 usage: settle.py [--tp1] [--questions] FN > PROOF
 
 It searches an obligation depth first. Where a transformation begins it tries to show what follows under no literals at
-all, as a lemma; each end that fails there, and cannot be reached from around the lemma, adds literals to it that shut
-the end out. A second walk writes the proof. It ends with status 1 where an obligation fails at answers that some
+all, as a lemma; each end that fails there, and cannot be reached from around the lemma, adds a literal to it that shuts
+the end out, and so does each lemma that was shown and would serve by what is known around. A second walk writes the
+proof. It ends with status 1 where an obligation fails at answers that some
 integers meet, and tells these. With --questions it writes how many questions the search asked to the standard error.
 Nothing of the program is used, and nothing of the program rests on it.
 """
@@ -103,10 +104,11 @@ class Lemmas:
 # The search.
 
 class Level:
-    """A lemma that is being shown: its literals so far, and how much waited and was answered when it began."""
+    """A lemma that is being shown: its literals so far, how much waited and was answered when it began, and what followed
+    there, with what is assumed around it since."""
 
-    def __init__(self, results, waiting, answers):
-        self.results, self.waiting, self.answers, self.offsets = results, waiting, answers, {}
+    def __init__(self, results, waiting, answers, outer):
+        self.results, self.waiting, self.answers, self.outer, self.offsets = results, waiting, answers, outer, {}
 
     def literals(self):
         return [(x, y, k) for (x, y), k in self.offsets.items()]
@@ -117,12 +119,28 @@ class Level:
         self.offsets[x, y] = min(k, self.offsets.get((x, y), k))
 
 
+def shutting(inner, outer):
+    """A literal that follows from the outer table and that no integers meet with the inner one; or None. Where it is
+    below 0, it is weakened as far as 0 or as it may be. Of several it is the one that is nearest to 0 then."""
+    best = None
+    for x, row in enumerate(inner):
+        for y, there in enumerate(row):
+            back = outer[y][x]
+            if there is None or back is None or there[0] + back[0] >= 0 or abs(back[0]) > MOST_OFFSET:
+                continue
+            room = -1 - there[0] - back[0]
+            offset = min(back[0] + room, 0) if back[0] < 0 else back[0]
+            if best is None or abs(offset) < abs(best[2]):
+                best = (y, x, offset)
+    return best
+
+
 class Search:
     def __init__(self, plan, count, budget):
         self.plan, self.count, self.names, self.left = plan, count, 3 + 3 * count, budget
-        self.lemmas, self.levels, self.waiting, self.answers = Lemmas(count), [Level(None, 0, 0)], [], []
         # what the innermost level's literals and the answers since it began give
         self.table = empty_table(self.names)
+        self.lemmas, self.levels, self.waiting, self.answers = Lemmas(count), [Level(None, 0, 0, self.table)], [], []
 
     def run(self):
         """Whether the plan holds. Where it does not, `answers` lead to an end that fails."""
@@ -131,11 +149,11 @@ class Search:
             results, plan = reached(go)
             if isinstance(plan, Fails) and not self.blame():
                 return False
-            if not isinstance(plan, Ask) or results is not None and any(self.lemmas.serving(results, self.table)):
+            if not isinstance(plan, Ask) or results is not None and self.is_shown(results):
                 go = self.close()
                 continue
             if results is not None:
-                self.levels.append(Level(results, len(self.waiting), len(self.answers)))
+                self.levels.append(Level(results, len(self.waiting), len(self.answers), self.table))
                 self.table = empty_table(self.names)
             go = self.ask(plan)
         return True
@@ -170,41 +188,111 @@ class Search:
                 del self.answers[level.answers:]
                 self.lemmas.add(Lemma(level.results, level.literals()))
 
+    # Lemmas that serve.
+
+    def is_shown(self, results):
+        """Whether a lemma serves at a start: by what the innermost level assumes and the answers since it began, or else
+        by what is known around it too, which is assumed then."""
+        if any(self.lemmas.serving(results, self.table)):
+            return True
+        for lemma in self.lemmas.of(results):
+            under = [*lemma.literals, *conditions(self.count, lemma.results, results)]
+            if all(self.follows_around(lit) for lit in under):
+                self.take(under)
+                return True
+        return False
+
+    def follows_around(self, lit):
+        """Whether a literal follows from the innermost one of what is known around that says something of it."""
+        for table in [self.table, *(level.outer for level in self.levels[:0:-1])]:
+            if implies(table, lit):
+                return True
+            if implies(table, negated(lit)):
+                return False
+        return False
+
+    def take(self, literals):
+        """Has the levels assume what follows around them, up to one that no integers lead to then, which is dropped."""
+        for lit in literals:
+            if implies(self.table, lit):
+                continue
+            number = len(self.levels) - 1
+            while not implies(self.levels[number].outer, lit):
+                number -= 1
+            self.levels[number].assume(lit)
+            for inner in range(number + 1, len(self.levels)):
+                if not self.add_around(inner, [lit]):
+                    self.drop(inner)
+                    return
+                self.levels[inner].assume(lit)
+            self.table = with_literal(self.table, lit, None)[0]
+            if self.table is None:
+                return
+
+    # Ends that fail.
+
     def around(self, number):
         """What is known where a level begins."""
         before, level = self.levels[number - 1 : number + 1]
         return before.literals() + self.answers[before.answers:level.answers]
 
-    def excuse(self, number):
-        """Literals from around a level that shut out the end that was reached, if there are any: those of one negative
-        cycle, the oldest one weakened where the cycle has room for it."""
+    def add_around(self, number, literals):
+        """Adds what is assumed around a level to what followed there. Whether some integers still lead to it."""
         level = self.levels[number]
-        literals = level.literals() + self.answers[level.answers:]
-        own, table = len(literals), table_of(self.names, literals)
+        for lit in literals:
+            outer = with_literal(level.outer, lit, None)[0]
+            if outer is None:
+                return False
+            level.outer = outer
+        return True
+
+    def drop(self, number):
+        """Drops a level and those within it."""
+        level = self.levels[number]
+        del self.levels[number:], self.waiting[level.waiting:], self.answers[level.answers:]
+
+    def excluded(self, table, number):
+        """The first literal around a level that no integers meet with a table and those before it, or None; and else the
+        table with all of them."""
         for lit in self.around(number):
-            table, cycle = with_literal(table, lit, len(literals))
-            literals.append(lit)
-            if cycle:
-                oldest, *others = (literals[pick] for pick in sorted(cycle) if pick >= own)
-                x, y, k = oldest
-                room = sum(literals[pick][2] for pick in cycle) < -1 and k < MOST_OFFSET
-                return [(x, y, k + 1) if room else oldest, *others]
-        return None
+            more = with_literal(table, lit, None)[0]
+            if more is None:
+                return lit, None
+            table = more
+        return None, table
+
+    def shut_out(self, number, inner):
+        """Has a level assume what shuts out the end that was reached, by what followed within it; and what it assumes."""
+        assumed = []
+        while True:
+            lit = shutting(inner, self.levels[number].outer)
+            last = lit is not None
+            if not last:
+                lit, _ = self.excluded(inner, number)
+                inner = with_literal(inner, lit, None)[0]
+            assumed.append(lit)
+            self.levels[number].assume(lit)
+            if last:
+                return assumed
 
     def blame(self):
-        """Shuts the end that was reached out of the levels from the innermost one on that can; false where none can."""
-        first = len(self.levels) - 1
-        while first > 0 and self.excuse(first) is None:
+        """Shuts the end that was reached out of the levels, from the innermost one on that can; false where none can."""
+        first, inner = len(self.levels) - 1, {}
+        table = self.table
+        while first > 0:
+            inner[first] = table
+            lit, table = self.excluded(table, first)
+            if lit:
+                break
             first -= 1
         if first == 0:
             return False
+        assumed = []
         for number in range(first, len(self.levels)):
-            level = self.levels[number]
-            if number > first and table_of(self.names, self.around(number)) is None:
-                del self.levels[number:], self.waiting[level.waiting:], self.answers[level.answers:]
+            if not self.add_around(number, assumed):
+                self.drop(number)
                 return True
-            for lit in self.excuse(number):
-                level.assume(lit)
+            assumed = self.shut_out(number, inner[number])
         return True
 
     def failing_end(self):

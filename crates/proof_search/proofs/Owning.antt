@@ -1,5 +1,5 @@
 -- The nodes of a search stay the asker's own.
-use Rattle.std.proofs.Common.{◌≡◌, ◌<◌, List, [], ◌∷◌, ◌++◌, Option, Some, None, length, sym, subst, ⊎_elim, arith}
+use Rattle.std.proofs.Common.{◌≡◌, ◌<◌, List, [], ◌∷◌, ◌++◌, Option, Some, None, length, sym, subst, ◌∙◌, ⊎_elim, arith}
 use Rattle.std.specs.Prelude.{IfSome}
 use Rattle.std.specs.List.{All}
 use Rattle.std.proofs.lemmas.List.Elements.{All-weaker, All-push, All-pop}
@@ -23,6 +23,27 @@ nodes_kept :
 nodes_kept node_of P old new keeps all = λ k d below.
     let within : k < length old = omega (arith, keeps.fewer, below) in
     subst P (sym (keeps.nodes k d below)) (all k d within)
+
+-- what is kept twice is kept
+nodes_kept_twice :
+    {X N : Type 0} (node_of : X → N) (first then last : List X) → KeepsNodes node_of first then → KeepsNodes node_of then last
+    → KeepsNodes node_of first last
+nodes_kept_twice node_of first then last one two =
+    record {
+      fewer = omega (arith, one.fewer, two.fewer);
+      nodes = λ k d below.
+          let within : k < length then = omega (arith, two.fewer, below) in two.nodes k d below ∙ one.nodes k d within;
+    }
+
+pub places_kept :
+    {N : Type 0} {first then last : Search N} → KeepsPlaces first then → KeepsPlaces then last → KeepsPlaces first last
+places_kept {first = first} {then = then} {last = last} one two = record {
+  at = two.at ∙ one.at;
+  levels = nodes_kept_twice (λ l. l.node) first.levels.items then.levels.items last.levels.items one.levels two.levels;
+  waiting = nodes_kept_twice (λ w. w.node) first.waiting.items then.waiting.items last.waiting.items one.waiting two.waiting;
+  lemmas = two.lemmas ∙ one.lemmas;
+  asked = two.asked ∙ one.asked;
+}
 
 -- and of those to which one with such a node may be added
 item_added :
@@ -101,6 +122,15 @@ module _ {N : Type 0} (is_own : N → Type 0) (old new : Search N) (own : IsOwnS
         lemmas = subst (λ (held : List (Lemma N)). AreOwnLemmas is_own held) (sym opens.lemmas) own.lemmas;
       }
 
+  -- nor one whose levels and waiting parts are those of before, from the outermost one on
+  pub own_places : KeepsPlaces old new → IsOwnSearch is_own new
+  own_places keeps = record {
+    at = subst (λ (o : Option N). IfSome o is_own) (sym keeps.at) own.at;
+    waiting = nodes_kept (λ w. w.node) is_own old.waiting.items new.waiting.items keeps.waiting own.waiting;
+    levels = nodes_kept (λ l. l.node) is_own old.levels.items new.levels.items keeps.levels own.levels;
+    lemmas = subst (λ (lemmas : List (Lemma N)). AreOwnLemmas is_own lemmas) (sym keeps.lemmas) own.lemmas;
+  }
+
   -- nor one that has closed its open place, but for what became of the levels around it
   pub own_closed : KeepsPlaces (closed_search old) new → IsOwnSearch is_own new
   own_closed keeps = record {
@@ -122,4 +152,4 @@ module _ {N : Type 0} (is_own : N → Type 0) (old new : List (LemmaLevel N)) (l
 pub own_none : {N : Type 0} (is_own : N → Type 0) (s : Search N) → IsOwnSearch is_own s → IsOwnSearch is_own (closed_search s)
 own_none is_own s own = record { at = tt; waiting = own.waiting; levels = own.levels; lemmas = own.lemmas }
 
-pub ruleset keeping = (KeepsStarts-refl, KeepsStarts-trans, search_kept, own_level, own_asked, own_opened, own_closed, own_none)
+pub ruleset keeping = (KeepsStarts-refl, KeepsStarts-trans, search_kept, own_level, own_asked, own_opened, own_places, own_closed, own_none)

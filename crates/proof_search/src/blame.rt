@@ -1,10 +1,10 @@
 //! What becomes of an end that fails within the lemmas that are being shown.
-ghost use Rattle.std.specs.Prelude.{◌≡◌, ◌<◌, ◌≤◌, length, IfOk, IfSome, OnOk};
+ghost use Rattle.std.specs.Prelude.{◌<◌, length, IfOk, IfSome, OnOk};
 ghost use Rattle.proof_search.specs.Owning.{KeepsNodes, KeepsPlaces, IsMendedWithin};
 
 use crate::NoMemory;
-use crate::excuse::Excuse;
-use crate::levels::{LemmaLevel, assume_all};
+use crate::facts::{Facts, MAX_NAMES};
+use crate::levels::{LemmaLevel, add_around, add_assumed_around, assume_at};
 use crate::open::Search;
 use diff_graph::Lit;
 
@@ -34,54 +34,84 @@ enum Mended {
     Unexplained,
 }
 
-/// The innermost level around which literals shut out the end that the answers lead to, if there is one.
-fn innermost_excused<N: Copy>(
+/// The innermost level around which literals shut out the end that the answers lead to, if there is one. What followed
+/// within each level up to that one is kept, the innermost one first.
+fn innermost_shut<N: Copy>(
     levels: &[LemmaLevel<N>],
     answers: &[Lit],
-    excuse: &mut Excuse,
+    facts: &Facts,
+    within: &mut Vec<Facts>,
 ) -> Result<Option<usize>, NoMemory>
     ensures { IfOk result (λ found. IfSome found (λ number. number < length levels.now)) }
 {
-    if excuse.is_impossible(levels, answers)? {
-        return Ok(None);
-    }
+    within.clear();
+    let mut inner = *facts;
     for number in (0..levels.len()).rev() {
-        // What a level assumes follows from what is around it. So what was added for one begins that for the next.
-        if excuse.is_shut_around(levels, number, answers)? {
+        within.push(inner)?;
+        if inner.shut_out_by(&levels[number].outer).is_some() {
+            return Ok(Some(number));
+        }
+        if add_around(&mut inner, levels, number, answers).is_some() {
             return Ok(Some(number));
         }
     }
     Ok(None)
 }
 
-/// Shuts out the end that the answers lead to, from the first level on, for which this was found to be possible.
+/// Has a level assume literals from around it that shut out the end that the answers lead to, by what followed within
+/// it: one, or, where no two names show that there is none, one more each time. False where they were too many.
+fn shut_out<N: Copy>(
+    levels: &mut [LemmaLevel<N>],
+    number: usize,
+    answers: &[Lit],
+    within: &Facts,
+) -> Result<bool, NoMemory>
+    requires { number < length levels.old }
+    ensures { KeepsNodes (λ l. l.node) levels.old levels.new }
+{
+    let mut inner = *within;
+    for _turn in 0..MAX_NAMES {
+        if let Some(lit) = inner.shut_out_by(&levels[number].outer) {
+            assume_at(levels, number, lit)?;
+            return Ok(true);
+        }
+        let mut more = inner;
+        let Some(lit) = add_around(&mut more, levels, number, answers) else {
+            return Ok(false);
+        };
+        assume_at(levels, number, lit)?;
+        inner.try_add(lit, 0);
+    }
+    Ok(false)
+}
+
+/// Shuts out the end that the answers lead to, from the level on for which this was found to be possible.
 fn mend<N: Copy>(
     levels: &mut [LemmaLevel<N>],
     answers: &[Lit],
-    excuse: &mut Excuse,
+    within: &[Facts],
     first: usize,
 ) -> Result<Mended, NoMemory>
     ensures nodes { KeepsNodes (λ l. l.node) levels.old levels.new }
     ensures within { IfOk result (IsMendedWithin (length levels.old)) }
 {
     for number in first..levels.len() {
-        if number > first {
-            // The level around this one assumes more by now.
-            if excuse.is_unreachable(levels, number, answers)? {
-                return Ok(Mended::Unreachable(number));
-            }
-            if !excuse.find(levels, number, answers)? {
-                return Ok(Mended::Unexplained);
-            }
+        if number > first && !add_assumed_around(levels, number) {
+            return Ok(Mended::Unreachable(number));
         }
-        assume_all(levels, number, excuse.found())?;
+        let Some(inner) = within.get(levels.len() - 1 - number) else {
+            return Ok(Mended::Unexplained);
+        };
+        if !shut_out(levels, number, answers, inner)? {
+            return Ok(Mended::Unexplained);
+        }
     }
     Ok(Mended::All)
 }
 
 impl<N: Copy> Search<N> {
     /// Drops a level, those within it, what waits there, and the answers since it was begun.
-    fn drop_from(&mut self, number: usize)
+    pub fn drop_from(&mut self, number: usize)
         requires { number < length self.old.levels.items }
         ensures { KeepsPlaces self.old self.new }
     {
@@ -97,10 +127,11 @@ impl<N: Copy> Search<N> {
     pub fn blame(&mut self) -> Result<Blamed, NoMemory>
         ensures { OnOk result (KeepsPlaces self.old self.new) }
     {
-        let Some(first) = innermost_excused(&self.levels, &self.answers, &mut self.excuse)? else {
+        let first = innermost_shut(&self.levels, &self.answers, &self.facts, &mut self.within)?;
+        let Some(first) = first else {
             return Ok(Blamed::Real);
         };
-        match mend(&mut self.levels, &self.answers, &mut self.excuse, first)? {
+        match mend(&mut self.levels, &self.answers, &self.within, first)? {
             Mended::All => Ok(Blamed::ShutOut),
             Mended::Unreachable(number) => {
                 self.drop_from(number);

@@ -1,16 +1,18 @@
 //! The lemmas that are being shown, one within another.
-ghost use Rattle.std.specs.Prelude.{◌≡◌, ◌<◌, ◌≤◌, length, OnOk};
+ghost use Rattle.std.specs.Prelude.{◌<◌, length};
 ghost use Rattle.proof_search.specs.Owning.{KeepsNodes};
 
 use crate::NoMemory;
+use crate::facts::Facts;
 use diff_graph::Lit;
 
-/// A lemma that is being shown: its start's node, what it assumes so far, and how many parts waited and how many
-/// answers were given when it was begun.
+/// A lemma that is being shown: its start's node, what it assumes so far, what followed where it was begun and from what
+/// was assumed around it since, and how many parts waited and how many answers were given when it was begun.
 #[derive(Drop)]
 pub(crate) struct LemmaLevel<N: Copy> {
     pub node: N,
     pub literals: Vec<Lit>,
+    pub outer: Facts,
     pub waiting: usize,
     pub answers: usize,
 }
@@ -35,19 +37,47 @@ fn assume(literals: &mut Vec<Lit>, lit: Lit) -> Result<(), NoMemory> {
     Ok(())
 }
 
-/// Assumes the literals at a level.
-pub(crate) fn assume_all<N: Copy>(
+/// Assumes one more literal at a level.
+pub(crate) fn assume_at<N: Copy>(
     levels: &mut [LemmaLevel<N>],
     number: usize,
-    literals: &[Lit],
+    lit: Lit,
 ) -> Result<(), NoMemory>
     requires { number < length levels.old }
     ensures { KeepsNodes (λ l. l.node) levels.old levels.new }
 {
-    for lit in literals {
-        assume(&mut levels[number].literals, *lit)?;
-    }
+    assume(&mut levels[number].literals, lit)?;
     Ok(())
+}
+
+/// Adds what the next level around one assumes by now to what followed where it was begun. False where no integers lead
+/// there any more.
+pub(crate) fn add_assumed_around<N: Copy>(levels: &mut [LemmaLevel<N>], number: usize) -> bool
+    requires { number < length levels.old }
+    ensures { KeepsNodes (λ l. l.node) levels.old levels.new }
+{
+    let mut outer = levels[number].outer;
+    let excluded = outer.add_up_to_excluded(assumed(&levels[..number]), 0);
+    levels[number].outer = outer;
+    excluded.is_none()
+}
+
+/// Adds what is known around a level to what followed within it, up to a literal that no integers meet with this, which
+/// is the answer.
+pub(crate) fn add_around<N: Copy>(
+    inner: &mut Facts,
+    levels: &[LemmaLevel<N>],
+    number: usize,
+    answers: &[Lit],
+) -> Option<Lit>
+    requires { number < length levels.now }
+{
+    let around = &levels[..number];
+    let known = part(answers, answers_before(around), levels[number].answers);
+    match inner.add_up_to_excluded(assumed(around), 0) {
+        Some(lit) => Some(lit),
+        None => inner.add_up_to_excluded(known, 0),
+    }
 }
 
 /// What the innermost level assumes. Outside of all levels it is nothing.

@@ -3,7 +3,6 @@ ghost use Rattle.std.specs.Prelude.{◌≡◌, ◌+◌, ◌<◌, ◌^◌, [], So
 ghost use Rattle.proof_search.specs.Owning.{BeginsLevel, HasAskedInSearch};
 
 use crate::NoMemory;
-use crate::excuse::Excuse;
 use crate::facts::Facts;
 use crate::lemmas::Lemmas;
 use crate::levels::{LemmaLevel, assumed};
@@ -21,8 +20,8 @@ pub(crate) struct WaitingPart<N> {
 /// A search under way: the node of the open place, or none where that was closed; the lemmas that are being shown, the
 /// innermost one last; the parts that wait, and what followed from the answers of each and from what the innermost
 /// level assumed when the question was asked; the answers to the questions that were open both ways; what follows from
-/// what the innermost level assumes and from the answers since it was begun; the lemmas that were shown, and how many
-/// questions were asked.
+/// what the innermost level assumes and from the answers since it was begun; the lemmas that were shown, how many questions
+/// were asked, and room for what followed within each level where an end fails, which so takes memory once.
 #[derive(Drop)]
 pub(crate) struct Search<N: Copy> {
     pub at: Option<N>,
@@ -33,7 +32,7 @@ pub(crate) struct Search<N: Copy> {
     pub facts: Facts,
     pub lemmas: Lemmas<N>,
     pub asked: u64,
-    pub excuse: Excuse,
+    pub within: Vec<Facts>,
 }
 
 /// Adds a literal to the facts that stand last.
@@ -63,7 +62,7 @@ impl<N: Copy> Search<N> {
             facts: Facts::new(),
             lemmas: Lemmas::new(alloc),
             asked: 0,
-            excuse: Excuse::new(alloc),
+            within: Vec::new(alloc),
         }
     }
 
@@ -77,6 +76,7 @@ impl<N: Copy> Search<N> {
         self.levels.push(LemmaLevel {
             node,
             literals: Vec::new(alloc),
+            outer: self.facts,
             waiting: self.waiting.len(),
             answers: self.answers.len(),
         })?;
@@ -127,6 +127,10 @@ impl<N: Copy> Search<N> {
         }
         self.followed
             .truncate(self.followed.len().saturating_sub(1));
-        Ok(self.facts.try_add_all(assumed(&self.levels), 0))
+        Ok(
+            self.facts
+                .add_up_to_excluded(assumed(&self.levels), 0)
+                .is_none(),
+        )
     }
 }

@@ -29,6 +29,19 @@ impl Choice for Any {
     }
 }
 
+/// What is known where a start is reached.
+pub trait Known {
+    /// Whether a literal follows from it.
+    fn shows(&self, lit: Lit) -> bool;
+}
+
+impl Known for Facts {
+    #[inline(always)]
+    fn shows(&self, lit: Lit) -> bool {
+        self.implies(lit)
+    }
+}
+
 /// A lemma that serves at a start: its place in the list of lemmas, and the conditions under which the starts compare.
 #[derive(Drop)]
 pub struct ServingLemma {
@@ -37,9 +50,9 @@ pub struct ServingLemma {
 }
 
 /// Whether all literals follow.
-fn are_implied(facts: &Facts, literals: &[Lit]) -> bool {
+fn are_shown<K: Known>(known: &K, literals: &[Lit]) -> bool {
     for lit in literals {
-        if !facts.implies(*lit) {
+        if !known.shows(*lit) {
             return false;
         }
     }
@@ -48,12 +61,12 @@ fn are_implied(facts: &Facts, literals: &[Lit]) -> bool {
 
 /// The lemma at a place, if it is wanted and serves at a node. Its literals are tested first, since to compare takes
 /// memory.
-fn serving_at<A: Finder, C: Choice>(
+fn serving_at<A: Finder, C: Choice, K: Known>(
     alloc: Global,
     asker: &mut A,
     lemmas: &Lemmas<A::Node>,
     here: A::Node,
-    facts: &Facts,
+    known: &K,
     choice: &C,
     place: usize,
 ) -> Result<Option<ServingLemma>, NoMemory>
@@ -68,13 +81,13 @@ fn serving_at<A: Finder, C: Choice>(
     let Some(lemma) = lemmas.get(place) else {
         return Ok(None);
     };
-    if lemma.literals.len() > MAX_LITERALS || !are_implied(facts, lemma.literals.as_slice()) {
+    if lemma.literals.len() > MAX_LITERALS || !are_shown(known, lemma.literals.as_slice()) {
         return Ok(None);
     }
     let Some(conditions) = asker.compare(alloc, lemma.node, here)? else {
         return Ok(None);
     };
-    if !are_implied(facts, conditions.as_slice()) {
+    if !are_shown(known, conditions.as_slice()) {
         return Ok(None);
     }
     Ok(Some(ServingLemma { place, conditions }))
@@ -83,13 +96,13 @@ fn serving_at<A: Finder, C: Choice>(
 /// The newest lemma of the start with this number that is wanted and serves at a node, given what is known there.
 /// With the number of the start itself, the conditions are none.
 #[tactic(auto, using(crate::proofs::Owning::keeping))]
-pub fn serving_of<A: Finder, C: Choice>(
+pub fn serving_of<A: Finder, C: Choice, K: Known>(
     alloc: Global,
     asker: &mut A,
     lemmas: &Lemmas<A::Node>,
     number: usize,
     here: A::Node,
-    facts: &Facts,
+    known: &K,
     choice: &C,
 ) -> Result<Option<ServingLemma>, NoMemory>
     requires lemmas { AreOwnLemmas (A.is_own asker.old) lemmas.now }
@@ -100,7 +113,7 @@ pub fn serving_of<A: Finder, C: Choice>(
     let places = lemmas.newest(number);
     'places: for passed in 0..places.len() {
         let place = places[places.len() - 1 - passed];
-        if let Some(found) = serving_at(alloc, asker, lemmas, here, facts, choice, place)? {
+        if let Some(found) = serving_at(alloc, asker, lemmas, here, known, choice, place)? {
             return Ok(Some(found));
         }
     }

@@ -4,6 +4,7 @@ ghost use Rattle.proof_trees.specs.Starters.{KeepsStarts};
 ghost use Rattle.proof_search.specs.Owning.{AreOwnLemmas, IsOwnSearch, KeepsPlaces, OpensPart, closed_search};
 
 use crate::NoMemory;
+use crate::adopt::adopt;
 use crate::blame::Blamed;
 use crate::finder::Finder;
 use crate::lemmas::Lemma;
@@ -27,23 +28,28 @@ pub(crate) enum SearchEnd {
     Spent,
 }
 
-/// Whether a lemma serves at a node, if a start is there.
+/// Whether a lemma serves at a node, if a start is there: by what is known since the innermost level was begun, or else by
+/// what is known around it too.
 #[tactic(auto, using(crate::proofs::Owning::keeping))]
 fn is_shown<A: Finder>(
     alloc: Global,
     asker: &mut A,
-    search: &Search<A::Node>,
+    search: &mut Search<A::Node>,
     node: A::Node,
     begins: bool,
 ) -> Result<bool, NoMemory>
-    requires lemmas { AreOwnLemmas (A.is_own asker.old) search.now.lemmas }
+    requires lemmas { AreOwnLemmas (A.is_own asker.old) search.old.lemmas }
     requires node { A.is_own asker.old node }
-    ensures { KeepsStarts (A.is_own asker.old) (A.is_own asker.new) (A.starts asker.old) (A.starts asker.new) }
+    ensures places { OnOk result (KeepsPlaces search.old search.new) }
+    ensures same { KeepsStarts (A.is_own asker.old) (A.is_own asker.new) (A.starts asker.old) (A.starts asker.new) }
 {
     if !begins {
         return Ok(false);
     }
-    Ok(serving(alloc, asker, &search.lemmas, node, &search.facts, &Any)?.is_some())
+    if serving(alloc, asker, &search.lemmas, node, &search.facts, &Any)?.is_some() {
+        return Ok(true);
+    }
+    adopt(alloc, asker, search, node)
 }
 
 /// Closes the open place, whose end fails, where a level shuts it out.

@@ -8,7 +8,7 @@ returns g c = record {
       inr
       (record {
         item =
-            record { node = c.args.node; literals = c.new.result; waiting = c.len.result; answers = c.len-2.result };
+            record { node = c.args.node; literals = c.new.result; outer = c.args.self.now.facts; waiting = c.len.result; answers = c.len-2.result };
         at_node = refl;
         items = c.in_ok-push.ensures.items;
       });

@@ -1,0 +1,139 @@
+//! Lemmas that serve at a start by what is known around the lemmas which are being shown there.
+ghost use Rattle.std.specs.Prelude.{◌<◌, length, IfOk, IfSome, OnOk};
+ghost use Rattle.proof_trees.specs.Starters.{KeepsStarts};
+ghost use Rattle.proof_search.specs.Owning.{AreOwnLemmas, KeepsNodes, KeepsPlaces};
+
+use crate::NoMemory;
+use crate::facts::{Added, Facts};
+use crate::finder::Finder;
+use crate::lemmas::Lemmas;
+use crate::levels::{LemmaLevel, add_assumed_around, assume_at};
+use crate::open::Search;
+use crate::service::{Any, Known, ServingLemma, serving_of};
+use diff_graph::Lit;
+use std::alloc::Global;
+
+impl<N: Copy> Known for Search<N> {
+    /// Whether a literal follows from the innermost of what is known around that says something of it.
+    fn shows(&self, lit: Lit) -> bool {
+        if self.facts.implies(lit) {
+            return true;
+        }
+        if self.facts.excludes(lit) {
+            return false;
+        }
+        for level in self.levels.iter().rev() {
+            if level.outer.implies(lit) {
+                return true;
+            }
+            if level.outer.excludes(lit) {
+                return false;
+            }
+        }
+        false
+    }
+}
+
+/// The innermost level where the literal follows from what is known around it, if there is one.
+fn innermost_shown<N: Copy>(levels: &[LemmaLevel<N>], lit: Lit) -> Option<usize>
+    ensures { IfSome result (λ number. number < length levels.now) }
+{
+    for number in (0..levels.len()).rev() {
+        if levels[number].outer.implies(lit) {
+            return Some(number);
+        }
+    }
+    None
+}
+
+/// Has the levels from one on assume a literal. The answer is the number of one that no integers lead to then, if there
+/// is one.
+fn assume_from<N: Copy>(
+    levels: &mut [LemmaLevel<N>],
+    first: usize,
+    lit: Lit,
+) -> Result<Option<usize>, NoMemory>
+    ensures nodes { KeepsNodes (λ l. l.node) levels.old levels.new }
+    ensures within { IfOk result (λ found. IfSome found (λ number. number < length levels.old)) }
+{
+    for number in first..levels.len() {
+        if number > first && !add_assumed_around(levels, number) {
+            return Ok(Some(number));
+        }
+        assume_at(levels, number, lit)?;
+    }
+    Ok(None)
+}
+
+impl<N: Copy> Search<N> {
+    /// Has the levels assume a literal that follows from what is known around. False where no integers lead here then.
+    fn take(&mut self, lit: Lit) -> Result<bool, NoMemory>
+        ensures { OnOk result (KeepsPlaces self.old self.new) }
+    {
+        if self.facts.implies(lit) {
+            return Ok(true);
+        }
+        let Some(first) = innermost_shown(&self.levels, lit) else {
+            return Ok(false);
+        };
+        if let Some(number) = assume_from(&mut self.levels, first, lit)? {
+            self.drop_from(number);
+            return Ok(false);
+        }
+        Ok(matches!(self.facts.try_add(lit, 0), Added::Yes))
+    }
+
+    /// Has the levels assume literals that follow from what is known around, up to one with which no integers lead here.
+    #[tactic(auto, using(crate::proofs::Owning::places_kept))]
+    fn take_all(&mut self, literals: &[Lit]) -> Result<(), NoMemory>
+        ensures { OnOk result (KeepsPlaces self.old self.new) }
+    {
+        for lit in literals {
+            if !self.take(*lit)? {
+                return Ok(());
+            }
+        }
+        Ok(())
+    }
+}
+
+/// What a lemma that serves wants to follow: its literals, and then the conditions.
+fn wanted<N: Copy>(
+    alloc: Global,
+    lemmas: &Lemmas<N>,
+    serving: &ServingLemma,
+) -> Result<Vec<Lit>, NoMemory> {
+    let mut wanted = Vec::new(alloc);
+    if let Some(lemma) = lemmas.get(serving.place) {
+        for lit in lemma.literals.as_slice() {
+            wanted.push(*lit)?;
+        }
+    }
+    for lit in serving.conditions.as_slice() {
+        wanted.push(*lit)?;
+    }
+    Ok(wanted)
+}
+
+/// Whether a lemma of the start at a node serves by what is known around. The levels assume then what it wants.
+#[tactic(auto, using(crate::proofs::Owning::keeping))]
+pub(crate) fn adopt<A: Finder>(
+    alloc: Global,
+    asker: &mut A,
+    search: &mut Search<A::Node>,
+    node: A::Node,
+) -> Result<bool, NoMemory>
+    requires lemmas { AreOwnLemmas (A.is_own asker.old) search.old.lemmas }
+    requires node { A.is_own asker.old node }
+    ensures places { OnOk result (KeepsPlaces search.old search.new) }
+    ensures same { KeepsStarts (A.is_own asker.old) (A.is_own asker.new) (A.starts asker.old) (A.starts asker.new) }
+{
+    let number = asker.number(node)?;
+    let found = serving_of(alloc, asker, &search.lemmas, number, node, &*search, &Any)?;
+    let Some(found) = found else {
+        return Ok(false);
+    };
+    let literals = wanted(alloc, &search.lemmas, &found)?;
+    search.take_all(literals.as_slice())?;
+    Ok(true)
+}
