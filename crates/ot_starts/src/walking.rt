@@ -102,7 +102,7 @@ fn opened<'a>(bump: &'a Bump, rules: &Rules, goal: &'a Goal<'a>) -> Result<Front
     Ok(front_of(bump, rules, goal)?)
 }
 
-/// How the plan of a goal begins.
+/// How the plan of a goal begins. Most goals have a question at their front already.
 pub(crate) fn turn_of<'a>(
     bump: &'a Bump,
     rules: &Rules,
@@ -117,6 +117,11 @@ pub(crate) fn turn_of<'a>(
     ensures starts { All (IsKeptStart (function_of rules.now)) starts.new.items }
     ensures ends { All (IsKeptEnd (function_of rules.now)) ends.new.items }
 {
+    if let Goal::If { form, yes, no } = *goal {
+        if question(*form).is_some() {
+            return Ok(asked(bump, rules, *form, yes, no)?);
+        }
+    }
     let near = laid_on(bump, rules, starts, ends, goal, MOST_TRANSFORMS)?;
     let front = opened(bump, rules, near)?;
     Ok(turn_at(bump, rules, front)?)
