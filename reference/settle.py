@@ -104,8 +104,8 @@ class Lemmas:
 # The search.
 
 class Level:
-    """A lemma that is being shown: its literals so far, how much waited and was answered when it began, and what followed
-    there, with what is assumed around it since."""
+    """A lemma that is being shown: its literals so far, how much waited and was answered when it began, and what
+    followed there, with what is assumed around it since."""
 
     def __init__(self, results, waiting, answers, outer):
         self.results, self.waiting, self.answers, self.outer, self.offsets = results, waiting, answers, outer, {}
@@ -191,8 +191,8 @@ class Search:
     # Lemmas that serve.
 
     def is_shown(self, results):
-        """Whether a lemma serves at a start: by what the innermost level assumes and the answers since it began, or else
-        by what is known around it too, which is assumed then."""
+        """Whether a lemma serves at a start: by what the innermost level assumes and the answers since it began, or
+        else by what is known around it too, which is assumed then."""
         if any(self.lemmas.serving(results, self.table)):
             return True
         for lemma in self.lemmas.of(results):
@@ -252,8 +252,8 @@ class Search:
         del self.levels[number:], self.waiting[level.waiting:], self.answers[level.answers:]
 
     def excluded(self, table, number):
-        """The first literal around a level that no integers meet with a table and those before it, or None; and else the
-        table with all of them."""
+        """The first literal around a level that no integers meet with a table and those before it, or None; and else
+        the table with all of them."""
         for lit in self.around(number):
             more = with_literal(table, lit, None)[0]
             if more is None:
@@ -262,7 +262,7 @@ class Search:
         return None, table
 
     def shut_out(self, number, inner):
-        """Has a level assume what shuts out the end that was reached, by what followed within it; and what it assumes."""
+        """Has a level assume what shuts out the end that was reached, by what followed within it. What it assumes."""
         assumed = []
         while True:
             lit = shutting(inner, self.levels[number].outer)
@@ -276,7 +276,7 @@ class Search:
                 return assumed
 
     def blame(self):
-        """Shuts the end that was reached out of the levels, from the innermost one on that can; false where none can."""
+        """Shuts the end that was reached out of the levels, from the innermost one on that can. Whether one can."""
         first, inner = len(self.levels) - 1, {}
         table = self.table
         while first > 0:
