@@ -41,8 +41,8 @@ fn laid_behind<'a>(
     }
 }
 
-// What is laid out where a transformation begins, which is kept then. A goal for which the arena has no room is the answer
-// itself.
+// What is laid out where a transformation begins, which is kept then. A goal for which the arena has no room is the
+// answer itself.
 fn laid_at<'a>(
     bump: &'a Bump,
     rules: &Rules,

@@ -83,7 +83,8 @@ impl<N: Copy> Search<N> {
         Ok(matches!(self.facts.try_add(lit, 0), Added::Yes))
     }
 
-    /// Has the levels assume literals that follow from what is known around, up to one with which no integers lead here.
+    /// Has the levels assume literals that follow from what is known around, up to one with which no integers lead
+    /// here.
     #[tactic(auto, using(crate::proofs::Owning::places_kept))]
     fn take_all(&mut self, literals: &[Lit]) -> Result<(), NoMemory>
         ensures { OnOk result (KeepsPlaces self.old self.new) }

@@ -61,8 +61,8 @@ fn is_small(lit: Lit) -> bool
     -MAX_LITERAL_OFFSET - 1 <= lit.k && lit.k <= MAX_LITERAL_OFFSET + 1
 }
 
-/// Where `x <= y + there` and `y <= x + back` have no integers, the offset of the second one, weakened where it is below
-/// 0, as far as 0 or as it may be.
+/// Where `x <= y + there` and `y <= x + back` have no integers, the offset of the second one, weakened where it is
+/// below 0, as far as 0 or as it may be.
 #[inline(always)]
 fn shutting_offset(there: i32, back: i32) -> Option<i32> {
     let weakest = (-1_i32).saturating_sub(there);
@@ -171,8 +171,9 @@ impl Facts {
         self.table.tightest(x, y)
     }
 
-    /// A literal that follows from the facts around and that no integers meet with these, if one of two names does. It
-    /// is weakened where it is below 0, as far as 0 or as it may be. Of several it is the one that is nearest to 0 then.
+    /// A literal that follows from the facts around and that no integers meet with these, if one of two names does.
+    /// It is weakened where it is below 0, as far as 0 or as it may be. Of several it is the one that is nearest to 0
+    /// then.
     pub(crate) fn shut_out_by(&self, around: &Facts) -> Option<Lit> {
         let mut found: Option<Lit> = None;
         for x in 0..MAX_NAMES as u8 {

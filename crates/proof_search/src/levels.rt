@@ -6,8 +6,8 @@ use crate::NoMemory;
 use crate::facts::Facts;
 use diff_graph::Lit;
 
-/// A lemma that is being shown: its start's node, what it assumes so far, what followed where it was begun and from what
-/// was assumed around it since, and how many parts waited and how many answers were given when it was begun.
+/// A lemma that is being shown: its start's node, what it assumes so far, what followed where it was begun and from
+/// what was assumed around it since, and how many parts waited and how many answers were given when it was begun.
 #[derive(Drop)]
 pub(crate) struct LemmaLevel<N: Copy> {
     pub node: N,

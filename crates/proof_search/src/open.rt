@@ -20,8 +20,8 @@ pub(crate) struct WaitingPart<N> {
 /// A search under way: the node of the open place, or none where that was closed; the lemmas that are being shown, the
 /// innermost one last; the parts that wait, and what followed from the answers of each and from what the innermost
 /// level assumed when the question was asked; the answers to the questions that were open both ways; what follows from
-/// what the innermost level assumes and from the answers since it was begun; the lemmas that were shown, how many questions
-/// were asked, and room for what followed within each level where an end fails, which so takes memory once.
+/// what the innermost level assumes and from the answers since it was begun; the lemmas that were shown, how many
+/// questions were asked, and room for what followed within each level where an end fails, which so takes memory once.
 #[derive(Drop)]
 pub(crate) struct Search<N: Copy> {
     pub at: Option<N>,

@@ -28,8 +28,8 @@ pub(crate) enum SearchEnd {
     Spent,
 }
 
-/// Whether a lemma serves at a node, if a start is there: by what is known since the innermost level was begun, or else by
-/// what is known around it too.
+/// Whether a lemma serves at a node, if a start is there: by what is known since the innermost level was begun, or else
+/// by what is known around it too.
 #[tactic(auto, using(crate::proofs::Owning::keeping))]
 fn is_shown<A: Finder>(
     alloc: Global,
