@@ -1,7 +1,6 @@
 pub mod FittingTrees
 pub mod FirstPlaces
 pub mod PathLemmas
-pub mod TokenLemmas
 pub mod TokenByToken
 pub mod ShorterLists
 pub mod Leads

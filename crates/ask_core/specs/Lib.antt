@@ -1,6 +1,4 @@
 pub mod Plans
-pub mod Tokens
-pub mod Seen
 pub mod Trees
 pub mod Askers
 pub mod Paths

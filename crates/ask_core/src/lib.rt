@@ -31,5 +31,5 @@ pub use path::Path;
 pub use picks::{MAX_PICKS, Picks};
 pub use premised::{Premised, PremisedNode, premised_plans_hold_where_the_premise_is_met};
 pub use std::alloc::AllocError as NoMemory;
-pub use tree::{Tok, TokRef, Tokens, Tree, append_few};
+pub use tree::Tok;
 pub use turn::Turn;

@@ -9,5 +9,6 @@ pub mod PieceLemmas
 pub mod ReaderLemmas
 pub mod ReadingLemmas
 pub mod StepLemmas
+pub mod TreeTextLemmas
 pub mod WholeCertificates
 pub mod WriterLemmas

@@ -9,6 +9,7 @@ pub mod Reading
 pub mod Spelling
 pub mod Stages
 pub mod Steps
+pub mod TreeTexts
 pub mod Writing
 pub use Rattle.ask_core.specs.Plans
 pub use Rattle.ask_core.specs.Trees

@@ -17,9 +17,10 @@ mod piece;
 mod reader;
 mod stage;
 mod step;
+mod tree;
 mod writer;
 
-pub use ask_core::{MAX_PICKS, NoMemory, Picks, Tok, Tree};
+pub use ask_core::{MAX_PICKS, NoMemory, Picks, Tok};
 pub use item::{CertError, Item, Part};
 pub use laws::{
     all_bytes_are_read, parts_are_told_apart, read_certificates_are_written,
@@ -27,4 +28,5 @@ pub use laws::{
 };
 pub use piece::number_front;
 pub use reader::Reader;
-pub use writer::{write_end, write_header, write_ob};
+pub use tree::Tree;
+pub use writer::{begin_ob, end_ob, write_end, write_header};

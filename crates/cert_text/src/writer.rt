@@ -1,16 +1,16 @@
 //! Certificates, written part by part.
-ghost use Rattle.std.specs.Prelude.{◌≡◌, ◌+◌, ◌<◌, ◌∷◌, ◌++◌, [], OnOk, OnErr, Some};
+ghost use Rattle.std.specs.Prelude.{◌≡◌, ◌+◌, ◌*◌, ◌<◌, ◌≤◌, ◌∷◌, ◌++◌, [], length, vec_len, vec_capacity};
+ghost use Rattle.std.specs.Prelude.{IfOk, OnOk, OnErr, Some};
 ghost use Rattle.std.specs.Fmt.{decimal};
-ghost use Rattle.ask_core.specs.Seen.{token_at};
+ghost use Rattle.ask_core.specs.declared.picks.TheConstants.{MAX_PICKS};
+ghost use Rattle.ask_core.specs.declared.tree.Tok.TheVariants.{Cycle};
 ghost use Rattle.ask_core.specs.Trees.{AnswerTree, tokens_of};
 ghost use Rattle.cert_text.specs.Numbers.{more_numbers_text, numbers_text};
 ghost use Rattle.cert_text.specs.Spelling.{AreSpellable, end_text, header_text, ob_text, token_text, tokens_text};
-ghost use Rattle.cert_text.specs.Writing.{section_text};
 ghost use Rattle.ot_outside.specs.Whole.{AppendsFront};
 
-use crate::line::{end_line, header_line, ob_line};
+use crate::line::{header_line, ob_line};
 use crate::{NoMemory, Tree};
-use ask_core::TokRef;
 use fn_rules::{Level, ObName};
 use itoa::Buffer;
 
@@ -24,17 +24,25 @@ pub fn write_header(names: &[ObName], level: Level, out: &mut Vec<u8>) -> Result
     append(line.as_slice(), out)
 }
 
-/// Appends an obligation's line, its tree and a newline. After `NoMemory` a front of them was appended.
-pub fn write_ob(name: ObName, tree: &Tree, out: &mut Vec<u8>) -> Result<(), NoMemory>
-    requires one_tree { (t : AnswerTree) × (tree.now ≡ tokens_of t) }
-    requires spellable { AreSpellable tree.now }
-    ensures ok { OnOk result (out.new.items ≡ out.old.items ++ section_text name tree.now) }
-    ensures err { OnErr result (AppendsFront (Some out.old.items) (section_text name tree.now) (Some out.new.items)) }
+/// An empty tree behind the bytes and an obligation's line.
+pub fn begin_ob(name: ObName, bytes: Vec<u8>) -> Result<Tree, NoMemory>
+    ensures { IfOk result (λ tree. tree ≡ record { front = bytes.items ++ ob_text name; tokens = [] }) }
 {
-    let line = ob_line(*out.allocator(), name);
-    append(line.as_slice(), out)?;
-    write_tokens(tree, out)?;
-    append_byte(b'\n', out)
+    let mut front = bytes;
+    let line = ob_line(*front.allocator(), name);
+    front.extend_from_slice(line.as_slice())?;
+    Ok(Tree::behind(front))
+}
+
+/// What stands before a tree, the tree and a newline.
+pub fn end_ob(tree: Tree) -> Result<Vec<u8>, NoMemory>
+    requires one_tree { (t : AnswerTree) × (tree.tokens ≡ tokens_of t) }
+    requires spellable { AreSpellable tree.tokens }
+    ensures { IfOk result (λ bytes. bytes.items ≡ tree.front ++ tokens_text tree.tokens ++ 10 ∷ []) }
+{
+    let mut bytes = tree.into_bytes();
+    bytes.push(b'\n')?;
+    Ok(bytes)
 }
 
 /// Appends the last line. After `NoMemory` a front of it was appended.
@@ -52,16 +60,6 @@ fn append(bytes: &[u8], out: &mut Vec<u8>) -> Result<(), NoMemory>
     out.extend_from_slice(bytes)
 }
 
-// One byte, which needs no copy of a slice.
-#[inline(always)]
-fn append_byte(byte: u8, out: &mut Vec<u8>) -> Result<(), NoMemory>
-    ensures ok { OnOk result (out.new.items ≡ out.old.items ++ byte ∷ []) }
-    ensures err { OnErr result (AppendsFront (Some out.old.items) (byte ∷ []) (Some out.new.items)) }
-{
-    out.push(byte)?;
-    Ok(())
-}
-
 #[inline(always)]
 fn digit_of(value: u32) -> u8
     requires { value < 10 }
@@ -70,100 +68,78 @@ fn digit_of(value: u32) -> u8
     b'0' + value as u8
 }
 
-// Some bytes, of which there are so few that they are stored one by one.
-#[inline(always)]
-fn append_few<const N: usize>(bytes: [u8; N], out: &mut Vec<u8>) -> Result<(), NoMemory>
-    ensures ok { OnOk result (out.new.items ≡ out.old.items ++ bytes.entry) }
-    ensures err { OnErr result (AppendsFront (Some out.old.items) bytes.entry (Some out.new.items)) }
-{
-    out.extend_from_slice(&bytes[..])
-}
-
-// A number of any size.
-fn write_number(number: u32, out: &mut Vec<u8>) -> Result<(), NoMemory>
-    ensures ok { OnOk result (out.new.items ≡ out.old.items ++ decimal number) }
-    ensures err { OnErr result (AppendsFront (Some out.old.items) (decimal number) (Some out.new.items)) }
+// A number of more than two digits, for which there is room.
+#[inline(never)]
+fn put_long(number: u32, out: &mut Vec<u8>)
+    requires room { vec_len out.old + 10 ≤ vec_capacity out.old }
+    ensures items { out.new.items ≡ out.old.items ++ decimal number }
+    ensures len { vec_len out.new ≤ vec_len out.old + 10 }
+    ensures capacity { vec_capacity out.old ≤ vec_capacity out.new }
 {
     let mut buffer = Buffer::new();
-    append(buffer.format(number).as_bytes(), out)
+    let _ = out.extend_from_slice(buffer.format(number).as_bytes());
 }
 
-// A byte and a number of more than two digits.
-#[inline(never)]
-fn write_long(lead: u8, number: u32, out: &mut Vec<u8>) -> Result<(), NoMemory>
-    ensures ok { OnOk result (out.new.items ≡ out.old.items ++ lead ∷ decimal number) }
-    ensures err { OnErr result (AppendsFront (Some out.old.items) (lead ∷ decimal number) (Some out.new.items)) }
-{
-    append_byte(lead, out)?;
-    write_number(number, out)
-}
-
-// A byte and a number. Most numbers have one digit or two.
+// A byte and a number, for which there is room. Most numbers have one digit or two.
 #[inline(always)]
-fn write_led(lead: u8, number: u32, out: &mut Vec<u8>) -> Result<(), NoMemory>
-    ensures ok { OnOk result (out.new.items ≡ out.old.items ++ lead ∷ decimal number) }
-    ensures err { OnErr result (AppendsFront (Some out.old.items) (lead ∷ decimal number) (Some out.new.items)) }
+fn put_led(lead: u8, number: u32, out: &mut Vec<u8>)
+    requires room { vec_len out.old + 11 ≤ vec_capacity out.old }
+    ensures items { out.new.items ≡ out.old.items ++ lead ∷ decimal number }
+    ensures len { vec_len out.new ≤ vec_len out.old + 11 }
+    ensures capacity { vec_capacity out.old ≤ vec_capacity out.new }
 {
+    out.push_reserved(lead);
     if number < 10 {
-        return append_few([lead, digit_of(number)], out);
+        out.push_reserved(digit_of(number));
+        return;
     }
     if number < 100 {
-        return append_few([lead, digit_of(number / 10), digit_of(number % 10)], out);
+        out.push_reserved(digit_of(number / 10));
+        out.push_reserved(digit_of(number % 10));
+        return;
     }
-    write_long(lead, number, out)
+    put_long(number, out);
 }
 
+// Further numbers, for which there is room, and for one more byte.
 #[inline(always)]
-fn write_more_numbers(numbers: &[u32], out: &mut Vec<u8>) -> Result<(), NoMemory>
-    ensures ok { OnOk result (out.new.items ≡ out.old.items ++ more_numbers_text numbers.now) }
-    ensures err { OnErr result
-        (AppendsFront (Some out.old.items) (more_numbers_text numbers.now) (Some out.new.items)) }
+fn put_more_numbers(numbers: &[u32], out: &mut Vec<u8>)
+    requires room { vec_len out.old + 11 * length numbers.now + 1 ≤ vec_capacity out.old }
+    ensures items { out.new.items ≡ out.old.items ++ more_numbers_text numbers.now }
+    ensures room { vec_len out.new + 1 ≤ vec_capacity out.new }
 {
     let mut left = numbers;
     while let Some((first, rest)) = left.split_first() {
-        write_led(b',', *first, out)?;
+        put_led(b',', *first, out);
         left = rest;
     }
-    Ok(())
 }
 
-// The numbers of a cycle, behind their `x`.
+// The numbers of a cycle behind their `x`, for which there is room, and for one more byte.
 #[inline(always)]
-fn write_numbers(numbers: &[u32], out: &mut Vec<u8>) -> Result<(), NoMemory>
-    ensures ok { OnOk result (out.new.items ≡ out.old.items ++ 120 ∷ numbers_text numbers.now) }
-    ensures err { OnErr result (AppendsFront (Some out.old.items) (120 ∷ numbers_text numbers.now)
-        (Some out.new.items)) }
+fn put_numbers(numbers: &[u32], out: &mut Vec<u8>)
+    requires room { vec_len out.old + 11 * length numbers.now + 2 ≤ vec_capacity out.old }
+    ensures items { out.new.items ≡ out.old.items ++ 120 ∷ numbers_text numbers.now }
+    ensures room { vec_len out.new + 1 ≤ vec_capacity out.new }
 {
     let Some((first, rest)) = numbers.split_first() else {
-        return append_byte(b'x', out);
+        out.push_reserved(b'x');
+        return;
     };
-    write_led(b'x', *first, out)?;
-    write_more_numbers(rest, out)
+    put_led(b'x', *first, out);
+    put_more_numbers(rest, out);
 }
 
+/// Appends a cycle with these numbers. Nothing is appended where memory is wanting.
+// Room for all of it is taken at once: an `x`, at most 10 digits and a byte behind each number, and a `;`.
 #[inline(always)]
-fn write_token(tok: TokRef<'_>, out: &mut Vec<u8>) -> Result<(), NoMemory>
-    ensures ok { OnOk result (out.new.items ≡ out.old.items ++ token_text (token_at tok.entry)) }
-    ensures err { OnErr result (AppendsFront (Some out.old.items) (token_text (token_at tok.entry))
-        (Some out.new.items)) }
+pub(crate) fn write_cycle(numbers: &[u32], out: &mut Vec<u8>) -> Result<(), NoMemory>
+    requires { length numbers.now ≤ MAX_PICKS }
+    ensures ok { OnOk result (out.new.items ≡ out.old.items ++ token_text (Cycle numbers.now)) }
+    ensures err { OnErr result (out.new.items ≡ out.old.items) }
 {
-    match tok {
-        TokRef::Ask => append_byte(b'?', out),
-        TokRef::Holds => append_byte(b'.', out),
-        TokRef::Cycle(numbers) => {
-            write_numbers(numbers, out)?;
-            append_byte(b';', out)
-        }
-    }
-}
-
-fn write_tokens(tree: &Tree, out: &mut Vec<u8>) -> Result<(), NoMemory>
-    ensures ok { OnOk result (out.new.items ≡ out.old.items ++ tokens_text tree.now) }
-    ensures err { OnErr result (AppendsFront (Some out.old.items) (tokens_text tree.now) (Some out.new.items)) }
-{
-    let mut tokens = tree.tokens();
-    while let Some(tok) = tokens.next_ref() {
-        write_token(tok, out)?;
-    }
+    out.reserve(2 + 11 * numbers.len())?;
+    put_numbers(numbers, out);
+    out.push_reserved(b';');
     Ok(())
 }

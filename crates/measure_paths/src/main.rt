@@ -5,12 +5,13 @@
 ghost use Rattle.std.specs.Prelude.{◌≡◌, ◌≤◌};
 ghost use Rattle.ask_core.specs.declared.asker.TheConstants.{MAX_QUESTIONS};
 
-use ask_core::{Asker, MAX_QUESTIONS, NoMemory, Tree, Turn};
+use ask_core::{Asker, MAX_PICKS, MAX_QUESTIONS, NoMemory, Picks, Tok, Turn};
 use cert_check::{CheckError, Checker, Progress};
+use cert_text::Tree;
 use diff_graph::Lit;
 use ot_prove::{Outcome, prove};
 use std::alloc::Global;
-use std::io;
+use std::{io, mem};
 
 /// An asker whose plan asks one literal again and again, as long as it is answered by yes.
 #[derive(Drop)]
@@ -65,14 +66,56 @@ fn whole_depth() -> Deep {
     }
 }
 
+/// What was read of a cycle: its whole numbers, and the digits of the next one.
+#[derive(Drop)]
+struct Reading {
+    picks: Picks,
+    number: u32,
+}
+
+// Puts the number that was read behind those of its cycle.
+fn end_number(reading: &mut Reading) {
+    if reading.picks.as_slice().len() < MAX_PICKS {
+        reading.picks.push(reading.number);
+    }
+    reading.number = 0;
+}
+
+// The token that ends with a byte, if one does.
+fn token_with(alloc: Global, reading: &mut Reading, byte: u8) -> Option<Tok> {
+    match byte {
+        b'?' => Some(Tok::Ask),
+        b'.' => Some(Tok::Holds),
+        b'x' => None,
+        b',' => {
+            end_number(reading);
+            None
+        }
+        b';' => {
+            end_number(reading);
+            Some(Tok::Cycle(mem::replace(&mut reading.picks, Picks::new(alloc))))
+        }
+        digit => {
+            let value = u32::from(digit.wrapping_sub(b'0'));
+            reading.number = reading.number.wrapping_mul(10).wrapping_add(value);
+            None
+        }
+    }
+}
+
 // Feeds the tokens to a checker, and says how it ends.
 fn check(alloc: Global, tree: &Tree) -> Result<Result<Progress, CheckError>, NoMemory> {
     let mut checker = Checker::new(alloc, whole_depth())?;
-    let mut tokens = tree.tokens();
-    while let Some(tok) = tokens.next(alloc) {
-        match checker.feed(tok) {
-            Ok(Progress::More) => {}
-            other => return Ok(other),
+    let mut reading = Reading {
+        picks: Picks::new(alloc),
+        number: 0,
+    };
+    for byte in tree.as_bytes() {
+        if let Some(tok) = token_with(alloc, &mut reading, *byte) {
+            match checker.feed(tok) {
+                Ok(Progress::More) => {}
+                other => return Ok(other),
+            }
         }
     }
     Ok(Ok(Progress::More))

@@ -19,6 +19,7 @@ use Rattle.ask_core.specs.Trees.{AnswerTree, Fits, tokens_of}
 use Rattle.ask_core.specs.Questions.{FailingEnd}
 use Rattle.cert_text.specs.Certificates.{certificate_text, sections_text}
 use Rattle.cert_text.specs.Spelling.{AreSpellable, end_text, header_text, ob_text, tokens_text}
+use Rattle.cert_text.specs.TreeTexts.{Written}
 use Rattle.cert_text.specs.Writing.{section_text}
 use Rattle.ot_prove.specs.declared.outcome.Answer.{Answer}
 use Rattle.ot_prove.specs.declared.outcome.Outcome.TheVariants as outcome
@@ -38,8 +39,8 @@ use Rattle.ot_decide.proofs.Spelled.{tree_text_few, whole_spelled}
 module _ (head : Head) (plan : ObName → Plan Why) where
   -- a searched obligation's tree can be spelled
   pub searched_spellable :
-      (ob : ObName) (budget asked : ℕ) (tree : List Tok) → longest_path (plan ob) ≤ MAX_QUESTIONS
-      → IsDecided (plan ob) budget (outcome.Yes tree asked) → AreSpellable tree
+      (ob : ObName) (budget asked : ℕ) (tree : Written) → longest_path (plan ob) ≤ MAX_QUESTIONS
+      → IsDecided (plan ob) budget (outcome.Yes tree asked) → AreSpellable tree.tokens
   searched_spellable ob budget asked tree short searched =
       let proof = searched.decided.3 in
       subst (λ (x : List Tok). AreSpellable x) (sym proof.spelled) (whole_spelled proof.tree (plan ob) short proof.fits)
@@ -76,7 +77,7 @@ module _ (head : Head) (plan : ObName → Plan Why) where
       length-append (section_text ob (tokens_of t)) more in
       omega arith
 
-  module _ (ob : ObName) (obs : List ObName) (budget asked : ℕ) (tree : List Tok) (short : longest_path (plan ob) ≤ MAX_QUESTIONS)
+  module _ (ob : ObName) (obs : List ObName) (budget asked : ℕ) (tree : Written) (short : longest_path (plan ob) ≤ MAX_QUESTIONS)
       (searched : IsDecided (plan ob) budget (outcome.Yes tree asked)) where
     abbrev behind : List (ObQuestions Why) → List (ObQuestions Why)
     behind later = asked_of ob searched.questions ∷ later
@@ -95,7 +96,7 @@ module _ (head : Head) (plan : ObName → Plan Why) where
 
     -- where those behind the obligation are proved, so are all, with its tree in front
     behind_proved :
-        (later : List (ObQuestions Why)) (before middle after : List ℕ) → middle ≡ before ++ section_text ob tree
+        (later : List (ObQuestions Why)) (before middle after : List ℕ) → middle ≡ before ++ section_text ob tree.tokens
         → AreProved plan obs (budget - asked) later middle after → AreProved plan (ob ∷ obs) budget (behind later) before after
     behind_proved later before middle after wrote proved =
         let proof = searched.decided.3 in
@@ -119,7 +120,7 @@ module _ (head : Head) (plan : ObName → Plan Why) where
     -- each outcome of the search of those behind it is one of all
     behind_settles :
         (later : List (ObQuestions Why)) (before middle after : List ℕ) (s : SearchVerdict)
-        → middle ≡ before ++ section_text ob tree
+        → middle ≡ before ++ section_text ob tree.tokens
         → Settles head plan obs (budget - asked) later middle after s
         → Settles head plan (ob ∷ obs) budget (behind later) before after s
     behind_settles later before middle after search.AllHold wrote settles = behind_proved later before middle after wrote settles
@@ -137,7 +138,7 @@ module _ (head : Head) (plan : ObName → Plan Why) where
 
     -- an obligation that holds, its tree written, and those behind it by what is left of the budget
     pub settled_behind :
-        (before middle after : List ℕ) (s : SearchVerdict) → middle ≡ before ++ section_text ob tree
+        (before middle after : List ℕ) (s : SearchVerdict) → middle ≡ before ++ section_text ob tree.tokens
         → AreSettled head plan obs (budget - asked) middle after s → AreSettled head plan (ob ∷ obs) budget before after s
     settled_behind before middle after s wrote (later, asked_later, settles) =
         (behind later, behind_asked later asked_later, behind_settles later before middle after s wrote settles)

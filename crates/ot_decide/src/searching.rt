@@ -1,5 +1,5 @@
 //! The search of a list of obligations.
-ghost use Rattle.std.specs.Prelude.{◌≡◌, ◌≤◌, Some, true, IfOk, IsTrue};
+ghost use Rattle.std.specs.Prelude.{◌≡◌, ◌≤◌, [], Some, true, IfOk, IsTrue};
 ghost use Rattle.std.specs.List.{list_all};
 ghost use Rattle.fn_rules.specs.Obligations.{is_obligation};
 ghost use Rattle.fn_rules.specs.Rules.{function_of};
@@ -8,7 +8,7 @@ ghost use Rattle.ask_core.specs.Askers.{IsFine, longest_path};
 ghost use Rattle.ask_core.specs.Plans.{premised};
 ghost use Rattle.ot_questions.specs.Obligation.{plan_below, plan_of};
 ghost use Rattle.ot_prove.specs.declared.split.TheConstants.{MAX_NAMES};
-ghost use Rattle.ot_prove.specs.Outcomes.{IsDecided};
+ghost use Rattle.ot_prove.specs.Outcomes.{IsDecided, StandsBehind};
 ghost use Rattle.ot_decide.specs.Below.{IsBound};
 ghost use Rattle.ot_decide.specs.Proving.{AreSettled};
 
@@ -17,14 +17,15 @@ use crate::verdict::SearchVerdict;
 use crate::verdicts::obligations_have_one_question_list;
 use ask_core::{Asker, NoMemory, Premised};
 use bumpalo::Bump;
-use cert_text::write_ob;
+use cert_text::{Tree, begin_ob, end_ob};
 use diff_graph::Lit;
 use fn_rules::{ObName, Rules, rules_are_valid};
 use ot_paths::PathAsker;
-use ot_prove::{Outcome, prove};
+use ot_prove::{Outcome, prove_behind};
 use ot_questions::Why;
 use ot_sections::shorter_than;
 use std::alloc::Global;
+use std::mem;
 
 // Searches the plan of an obligation, whose goals stand in the arena.
 fn search_in<'a>(
@@ -33,12 +34,15 @@ fn search_in<'a>(
     rules: &'a Rules,
     ob: ObName,
     budget: u64,
+    tree: Tree,
 ) -> Result<Outcome<Why>, NoMemory>
     requires listed { IsTrue (is_obligation (function_of rules.now).head ob) }
+    requires empty { tree.tokens ≡ [] }
     ensures decides { IfOk result (IsDecided (plan_of (function_of rules.now) ob) budget) }
+    ensures front { IfOk result (StandsBehind tree.front) }
 {
     let mut asker = PathAsker::new(bump, rules, ob);
-    prove(alloc, &mut asker, budget)
+    prove_behind(alloc, &mut asker, budget, tree)
 }
 
 // Searches an asker's plan behind a premise.
@@ -47,13 +51,16 @@ fn search_behind<A: Asker>(
     premise: Lit,
     inner: A,
     budget: u64,
+    tree: Tree,
 ) -> Result<Outcome<A::Why>, NoMemory>
     requires few { A.name_count inner ≤ MAX_NAMES }
     requires fine { IsFine (A.name_count inner) (premised premise (A.root inner)) }
-    ensures { IfOk result (λ o. IsDecided (premised premise (A.root inner)) budget o) }
+    requires empty { tree.tokens ≡ [] }
+    ensures decides { IfOk result (λ o. IsDecided (premised premise (A.root inner)) budget o) }
+    ensures front { IfOk result (StandsBehind tree.front) }
 {
     let mut asker = Premised::new(premise, inner);
-    prove(alloc, &mut asker, budget)
+    prove_behind(alloc, &mut asker, budget, tree)
 }
 
 // Searches the plan of an obligation on the documents of fewer cells than the bound.
@@ -64,15 +71,18 @@ fn search_below<'a>(
     bound: u32,
     ob: ObName,
     budget: u64,
+    tree: Tree,
 ) -> Result<Outcome<Why>, NoMemory>
     requires listed { IsTrue (is_obligation (function_of rules.now).head ob) }
     requires bounded { IsBound (Some bound) }
+    requires empty { tree.tokens ≡ [] }
     ensures decides { IfOk result (IsDecided (plan_below (function_of rules.now) (Some bound) ob) budget) }
+    ensures front { IfOk result (StandsBehind tree.front) }
 {
     shorter_plans_keep_limits();
     rules_are_valid(rules);
     let asker = PathAsker::new(bump, rules, ob);
-    search_behind(alloc, shorter_than(bound), asker, budget)
+    search_behind(alloc, shorter_than(bound), asker, budget, tree)
 }
 
 // Searches the plan of an obligation in an arena of its own.
@@ -82,24 +92,26 @@ fn search_ob(
     below: Option<u32>,
     ob: ObName,
     budget: u64,
+    tree: Tree,
 ) -> Result<Outcome<Why>, NoMemory>
     requires listed { IsTrue (is_obligation (function_of rules.now).head ob) }
     requires bounded { IsBound below }
+    requires empty { tree.tokens ≡ [] }
     ensures decides { IfOk result (IsDecided (plan_below (function_of rules.now) below ob) budget) }
     ensures short { longest_path (plan_below (function_of rules.now) below ob) ≤ MAX_QUESTIONS }
+    ensures front { IfOk result (StandsBehind tree.front) }
 {
     shorter_plans_keep_limits();
     rules_are_valid(rules);
     let bump = Bump::new(alloc);
     match below {
-        None => search_in(alloc, &bump, rules, ob, budget),
-        Some(bound) => search_below(alloc, &bump, rules, bound, ob, budget),
+        None => search_in(alloc, &bump, rules, ob, budget, tree),
+        Some(bound) => search_below(alloc, &bump, rules, bound, ob, budget, tree),
     }
 }
 
 /// Searches obligations in order by at most `budget` questions of all of them together, and appends the section of each
-/// that holds, up to the first that does not. With `below` they are searched on the documents of fewer cells than that
-/// alone.
+/// while it is searched. With `below` they are searched on the documents of fewer cells than that alone.
 ///
 /// `Spent` comes exactly where there are more questions, `Fails` exactly where there are not and one of the obligations
 /// fails, and else `AllHold`, with sections that have exactly these questions. The error is want of memory.
@@ -122,11 +134,10 @@ pub fn search_all(
     let Some((ob, others)) = names.split_first() else {
         return Ok(SearchVerdict::AllHold);
     };
-    match search_ob(alloc, rules, below, *ob, budget)? {
+    let tree = begin_ob(*ob, mem::replace(bytes, Vec::new(alloc)))?;
+    match search_ob(alloc, rules, below, *ob, budget, tree)? {
         Outcome::Yes { tree, asked } => {
-            write_ob(*ob, &tree, bytes)?;
-            // What is searched next takes the memory of this tree.
-            drop(tree);
+            *bytes = end_ob(tree)?;
             search_all(alloc, rules, below, others, budget - asked, bytes)
         }
         Outcome::No { answers, why } => Ok(SearchVerdict::Fails {

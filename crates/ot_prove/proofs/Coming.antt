@@ -5,6 +5,7 @@ use Rattle.diff_graph.specs.declared.lit.Lit.{Lit}
 use Rattle.diff_graph.specs.Literals.{IsPossible}
 use Rattle.ask_core.specs.declared.tree.Tok.{Tok}
 use Rattle.ask_core.specs.declared.tree.Tok.TheVariants as token
+use Rattle.cert_text.specs.TreeTexts.{Written}
 use Rattle.ask_core.specs.Plans.{Plan, Ask, Holds, Fails}
 use Rattle.ask_core.specs.Trees.{Branch, IsCycleAmong, tokens_of}
 use Rattle.ask_core.specs.Questions.{Questions, FailingEnd, QuestionList, no_questions, failing_at}
@@ -123,9 +124,9 @@ module _ {W : Type 0} where
 
   -- where nothing is open any more and the budget was kept, the tokens are a proof by each question list
   pub AgreesWithLists-yes :
-      (root : Plan W) (tokens : List Tok) (asked : List (List Lit)) (count budget : ℕ) → HasCome root tokens asked []
-      → count ≡ length asked → count ≤ budget → AgreesWithLists root budget (Yes tokens count)
-  AgreesWithLists-yes root tokens asked count budget come is_count within q list =
+      (root : Plan W) (tree : Written) (asked : List (List Lit)) (count budget : ℕ) → HasCome root tree.tokens asked []
+      → count ≡ length asked → count ≤ budget → AgreesWithLists root budget (Yes tree count)
+  AgreesWithLists-yes root tree asked count budget come is_count within q list =
       let found = come.lists q list in
       let is : q ≡ record { asked = asked ++ []; failing = None } =
       found.2 ∙ ap (λ (x : Questions W). record { asked = asked ++ x.asked; failing = x.failing }) found.1 in
@@ -134,6 +135,6 @@ module _ {W : Type 0} where
         omega arith,
         ap (λ (x : Questions W). x.failing) is,
         omega arith,
-        subst (λ (x : List (List Lit)). IsProofOfPlan root tokens x) (sym asked_is)
-            (answered_whole root tokens asked (come.trees [] [] (refl, refl))),
+        subst (λ (x : List (List Lit)). IsProofOfPlan root tree.tokens x) (sym asked_is)
+            (answered_whole root tree.tokens asked (come.trees [] [] (refl, refl))),
       )

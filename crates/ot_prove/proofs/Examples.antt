@@ -22,7 +22,7 @@ asked_along-strict = refl
 -- two questions are enough
 Decides-strict :
     Decides (two_name_plan true) 2 strict_list
-    (Yes (token.Ask ∷ token.Ask ∷ token.Cycle (0 ∷ 1 ∷ []) ∷ token.Holds ∷ token.Holds ∷ []) 2)
+    (Yes (record { front = []; tokens = token.Ask ∷ token.Ask ∷ token.Cycle (0 ∷ 1 ∷ []) ∷ token.Holds ∷ token.Holds ∷ [] }) 2)
 Decides-strict = (
   lit≤ tt,
   refl,
@@ -44,7 +44,7 @@ Decides-not_spent : Decides (two_name_plan true) 2 strict_list Spent → ⊥
 Decides-not_spent spent = omega arith
 
 -- a tree with a question less is another one
-Decides-shorter : Decides (two_name_plan true) 2 strict_list (Yes (token.Holds ∷ []) 0) → ⊥
+Decides-shorter : Decides (two_name_plan true) 2 strict_list (Yes (record { front = []; tokens = token.Holds ∷ [] }) 0) → ⊥
 Decides-shorter wrong = let e : ◌≡◌ {A = ℕ} 0 2 = wrong.2 in omega arith
 
 -- the lax plan fails after yes twice

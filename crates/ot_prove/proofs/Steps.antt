@@ -23,6 +23,7 @@ use Rattle.diff_bounds.specs.Kept.{Rows}
 use Rattle.ot_prove.specs.Sides.{IsTableOf, IsAsked, StandsForSome, AreJudged, JudgesSides, cycles_of}
 use Rattle.ot_prove.specs.Searching.{plan_weight, weight_of, HasCome, answers_at, AgreesWithLists, AreShortBranches, LeadsTo, AreReached, IsSearching, known_by}
 use Rattle.ot_prove.specs.Searching.{GoesOnAfterQuestion}
+use Rattle.cert_text.specs.TreeTexts.{Written, with_token}
 use Rattle.ot_prove.proofs.Literals.{fine_question}
 use Rattle.ot_prove.proofs.Coming.{HasCome-begun, HasCome-question, HasCome-holds, HasCome-cycle, AgreesWithLists-spent, fails_here, AgreesWithLists-yes}
 use Rattle.ot_prove.proofs.Possible.{AreNeverMet, IsPossible-by_table, impossible_by_cycle}
@@ -323,32 +324,32 @@ module _ {N W : Type 0} where
     -- the search goes on by the room of the two sides, and where only no has room, a cycle closes the side for yes
     pub IsSearching-on :
         (room : Room) (numbers : List ℕ) (places new_places : List (OpenPlace N)) (cycles new_cycles : List (Option (List ℕ)))
-        (tables : List Rows) (tree new_tree : List Tok) (asked : ℕ) → 0 < length places → AreNeverMet
+        (tables : List Rows) (tree new_tree : Written) (asked : ℕ) → 0 < length places → AreNeverMet
         → GoesOnAfterQuestion room numbers places cycles tree new_places new_cycles new_tree
-        → IsSearching is_own plan root budget places (cycles_of room numbers cycles) tables tree asked
-        → IsSearching is_own plan root budget new_places (None ∷ new_cycles) tables new_tree asked
+        → IsSearching is_own plan root budget places (cycles_of room numbers cycles) tables tree.tokens asked
+        → IsSearching is_own plan root budget new_places (None ∷ new_cycles) tables new_tree.tokens asked
     IsSearching-on Both numbers places new_places cycles new_cycles tables tree new_tree asked some never on s = rw (on.0, on.1, on.2) s
     IsSearching-on OnlyYes numbers places new_places cycles new_cycles tables tree new_tree asked some never on s =
         rw (on.0, on.1, on.2) s
     IsSearching-on OnlyNo numbers places new_places cycles new_cycles tables tree new_tree asked some never on s =
         rw (on.0, on.1, on.2)
-        (IsSearching-cycle is_own plan root budget places numbers (None ∷ cycles) tables tree asked some never s)
+        (IsSearching-cycle is_own plan root budget places numbers (None ∷ cycles) tables tree.tokens asked some never s)
 
     -- a question, and then the sides that have room
     pub IsSearching-asked :
         (places new_places : List (OpenPlace N)) (cycles new_cycles : List (Option (List ℕ))) (tables new_tables : List Rows)
-        (tree new_tree : List Tok) (asked : ℕ) (l : Lit) (on_yes on_no : N) (room : Room) (numbers : List ℕ)
+        (tree new_tree : Written) (asked : ℕ) (l : Lit) (on_yes on_no : N) (room : Room) (numbers : List ℕ)
         → 0 < length places → AreNeverMet
-        → IsSearching is_own plan root budget places (None ∷ cycles) (reverse tables) tree asked
+        → IsSearching is_own plan root budget places (None ∷ cycles) (reverse tables) tree.tokens asked
         → is_own on_yes × is_own on_no × (first_plan plan places ≡ Ask l (plan on_yes) (plan on_no)) → asked ≢ budget
         → JudgesSides l (length (first_answers places)) cycles (reverse tables) (cycles_of room numbers cycles) new_tables
-        → GoesOnAfterQuestion room numbers (after_question l on_yes on_no places) cycles (tree ++ token.Ask ∷ []) new_places new_cycles new_tree
-        → IsSearching is_own plan root budget new_places (None ∷ new_cycles) new_tables new_tree (asked + 1)
+        → GoesOnAfterQuestion room numbers (after_question l on_yes on_no places) cycles (with_token tree token.Ask) new_places new_cycles new_tree
+        → IsSearching is_own plan root budget new_places (None ∷ new_cycles) new_tables new_tree.tokens (asked + 1)
     IsSearching-asked places new_places cycles new_cycles tables new_tables tree new_tree asked l on_yes on_no room numbers some never
         s begins fits judges on =
         IsSearching-on room numbers (after_question l on_yes on_no places) new_places cycles new_cycles new_tables
-        (tree ++ token.Ask ∷ []) new_tree (asked + 1) (after_question-some places l on_yes on_no some) never on
-        (IsSearching-question is_own plan root budget places cycles tables tree asked l on_yes on_no (cycles_of room numbers cycles)
+        (with_token tree token.Ask) new_tree (asked + 1) (after_question-some places l on_yes on_no some) never on
+        (IsSearching-question is_own plan root budget places cycles tables tree.tokens asked l on_yes on_no (cycles_of room numbers cycles)
         new_tables s begins fits judges)
 
   -- ---- weights
@@ -369,7 +370,7 @@ module _ {N W : Type 0} where
 
     weight_of-on :
         (room : Room) (numbers : List ℕ) (places new_places : List (OpenPlace N)) (cycles new_cycles : List (Option (List ℕ)))
-        (tree new_tree : List Tok) → 0 < length places → GoesOnAfterQuestion room numbers places cycles tree new_places new_cycles new_tree
+        (tree new_tree : Written) → 0 < length places → GoesOnAfterQuestion room numbers places cycles tree new_places new_cycles new_tree
         → weight_of (branches_at plan new_places) ≤ weight_of (branches_at plan places)
     weight_of-on Both numbers places new_places cycles new_cycles tree new_tree some on = rw on.0 (omega arith)
     weight_of-on OnlyYes numbers places new_places cycles new_cycles tree new_tree some on = rw on.0 (omega arith)
@@ -379,7 +380,7 @@ module _ {N W : Type 0} where
     -- a question, and then the sides that have room, leave plans that weigh less
     pub weight_of-asked :
         (room : Room) (numbers : List ℕ) (places new_places : List (OpenPlace N)) (cycles new_cycles : List (Option (List ℕ)))
-        (tree new_tree : List Tok) (l : Lit) (on_yes on_no : N) → 0 < length places
+        (tree new_tree : Written) (l : Lit) (on_yes on_no : N) → 0 < length places
         → first_plan plan places ≡ Ask l (plan on_yes) (plan on_no)
         → GoesOnAfterQuestion room numbers (after_question l on_yes on_no places) cycles tree new_places new_cycles new_tree
         → weight_of (branches_at plan new_places) < weight_of (branches_at plan places)
@@ -393,9 +394,9 @@ module _ {N W : Type 0} where
   -- ---- the end of a search
   module _ (is_own : N → Type 0) (plan : N → Plan W) (root : Plan W) (budget : ℕ) where
     pub AgreesWithLists-done :
-        (places : List (OpenPlace N)) (cycles : List (Option (List ℕ))) (tables : List Rows) (tree : List Tok) (asked : ℕ)
+        (places : List (OpenPlace N)) (cycles : List (Option (List ℕ))) (tables : List Rows) (tree : Written) (asked : ℕ)
         (is_open : Bool) → is_open ≡ false → (IsTrue is_open ↔ (0 < length places))
-        → IsSearching is_own plan root budget places cycles tables tree asked → AgreesWithLists root budget (Yes tree asked)
+        → IsSearching is_own plan root budget places cycles tables tree.tokens asked → AgreesWithLists root budget (Yes tree asked)
     AgreesWithLists-done [] cycles tables tree asked is_open closed opened s =
         AgreesWithLists-yes root tree s.so_far asked budget s.come s.count s.within
     AgreesWithLists-done (p ∷ places) cycles tables tree asked is_open closed opened s =

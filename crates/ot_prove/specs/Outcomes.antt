@@ -47,7 +47,7 @@ pub record IsProofOfPlan {W : Type 0} (p : Plan W) (tokens : List Tok) (asked : 
 -- failing end, to which the answers lead, or else is that of a tree which fits the plan
 abbrev pub Decides : {W : Type 0} → Plan W → ℕ → Questions W → Outcome W → Type 0
 Decides p budget q (Yes tree asked) =
-    (length q.asked ≤ budget) × (q.failing ≡ None) × (asked ≡ length q.asked) × IsProofOfPlan p tree q.asked
+    (length q.asked ≤ budget) × (q.failing ≡ None) × (asked ≡ length q.asked) × IsProofOfPlan p tree.tokens q.asked
 Decides p budget q (No answers why) =
     (length q.asked ≤ budget) × (q.failing ≡ Some (record { answers = answered_by answers.items; why = why }))
     × AreAnswersTo p answers.items (Fails why)
@@ -72,3 +72,9 @@ pub record IsDecided {W : Type 0} (p : Plan W) (budget : ℕ) (o : Outcome W) : 
   pub listed : QuestionList p [] questions
   pub possible : AreAllPossible questions
   pub decided : Decides p budget questions o
+
+-- a tree that is found stands behind these bytes
+abbrev pub StandsBehind : {W : Type 0} → List ℕ → Outcome W → Type 0
+StandsBehind front (Yes tree asked) = tree.front ≡ front
+StandsBehind front (No answers why) = Unit {0}
+StandsBehind front Spent = Unit {0}

@@ -12,7 +12,8 @@ use Rattle.ask_core.specs.Askers.{longest_path}
 use Rattle.ask_core.specs.Trees.{AnswerTree, Fits, tokens_of, Branch}
 use Rattle.ask_core.specs.Questions.{Questions, QuestionList, no_questions}
 use Rattle.ask_core.specs.Paths.{OpenPlace, AreOwn, branches_at, after_question, first_answers}
-use Rattle.ot_prove.specs.Outcomes.{asked_along, Decides}
+use Rattle.cert_text.specs.TreeTexts.{Written, with_token}
+use Rattle.ot_prove.specs.Outcomes.{asked_along, Decides, StandsBehind}
 use Rattle.ot_prove.specs.declared.outcome.Outcome.{Outcome}
 use Rattle.ot_prove.specs.declared.search.PlanSearch.{PlanSearch}
 use Rattle.ot_prove.specs.declared.split.Room.{Room}
@@ -114,18 +115,18 @@ known_of s = known_by s.possible s.cycles
 -- the same of a search, whose last table is that of the first place that some integers meet
 abbrev pub IsSearchUnderWay : {N W : Type 0} → (N → Type 0) → (N → Plan W) → Plan W → ℕ → PlanSearch N → Type 0
 IsSearchUnderWay is_own plan root budget s =
-    IsSearching is_own plan root budget s.path (known_of s) (reverse s.tables.items) s.tree s.asked
+    IsSearching is_own plan root budget s.path (known_of s) (reverse s.tables.items) s.tree.tokens s.asked
 
 -- behind a question the side for yes is next, or it is closed with a cycle; what is known of the others waits
 abbrev pub GoesOnAfterQuestion :
-    {N : Type 0} → Room → List ℕ → List (OpenPlace N) → List (Option (List ℕ)) → List Tok
-    → List (OpenPlace N) → List (Option (List ℕ)) → List Tok → Type 0
+    {N : Type 0} → Room → List ℕ → List (OpenPlace N) → List (Option (List ℕ)) → Written
+    → List (OpenPlace N) → List (Option (List ℕ)) → Written → Type 0
 GoesOnAfterQuestion Both numbers places cycles tree new_places new_cycles new_tree =
     (new_places ≡ places) × (new_cycles ≡ None ∷ cycles) × (new_tree ≡ tree)
 GoesOnAfterQuestion OnlyYes numbers places cycles tree new_places new_cycles new_tree =
     (new_places ≡ places) × (new_cycles ≡ Some numbers ∷ cycles) × (new_tree ≡ tree)
 GoesOnAfterQuestion OnlyNo numbers places cycles tree new_places new_cycles new_tree =
-    (new_places ≡ drop 1 places) × (new_cycles ≡ cycles) × (new_tree ≡ tree ++ token.Cycle numbers ∷ [])
+    (new_places ≡ drop 1 places) × (new_cycles ≡ cycles) × (new_tree ≡ with_token tree (token.Cycle numbers))
 
 -- the literal is asked at the first place, and its sides are judged
 abbrev pub HasAsked : {N : Type 0} → Lit → N → N → PlanSearch N → PlanSearch N → Type 0
@@ -134,13 +135,13 @@ HasAsked l on_yes on_no before after =
     × JudgesSides l (length (first_answers before.path)) before.cycles (reverse before.tables.items)
     (cycles_of room numbers before.cycles) (reverse after.tables.items)
     × GoesOnAfterQuestion room numbers (after_question l on_yes on_no before.path) before.cycles
-    (before.tree ++ token.Ask ∷ []) after.path after.cycles after.tree
+    (with_token before.tree token.Ask) after.path after.cycles after.tree
 
 -- the first place had a cycle and is closed with it, or some integers meet its answers
 abbrev pub HasClosed : {N : Type 0} → PlanSearch N → PlanSearch N → Bool → Type 0
 HasClosed before after true =
     (picks : List ℕ) × (known_of before ≡ Some picks ∷ known_of after) × (after.path ≡ drop 1 before.path)
-    × (after.tables.items ≡ before.tables.items) × (after.tree ≡ before.tree ++ token.Cycle picks ∷ [])
+    × (after.tables.items ≡ before.tables.items) × (after.tree ≡ with_token before.tree (token.Cycle picks))
     × (after.asked ≡ before.asked)
 HasClosed before after false =
     (after.possible ≡ true) × (known_of before ≡ known_of after) × (after.path ≡ before.path)
@@ -161,3 +162,8 @@ abbrev pub WeighsLess : {N W : Type 0} → (N → Plan W) → (N → Plan W) →
     → Option (Outcome W) → Type 0
 WeighsLess old new before after r =
     MatchOption r (weight_of (branches_at new after.path) < weight_of (branches_at old before.path)) (λ _. Unit {0})
+
+-- the bytes before the tree stay, and an outcome with a tree has it behind them
+abbrev pub KeepsFront : {N W : Type 0} → PlanSearch N → PlanSearch N → Option (Outcome W) → Type 0
+KeepsFront before after r =
+    (after.tree.front ≡ before.tree.front) × MatchOption r (Unit {0}) (λ o. StandsBehind before.tree.front o)

@@ -1,10 +1,11 @@
 //! What is known of places that wait.
-ghost use Rattle.std.specs.Prelude.{◌≡◌, ◌-◌, ◌<◌, ◌≤◌, ◌∷◌, [], None, Some, length, slice_index_or, IfOk, OnOk};
+ghost use Rattle.std.specs.Prelude.{◌≡◌, ◌-◌, ◌<◌, ◌≤◌, ◌∷◌, ◌++◌, [], None, Some, length, slice_index_or, IfOk, OnOk};
+ghost use Rattle.std.specs.Prelude.{OnErr};
 ghost use Rattle.ask_core.specs.declared.picks.TheConstants.{MAX_PICKS};
 ghost use Rattle.ot_prove.specs.Waiting.{IsTakenCycle};
 
 use crate::NoMemory;
-use ask_core::{Tree, append_few};
+use cert_text::Tree;
 use std::alloc::Global;
 use std::marker::Model;
 
@@ -26,6 +27,19 @@ impl Model for Cycles {
     ghost view = { λ c. cycles_of_starts (reverse c.starts.items) c.numbers.items };
 
     ghost invariant = { λ c. HaveCycles (reverse c.starts.items) c.numbers.items };
+}
+
+// Puts numbers at the end, which are so few that they are stored one by one. The error is want of memory.
+#[inline(always)]
+fn append_few(numbers: &mut Vec<u32>, more: &[u32]) -> Result<(), NoMemory>
+    ensures ok { OnOk result (numbers.new.items ≡ numbers.old.items ++ more.now) }
+    ensures err { OnErr result (numbers.new.items ≡ numbers.old.items) }
+{
+    numbers.reserve(more.len())?;
+    for number in more {
+        numbers.push_reserved(*number);
+    }
+    Ok(())
 }
 
 // Where the cycle of the innermost place starts, if it has one.

@@ -24,5 +24,5 @@ pub use laws::{
     question_lists_tell_where_plans_fail,
 };
 pub use outcome::{Answer, Outcome};
-pub use proving::prove;
+pub use proving::{prove, prove_behind};
 pub use split::MAX_NAMES;

@@ -1,5 +1,5 @@
 //! What a proof answers.
-use ask_core::Tree;
+use cert_text::Tree;
 use diff_graph::Lit;
 
 /// An answer to a question.

@@ -1,21 +1,24 @@
 //! A search under way: the open places, what is known of each, and the tree so far.
-ghost use Rattle.std.specs.Prelude.{◌≡◌, ◌+◌, ◌<◌, ◌≤◌, ◌^◌, [], ◌∷◌, ◌++◌, true, length, drop, slice_index_or, map};
+ghost use Rattle.std.specs.Prelude.{◌≡◌, ◌+◌, ◌<◌, ◌≤◌, ◌^◌, [], ◌∷◌, ◌++◌, true, length, drop, slice_index_or};
 ghost use Rattle.std.specs.Prelude.{IfOk, OnOk};
 ghost use Rattle.diff_graph.specs.Tables.{IsNamed, StandsFor, kept_of};
 ghost use Rattle.diff_graph.specs.declared.lit.Lit.{Lit};
 ghost use Rattle.ask_core.specs.Askers.{SamePlans};
-ghost use Rattle.ask_core.specs.Paths.{OpenPlace, first_answers};
+ghost use Rattle.ask_core.specs.Paths.{first_answers};
 ghost use Rattle.ask_core.specs.declared.tree.Tok.TheVariants.{Holds};
+ghost use Rattle.cert_text.specs.TreeTexts.{with_token};
 ghost use Rattle.ot_prove.specs.declared.split.TheConstants.{MAX_NAMES};
 ghost use Rattle.ot_prove.specs.Sides.{IsAsked, StandsForSome, last_rows};
-ghost use Rattle.ot_prove.specs.Searching.{HasAsked, HasClosed, IsSearchUnderWay, IsUnderWayOr, WeighsLess, known_of};
+ghost use Rattle.ot_prove.specs.Searching.{HasAsked, HasClosed, IsSearchUnderWay, IsUnderWayOr, KeepsFront};
+ghost use Rattle.ot_prove.specs.Searching.{WeighsLess, known_of};
 
 use crate::NoMemory;
 use crate::answers::answers_along;
 use crate::cycles::Cycles;
 use crate::outcome::Outcome;
 use crate::split::{MAX_NAMES, Room, judge_sides};
-use ask_core::{Asker, Path, Tree, Turn, turn_at};
+use ask_core::{Asker, Path, Turn, turn_at};
+use cert_text::Tree;
 use diff_bounds::Bounds;
 use diff_graph::{Lit, negative_cycles_are_never_met};
 use std::alloc::Global;
@@ -36,13 +39,13 @@ pub struct PlanSearch<N: Copy> {
 }
 
 impl<N: Copy> PlanSearch<N> {
-    /// A search with one open place, to which no answers lead.
-    pub fn begin(alloc: Global, first: N) -> Result<PlanSearch<N>, NoMemory>
+    /// A search with one open place, to which no answers lead, whose tree is to stand at the end of this one.
+    pub fn begin(alloc: Global, first: N, tree: Tree) -> Result<PlanSearch<N>, NoMemory>
         ensures path { IfOk result (λ s. s.path ≡ record { node = first; answers = [] } ∷ []) }
         ensures cycles { IfOk result (λ s. (s.possible ≡ true) × (s.cycles ≡ [])) }
         ensures tables { IfOk result (λ s. (length s.tables.items ≡ 1)
             × StandsFor MAX_NAMES (kept_of (slice_index_or s.tables.items 0 [])) []) }
-        ensures nothing { IfOk result (λ s. (s.tree ≡ []) × (s.asked ≡ 0)) }
+        ensures nothing { IfOk result (λ s. (s.tree ≡ tree) × (s.asked ≡ 0)) }
     {
         let mut tables = Vec::new(alloc);
         tables.push(Bounds::new())?;
@@ -51,7 +54,7 @@ impl<N: Copy> PlanSearch<N> {
             possible: true,
             cycles: Cycles::new(alloc),
             tables,
-            tree: Tree::new(alloc),
+            tree,
             asked: 0,
             numbers: Vec::new(alloc),
         })
@@ -62,7 +65,7 @@ impl<N: Copy> PlanSearch<N> {
     pub fn close_holds(&mut self) -> Result<(), NoMemory>
         requires { 0 < length self.old.path }
         ensures { OnOk result (self.new ≡ record self.old
-            { path = drop 1 self.old.path; tree = self.old.tree ++ Holds ∷ [] }) }
+            { path = drop 1 self.old.path; tree = with_token self.old.tree Holds }) }
     {
         self.tree.push_holds()?;
         self.path.close();
@@ -142,6 +145,7 @@ fn take_turn<A: Asker>(
     ensures step { IfOk result (λ r. IsUnderWayOr (A.is_own asker.new) (A.plan asker.new) (A.root asker.new) budget
         search.new r) }
     ensures falls { IfOk result (λ r. WeighsLess (A.plan asker.old) (A.plan asker.new) search.old search.new r) }
+    ensures front { IfOk result (KeepsFront search.old search.new) }
     ensures same { SamePlans (A.is_own asker.old) (A.is_own asker.new) (A.plan asker.old) (A.plan asker.new) }
     ensures root { A.root asker.new ≡ A.root asker.old }
     ensures count { A.name_count asker.new ≡ A.name_count asker.old }
@@ -182,6 +186,7 @@ pub fn step<A: Asker>(
     ensures step { IfOk result (λ r. IsUnderWayOr (A.is_own asker.new) (A.plan asker.new) (A.root asker.new) budget
         search.new r) }
     ensures falls { IfOk result (λ r. WeighsLess (A.plan asker.old) (A.plan asker.new) search.old search.new r) }
+    ensures front { IfOk result (KeepsFront search.old search.new) }
     ensures same { SamePlans (A.is_own asker.old) (A.is_own asker.new) (A.plan asker.old) (A.plan asker.new) }
     ensures root { A.root asker.new ≡ A.root asker.old }
     ensures count { A.name_count asker.new ≡ A.name_count asker.old }

@@ -1,21 +1,21 @@
 //! What the search of a plan over two names comes to.
 use crate::two_names::TwoNames;
-use ask_core::{NoMemory, Premised, Tok, Tree};
+use ask_core::{NoMemory, Premised};
+use cert_text::Tree;
 use diff_graph::Lit;
 use ot_prove::{Answer, Outcome, prove};
 use std::alloc::Global;
 use std::test::Fail;
 
-/// The tokens as a word: `?`, `.` and `x`.
+/// The tokens as a word: `?`, `.` and `x`, without the numbers of cycles.
 fn word_of(alloc: Global, tree: &Tree) -> Result<String, NoMemory> {
     let mut word = String::new(alloc);
-    let mut tokens = tree.tokens();
-    for _ in 0..100 {
-        match tokens.next(alloc) {
-            Some(Tok::Ask) => word.push('?')?,
-            Some(Tok::Holds) => word.push('.')?,
-            Some(Tok::Cycle(_)) => word.push('x')?,
-            None => break,
+    for byte in tree.as_bytes() {
+        match *byte {
+            b'?' => word.push('?')?,
+            b'.' => word.push('.')?,
+            b'x' => word.push('x')?,
+            _ => {}
         }
     }
     Ok(word)

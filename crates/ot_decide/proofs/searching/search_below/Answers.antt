@@ -29,6 +29,7 @@ search_behind-requires c =
     let of_own : IsFine (name_count ob) (premised lit (own_plan (function_of asker.rules.now) asker.ob asker.goal)) =
     subst (λ (p : Plan Why). IsFine (name_count ob) (premised lit p)) (sym own) fine in
     record {
+      empty = c.requires.empty;
       few = few_names asker.ob;
       fine =
           subst

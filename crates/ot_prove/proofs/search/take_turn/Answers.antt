@@ -1,4 +1,4 @@
-use Rattle.std.proofs.Common.{◌≡◌, ℕ, Bool, true, false, List, [], ◌∷◌, ◌++◌, Option, None, Some, reverse, sym, ◌∙◌, ap, subst, arith}
+use Rattle.std.proofs.Common.{◌≡◌, ℕ, Bool, true, false, List, [], ◌∷◌, Option, None, Some, reverse, sym, ◌∙◌, ap, subst, arith}
 use Rattle.diff_graph.specs.declared.lit.Lit.{Lit}
 use Rattle.ask_core.specs.Plans.{Plan, Fails}
 use Rattle.ask_core.specs.declared.tree.Tok.{Tok}
@@ -6,6 +6,7 @@ use Rattle.ask_core.specs.declared.tree.Tok.TheVariants as token
 use Rattle.ask_core.specs.Paths.{OpenPlace, first_answers, first_plan}
 use Rattle.ask_core.specs.Questions.{QuestionList}
 use Rattle.diff_bounds.specs.Kept.{Rows}
+use Rattle.cert_text.specs.TreeTexts.{with_token}
 use Rattle.ot_prove.specs.Searching.{LeadsTo, IsSearching, known_by}
 use Rattle.ot_prove.specs.Outcomes.{AreAnswersTo}
 use Rattle.ot_prove.proofs.Steps.{IsSearching-same, IsSearching-asked, IsSearching-holds, spent_at_first, failing_at_first, first_is_reached, first_has_table}
@@ -28,7 +29,7 @@ returns-then-search-budget-clause-step g c =
     let kept = c.turn_at.ensures in
     let s = c.args.search.now in
     let begins = rw c.in-Ask.is at c.in_ok-lit.ensures.begins in
-    spent_at_first (A.is_own now) (A.plan now) (A.root now) c.args.budget s.path s.cycles s.tables.items s.tree
+    spent_at_first (A.is_own now) (A.plan now) (A.root now) c.args.budget s.path s.cycles s.tables.items s.tree.tokens
     s.asked c.in-Ask.lit (A.plan now c.in-Ask.yes) (A.plan now c.in-Ask.no)
     (IsSearching-same (known_first s.possible c.requires.possible c.requires.searching) kept.own kept.branches kept.root_kept) begins.2 c.if-search-budget.true
 
@@ -54,7 +55,7 @@ ask-requires-clause-some g c =
     let was = c.args.asker.now in
     let s = c.args.search.now in
     (first_has_table (A.is_own was) (A.plan was) (A.root was) c.args.budget s.path s.cycles
-    s.tables.items s.tree s.asked c.requires.opened (known_first s.possible c.requires.possible c.requires.searching)).0
+    s.tables.items s.tree.tokens s.asked c.requires.opened (known_first s.possible c.requires.possible c.requires.searching)).0
 
 pub ask-requires-clause-stands : goal.ask-requires-clause-stands
 ask-requires-clause-stands g c =
@@ -62,7 +63,7 @@ ask-requires-clause-stands g c =
     let was = c.args.asker.now in
     let s = c.args.search.now in
     (first_has_table (A.is_own was) (A.plan was) (A.root was) c.args.budget s.path s.cycles
-    s.tables.items s.tree s.asked c.requires.opened (known_first s.possible c.requires.possible c.requires.searching)).1
+    s.tables.items s.tree.tokens s.asked c.requires.opened (known_first s.possible c.requires.possible c.requires.searching)).1
 
 -- behind a question the search goes on at the sides that have room
 pub returns-in_ok-ask-in-Ask-clause-step : goal.returns-in_ok-ask-in-Ask-clause-step
@@ -91,7 +92,7 @@ returns-in_ok-ask-in-Ask-clause-falls g c =
     let judged = c.in_ok-ask-in-Ask.ensures.judged in
     let falls =
     weight_of-asked (A.plan now) judged.0 judged.1 s.path c.ask.new.self.path s.cycles
-    c.ask.new.self.cycles (s.tree ++ token.Ask ∷ []) c.ask.new.self.tree c.in-Ask.lit c.in-Ask.yes c.in-Ask.no
+    c.ask.new.self.cycles (with_token s.tree token.Ask) c.ask.new.self.tree c.in-Ask.lit c.in-Ask.yes c.in-Ask.no
     c.requires.opened begins.2 judged.3 in
     rw (← c.turn_at.ensures.branches) falls
 
@@ -106,7 +107,7 @@ returns-in_ok-close_holds-in-Holds-clause-step g c =
     let less = without_last s.tables.items c.pop.new.self.items s.tables.len s.tables.ok.0 c.pop.ensures.rest in
     rw c.in_ok-close_holds-in-Holds.ensures
     (IsSearching-holds (A.is_own now) (A.plan now) (A.root now) c.args.budget s.path s.cycles s.tables.items
-    c.pop.new.self.items s.tree s.asked c.requires.opened
+    c.pop.new.self.items s.tree.tokens s.asked c.requires.opened
     (IsSearching-same (known_first s.possible c.requires.possible c.requires.searching) kept.own kept.branches kept.root_kept) begins less)
 
 pub returns-in_ok-close_holds-in-Holds-clause-falls : goal.returns-in_ok-close_holds-in-Holds-clause-falls
@@ -122,7 +123,7 @@ answers_along-requires g c =
     let s = c.args.search.now in (
       first_plan (A.plan now) s.path,
       rw c.answers.ensures
-          (first_is_reached (A.is_own now) (A.plan now) (A.root now) c.args.budget s.path _ _ s.tree s.asked c.requires.opened
+          (first_is_reached (A.is_own now) (A.plan now) (A.root now) c.args.budget s.path _ _ s.tree.tokens s.asked c.requires.opened
           (IsSearching-same (known_first s.possible c.requires.possible c.requires.searching) kept.own kept.branches kept.root_kept)),
     )
 
@@ -138,11 +139,11 @@ returns-in_ok-answers-in-Fails-clause-step g c q list =
     let same_root : A.root last ≡ A.root now = c.answers_along.ensures.root in
     let searching = IsSearching-same (known_first s.possible c.requires.possible c.requires.searching) kept.own kept.branches kept.root_kept in
     let found =
-    failing_at_first (A.is_own now) (A.plan now) (A.root now) c.args.budget s.path s.cycles s.tables.items s.tree
+    failing_at_first (A.is_own now) (A.plan now) (A.root now) c.args.budget s.path s.cycles s.tables.items s.tree.tokens
     s.asked c.in-Fails.why q searching begins
     (subst (λ (p : Plan g.row.A-Why.Denot). QuestionList p [] q) same_root list) in
     let reached =
-    first_is_reached (A.is_own now) (A.plan now) (A.root now) c.args.budget s.path _ _ s.tree s.asked c.requires.opened searching in
+    first_is_reached (A.is_own now) (A.plan now) (A.root now) c.args.budget s.path _ _ s.tree.tokens s.asked c.requires.opened searching in
     let first = c.answers.ensures in
     let there : LeadsTo (A.root now) c.answers.result.now (Fails c.in-Fails.why) =
     subst (λ (w : List Lit). LeadsTo (A.root now) w (Fails c.in-Fails.why)) (sym first)

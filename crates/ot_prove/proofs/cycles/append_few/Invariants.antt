@@ -1,5 +1,5 @@
-use Rattle.std.proofs.Common.{◌≡◌, ◌+◌, ◌≤◌, ◌++◌, length, take}
-use Rattle.ask_core.proofs.tree.append_few.Given as goal
+use Rattle.std.proofs.Common.{◌≡◌, ◌++◌, take}
+use Rattle.ot_prove.proofs.cycles.append_few.Given as goal
 
 -- the numbers before the next one were put at the end, and there is room for the others
 abbrev pub invariant-loop-number : goal.invariant-loop-number

@@ -1,10 +1,11 @@
-use Rattle.std.proofs.Common.{◌∙◌, arith, subst}
+use Rattle.std.proofs.Common.{ℕ, List, ◌∙◌, ap, arith, subst}
 use Rattle.ask_core.specs.Plans.{Plan}
 use Rattle.ask_core.specs.Askers.{IsFine}
 use Rattle.ot_prove.specs.declared.outcome.Outcome.TheVariants.{Yes}
+use Rattle.ot_prove.specs.Outcomes.{StandsBehind}
 use Rattle.ot_prove.specs.Searching.{AgreesWithLists}
 use Rattle.ot_prove.proofs.Steps.{IsSearching-begun, AgreesWithLists-done, IsDecided-by_list}
-use Rattle.ot_prove.proofs.proving.prove.Goals as goal
+use Rattle.ot_prove.proofs.proving.prove_behind.Goals as goal
 
 -- the search has begun, and the plan has a question list
 pub places-init : goal.places-init
@@ -17,15 +18,16 @@ places-init g c =
     let search = c.in_ok-search.search in
     let at = c.in_ok-search.ensures in
     record {
-      few = omega (arith, c.start.ensures.count_kept, c.requires);
+      few = omega (arith, c.start.ensures.count_kept, c.requires.names);
       count = c.start.ensures.count_kept;
       root = c.start.ensures.root_kept;
       same = c.start.ensures.same;
       found =
           c.plans_have_one_question_list.ensures.some (A.name_count now) (A.root c.args.asker.now)
           (subst (λ (p : Plan g.row.A-Why.Denot). IsFine (A.name_count now) p) (begins.1 ∙ c.start.ensures.root_kept) fine);
+      front = ap (λ t. t.front) at.nothing.0;
       searching =
-          rw (at.path, at.nothing.0, at.nothing.1)
+          rw (at.path, at.nothing.0, c.requires.empty, at.nothing.1)
           (IsSearching-begun (A.is_own now) (A.plan now) (A.root now) c.args.budget (A.name_count now) first search.possible search.cycles
           search.tables.items begins fine at.cycles at.tables);
     }
@@ -51,3 +53,8 @@ returns-clause-decides g c =
     (subst (λ (p : Plan g.row.A-Why.Denot). AgreesWithLists p c.args.budget outcome) known.root
     (AgreesWithLists-done (A.is_own now) (A.plan now) (A.root now) c.args.budget search.path _ _ search.tree search.asked
     c.is_open.result c.places-test.false c.is_open.ensures known.searching))
+
+pub returns-in-Some-clause-front : goal.returns-in-Some-clause-front
+returns-in-Some-clause-front g c =
+    let kept = rw c.in-Some.is at c.in_ok-outcome.ensures.front in
+    subst (λ (front : List ℕ). StandsBehind front c.in-Some.outcome) c.places.invariant.front kept.1
