@@ -1,9 +1,7 @@
 -- Tokens that are taken where they are read.
-use Rattle.std.proofs.Common.{◌≡◌, ℕ, suc, ◌+◌, ◌-◌, ◌≤◌, ◌<◌, List, [], ◌∷◌, ◌++◌, length, get_or, take, drop, take-add, add-zero, Result, Ok, refl, sym}
-use Rattle.std.proofs.Common.{ap, subst, ◌∙◌, arith, append_assoc, length-append, length-drop}
-use Rattle.std.specs.Fmt.{decimal}
-use Rattle.std.proofs.lemmas.List.{append-nil, take_more}
-use Rattle.std.proofs.Math.Seq.{take-length}
+use Rattle.std.proofs.Common.{◌≡◌, ℕ, suc, ◌+◌, ◌≤◌, ◌<◌, List, [], ◌∷◌, ◌++◌, length, take, add-zero, Result, Ok, refl, sym}
+use Rattle.std.proofs.Common.{ap, subst, ◌∙◌, arith, append_assoc, length-append}
+use Rattle.std.proofs.lemmas.List.{append-nil}
 use Rattle.fn_rules.specs.declared.function.ObName.{ObName}
 use Rattle.diff_graph.specs.declared.lit.Lit.{Lit}
 use Rattle.ask_core.specs.declared.tree.Tok.{Tok}
@@ -12,7 +10,6 @@ use Rattle.ask_core.specs.Plans.{Plan}
 use Rattle.ask_core.specs.Trees.{Branch}
 use Rattle.cert_check.specs.Steps.{after}
 use Rattle.cert_text.specs.declared.item.Part.TheVariants as part
-use Rattle.cert_text.specs.Numbers.{AreShort, PICK_LIMIT, more_numbers_text, numbers_text}
 use Rattle.cert_text.specs.Spelling.{AreSpellable, IsSpellable, token_text, tokens_text}
 use Rattle.cert_text.specs.Places.{PartPlace, Start, Line, Tree, Finish, open_after}
 use Rattle.cert_text.specs.Passing.{AreOpen, IsPassed, passed}
@@ -23,49 +20,12 @@ use Rattle.ot_sections.specs.Feeding.{Fed, fed}
 use Rattle.ot_sections.specs.Parts.{IsJudged, Point}
 use Rattle.ot_sections.specs.Stands.{IsBetween, IsTreeOf, LeadsAnyway, reader_offset_of, reader_place_of, point_of, stand, tree_with}
 use Rattle.cert_check.specs.Questions.{SkipsTo}
-use Rattle.ot_sections.specs.Taking.{AreTaken, AreTakenFront, IsCycleFront, LeaveOpen}
+use Rattle.ot_sections.specs.Taking.{AreTaken, AreTakenFront, LeaveOpen}
+use Rattle.text_cycles.specs.Cycles.{IsCycleFront}
 use Rattle.ot_sections.proofs.Coming.{Consumes, IsAsked, Took, given_of, took_of}
 use Rattle.ot_sections.proofs.Fitting.{judged_behind}
 use Rattle.ot_sections.proofs.Leaving.{GoesOn, KeepsFeed}
 use Rattle.ot_sections.proofs.Tokens.{open_as_counted}
-
--- a further number of a cycle
-more_numbers_grow :
-    (picks : List ℕ) (n : ℕ) → more_numbers_text (picks ++ n ∷ []) ≡ more_numbers_text picks ++ 44 ∷ decimal n
-more_numbers_grow [] n = ap (λ (l : List ℕ). 44 ∷ l) (append-nil (decimal n))
-more_numbers_grow (m ∷ picks) n =
-    ap (λ (l : List ℕ). 44 ∷ (decimal m ++ l)) (more_numbers_grow picks n)
-    ∙ ap (λ (l : List ℕ). 44 ∷ l) (sym (append_assoc (decimal m) (more_numbers_text picks) (44 ∷ decimal n)))
-
-pub numbers_grow :
-    (picks : List ℕ) (n : ℕ) → 0 < length picks → numbers_text (picks ++ n ∷ []) ≡ numbers_text picks ++ 44 ∷ decimal n
-numbers_grow [] n some = absurd (omega arith)
-numbers_grow (m ∷ picks) n some =
-    ap (λ (l : List ℕ). decimal m ++ l) (more_numbers_grow picks n)
-    ∙ sym (append_assoc (decimal m) (more_numbers_text picks) (44 ∷ decimal n))
-
-pub short_with : (picks : List ℕ) (n : ℕ) → AreShort picks → n < PICK_LIMIT → AreShort (picks ++ n ∷ [])
-short_with [] n all last = (last, tt)
-short_with (m ∷ picks) n all last = (all.0, short_with picks n all.1 last)
-
--- the bytes up to the next number, and up to the end
-pub next_byte :
-    (bytes text : List ℕ) (at b : ℕ) → at < length bytes → get_or bytes at 0 ≡ b → text ≡ take at bytes
-    → text ++ b ∷ [] ≡ take (at + 1) bytes
-next_byte bytes text at b within byte text_is =
-    ap (λ (l : List ℕ). l ++ b ∷ []) text_is
-    ∙ subst (λ (x : ℕ). take at bytes ++ x ∷ [] ≡ take (at + 1) bytes) byte (sym (take_more bytes at 0 within))
-
-pub next_number :
-    (bytes text digits : List ℕ) (at len : ℕ) → at < length bytes → get_or bytes at 0 ≡ 44 → text ≡ take at bytes
-    → digits ≡ take len (drop (at + 1) bytes) → text ++ 44 ∷ digits ≡ take (at + 1 + len) bytes
-next_number bytes text digits at len within comma text_is digits_is =
-    sym (append_assoc text (44 ∷ []) digits) ∙ ap (λ (l : List ℕ). l ++ digits) (next_byte bytes text at 44 within comma text_is)
-    ∙ ap (λ (l : List ℕ). take (at + 1) bytes ++ l) digits_is ∙ sym (take-add (at + 1) len bytes)
-
--- the bytes from a place on
-pub bytes_from : (bytes : List ℕ) (at : ℕ) → take (length bytes - at) (drop at bytes) ≡ drop at bytes
-bytes_from bytes at = rw (← length-drop at bytes) (take-length (drop at bytes))
 
 -- some tokens and further ones
 tokens_text-append : (tokens more : List Tok) → tokens_text (tokens ++ more) ≡ tokens_text tokens ++ tokens_text more

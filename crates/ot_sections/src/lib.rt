@@ -4,7 +4,6 @@
 //! Who judges takes nothing from who searches: nothing here searches or builds a table of constraints.
 #![tactic(auto)]
 
-mod cycle;
 mod laws;
 mod obligation;
 mod part;

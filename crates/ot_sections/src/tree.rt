@@ -11,7 +11,6 @@ ghost use Rattle.ot_sections.specs.Stands.{Came, IsBetween, IsMisspeltBehind, Is
 ghost use Rattle.ot_sections.specs.Stands.{opened, reader_place_of, stand, tree_with};
 ghost use Rattle.ot_sections.specs.Taking.{AreTaken, AreTakenFront};
 
-use crate::cycle::cycle_front;
 use crate::part::expect_part;
 use crate::refusal::{JudgeError, Refusal};
 use ask_core::{Asker, MAX_QUESTIONS, Premised, Tok};
@@ -20,6 +19,7 @@ use cert_text::{Item, Part, Reader};
 use diff_graph::Lit;
 use ot_outside::Feed;
 use std::alloc::Global;
+use text_cycles::cycle_front;
 
 // The end of a judgement at a token that is not taken.
 fn end_at(offset: u64, end: CheckError) -> JudgeError

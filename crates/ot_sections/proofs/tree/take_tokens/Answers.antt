@@ -1,6 +1,7 @@
 use Rattle.std.proofs.Common.{◌+◌, take, drop, take-add, length-drop, arith, ◌∙◌}
 use Rattle.cert_check.specs.Judging.{open_branches}
-use Rattle.ot_sections.proofs.Taking.{bytes_from, more_taken}
+use Rattle.text_cycles.proofs.Numbers.{bytes_from}
+use Rattle.ot_sections.proofs.Taking.{more_taken}
 use Rattle.ot_sections.proofs.tree.take_tokens.Goals as goal
 
 -- further tokens were taken at the front of what was left

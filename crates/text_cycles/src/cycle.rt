@@ -1,6 +1,6 @@
 //! Cycles that are judged where they are read.
 ghost use Rattle.std.specs.Prelude.{◌≡◌, [], ◌∷◌, ◌++◌, slice_get, Some, IfSome};
-ghost use Rattle.ot_sections.specs.Taking.{IsCycleFront};
+ghost use Rattle.text_cycles.specs.Cycles.{IsCycleFront};
 
 use ask_core::MAX_PICKS;
 use cert_check::Walk;
@@ -25,7 +25,7 @@ fn literal_at(lits: &[Lit], last: Lit, pick: u32) -> Option<Lit>
 /// How many of the bytes behind an `x` are its cycle, where that is a negative one of the literals, of which the last
 /// one is given by itself. No list of its numbers is made. Where there is none, a reader and a checker say why.
 #[inline(always)]
-pub(crate) fn cycle_front(lits: &[Lit], last: Lit, bytes: &[u8]) -> Option<usize>
+pub fn cycle_front(lits: &[Lit], last: Lit, bytes: &[u8]) -> Option<usize>
     ensures { IfSome result (IsCycleFront (lits.now ++ last ∷ []) bytes.now) }
 {
     let (pick, len) = number_front(bytes)?;
