@@ -197,6 +197,23 @@ module _ {N : Type 0} where
       (λ k below. take-append-le k list (answered_of l true ∷ []) below ∙ refl) path.nested in
       rw (longer, deeper, ← shown, reverse-push, here, full, others, first_list-place_at) refl
 
+  -- the part for no is first where that for yes is closed at once
+  pub denied_places :
+      (known : List (Known N)) (current : Option (At N)) (base : ℕ) (list u : List Lit) (parts : List (WaitingPlace N))
+      (l : Lit) (on_yes on_no : N) (p : OpenProof N)
+      → open_proof known current base list parts ≡ p → 0 < length p.wanted → IsOpenPath base list parts
+      → u ≡ list ++ answered_of l false ∷ []
+      → record { known = known; wanted = Tree on_no (drop base u) ∷ behind base u (reverse parts) } ≡ closed (asked l on_yes on_no p)
+  denied_places known None base list u parts l on_yes on_no p shown opened path longer =
+      absurd (omega (arith, opened, ap (λ (x : OpenProof N). length x.wanted) shown))
+  denied_places known (Some place) base list u parts l on_yes on_no p shown opened path longer =
+      let here : drop base (list ++ answered_of l false ∷ []) ≡ drop base list ++ answered_of l false ∷ [] =
+      drop-append-le base list (answered_of l false ∷ []) path.within in
+      let others : behind base (list ++ answered_of l false ∷ []) (reverse parts) ≡ behind base list (reverse parts) =
+      behind-same base (length list) (list ++ answered_of l false ∷ []) list (reverse parts)
+      (λ k below. take-append-le k list (answered_of l false ∷ []) below) path.nested in
+      rw (longer, ← shown, here, others, first_list-place_at) refl
+
   -- the innermost part that waits is next
   pub closed_places :
       (known : List (Known N)) (current : Option (At N)) (base : ℕ) (list u : List Lit) (parts rest : List (WaitingPlace N))

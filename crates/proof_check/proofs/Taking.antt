@@ -1,12 +1,14 @@
 -- What a token makes of open places whose asker was called on the way.
-use Rattle.std.proofs.Common.{◌≡◌, ◌⊎◌, inl, inr, ℕ, ℤ, zero, suc, ◌<◌, List, [], ◌∷◌, ◌++◌, length, map, Option, Some, None, Result, Ok, Err, Bool, true}
+use Rattle.std.proofs.Common.{◌≡◌, ◌⊎◌, inl, inr, ℕ, ℤ, zero, suc, ◌<◌, ◌≤◌, List, [], ◌∷◌, ◌++◌, length, map, Option, Some, None, Result, Ok, Err, Bool, true}
 use Rattle.std.proofs.Common.{false, refl, sym, ap, ◌∙◌, subst, arith, IsTrue, ◌↔◌}
 use Rattle.std.specs.Prelude.{slice_get, OnOk, IfErr}
 use Rattle.std.specs.Option.{option_map}
 use Rattle.diff_graph.specs.declared.lit.Lit.{Lit}
 use Rattle.diff_graph.specs.declared.lit.PickError.{PickError}
 use Rattle.diff_graph.specs.Cycles.{pick_verdict}
+use Rattle.ask_core.specs.declared.picks.TheConstants.{MAX_PICKS}
 use Rattle.ask_core.specs.Plans.{Plan, value}
+use Rattle.cert_check.specs.declared.question.Question.{Question}
 use Rattle.cert_check.specs.Steps.{end_of_cycle}
 use Rattle.proof_trees.specs.declared.token.ProofTok.{ProofTok}
 use Rattle.proof_trees.specs.declared.token.ProofTok.TheVariants as token
@@ -20,10 +22,11 @@ use Rattle.proof_check.specs.declared.verdict.ProofError.{ProofError}
 use Rattle.proof_check.specs.declared.verdict.ProofError.TheVariants as error
 use Rattle.proof_check.specs.Places.{WantedAt, Tree, Cycle, Learn, OpenProof, AreOwnPlaces, AreSettledPlaces, first_node, first_list, asked, closed, cited}
 use Rattle.proof_check.specs.Places.{literals_at, wanted_of, learned_of}
+use Rattle.proof_check.specs.Questions.{IsAskedHere, SkipsTo}
 use Rattle.proof_check.specs.Steps.{Standing, after_proof_token, IsTaken}
 use Rattle.proof_check.specs.Judging.{IsProofUnderWay, IsUnderWayUnless, standing_over, AreCompleted, IsProofCauseOf, IsRefusedBy, IsWantOfMemory}
 use Rattle.proof_check.proofs.Completing.{CompletesWanted-step, CompletesWanted-refused}
-use Rattle.proof_check.proofs.Keeping.{standing_kept, own_closed}
+use Rattle.proof_check.proofs.Keeping.{KeepsStarts-refl, standing_kept, own_asked, own_closed, own_kept}
 use Rattle.proof_check.proofs.Standings.{question_taken, end_taken, cycle_taken, citation_taken}
 
 -- a lemma that is found, and its literals
@@ -99,6 +102,53 @@ module _ {N S W : Type 0} {was_own is_own : N → Type 0} {old new : Starts N S 
         taken).1
         (subst (λ (c : Comparison S). AreCompleted c tokens (standing_over new next)) keeps.compare rest)));
   }
+
+  -- a call of the asker alone keeps it too
+  pub IsProofUnderWay-kept : IsProofUnderWay was_own old p → IsProofUnderWay is_own new p
+  IsProofUnderWay-kept way = record {
+    own = own_kept keeps p own;
+    follows = λ tokens rest.
+        subst (λ (q : MarkedPlan S W). HoldsUnder [] (unmarked q)) (sym keeps.root)
+        (way.follows tokens
+        (subst (λ (s : Standing S W). AreCompleted old.compare tokens s) (standing_kept keeps p own)
+        (subst (λ (c : Comparison S). AreCompleted c tokens (standing_over new p)) keeps.compare rest)));
+  }
+
+-- tokens of an asker that is not called between them
+module _ {N S W : Type 0} (is_own : N → Type 0) (starts : Starts N S W) where
+  -- a cycle at a place that takes a token
+  module _ (p : OpenProof N) (settled : AreSettledPlaces p.wanted) (some : 0 < length p.wanted) (picks : List ℕ)
+      (is : pick_verdict (first_list p.wanted) picks ≡ Ok tt) where
+    pub cycle_here : IsTaken starts.compare (token.Cycle picks) (standing_over starts p) (standing_over starts (closed p))
+    cycle_here = cycle_taken starts.marked starts.compare p.known p.wanted picks settled some is
+
+    pub under_way_closed : IsProofUnderWay is_own starts p → length picks ≤ MAX_PICKS → IsProofUnderWay is_own starts (closed p)
+    under_way_closed way few =
+        IsProofUnderWay-taken (KeepsStarts-refl is_own starts) p way.own (token.Cycle picks) (closed p) way
+        (own_closed is_own p way.own) few cycle_here
+
+  -- a question at the first place, and a cycle behind it
+  module _ (q : Question N) (p : OpenProof N) (here : IsAskedHere is_own starts.marked q p) where
+    abbrev after_it : OpenProof N
+    after_it = asked q.lit q.yes q.no p
+
+    pub question_here : IsTaken starts.compare token.Ask (standing_over starts p) (standing_over starts after_it)
+    question_here =
+        question_taken starts.marked starts.compare p.known p.wanted here.node q.yes q.no q.lit (start_of (starts.marked here.node))
+        here.first here.asks
+
+    pub under_way_asked : IsProofUnderWay is_own starts p → IsProofUnderWay is_own starts after_it
+    under_way_asked way =
+        IsProofUnderWay-taken (KeepsStarts-refl is_own starts) p way.own token.Ask after_it way
+        (own_asked is_own p way.own q.lit q.yes q.no here.own_yes here.own_no) tt question_here
+
+    module _ (picks : List ℕ) (is : pick_verdict (first_list p.wanted ++ q.lit ∷ []) picks ≡ Ok tt) where
+      pub skipped_here : SkipsTo starts.compare picks (standing_over starts p) (standing_over starts (closed after_it))
+      skipped_here = (standing_over starts after_it, question_here, cycle_here after_it tt (omega arith) picks is)
+
+      pub under_way_skipped :
+          IsProofUnderWay is_own starts p → length picks ≤ MAX_PICKS → IsProofUnderWay is_own starts (closed after_it)
+      under_way_skipped way few = under_way_closed after_it tt (omega arith) picks is (under_way_asked way) few
 
 -- a token after which nothing is wanted is followed by no tokens
 pub step_done :

@@ -84,6 +84,7 @@ impl<N: Copy> Places<N> {
     }
 
     /// Whether a place is open.
+    #[inline(always)]
     pub fn is_open(&self) -> bool
         ensures { IsTrue result ↔ (0 < length self.now.wanted) }
     {
@@ -91,6 +92,7 @@ impl<N: Copy> Places<N> {
     }
 
     /// The node at the first place, where a tree is wanted there.
+    #[inline(always)]
     pub fn node(&self) -> Option<N>
         ensures value { result ≡ first_node self.now.wanted }
         ensures settled { AreSettledPlaces self.now.wanted }
@@ -103,6 +105,7 @@ impl<N: Copy> Places<N> {
     }
 
     /// The literals at the first place.
+    #[inline(always)]
     pub fn list(&self) -> &[Lit]
         requires { 0 < length self.now.wanted }
         ensures value { result.now ≡ first_list self.now.wanted }
@@ -161,6 +164,19 @@ impl<N: Copy> Places<N> {
             answer: answered(lit, false),
         });
         self.current = Some(At::Tree(yes));
+        Ok(())
+    }
+
+    /// Asks the literal at the first place, where the part for yes is closed at once: the part for no is next. Places
+    /// that were refused memory are as they were.
+    #[inline(always)]
+    pub fn ask_no(&mut self, lit: Lit, no: N) -> Result<(), NoMemory>
+        requires { 0 < length self.old.wanted }
+        ensures ok { OnOk result ((yes : N) → self.new ≡ closed (asked lit yes no self.old)) }
+        ensures err { OnErr result (self.new ≡ self.old) }
+    {
+        self.list.push(answered(lit, false))?;
+        self.current = Some(At::Tree(no));
         Ok(())
     }
 

@@ -1,5 +1,6 @@
 //! One token of a proof at the first open place.
 ghost use Rattle.std.specs.Prelude.{◌≡◌, ◌⊎◌, ◌<◌, ◌≤◌, length, Ok, Err, OnOk, OnErr, IfErr};
+ghost use Rattle.std.specs.Prelude.{IfSome};
 ghost use Rattle.diff_graph.specs.declared.lit.PickError.{PickError};
 ghost use Rattle.diff_graph.specs.Cycles.{pick_verdict};
 ghost use Rattle.ask_core.specs.declared.picks.TheConstants.{MAX_PICKS};
@@ -10,12 +11,13 @@ ghost use Rattle.proof_trees.specs.Tokens.{HasFew};
 ghost use Rattle.proof_check.specs.declared.verdict.ProofError.TheVariants as error;
 ghost use Rattle.proof_check.specs.Places.{AreOwnPlaces, AreSettledPlaces, closed, first_list};
 ghost use Rattle.proof_check.specs.Steps.{IsTaken};
+ghost use Rattle.proof_check.specs.Questions.{IsAskedHere};
 ghost use Rattle.proof_check.specs.Judging.{IsProofCauseOf, IsWantOfMemory, standing_over};
 
 use crate::places::Places;
 use crate::verdict::ProofError;
 use ask_core::{Picks, Turn};
-use cert_check::CheckError;
+use cert_check::{CheckError, Question};
 use diff_graph::is_negative_cycle;
 use proof_trees::{Literals, MAX_LEMMAS, ProofTok, Starter};
 use std::alloc::Global;
@@ -84,6 +86,23 @@ fn take_question<A: Starter>(asker: &mut A, places: &mut Places<A::Node>) -> Res
         }
         Turn::Holds => Err(ProofError::Tree(CheckError::NotAQuestion)),
         Turn::Fails(_) => Err(ProofError::Tree(CheckError::NotAQuestion)),
+    }
+}
+
+/// The question at the first place, where a tree is wanted there whose plan begins with one, and there is memory.
+#[inline(always)]
+pub(crate) fn question_at<A: Starter>(
+    asker: &mut A,
+    places: &Places<A::Node>,
+) -> Option<Question<A::Node>>
+    requires { AreOwnPlaces (A.is_own asker.old) places.now }
+    ensures asked { IfSome result (λ q. IsAskedHere (A.is_own asker.new) (A.starts asker.new).marked q places.now) }
+    ensures same { KeepsStarts (A.is_own asker.old) (A.is_own asker.new) (A.starts asker.old) (A.starts asker.new) }
+{
+    let node = places.node()?;
+    match asker.follow(node) {
+        Ok(Turn::Ask { lit, yes, no }) => Some(Question { lit, yes, no }),
+        _ => None,
     }
 }
 

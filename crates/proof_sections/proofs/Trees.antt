@@ -22,7 +22,7 @@ use Rattle.proof_text.specs.Spelling.{proof_token_text, IsSpellableInProof}
 use Rattle.proof_text.specs.Tokens.{token_front}
 use Rattle.proof_sections.specs.declared.refusal.ConfirmError.{ConfirmError}
 use Rattle.proof_sections.specs.declared.refusal.ConfirmError.TheVariants as confirm
-use Rattle.proof_sections.specs.Judgement.{Judges, TokenLeadsTo, and_then_judged, line_judged, after_token, ended_or, refused_at, tree_by, tree_judged}
+use Rattle.proof_sections.specs.Judgement.{Judges, LeadsBehind, and_then_judged, line_judged, after_token, ended_or, refused_at, tree_by, tree_judged}
 use Rattle.proof_sections.specs.Judgement.{unread_at}
 
 -- tokens are found where they are spelled
@@ -154,21 +154,22 @@ judges_error :
 judges_error bytes judged (confirm.Refused offset cause) same = same
 judges_error bytes judged confirm.NoMemory same = tt
 
+-- a token that is found and taken leads behind it, or to the end where nothing more is wanted
+pub front_leads :
+    {N S W : Type 0} (exact : AreFound) (compare : Comparison S) (total : ℕ) (p : Progress) (tok : ProofTok) (bytes rest : List ℕ)
+    (old : Standing S W) (starts : Starts N S W) (q : OpenProof N)
+    → token_front bytes ≡ Found tok rest → IsTaken compare tok old (standing_over starts q)
+    → (p ≡ More → 0 < length q.wanted) → (p ≡ Done → q.wanted ≡ [])
+    → LeadsBehind compare total p old bytes (standing_over starts q) rest
+front_leads exact compare total More tok bytes rest old starts q found taken some none =
+    let more : 0 < length (standing_over starts q).wanted = rw length-map (some refl) in
+    tree_judged-on compare total exact old (standing_over starts q) bytes rest tok found taken more
+front_leads exact compare total Done tok bytes rest old starts q found taken some none =
+    tree_judged-done compare total exact old (standing_over starts q) bytes rest tok found taken
+    (ap (λ (w : List (WantedAt _)). map (wanted_of starts.marked) w) (none refl))
+
 -- the token at a place of the bytes
 module _ {S W : Type 0} (exact : AreFound) (compare : Comparison S) (bytes : List ℕ) (at : ℕ) (old : Standing S W) where
-  -- a token that is found and taken leads behind it, or to the end where nothing more is wanted
-  pub token_leads :
-      {N : Type 0} (p : Progress) (next : ℕ) (tok : ProofTok) (starts : Starts N S W) (q : OpenProof N)
-      → token_front (drop at bytes) ≡ Found tok (drop next bytes) → IsTaken compare tok old (standing_over starts q)
-      → (p ≡ More → 0 < length q.wanted) → (p ≡ Done → q.wanted ≡ [])
-      → TokenLeadsTo compare bytes p old at (standing_over starts q) next
-  token_leads More next tok starts q found taken some none =
-      let more : 0 < length (standing_over starts q).wanted = rw length-map (some refl) in
-      tree_judged-on compare (length bytes) exact old (standing_over starts q) (drop at bytes) (drop next bytes) tok found taken more
-  token_leads Done next tok starts q found taken some none =
-      tree_judged-done compare (length bytes) exact old (standing_over starts q) (drop at bytes) (drop next bytes) tok found taken
-      (ap (λ (w : List (WantedAt _)). map (wanted_of starts.marked) w) (none refl))
-
   module _ (within : at ≤ length bytes) where
     -- a token that is found and refused is what the tree is refused for, at the token's place
     pub token_refused :

@@ -1,12 +1,11 @@
 -- How the bytes of a proof are judged, part by part from the front. The plans of the obligations with their starts, and
 -- how starts compare, are given. What is judged is how many bytes are left: those of all bytes that come after a part.
-use Rattle.std.specs.Prelude.{◌≡◌, ℕ, ◌-◌, ◌≤◌, zero, suc, List, [], ◌∷◌, length, drop, Result, Ok, Err}
+use Rattle.std.specs.Prelude.{◌≡◌, ℕ, ◌-◌, ◌<◌, ◌≤◌, zero, suc, List, [], ◌∷◌, length, drop, Result, Ok, Err}
 use Rattle.fn_rules.specs.declared.function.Level.{Level}
 use Rattle.fn_rules.specs.declared.function.ObName.{ObName}
 use Rattle.cert_check.specs.declared.verdict.CheckError.TheVariants as check
 use Rattle.cert_check.specs.declared.verdict.Progress.{Progress}
 use Rattle.cert_check.specs.declared.verdict.Progress.TheVariants.{More, Done}
-use Rattle.proof_trees.specs.declared.token.ProofTok.{ProofTok}
 use Rattle.proof_trees.specs.Starts.{MarkedPlan, Comparison}
 use Rattle.proof_trees.specs.Tokens.{Wanted, Tree}
 use Rattle.proof_check.specs.declared.verdict.ProofError.{ProofError}
@@ -127,10 +126,21 @@ Judges bytes judged (Ok at) = (at ≤ length bytes) × (judged ≡ Ok (drop at b
 Judges bytes judged (Err (confirm.Refused offset why)) = judged ≡ Err (confirm.Refused offset why)
 Judges bytes judged (Err confirm.NoMemory) = Unit {0}
 
--- a token at a place leads to another one: the tree goes on there, or has ended
+-- what is judged of some bytes leads to what is judged of those that are left of them: the tree goes on there, or has
+-- ended
+abbrev pub LeadsBehind : {S W : Type 0} → Comparison S → ℕ → Progress → Standing S W → List ℕ → Standing S W → List ℕ
+    → Type 0
+LeadsBehind compare total More old bytes new rest =
+    tree_judged compare total old bytes ≡ tree_judged compare total new rest
+LeadsBehind compare total Done old bytes new rest = tree_judged compare total old bytes ≡ Ok rest
+
+-- a token at a place leads to another one
 abbrev pub TokenLeadsTo : {S W : Type 0} → Comparison S → List ℕ → Progress → Standing S W → ℕ → Standing S W → ℕ
     → Type 0
-TokenLeadsTo compare bytes More old at new next =
-    tree_judged compare (length bytes) old (drop at bytes) ≡ tree_judged compare (length bytes) new (drop next bytes)
-TokenLeadsTo compare bytes Done old at new next = tree_judged compare (length bytes) old (drop at bytes)
-    ≡ Ok (drop next bytes)
+TokenLeadsTo compare bytes p old at new next =
+    LeadsBehind compare (length bytes) p old (drop at bytes) new (drop next bytes)
+
+-- so do so many bytes at the front of some, whatever their number before that was
+abbrev pub FrontLeadsTo : {S W : Type 0} → Comparison S → List ℕ → Progress → Standing S W → Standing S W → ℕ → Type 0
+FrontLeadsTo compare bytes p old new len =
+    (0 < len) × (len ≤ length bytes) × ((total : ℕ) → LeadsBehind compare total p old bytes new (drop len bytes))

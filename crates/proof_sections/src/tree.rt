@@ -1,14 +1,19 @@
 //! The tree of an obligation, judged token by token.
-ghost use Rattle.std.specs.Prelude.{◌≡◌, ◌<◌, ◌≤◌, length, drop, None, IfOk, IfErr};
+ghost use Rattle.std.specs.Prelude.{◌≡◌, ◌<◌, ◌≤◌, ◌∷◌, length, drop, None, IfOk, IfErr, IfSome, IfNone};
+ghost use Rattle.cert_check.specs.declared.verdict.Progress.TheVariants as progress;
 ghost use Rattle.proof_check.specs.Judging.{standing_at};
 ghost use Rattle.proof_sections.specs.declared.refusal.ConfirmError.TheVariants as confirm;
-ghost use Rattle.proof_sections.specs.Judgement.{Judges, TokenLeadsTo, opened_tree, refused_at, tree_judged, unread_at};
+ghost use Rattle.proof_sections.specs.Judgement.{FrontLeadsTo, Judges, TokenLeadsTo, opened_tree, refused_at};
+ghost use Rattle.proof_sections.specs.Judgement.{tree_judged, unread_at};
 
 use crate::refusal::{ConfirmError, ProofRefusal};
 use proof_check::{CheckError, Progress, ProofChecker, ProofError};
-use proof_text::{Unread, read_token, tokens_are_found_exactly};
+use proof_text::{
+    Unread, certificate_tokens_are_spelled_alike, read_token, tokens_are_found_exactly,
+};
 use proof_trees::{ProofTok, Starter};
 use std::alloc::Global;
+use text_cycles::cycle_front;
 
 // The refusal of a token at an offset.
 fn refusal_at(offset: usize, refusal: ProofError) -> ConfirmError
@@ -80,6 +85,78 @@ fn judge_token<A: Starter>(
     }
 }
 
+// Takes the `?` before some bytes, and with it a cycle behind it that closes the part for yes at once: how many bytes
+// these have.
+#[inline(always)]
+fn take_question<A: Starter>(checker: &mut ProofChecker<A>, rest: &[u8]) -> Option<usize>
+    requires open { 0 < length checker.old.places.wanted }
+    requires fresh { checker.old.refusal ≡ None }
+    ensures leads { IfSome result (λ len. FrontLeadsTo (A.starts checker.old.asker).compare (63 ∷ rest.now)
+        progress.More (standing_at A.starts checker.old) (standing_at A.starts checker.new) len) }
+    ensures none { IfNone result (standing_at A.starts checker.new ≡ standing_at A.starts checker.old) }
+    ensures open { 0 < length checker.new.places.wanted }
+    ensures fresh { checker.new.refusal ≡ None }
+    ensures compare { (A.starts checker.new.asker).compare ≡ (A.starts checker.old.asker).compare }
+{
+    tokens_are_found_exactly();
+    certificate_tokens_are_spelled_alike();
+    let question = checker.question()?;
+    if let Some((b'x', behind)) = rest.split_first() {
+        if let Some(len) = cycle_front(checker.literals(), question.lit, behind) {
+            return match checker.skip(question) {
+                true => Some(len + 2),
+                false => None,
+            };
+        }
+    }
+    match checker.ask(question) {
+        true => Some(1),
+        false => None,
+    }
+}
+
+// Takes the `x` before some bytes and its cycle: whether the tree goes on, and how many bytes that is.
+#[inline(always)]
+fn take_cycle<A: Starter>(checker: &mut ProofChecker<A>, rest: &[u8]) -> Option<(Progress, usize)>
+    requires open { 0 < length checker.old.places.wanted }
+    requires fresh { checker.old.refusal ≡ None }
+    ensures leads { IfSome result (λ r. FrontLeadsTo (A.starts checker.old.asker).compare (120 ∷ rest.now) r.0
+        (standing_at A.starts checker.old) (standing_at A.starts checker.new) r.1) }
+    ensures none { IfNone result (standing_at A.starts checker.new ≡ standing_at A.starts checker.old) }
+    ensures open { IfSome result (λ r. r.0 ≡ progress.More → 0 < length checker.new.places.wanted) }
+    ensures still { IfNone result (0 < length checker.new.places.wanted) }
+    ensures fresh { checker.new.refusal ≡ None }
+    ensures compare { (A.starts checker.new.asker).compare ≡ (A.starts checker.old.asker).compare }
+{
+    tokens_are_found_exactly();
+    certificate_tokens_are_spelled_alike();
+    let (last, literals) = checker.literals().split_last()?;
+    let len = cycle_front(literals, *last, rest)?;
+    Some((checker.close()?, len + 1))
+}
+
+// Takes the token at the front of some bytes where it stands there whole and may be taken, and may be a second one with
+// it: whether the tree goes on, and how many bytes they have.
+#[inline(always)]
+fn take_front<A: Starter>(checker: &mut ProofChecker<A>, bytes: &[u8]) -> Option<(Progress, usize)>
+    requires open { 0 < length checker.old.places.wanted }
+    requires fresh { checker.old.refusal ≡ None }
+    ensures leads { IfSome result (λ r. FrontLeadsTo (A.starts checker.old.asker).compare bytes.now r.0
+        (standing_at A.starts checker.old) (standing_at A.starts checker.new) r.1) }
+    ensures none { IfNone result (standing_at A.starts checker.new ≡ standing_at A.starts checker.old) }
+    ensures open { IfSome result (λ r. r.0 ≡ progress.More → 0 < length checker.new.places.wanted) }
+    ensures still { IfNone result (0 < length checker.new.places.wanted) }
+    ensures fresh { checker.new.refusal ≡ None }
+    ensures compare { (A.starts checker.new.asker).compare ≡ (A.starts checker.old.asker).compare }
+{
+    let (first, rest) = bytes.split_first()?;
+    match *first {
+        b'?' => Some((Progress::More, take_question(checker, rest)?)),
+        b'x' => take_cycle(checker, rest),
+        _ => None,
+    }
+}
+
 /// Judges a tree of the asker's plan, from a place of the bytes on: how many bytes stand before what comes after it.
 pub fn judge_tree<A: Starter>(
     alloc: Global,
@@ -96,10 +173,14 @@ pub fn judge_tree<A: Starter>(
     let mut tok = ProofTok::Holds;
     let mut at = start;
     loop {
-        match judge_token(alloc, &mut checker, bytes, at, &mut tok) {
-            Ok((Progress::More, next)) => at = next,
-            Ok((Progress::Done, next)) => return Ok(next),
-            Err(end) => return Err(end),
+        match take_front(&mut checker, &bytes[at..]) {
+            Some((Progress::More, len)) => at += len,
+            Some((Progress::Done, len)) => return Ok(at + len),
+            None => match judge_token(alloc, &mut checker, bytes, at, &mut tok) {
+                Ok((Progress::More, next)) => at = next,
+                Ok((Progress::Done, next)) => return Ok(next),
+                Err(end) => return Err(end),
+            },
         }
     }
 }
