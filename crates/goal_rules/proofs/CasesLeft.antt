@@ -1,12 +1,16 @@
 -- What the cases of a valid block keep where some of them are left out.
-use Rattle.std.proofs.Common.{◌≡◌, ℕ, zero, suc, Bool, IsTrue, List, [], ◌∷◌, length, take, drop, map, ◌-◌, refl, ap, subst, ◌∙◌, sym}
+use Rattle.std.proofs.Common.{◌≡◌, ℕ, zero, suc, Bool, IsTrue, List, [], ◌∷◌, length, take, drop, map, ◌-◌, refl, ap, subst, ◌∙◌, sym, Option, Some, None, IfSome}
 use Rattle.std.specs.List.{AllByRecursion}
 use Rattle.std.proofs.Math.Seq.{take-length}
 use Rattle.std.proofs.lemmas.List.{drop-map, length-drop}
 use Rattle.fn_rules.specs.declared.function.Case.{Case}
 use Rattle.fn_rules.specs.Functions.{GuardedCase, case_of}
 use Rattle.fn_rules.specs.Validity.{are_valid_cases}
+use Rattle.ot_questions.specs.declared.place.SymOp.{SymOp}
 use Rattle.ot_questions.specs.Nears.{IsNearCase}
+use Rattle.ot_terms.specs.Goals.{GoalTree}
+use Rattle.goal_rules.specs.declared.choosing.Trial.{Trial}
+use Rattle.goal_rules.specs.Steps.{trial_tree}
 use Rattle.ot_questions.proofs.Nears.{AreNear-block, ≡-IsTrue}
 
 left_of : {X : Type 0} (P : X → Type 0) (xs : List X) (n : ℕ) → AllByRecursion P xs → AllByRecursion P (drop n xs)
@@ -35,3 +39,9 @@ pub left_near :
 left_near chars xs n valid =
     let same : map case_of (take (length xs - n) (drop n xs)) ≡ drop n (map case_of xs) = left_cases xs n (map case_of xs) refl in
     subst (AllByRecursion IsNearCase) (sym same) (cases_left_near chars (map case_of xs) n valid)
+
+-- a case that is tried
+pub tried :
+    (a b : SymOp) (r : Option Trial) (g : GoalTree) → trial_tree a b r ≡ g → IfSome r (λ t. trial_tree a b (Some t) ≡ g)
+tried a b None g e = tt
+tried a b (Some t) g e = e

@@ -1,7 +1,9 @@
 -- Goals that are held at their front, and what a rule needs of one.
-use Rattle.std.specs.Prelude.{ℕ, ◌<◌, ◌≤◌, length}
+use Rattle.std.specs.Prelude.{ℕ, ◌<◌, ◌≤◌, length, Option, Some, None}
+use Rattle.fn_rules.specs.Formulas.{formula_of}
 use Rattle.fn_rules.specs.Functions.{Function}
 use Rattle.ot_questions.specs.declared.place.SymOp.{SymOp}
+use Rattle.ot_questions.specs.declared.why.Why.TheVariants.{Undefined}
 use Rattle.ot_questions.specs.Nears.{IsNear, IsNearOp, IsDeclaredOp}
 use Rattle.ot_questions.specs.Places.{sym_kind}
 use Rattle.ot_terms.specs.Forms as forms
@@ -9,8 +11,10 @@ use Rattle.ot_terms.specs.Forms.{FormTree, form_tree}
 use Rattle.ot_terms.specs.Cells.{cell_tree}
 use Rattle.ot_terms.specs.Goals as goals
 use Rattle.ot_terms.specs.Goals.{GoalTree, goal_tree}
+use Rattle.ot_terms.specs.Placing.{guard_form}
 use Rattle.ot_terms.specs.Weights.{cases_of_kinds}
 use Rattle.cell_rules.specs.Cells.{IsReadable}
+use Rattle.goal_rules.specs.declared.choosing.Trial.{Trial}
 use Rattle.goal_rules.specs.declared.front.Front.{Front}
 use Rattle.goal_rules.specs.declared.front.Front.TheVariants as rust
 
@@ -22,6 +26,11 @@ front_tree (rust.If g on_yes on_no) = goals.If (form_tree g) (goal_tree on_yes.n
 front_tree (rust.Choose case a b progress) = goals.Choose case a b progress.now
 front_tree (rust.Deliver o progress) = goals.Deliver o progress.now
 front_tree (rust.Same left right) = goals.Same (cell_tree left) (cell_tree right)
+
+-- the goal that a case which is tried at two operations stands for; it fails where none is left
+abbrev pub trial_tree : SymOp → SymOp → Option Trial → GoalTree
+trial_tree a b None = goals.Fails Undefined
+trial_tree a b (Some t) = goals.If (guard_form (formula_of t.guard.now) a b) (goal_tree t.yes.now) (goal_tree t.no.now)
 
 -- the offset that is lowered by one is small
 abbrev pub IsLoweredForm : FormTree → Type 0

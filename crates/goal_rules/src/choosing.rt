@@ -1,20 +1,84 @@
 //! The rules for the cases of a transformation.
-ghost use Rattle.std.specs.Prelude.{◌≡◌, ◌≤◌, IfOk, map, length, drop};
+ghost use Rattle.std.specs.Prelude.{◌≡◌, ◌≤◌, IfOk, IfSome, Some, map, length, drop};
 ghost use Rattle.fn_rules.specs.Functions.{case_of};
 ghost use Rattle.fn_rules.specs.Formulas.{formula_of};
 ghost use Rattle.fn_rules.specs.Rules.{function_of};
-ghost use Rattle.ot_questions.specs.Nears.{IsNearOp, IsNearCase};
+ghost use Rattle.ot_questions.specs.Nears.{IsNearOp, IsNearCase, HasNearAtoms};
 ghost use Rattle.std.specs.List.{AllByRecursion};
-ghost use Rattle.goal_rules.specs.Steps.{front_tree, IsChoosable};
+ghost use Rattle.goal_rules.specs.Steps.{front_tree, trial_tree, IsChoosable};
 ghost use Rattle.goal_rules.specs.Table as table;
 
 use crate::front::Front;
 use ask_core::NoMemory;
 use bumpalo::Bump;
-use fn_rules::{Case, Rules};
+use fn_rules::{Case, Guard, Rules};
 use ot_terms::{Goal, GoalProgress, SymOp, Why, place_form};
 
+/// A case that is tried: its guard, and what is left where this is true and where it is not.
+#[derive(Clone, Copy)]
+pub struct Trial<'r, 'a> {
+    pub guard: &'r Guard,
+    pub yes: &'a Goal<'a>,
+    pub no: &'a Goal<'a>,
+}
+
 // The first of the cases that are left, of the case number on.
+#[inline]
+fn first_case<'r, 'a>(
+    bump: &'a Bump,
+    cases: &'r [Case],
+    case: u32,
+    a: SymOp,
+    b: SymOp,
+    progress: &'a GoalProgress,
+) -> Result<Option<Trial<'r, 'a>>, NoMemory>
+    requires a_near { IsNearOp 99 a }
+    requires b_near { IsNearOp 99 b }
+    requires cases_near { AllByRecursion IsNearCase (map case_of cases.now) }
+    requires few { case ≤ 64 }
+    ensures tries { IfOk result (λ r. trial_tree a b r ≡ table.choose_case (map case_of cases.now) case a b progress.now) }
+    ensures near { IfOk result (λ r. IfSome r (λ t. HasNearAtoms (formula_of t.guard.now))) }
+{
+    match cases {
+        [] => Ok(None),
+        [first, ..] => Ok(Some(Trial {
+            guard: &first.guard,
+            yes: Goal::deliver(bump, a.result(first.res, b), progress)?,
+            no: Goal::choose(bump, case + 1, a, b, progress)?,
+        })),
+    }
+}
+
+/// The case that is tried next where the first operation is transformed behind the second one, if both are there and a
+/// case is left.
+///
+/// # Errors
+///
+/// Want of memory.
+pub fn next_case<'r, 'a>(
+    bump: &'a Bump,
+    rules: &'r Rules,
+    case: u32,
+    a: SymOp,
+    b: SymOp,
+    progress: &'a GoalProgress,
+) -> Result<Option<Trial<'r, 'a>>, NoMemory>
+    requires { IsChoosable (function_of rules.now) case a b }
+    ensures tries { IfOk result (λ r. IfSome r (λ t. trial_tree a b (Some t)
+        ≡ table.rewrite_choose (function_of rules.now) case a b progress.now)) }
+    ensures near { IfOk result (λ r. IfSome r (λ t. HasNearAtoms (formula_of t.guard.now))) }
+{
+    let Some(first) = a.kind() else {
+        return Ok(None);
+    };
+    let Some(second) = b.kind() else {
+        return Ok(None);
+    };
+    let cases = rules.cases(first, second);
+    Ok(first_case(bump, &cases[case as usize..], case, a, b, progress)?)
+}
+
+// The first of the cases that are left, of the case number on, with its form.
 #[inline]
 fn choose_case<'a>(
     bump: &'a Bump,
@@ -30,12 +94,12 @@ fn choose_case<'a>(
     requires few { case ≤ 64 }
     ensures { IfOk result (λ r. front_tree r ≡ table.choose_case (map case_of cases.now) case a b progress.now) }
 {
-    match cases {
-        [] => Ok(Front::Fails(Why::Undefined)),
-        [first, ..] => Ok(Front::If {
-            form: *place_form(bump, &first.guard, a, b)?,
-            yes: Goal::deliver(bump, a.result(first.res, b), progress)?,
-            no: Goal::choose(bump, case + 1, a, b, progress)?,
+    match first_case(bump, cases, case, a, b, progress)? {
+        None => Ok(Front::Fails(Why::Undefined)),
+        Some(Trial { guard, yes, no }) => Ok(Front::If {
+            form: *place_form(bump, guard, a, b)?,
+            yes,
+            no,
         }),
     }
 }

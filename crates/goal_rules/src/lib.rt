@@ -10,5 +10,6 @@ mod front;
 mod known;
 mod rewriting;
 
+pub use choosing::{Trial, next_case};
 pub use front::Front;
 pub use rewriting::rewrite;

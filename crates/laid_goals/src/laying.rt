@@ -2,10 +2,13 @@
 ghost use Rattle.std.specs.Prelude.{◌≡◌, ◌≤◌, IfOk, IfSome};
 ghost use Rattle.std.specs.List.{All};
 ghost use Rattle.fn_rules.specs.declared.function.ObName.{ObName};
+ghost use Rattle.fn_rules.specs.Formulas.{formula_of};
 ghost use Rattle.fn_rules.specs.Rules.{function_of};
+ghost use Rattle.ot_questions.specs.Nears.{IsNearOp, HasNearAtoms};
 ghost use Rattle.ot_terms.specs.Belonging.{IsGoalOf};
 ghost use Rattle.ot_terms.specs.Forms.{form_tree};
 ghost use Rattle.ot_terms.specs.Goals.{goal_tree, laid_form, laid_order, Deliver};
+ghost use Rattle.ot_terms.specs.Placing.{guard_form};
 ghost use Rattle.ot_terms.specs.Weights.{goal_weight};
 ghost use Rattle.ot_rewrite.specs.Reaching.{IsStep};
 ghost use Rattle.ot_rewrite.specs.Splits.{HasLowOffsets};
@@ -16,10 +19,10 @@ use crate::behind::found;
 use crate::kept::Behind;
 use ask_core::NoMemory;
 use bumpalo::Bump;
-use fn_rules::Rules;
+use fn_rules::{Guard, Rules};
 use goal_rules::Front;
 use ot_rewrite::{front_of, step};
-use ot_terms::{Form, Goal, GoalProgress, Place, SymOp};
+use ot_terms::{Form, Goal, GoalProgress, Place, SymOp, place_atom};
 
 /// How many bytes an arena may have where more is laid out.
 const ROOM: usize = 2_097_152;
@@ -69,6 +72,40 @@ pub fn by_form<'a>(
             Ok(by_form(bump, g, yes, second)?)
         }
         Form::Not(g) => Ok(by_form(bump, g, no, yes)?),
+    }
+}
+
+/// One of two goals, by a guard at two operations: as by its form, of which nothing is placed into the arena.
+pub fn by_guard<'a>(
+    bump: &'a Bump,
+    guard: &Guard,
+    a: SymOp,
+    b: SymOp,
+    yes: &'a Goal<'a>,
+    no: &'a Goal<'a>,
+) -> Result<&'a Goal<'a>, NoMemory>
+    requires a_near { IsNearOp 200 a }
+    requires b_near { IsNearOp 200 b }
+    requires atoms_near { HasNearAtoms (formula_of guard.now) }
+    requires low { HasLowOffsets (guard_form (formula_of guard.now) a b) }
+    ensures { IfOk result (λ r. goal_tree r.now ≡ laid_form (guard_form (formula_of guard.now) a b) (goal_tree yes.now)
+        (goal_tree no.now)) }
+{
+    match guard {
+        Guard::True => Ok(yes),
+        Guard::Atom(atom) => {
+            let form = place_atom(atom, a, b);
+            Ok(by_form(bump, &form, yes, no)?)
+        }
+        Guard::And(g, h) => {
+            let second = by_guard(bump, h, a, b, yes, no)?;
+            Ok(by_guard(bump, g, a, b, second, no)?)
+        }
+        Guard::Or(g, h) => {
+            let second = by_guard(bump, h, a, b, yes, no)?;
+            Ok(by_guard(bump, g, a, b, yes, second)?)
+        }
+        Guard::Not(g) => Ok(by_guard(bump, g, a, b, no, yes)?),
     }
 }
 

@@ -7,4 +7,4 @@ mod laying;
 
 pub use behind::is_same_progress;
 pub use kept::Behind;
-pub use laying::{by_form, laid_out};
+pub use laying::{by_form, by_guard, laid_out};

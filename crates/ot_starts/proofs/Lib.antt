@@ -1,3 +1,4 @@
 pub mod LaidMarks
 pub mod SettledGoals
+mod Trials
 pub mod Turns

@@ -1,4 +1,5 @@
 pub mod Kept
 pub mod Nodes
+pub mod Trials
 pub mod Turns
 pub mod Whole

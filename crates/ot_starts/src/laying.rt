@@ -11,10 +11,13 @@ ghost use Rattle.ot_starts.specs.Kept.{IsKeptEnd};
 use crate::fronts::is_begun;
 use crate::kept::{Kept, found};
 use crate::settling::next_of;
+use crate::trying::trial;
 use ask_core::NoMemory;
 use bumpalo::Bump;
 use fn_rules::Rules;
-use laid_goals::by_form;
+use goal_rules::Trial;
+use laid_goals::{by_form, by_guard};
+use marked_goals::rules_keep_starts;
 use ot_terms::Goal;
 
 /// The goal with its questions laid out in the arena, up to its ends and to where transformations begin. It stands for
@@ -30,6 +33,7 @@ pub(crate) fn laid<'a>(
     ensures stands { IfOk result (λ r. StandsMarked (function_of rules.now) (goal_tree goal.now) (goal_tree r.now)) }
     ensures kept { All (IsKeptEnd (function_of rules.now)) ends.new.items }
 {
+    rules_keep_starts();
     if is_begun(goal) {
         return Ok(goal);
     }
@@ -53,7 +57,16 @@ pub(crate) fn laid<'a>(
             })?;
             Ok(built)
         }
-        _ => {
+        Goal::Choose { case, a, b, plan } => {
+            let Some(Trial { guard, yes, no }) = trial(bump, rules, case, a, b, plan)? else {
+                let next = next_of(bump, rules, goal)?;
+                return Ok(laid(bump, rules, ends, next)?);
+            };
+            let on_no = laid(bump, rules, ends, no)?;
+            let on_yes = laid(bump, rules, ends, yes)?;
+            Ok(by_guard(bump, guard, a, b, on_yes, on_no)?)
+        }
+        Goal::Same { .. } => {
             let next = next_of(bump, rules, goal)?;
             Ok(laid(bump, rules, ends, next)?)
         }

@@ -13,6 +13,7 @@ mod laid;
 mod laying;
 mod settling;
 mod table;
+mod trying;
 mod walking;
 
 pub use ask_core::NoMemory;

@@ -20,35 +20,34 @@ use bumpalo::Bump;
 use fn_rules::{Atom, Cmp, Guard, Side};
 use ot_questions::{Place, SymOp};
 
-fn compared<'a>(bump: &'a Bump, cmp: Cmp, x: Place, y: Place) -> Result<&'a Form<'a>, NoMemory>
-    ensures { IfOk result (λ r. form_tree r.now ≡ placing.compared cmp x y) }
+fn compared<'a>(cmp: Cmp, x: Place, y: Place) -> Form<'a>
+    ensures { form_tree result ≡ placing.compared cmp x y }
 {
     match cmp {
-        Cmp::Lt => Ok(Form::lt(bump, x, y)?),
-        Cmp::Le => Ok(Form::le(bump, x, y)?),
-        Cmp::Eq => Ok(Form::eq(bump, x, y)?),
+        Cmp::Lt => Form::Lt(x, y),
+        Cmp::Le => Form::Le(x, y),
+        Cmp::Eq => Form::Eq(x, y),
     }
 }
 
-fn place_atom<'a>(bump: &'a Bump, atom: &Atom, a: SymOp, b: SymOp) -> Result<&'a Form<'a>, NoMemory>
+/// The form that a comparison is at two operations.
+pub fn place_atom<'a>(atom: &Atom, a: SymOp, b: SymOp) -> Form<'a>
     requires a_near { IsNearOp 200 a }
     requires b_near { IsNearOp 200 b }
     requires atom_near { IsNear 99 atom.now.k }
-    ensures { IfOk result (λ r. form_tree r.now ≡ atom_form atom.now a b) }
+    ensures { form_tree result ≡ atom_form atom.now a b }
 {
     match atom.left {
-        Side::First => Ok(compared(
-            bump,
+        Side::First => compared(
             atom.cmp,
             a.thing(atom.sort),
             b.thing(atom.sort).plus(atom.k),
-        )?),
-        Side::Second => Ok(compared(
-            bump,
+        ),
+        Side::Second => compared(
             atom.cmp,
             b.thing(atom.sort),
             a.thing(atom.sort).plus(atom.k),
-        )?),
+        ),
     }
 }
 
@@ -65,7 +64,7 @@ fn place_part<'a>(
 {
     match guard {
         Guard::True => Ok(Form::always(bump)?),
-        Guard::Atom(atom) => Ok(place_atom(bump, atom, a, b)?),
+        Guard::Atom(atom) => Ok(bump.try_alloc(place_atom(atom, a, b))?),
         Guard::And(g, h) => Ok(Form::and(
             bump,
             place_part(bump, g, a, b)?,

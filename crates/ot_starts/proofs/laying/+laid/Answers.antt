@@ -2,13 +2,15 @@ use Rattle.std.proofs.Common.{rules, ap, sym, subst, ◌<◌, List}
 use Rattle.std.specs.List.{All}
 use Rattle.std.proofs.lemmas.List.Elements.{All-push}
 use Rattle.fn_rules.specs.Rules.{function_of}
+use Rattle.ot_terms.specs.Belonging.{IsGoalOf}
 use Rattle.ot_terms.specs.Forms.{form_tree}
-use Rattle.ot_terms.specs.Goals.{goal_tree}
+use Rattle.ot_terms.specs.Goals.{goal_tree, Choose}
 use Rattle.ot_terms.specs.Weights.{goal_weight}
 use Rattle.ot_starts.specs.declared.kept.Kept.{Kept}
 use Rattle.ot_starts.specs.Kept.{IsKeptEnd}
 use Rattle.ot_starts.proofs.LaidMarks.{yes_falls, no_falls, yes_belongs, no_belongs, form_low, if_laid}
 use Rattle.ot_starts.proofs.SettledGoals.{settled_on}
+use Rattle.ot_starts.proofs.Trials.{not_begun_there, tried_laid, tried_low, tried_no_belongs, tried_no_falls, tried_yes_belongs, tried_yes_falls}
 use Rattle.ot_starts.proofs.laying.+laid.Goals as goal
 
 -- the goal behind no is lighter, and of the obligation
@@ -59,22 +61,102 @@ returns-in_ok-by_form-in-If-clause-stands t c =
     (goal_tree c.in_ok-on_no-in-If.on_no.now) (goal_tree c.in_ok-by_form-in-If.field-0.now)
     c.in_ok-on_yes-in-If.ensures.stands c.in_ok-on_no-in-If.ensures.stands c.in_ok-by_form-in-If.ensures
 
-pub laid-requires-in_default : goal.laid-requires-in_default
-laid-requires-in_default t c =
+-- a case that is tried, and the goals behind it, which are lighter and of the obligation
+pub trial-requires-clause-goal : goal.trial-requires-clause-goal
+trial-requires-clause-goal t c =
+    (c.requires.goal.0, subst (IsGoalOf (function_of c.args.rules.now) c.requires.goal.0) (ap goal_tree c.in-Choose.is) c.requires.goal.1)
+
+pub trial-requires-clause-later : goal.trial-requires-clause-later
+trial-requires-clause-later t c =
+    not_begun_there c.is_begun.result (goal_tree c.args.goal.now)
+    (Choose c.in-Choose.case c.in-Choose.a c.in-Choose.b c.in-Choose.plan.now) (ap goal_tree c.in-Choose.is) c.is_begun.ensures
+    c.if-is_begun.false c.rules_keep_starts.ensures.begun
+
+pub laid-requires-in-Choose : goal.laid-requires-in-Choose
+laid-requires-in-Choose t c =
     let f = function_of c.args.rules.now in
-    let falls : goal_weight f (goal_tree c.in_ok-next-in_default.next.now) < goal_weight f (goal_tree c.args.goal.now)
-    = c.in_ok-next-in_default.ensures.lighter in (
+    let trial = rw c.in-Some-2.is at c.in_ok-guard-in-Choose.ensures in
+    let old = goal_tree c.args.goal.now in
+    let was = Choose c.in-Choose.case c.in-Choose.a c.in-Choose.b c.in-Choose.plan.now in
+    let falls : goal_weight f (goal_tree c.in-Some-2.field-0.no.now) < goal_weight f old
+    = tried_no_falls f old was c.in-Choose.a c.in-Choose.b c.in-Some-2.field-0 (ap goal_tree c.in-Choose.is) trial in (
       search (rules, falls),
       (
-        (c.requires.goal.0, c.in_ok-next-in_default.ensures.alike.belongs c.requires.goal.0 c.requires.goal.1),
+        (
+          c.requires.goal.0,
+          tried_no_belongs f old was c.in-Choose.a c.in-Choose.b c.in-Some-2.field-0 (ap goal_tree c.in-Choose.is) trial
+              c.requires.goal.0 c.requires.goal.1,
+        ),
         c.requires.kept,
       ),
     )
 
-pub returns-in_ok-laid-in_default-clause-stands : goal.returns-in_ok-laid-in_default-clause-stands
-returns-in_ok-laid-in_default-clause-stands t c =
-    settled_on (function_of c.args.rules.now) (goal_tree c.args.goal.now) (goal_tree c.in_ok-next-in_default.next.now)
-    (goal_tree c.in_ok-laid-in_default.field-0.now) c.in_ok-next-in_default.ensures.alike c.in_ok-laid-in_default.ensures.stands
+pub laid-requires-in-Choose-2 : goal.laid-requires-in-Choose-2
+laid-requires-in-Choose-2 t c =
+    let f = function_of c.args.rules.now in
+    let trial = rw c.in-Some-2.is at c.in_ok-guard-in-Choose.ensures in
+    let old = goal_tree c.args.goal.now in
+    let was = Choose c.in-Choose.case c.in-Choose.a c.in-Choose.b c.in-Choose.plan.now in
+    let falls : goal_weight f (goal_tree c.in-Some-2.field-0.yes.now) < goal_weight f old
+    = tried_yes_falls f old was c.in-Choose.a c.in-Choose.b c.in-Some-2.field-0 (ap goal_tree c.in-Choose.is) trial in (
+      search (rules, falls),
+      (
+        (
+          c.requires.goal.0,
+          tried_yes_belongs f old was c.in-Choose.a c.in-Choose.b c.in-Some-2.field-0 (ap goal_tree c.in-Choose.is) trial
+              c.requires.goal.0 c.requires.goal.1,
+        ),
+        c.laid-in-Choose.ensures.kept,
+      ),
+    )
+
+pub by_guard-requires-clause-a_near : goal.by_guard-requires-clause-a_near
+by_guard-requires-clause-a_near t c =
+    let trial = rw c.in-Some-2.is at c.in_ok-guard-in-Choose.ensures in trial.a_near
+
+pub by_guard-requires-clause-b_near : goal.by_guard-requires-clause-b_near
+by_guard-requires-clause-b_near t c =
+    let trial = rw c.in-Some-2.is at c.in_ok-guard-in-Choose.ensures in trial.b_near
+
+pub by_guard-requires-clause-atoms_near : goal.by_guard-requires-clause-atoms_near
+by_guard-requires-clause-atoms_near t c =
+    let trial = rw c.in-Some-2.is at c.in_ok-guard-in-Choose.ensures in trial.atoms_near
+
+-- the offsets of the guard that is tried are small
+pub by_guard-requires-clause-low : goal.by_guard-requires-clause-low
+by_guard-requires-clause-low t c =
+    let f = function_of c.args.rules.now in
+    let trial = rw c.in-Some-2.is at c.in_ok-guard-in-Choose.ensures in
+    tried_low f (goal_tree c.args.goal.now) (Choose c.in-Choose.case c.in-Choose.a c.in-Choose.b c.in-Choose.plan.now)
+    c.in-Choose.a c.in-Choose.b c.in-Some-2.field-0 (ap goal_tree c.in-Choose.is) trial c.requires.goal.0 c.requires.goal.1
+
+pub returns-in_ok-by_guard-in-Choose-clause-stands : goal.returns-in_ok-by_guard-in-Choose-clause-stands
+returns-in_ok-by_guard-in-Choose-clause-stands t c =
+    let f = function_of c.args.rules.now in
+    let trial = rw c.in-Some-2.is at c.in_ok-guard-in-Choose.ensures in
+    tried_laid f (goal_tree c.args.goal.now) (Choose c.in-Choose.case c.in-Choose.a c.in-Choose.b c.in-Choose.plan.now)
+    c.in-Choose.a c.in-Choose.b c.in-Some-2.field-0 (ap goal_tree c.in-Choose.is) trial
+    (goal_tree c.in_ok-on_yes-in-Choose.on_yes.now) (goal_tree c.in_ok-on_no-in-Choose.on_no.now)
+    (goal_tree c.in_ok-by_guard-in-Choose.field-0.now)
+    c.in_ok-on_yes-in-Choose.ensures.stands c.in_ok-on_no-in-Choose.ensures.stands
+    c.in_ok-by_guard-in-Choose.ensures
+
+pub laid-requires-in-Same : goal.laid-requires-in-Same
+laid-requires-in-Same t c =
+    let f = function_of c.args.rules.now in
+    let falls : goal_weight f (goal_tree c.in_ok-next-in-Same.next.now) < goal_weight f (goal_tree c.args.goal.now)
+    = c.in_ok-next-in-Same.ensures.lighter in (
+      search (rules, falls),
+      (
+        (c.requires.goal.0, c.in_ok-next-in-Same.ensures.alike.belongs c.requires.goal.0 c.requires.goal.1),
+        c.requires.kept,
+      ),
+    )
+
+pub returns-in_ok-laid-in-Same-clause-stands : goal.returns-in_ok-laid-in-Same-clause-stands
+returns-in_ok-laid-in-Same-clause-stands t c =
+    settled_on (function_of c.args.rules.now) (goal_tree c.args.goal.now) (goal_tree c.in_ok-next-in-Same.next.now)
+    (goal_tree c.in_ok-laid-in-Same.field-0.now) c.in_ok-next-in-Same.ensures.alike c.in_ok-laid-in-Same.ensures.stands
 
 -- what is kept of the same goal stands for it
 pub returns-in-Some-clause-stands : goal.returns-in-Some-clause-stands

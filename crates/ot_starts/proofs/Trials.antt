@@ -1,0 +1,110 @@
+-- What is known of a case that is tried, and of the two goals that are left.
+use Rattle.std.proofs.Common.{◌≡◌, ℕ, ◌<◌, ◌≤◌, Option, Some, None, IfSome, Bool, false, is_some, arith, ap, sym, subst, ◌∙◌}
+use Rattle.std.proofs.lemmas.Int.{ints}
+use Rattle.fn_rules.specs.declared.function.ObName.{ObName}
+use Rattle.fn_rules.specs.Formulas.{formula_of}
+use Rattle.fn_rules.specs.Functions.{Function}
+use Rattle.ot_questions.specs.declared.place.SymOp.{SymOp}
+use Rattle.ot_questions.specs.Nears.{IsNearOp, HasNearAtoms}
+use Rattle.ot_terms.specs.declared.goal.GoalProgress.{GoalProgress}
+use Rattle.ot_terms.specs.Belonging.{IsGoalOf}
+use Rattle.ot_terms.specs.Forms.{FormTree}
+use Rattle.ot_terms.specs.Goals.{GoalTree, Choose, goal_tree, laid_form}
+use Rattle.ot_terms.specs.Placing.{guard_form}
+use Rattle.ot_terms.specs.Weights.{goal_weight}
+use Rattle.goal_rules.specs.declared.choosing.Trial.{Trial}
+use Rattle.goal_rules.specs.Steps.{trial_tree, IsChoosable}
+use Rattle.goal_rules.specs.Table.{rewrite_choose, rewritten}
+use Rattle.ot_rewrite.specs.Splits.{HasLowOffsets}
+use Rattle.laid_goals.proofs.LaidForms.{low_offsets_of, part_of_yes, part_of_no, yes_is_lighter, no_is_lighter}
+use Rattle.marked_goals.specs.Marking.{marked_goal}
+use Rattle.marked_goals.specs.Settled.{front_start, is_begun, StandsMarked}
+use Rattle.ot_starts.specs.Trials.{IsTrialOf}
+use Rattle.ot_starts.proofs.LaidMarks.{marked_laid}
+use Rattle.ot_starts.proofs.SettledGoals.{settled_on}
+
+-- an operation that is near is nearer than a wider bound
+wider : (o : SymOp) → IsNearOp 99 o → IsNearOp 200 o
+wider o near = record { low = omega (arith, ints, near.low); high = omega (arith, ints, near.high) }
+
+-- no transformation begins at the goal
+pub not_begun_there :
+    (test : Bool) (old was : GoalTree) → old ≡ was → test ≡ is_some (front_start old) → test ≡ false
+    → ((g : GoalTree) → is_begun g ≡ is_some (front_start g)) → is_begun was ≡ false
+not_begun_there test old was same tests denied law =
+    subst (λ g. is_begun g ≡ false) same (law old ∙ sym tests ∙ denied)
+
+module _ (f : Function) (ob : ObName) (case : ℕ) (a b : SymOp) (plan : GoalProgress)
+    (h : IsGoalOf f ob (Choose case a b plan)) where
+  pub choosable : IsChoosable f case a b
+  choosable = record {
+    a_declared = h.parts.a_declared;
+    b_declared = h.parts.b_declared;
+    a_near = h.parts.a_near;
+    b_near = h.parts.b_near;
+    cases = h.parts.cases;
+  }
+
+  trying_rule :
+      (t : Trial) → trial_tree a b (Some t) ≡ rewrite_choose f case a b plan
+      → rewritten f (Choose case a b plan) ≡ Some (trial_tree a b (Some t))
+  unfolding rewritten
+  trying_rule t e = ap Some (sym e)
+
+  pub trials :
+      ((g : GoalTree) → rewritten f (Choose case a b plan) ≡ Some g → marked_goal f g ≡ marked_goal f (Choose case a b plan))
+      → ((other : ObName) (g : GoalTree) → IsGoalOf f other (Choose case a b plan) → rewritten f (Choose case a b plan) ≡ Some g
+      → IsGoalOf f other g)
+      → ((g : GoalTree) → rewritten f (Choose case a b plan) ≡ Some g → goal_weight f g < goal_weight f (Choose case a b plan))
+      → (r : Option Trial) → IfSome r (λ t. trial_tree a b (Some t) ≡ rewrite_choose f case a b plan)
+      → IfSome r (λ t. HasNearAtoms (formula_of t.guard.now)) → IfSome r (IsTrialOf f (Choose case a b plan) a b)
+  trials marks stays falls None tries near = tt
+  trials marks stays falls (Some t) tries near =
+      let rule : rewritten f (Choose case a b plan) ≡ Some (trial_tree a b (Some t)) = trying_rule t tries in
+      record {
+        stands = record {
+          marked = marks (trial_tree a b (Some t)) rule;
+          belongs = λ other is_goal. stays other (trial_tree a b (Some t)) is_goal rule;
+        };
+        lighter = falls (trial_tree a b (Some t)) rule;
+        atoms_near = near;
+        a_near = wider a h.parts.a_near;
+        b_near = wider b h.parts.b_near;
+      }
+
+-- the two goals that are left
+module _ (f : Function) (old was : GoalTree) (a b : SymOp) (t : Trial) (same : old ≡ was) (is : IsTrialOf f was a b t) where
+  abbrev tried_form : FormTree
+  tried_form = guard_form (formula_of t.guard.now) a b
+
+  tried_weight : goal_weight f (trial_tree a b (Some t)) ≤ goal_weight f old
+  tried_weight =
+      let falls : goal_weight f (trial_tree a b (Some t)) < goal_weight f was = is.lighter in
+      subst (λ x. goal_weight f (trial_tree a b (Some t)) ≤ goal_weight f x) (sym same) (omega arith)
+
+  tried_belongs : (ob : ObName) → IsGoalOf f ob old → IsGoalOf f ob (trial_tree a b (Some t))
+  tried_belongs ob h = is.stands.belongs ob (subst (IsGoalOf f ob) same h)
+
+  pub tried_yes_falls : goal_weight f (goal_tree t.yes.now) < goal_weight f old
+  tried_yes_falls = yes_is_lighter f tried_form (goal_tree t.yes.now) (goal_tree t.no.now) old tried_weight
+
+  pub tried_no_falls : goal_weight f (goal_tree t.no.now) < goal_weight f old
+  tried_no_falls = no_is_lighter f tried_form (goal_tree t.yes.now) (goal_tree t.no.now) old tried_weight
+
+  pub tried_yes_belongs : (ob : ObName) → IsGoalOf f ob old → IsGoalOf f ob (goal_tree t.yes.now)
+  tried_yes_belongs ob h = part_of_yes f ob tried_form (goal_tree t.yes.now) (goal_tree t.no.now) (tried_belongs ob h)
+
+  pub tried_no_belongs : (ob : ObName) → IsGoalOf f ob old → IsGoalOf f ob (goal_tree t.no.now)
+  tried_no_belongs ob h = part_of_no f ob tried_form (goal_tree t.yes.now) (goal_tree t.no.now) (tried_belongs ob h)
+
+  pub tried_low : (ob : ObName) → IsGoalOf f ob old → HasLowOffsets tried_form
+  tried_low ob h = low_offsets_of f ob tried_form (goal_tree t.yes.now) (goal_tree t.no.now) (tried_belongs ob h)
+
+  pub tried_laid :
+      (p q got : GoalTree) → StandsMarked f (goal_tree t.yes.now) p → StandsMarked f (goal_tree t.no.now) q
+      → got ≡ laid_form tried_form p q → StandsMarked f old got
+  tried_laid p q got hy hn e =
+      subst (λ x. StandsMarked f x got) (sym same)
+      (settled_on f was (trial_tree a b (Some t)) got is.stands
+      (subst (StandsMarked f (trial_tree a b (Some t))) (sym e)
+      (marked_laid f tried_form (goal_tree t.yes.now) (goal_tree t.no.now) p q hy hn)))

@@ -1,0 +1,19 @@
+-- A case that is tried where no transformation begins.
+use Rattle.std.specs.Prelude.{◌<◌, Some}
+use Rattle.fn_rules.specs.Formulas.{formula_of}
+use Rattle.fn_rules.specs.Functions.{Function}
+use Rattle.ot_questions.specs.declared.place.SymOp.{SymOp}
+use Rattle.ot_questions.specs.Nears.{IsNearOp, HasNearAtoms}
+use Rattle.ot_terms.specs.Goals.{GoalTree}
+use Rattle.ot_terms.specs.Weights.{goal_weight}
+use Rattle.goal_rules.specs.declared.choosing.Trial.{Trial}
+use Rattle.goal_rules.specs.Steps.{trial_tree}
+use Rattle.marked_goals.specs.Settled.{StandsMarked}
+
+-- the case that is tried at the two operations stands for the goal, and weighs less; its offsets are small
+pub record IsTrialOf (f : Function) (old : GoalTree) (a b : SymOp) (t : Trial) : Type 0 where
+  pub stands : StandsMarked f old (trial_tree a b (Some t))
+  pub lighter : goal_weight f (trial_tree a b (Some t)) < goal_weight f old
+  pub atoms_near : HasNearAtoms (formula_of t.guard.now)
+  pub a_near : IsNearOp 200 a
+  pub b_near : IsNearOp 200 b
