@@ -13,9 +13,12 @@ use Rattle.ask_core.specs.Trees.{AnswerTree, Fits, tokens_of, Branch}
 use Rattle.ask_core.specs.Questions.{Questions, QuestionList, no_questions}
 use Rattle.ask_core.specs.Paths.{OpenPlace, AreOwn, branches_at, after_question, first_answers}
 use Rattle.cert_text.specs.TreeTexts.{Written, with_token}
-use Rattle.ot_prove.specs.Outcomes.{asked_along, Decides, StandsBehind}
+use Rattle.ot_prove.specs.Outcomes.{asked_along, Decides}
 use Rattle.ot_prove.specs.declared.outcome.Outcome.{Outcome}
+use Rattle.ot_prove.specs.declared.outcome.Outcome.TheVariants as outcome
 use Rattle.ot_prove.specs.declared.search.PlanSearch.{PlanSearch}
+use Rattle.ot_prove.specs.declared.search.Stepped.{Stepped}
+use Rattle.ot_prove.specs.declared.search.Stepped.TheVariants as step
 use Rattle.ot_prove.specs.declared.split.Room.{Room}
 use Rattle.ot_prove.specs.declared.split.Room.TheVariants.{Both, OnlyYes, OnlyNo}
 use Rattle.diff_bounds.specs.Kept.{Rows}
@@ -151,19 +154,23 @@ HasClosed before after false =
 abbrev pub AgreesWithLists : {W : Type 0} → Plan W → ℕ → Outcome W → Type 0
 AgreesWithLists {W = W} p budget o = (q : Questions W) → QuestionList p [] q → Decides p budget q o
 
--- a step leaves a search under way, or the outcome
-abbrev pub IsUnderWayOr : {N W : Type 0} → (N → Type 0) → (N → Plan W) → Plan W → ℕ → PlanSearch N → Option (Outcome W)
-    → Type 0
-IsUnderWayOr is_own plan root budget s r =
-    MatchOption r (IsSearchUnderWay is_own plan root budget s) (λ o. AgreesWithLists root budget o)
+-- some answers lead to a failing end, and each question list of the plan ends there and is within the budget
+pub record FailsFirst {W : Type 0} (root : Plan W) (budget : ℕ) (answers : List Lit) (why : W) : Type 0 where
+  pub leads : LeadsTo root answers (Fails why)
+  pub lists :
+      (q : Questions W) → QuestionList root [] q
+      → (length q.asked ≤ budget) × (q.failing ≡ Some (record { answers = answers; why = why }))
+
+-- a step leaves a search under way; or the budget is spent, or the first place is the first failing end
+abbrev pub IsUnderWayOr : {N W : Type 0} → (N → Type 0) → (N → Plan W) → Plan W → ℕ → PlanSearch N → Stepped W → Type 0
+IsUnderWayOr is_own plan root budget s step.GoesOn = IsSearchUnderWay is_own plan root budget s
+IsUnderWayOr is_own plan root budget s step.Spent = AgreesWithLists root budget outcome.Spent
+IsUnderWayOr is_own plan root budget s (step.Fails why) =
+    (0 < length s.path) × FailsFirst root budget (first_answers s.path) why
 
 -- where it leaves a search, the plans that are open weigh less than before
-abbrev pub WeighsLess : {N W : Type 0} → (N → Plan W) → (N → Plan W) → PlanSearch N → PlanSearch N
-    → Option (Outcome W) → Type 0
-WeighsLess old new before after r =
-    MatchOption r (weight_of (branches_at new after.path) < weight_of (branches_at old before.path)) (λ _. Unit {0})
-
--- the bytes before the tree stay, and an outcome with a tree has it behind them
-abbrev pub KeepsFront : {N W : Type 0} → PlanSearch N → PlanSearch N → Option (Outcome W) → Type 0
-KeepsFront before after r =
-    (after.tree.front ≡ before.tree.front) × MatchOption r (Unit {0}) (λ o. StandsBehind before.tree.front o)
+abbrev pub WeighsLess : {N W : Type 0} → (N → Plan W) → (N → Plan W) → PlanSearch N → PlanSearch N → Stepped W → Type 0
+WeighsLess old new before after step.GoesOn =
+    weight_of (branches_at new after.path) < weight_of (branches_at old before.path)
+WeighsLess old new before after step.Spent = Unit {0}
+WeighsLess old new before after (step.Fails why) = Unit {0}

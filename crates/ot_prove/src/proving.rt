@@ -5,9 +5,10 @@ ghost use Rattle.ot_prove.specs.declared.split.TheConstants.{MAX_NAMES};
 ghost use Rattle.ot_prove.specs.Outcomes.{IsDecided, StandsBehind};
 
 use crate::NoMemory;
+use crate::answers::answers_along;
 use crate::laws::{plans_have_one_question_list, question_lists_are_possible};
 use crate::outcome::Outcome;
-use crate::search::{PlanSearch, step};
+use crate::search::{PlanSearch, Stepped, step};
 use ask_core::Asker;
 use cert_text::Tree;
 use std::alloc::Global;
@@ -54,8 +55,13 @@ pub fn prove_behind<A: Asker>(
     let first = asker.start()?;
     let mut search = PlanSearch::begin(alloc, first, tree)?;
     'places: while search.path.is_open() {
-        if let Some(outcome) = step(alloc, asker, &mut search, budget)? {
-            return Ok(outcome);
+        match step(asker, &mut search, budget)? {
+            Stepped::GoesOn => {}
+            Stepped::Spent => return Ok(Outcome::Spent),
+            Stepped::Fails(why) => {
+                let answers = answers_along(alloc, asker, search.path.answers())?;
+                return Ok(Outcome::No { answers, why });
+            }
         }
     }
     Ok(Outcome::Yes {

@@ -9,13 +9,11 @@ ghost use Rattle.ask_core.specs.declared.tree.Tok.TheVariants.{Holds};
 ghost use Rattle.cert_text.specs.TreeTexts.{with_token};
 ghost use Rattle.ot_prove.specs.declared.split.TheConstants.{MAX_NAMES};
 ghost use Rattle.ot_prove.specs.Sides.{IsAsked, StandsForSome, last_rows};
-ghost use Rattle.ot_prove.specs.Searching.{HasAsked, HasClosed, IsSearchUnderWay, IsUnderWayOr, KeepsFront};
+ghost use Rattle.ot_prove.specs.Searching.{HasAsked, HasClosed, IsSearchUnderWay, IsUnderWayOr};
 ghost use Rattle.ot_prove.specs.Searching.{WeighsLess, known_of};
 
 use crate::NoMemory;
-use crate::answers::answers_along;
 use crate::cycles::Cycles;
-use crate::outcome::Outcome;
 use crate::split::{MAX_NAMES, Room, judge_sides};
 use ask_core::{Asker, Path, Turn, turn_at};
 use cert_text::Tree;
@@ -130,14 +128,24 @@ impl<N: Copy> PlanSearch<N> {
     }
 }
 
+/// What a step came to.
+pub enum Stepped<W> {
+    GoesOn,
+
+    /// There are more questions than the budget allows.
+    Spent,
+
+    /// The plan fails at the first place, which some integers meet.
+    Fails(W),
+}
+
 /// Goes on at a first place that some integers meet, by the turn of its node.
 #[inline(always)]
 fn take_turn<A: Asker>(
-    alloc: Global,
     asker: &mut A,
     search: &mut PlanSearch<A::Node>,
     budget: u64,
-) -> Result<Option<Outcome<A::Why>>, NoMemory>
+) -> Result<Stepped<A::Why>, NoMemory>
     requires names { A.name_count asker.old ≤ MAX_NAMES }
     requires opened { 0 < length search.old.path }
     requires possible { search.old.possible ≡ true }
@@ -145,7 +153,7 @@ fn take_turn<A: Asker>(
     ensures step { IfOk result (λ r. IsUnderWayOr (A.is_own asker.new) (A.plan asker.new) (A.root asker.new) budget
         search.new r) }
     ensures falls { IfOk result (λ r. WeighsLess (A.plan asker.old) (A.plan asker.new) search.old search.new r) }
-    ensures front { IfOk result (KeepsFront search.old search.new) }
+    ensures front { OnOk result (search.new.tree.front ≡ search.old.tree.front) }
     ensures same { SamePlans (A.is_own asker.old) (A.is_own asker.new) (A.plan asker.old) (A.plan asker.new) }
     ensures root { A.root asker.new ≡ A.root asker.old }
     ensures count { A.name_count asker.new ≡ A.name_count asker.old }
@@ -154,46 +162,42 @@ fn take_turn<A: Asker>(
     match turn_at(asker, &search.path)? {
         Turn::Ask { lit, yes, no } => {
             if search.asked == budget {
-                return Ok(Some(Outcome::Spent));
+                return Ok(Stepped::Spent);
             }
             search.ask(lit, yes, no)?;
-            Ok(None)
+            Ok(Stepped::GoesOn)
         }
         Turn::Holds => {
             search.tables.pop();
             search.possible = false;
             search.close_holds()?;
-            Ok(None)
+            Ok(Stepped::GoesOn)
         }
-        Turn::Fails(why) => {
-            let answers = answers_along(alloc, asker, search.path.answers())?;
-            Ok(Some(Outcome::No { answers, why }))
-        }
+        Turn::Fails(why) => Ok(Stepped::Fails(why)),
     }
 }
 
 /// Goes on at the first place: where no integers meet its answers it is closed with their cycle.
 #[inline(always)]
 pub fn step<A: Asker>(
-    alloc: Global,
     asker: &mut A,
     search: &mut PlanSearch<A::Node>,
     budget: u64,
-) -> Result<Option<Outcome<A::Why>>, NoMemory>
+) -> Result<Stepped<A::Why>, NoMemory>
     requires names { A.name_count asker.old ≤ MAX_NAMES }
     requires opened { 0 < length search.old.path }
     requires searching { IsSearchUnderWay (A.is_own asker.old) (A.plan asker.old) (A.root asker.old) budget search.old }
     ensures step { IfOk result (λ r. IsUnderWayOr (A.is_own asker.new) (A.plan asker.new) (A.root asker.new) budget
         search.new r) }
     ensures falls { IfOk result (λ r. WeighsLess (A.plan asker.old) (A.plan asker.new) search.old search.new r) }
-    ensures front { IfOk result (KeepsFront search.old search.new) }
+    ensures front { OnOk result (search.new.tree.front ≡ search.old.tree.front) }
     ensures same { SamePlans (A.is_own asker.old) (A.is_own asker.new) (A.plan asker.old) (A.plan asker.new) }
     ensures root { A.root asker.new ≡ A.root asker.old }
     ensures count { A.name_count asker.new ≡ A.name_count asker.old }
 {
     negative_cycles_are_never_met();
     if search.close_impossible()? {
-        return Ok(None);
+        return Ok(Stepped::GoesOn);
     }
-    take_turn(alloc, asker, search, budget)
+    take_turn(asker, search, budget)
 }

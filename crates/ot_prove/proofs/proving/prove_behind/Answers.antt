@@ -1,8 +1,7 @@
-use Rattle.std.proofs.Common.{ℕ, List, ◌∙◌, ap, arith, subst}
+use Rattle.std.proofs.Common.{◌∙◌, ap, arith, subst}
 use Rattle.ask_core.specs.Plans.{Plan}
 use Rattle.ask_core.specs.Askers.{IsFine}
-use Rattle.ot_prove.specs.declared.outcome.Outcome.TheVariants.{Yes}
-use Rattle.ot_prove.specs.Outcomes.{StandsBehind}
+use Rattle.ot_prove.specs.declared.outcome.Outcome.TheVariants.{Yes, Spent}
 use Rattle.ot_prove.specs.Searching.{AgreesWithLists}
 use Rattle.ot_prove.proofs.Steps.{IsSearching-begun, AgreesWithLists-done, IsDecided-by_list}
 use Rattle.ot_prove.proofs.proving.prove_behind.Goals as goal
@@ -32,15 +31,13 @@ places-init g c =
           search.tables.items begins fine at.cycles at.tables);
     }
 
-pub returns-in-Some-clause-decides : goal.returns-in-Some-clause-decides
-returns-in-Some-clause-decides g c =
+pub returns-in-Spent-clause-decides : goal.returns-in-Spent-clause-decides
+returns-in-Spent-clause-decides g c =
     let A = g.A.Asker in
     let known = c.places.invariant in
-    let agrees : AgreesWithLists (A.root c.step.new.asker) c.args.budget c.in-Some.outcome =
-    rw c.in-Some.is at c.in_ok-outcome.ensures.step in
-    IsDecided-by_list (A.root c.args.asker.now) c.args.budget c.in-Some.outcome c.question_lists_are_possible.ensures known.found
-    (subst (λ (p : Plan g.row.A-Why.Denot). AgreesWithLists p c.args.budget c.in-Some.outcome) (c.step.ensures.root ∙ known.root)
-    agrees)
+    let agrees : AgreesWithLists (A.root c.step.new.asker) c.args.budget Spent = rw c.in-Spent.is at c.in_ok-step.ensures.step in
+    IsDecided-by_list (A.root c.args.asker.now) c.args.budget Spent c.question_lists_are_possible.ensures known.found
+    (subst (λ (p : Plan g.row.A-Why.Denot). AgreesWithLists p c.args.budget Spent) (c.step.ensures.root ∙ known.root) agrees)
 
 pub returns-clause-decides : goal.returns-clause-decides
 returns-clause-decides g c =
@@ -53,8 +50,3 @@ returns-clause-decides g c =
     (subst (λ (p : Plan g.row.A-Why.Denot). AgreesWithLists p c.args.budget outcome) known.root
     (AgreesWithLists-done (A.is_own now) (A.plan now) (A.root now) c.args.budget search.path _ _ search.tree search.asked
     c.is_open.result c.places-test.false c.is_open.ensures known.searching))
-
-pub returns-in-Some-clause-front : goal.returns-in-Some-clause-front
-returns-in-Some-clause-front g c =
-    let kept = rw c.in-Some.is at c.in_ok-outcome.ensures.front in
-    subst (λ (front : List ℕ). StandsBehind front c.in-Some.outcome) c.places.invariant.front kept.1

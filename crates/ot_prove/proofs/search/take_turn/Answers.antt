@@ -1,14 +1,11 @@
-use Rattle.std.proofs.Common.{◌≡◌, ℕ, Bool, true, false, List, [], ◌∷◌, Option, None, Some, reverse, sym, ◌∙◌, ap, subst, arith}
-use Rattle.diff_graph.specs.declared.lit.Lit.{Lit}
-use Rattle.ask_core.specs.Plans.{Plan, Fails}
+use Rattle.std.proofs.Common.{◌≡◌, ℕ, Bool, true, false, List, ◌∷◌, Option, None, reverse, subst, arith}
+use Rattle.ask_core.specs.Plans.{Plan}
 use Rattle.ask_core.specs.declared.tree.Tok.{Tok}
 use Rattle.ask_core.specs.declared.tree.Tok.TheVariants as token
 use Rattle.ask_core.specs.Paths.{OpenPlace, first_answers, first_plan}
-use Rattle.ask_core.specs.Questions.{QuestionList}
 use Rattle.diff_bounds.specs.Kept.{Rows}
 use Rattle.cert_text.specs.TreeTexts.{with_token}
 use Rattle.ot_prove.specs.Searching.{LeadsTo, IsSearching, known_by}
-use Rattle.ot_prove.specs.Outcomes.{AreAnswersTo}
 use Rattle.ot_prove.proofs.Steps.{IsSearching-same, IsSearching-asked, IsSearching-holds, spent_at_first, failing_at_first, first_is_reached, first_has_table}
 use Rattle.ot_prove.proofs.Steps.{asked_literal, weight_of-asked, weight_of-close, without_last}
 use Rattle.ot_prove.proofs.search.take_turn.Goals as goal
@@ -115,42 +112,22 @@ returns-in_ok-close_holds-in-Holds-clause-falls g c =
     let falls = weight_of-close (g.A.Asker.plan c.turn_at.new.asker) c.args.search.now.path c.requires.opened in
     rw (c.in_ok-close_holds-in-Holds.ensures, ← c.turn_at.ensures.branches) falls
 
-pub answers_along-requires : goal.answers_along-requires
-answers_along-requires g c =
-    let A = g.A.Asker in
-    let now = c.turn_at.new.asker in
-    let kept = c.turn_at.ensures in
-    let s = c.args.search.now in (
-      first_plan (A.plan now) s.path,
-      rw c.answers.ensures
-          (first_is_reached (A.is_own now) (A.plan now) (A.root now) c.args.budget s.path _ _ s.tree.tokens s.asked c.requires.opened
-          (IsSearching-same (known_first s.possible c.requires.possible c.requires.searching) kept.own kept.branches kept.root_kept)),
-    )
-
 -- the failing end is that of the question list, and the answers lead there
-pub returns-in_ok-answers-in-Fails-clause-step : goal.returns-in_ok-answers-in-Fails-clause-step
-returns-in_ok-answers-in-Fails-clause-step g c q list =
+pub returns-in-Fails-clause-step : goal.returns-in-Fails-clause-step
+returns-in-Fails-clause-step g c =
     let A = g.A.Asker in
     let now = c.turn_at.new.asker in
     let kept = c.turn_at.ensures in
-    let last = c.answers_along.new.asker in
     let s = c.args.search.now in
     let begins = rw c.in-Fails.is at c.in_ok-lit.ensures.begins in
-    let same_root : A.root last ≡ A.root now = c.answers_along.ensures.root in
     let searching = IsSearching-same (known_first s.possible c.requires.possible c.requires.searching) kept.own kept.branches kept.root_kept in
-    let found =
-    failing_at_first (A.is_own now) (A.plan now) (A.root now) c.args.budget s.path s.cycles s.tables.items s.tree.tokens
-    s.asked c.in-Fails.why q searching begins
-    (subst (λ (p : Plan g.row.A-Why.Denot). QuestionList p [] q) same_root list) in
     let reached =
-    first_is_reached (A.is_own now) (A.plan now) (A.root now) c.args.budget s.path _ _ s.tree.tokens s.asked c.requires.opened searching in
-    let first = c.answers.ensures in
-    let there : LeadsTo (A.root now) c.answers.result.now (Fails c.in-Fails.why) =
-    subst (λ (w : List Lit). LeadsTo (A.root now) w (Fails c.in-Fails.why)) (sym first)
-    (subst (λ (p : Plan g.row.A-Why.Denot). LeadsTo (A.root now) (first_answers s.path) p) begins reached) in
-    let answers = c.in_ok-answers-in-Fails.ensures in (
-      found.0,
-      found.1 ∙ ap (λ (w : List Lit). Some (record { answers = w; why = c.in-Fails.why })) (sym first ∙ sym answers.literals),
-      subst (λ (p : Plan g.row.A-Why.Denot). AreAnswersTo p c.in_ok-answers-in-Fails.answers.items (Fails c.in-Fails.why))
-          (sym same_root) (answers.way (Fails c.in-Fails.why) there),
+    first_is_reached (A.is_own now) (A.plan now) (A.root now) c.args.budget s.path _ _ s.tree.tokens s.asked c.requires.opened searching in (
+      c.requires.opened,
+      record {
+        leads = subst (λ (p : Plan g.row.A-Why.Denot). LeadsTo (A.root now) (first_answers s.path) p) begins reached;
+        lists = λ q list.
+            failing_at_first (A.is_own now) (A.plan now) (A.root now) c.args.budget s.path s.cycles s.tables.items s.tree.tokens
+            s.asked c.in-Fails.why q searching begins list;
+      },
     )
