@@ -28,7 +28,7 @@ fn if_differ<'a>(
     let Some(y) = y else {
         return Ok(next);
     };
-    let equal = Form::eq(bump, Place::named(x), Place::named(y))?;
+    let equal = Form::Eq(Place::named(x), Place::named(y));
     Ok(Goal::either(bump, equal, Goal::holds(bump)?, next)?)
 }
 
@@ -67,7 +67,7 @@ fn if_enabled<'a>(bump: &'a Bump, op: SymOp, next: &'a Goal<'a>) -> Result<&'a G
     ensures { IfOk result (λ r. goal_tree r.now ≡ starting.if_enabled op (goal_tree next.now)) }
 {
     let enabled = enabled_form(bump, op, 0)?;
-    Ok(Goal::either(bump, enabled, next, Goal::holds(bump)?)?)
+    Ok(Goal::either(bump, *enabled, next, Goal::holds(bump)?)?)
 }
 
 // The goal, where each of the operations is.
@@ -91,7 +91,7 @@ fn if_all_enabled<'a>(
 fn if_length<'a>(bump: &'a Bump, next: &'a Goal<'a>) -> Result<&'a Goal<'a>, NoMemory>
     ensures { IfOk result (λ r. goal_tree r.now ≡ starting.if_length (goal_tree next.now)) }
 {
-    let length = Form::le(bump, Place::zero(), Place::length_and(0))?;
+    let length = Form::Le(Place::zero(), Place::length_and(0));
     Ok(Goal::either(bump, length, next, Goal::holds(bump)?)?)
 }
 

@@ -1,5 +1,6 @@
 -- What the cases of a valid block keep where some of them are left out.
-use Rattle.std.proofs.Common.{◌≡◌, ℕ, zero, suc, Bool, IsTrue, List, [], ◌∷◌, length, take, drop, map, ◌-◌, refl, ap, subst, ◌∙◌, sym, Option, Some, None, IfSome}
+use Rattle.std.proofs.Common.{◌≡◌, ℕ, zero, suc, Bool, false, IsTrue, List, [], ◌∷◌, length, take, drop, map, ◌-◌, refl, ap, subst, ◌∙◌, sym}
+use Rattle.std.proofs.Common.{Option, Some, None, IfSome, IfNone}
 use Rattle.std.specs.List.{AllByRecursion}
 use Rattle.std.proofs.Math.Seq.{take-length}
 use Rattle.std.proofs.lemmas.List.{drop-map, length-drop}
@@ -10,7 +11,7 @@ use Rattle.ot_questions.specs.declared.place.SymOp.{SymOp}
 use Rattle.ot_questions.specs.Nears.{IsNearCase}
 use Rattle.ot_terms.specs.Goals.{GoalTree}
 use Rattle.goal_rules.specs.declared.choosing.Trial.{Trial}
-use Rattle.goal_rules.specs.Steps.{trial_tree}
+use Rattle.goal_rules.specs.Steps.{trial_tree, is_tried}
 use Rattle.ot_questions.proofs.Nears.{AreNear-block, ≡-IsTrue}
 
 left_of : {X : Type 0} (P : X → Type 0) (xs : List X) (n : ℕ) → AllByRecursion P xs → AllByRecursion P (drop n xs)
@@ -45,3 +46,8 @@ pub tried :
     (a b : SymOp) (r : Option Trial) (g : GoalTree) → trial_tree a b r ≡ g → IfSome r (λ t. trial_tree a b (Some t) ≡ g)
 tried a b None g e = tt
 tried a b (Some t) g e = e
+
+-- where no case is left to be tried the goal fails
+pub untried : (a b : SymOp) (r : Option Trial) (g : GoalTree) → trial_tree a b r ≡ g → IfNone r (is_tried g ≡ false)
+untried a b None g e = ap is_tried (sym e)
+untried a b (Some t) g e = tt

@@ -1,5 +1,5 @@
 -- Goals that are held at their front, and what a rule needs of one.
-use Rattle.std.specs.Prelude.{ℕ, ◌<◌, ◌≤◌, length, Option, Some, None}
+use Rattle.std.specs.Prelude.{ℕ, ◌<◌, ◌≤◌, Bool, true, false, length, Option, Some, None}
 use Rattle.fn_rules.specs.Formulas.{formula_of}
 use Rattle.fn_rules.specs.Functions.{Function}
 use Rattle.ot_questions.specs.declared.place.SymOp.{SymOp}
@@ -31,6 +31,15 @@ front_tree (rust.Same left right) = goals.Same (cell_tree left) (cell_tree right
 abbrev pub trial_tree : SymOp → SymOp → Option Trial → GoalTree
 trial_tree a b None = goals.Fails Undefined
 trial_tree a b (Some t) = goals.If (guard_form (formula_of t.guard.now) a b) (goal_tree t.yes.now) (goal_tree t.no.now)
+
+-- whether a goal is one of two by a form, as where a case is tried
+abbrev pub is_tried : GoalTree → Bool
+is_tried goals.Holds = false
+is_tried (goals.Fails why) = false
+is_tried (goals.If g on_yes on_no) = true
+is_tried (goals.Choose case a b progress) = false
+is_tried (goals.Deliver o progress) = false
+is_tried (goals.Same left right) = false
 
 -- the offset that is lowered by one is small
 abbrev pub IsLoweredForm : FormTree → Type 0

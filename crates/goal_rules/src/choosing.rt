@@ -1,11 +1,11 @@
 //! The rules for the cases of a transformation.
-ghost use Rattle.std.specs.Prelude.{◌≡◌, ◌≤◌, IfOk, IfSome, Some, map, length, drop};
+ghost use Rattle.std.specs.Prelude.{◌≡◌, ◌≤◌, false, IfOk, IfSome, IfNone, Some, map, length, drop};
 ghost use Rattle.fn_rules.specs.Functions.{case_of};
 ghost use Rattle.fn_rules.specs.Formulas.{formula_of};
 ghost use Rattle.fn_rules.specs.Rules.{function_of};
 ghost use Rattle.ot_questions.specs.Nears.{IsNearOp, IsNearCase, HasNearAtoms};
 ghost use Rattle.std.specs.List.{AllByRecursion};
-ghost use Rattle.goal_rules.specs.Steps.{front_tree, trial_tree, IsChoosable};
+ghost use Rattle.goal_rules.specs.Steps.{front_tree, trial_tree, is_tried, IsChoosable};
 ghost use Rattle.goal_rules.specs.Table as table;
 
 use crate::front::Front;
@@ -36,7 +36,8 @@ fn first_case<'r, 'a>(
     requires b_near { IsNearOp 99 b }
     requires cases_near { AllByRecursion IsNearCase (map case_of cases.now) }
     requires few { case ≤ 64 }
-    ensures tries { IfOk result (λ r. trial_tree a b r ≡ table.choose_case (map case_of cases.now) case a b progress.now) }
+    ensures tries { IfOk result (λ r. trial_tree a b r
+        ≡ table.choose_case (map case_of cases.now) case a b progress.now) }
     ensures near { IfOk result (λ r. IfSome r (λ t. HasNearAtoms (formula_of t.guard.now))) }
 {
     match cases {
@@ -66,6 +67,8 @@ pub fn next_case<'r, 'a>(
     requires { IsChoosable (function_of rules.now) case a b }
     ensures tries { IfOk result (λ r. IfSome r (λ t. trial_tree a b (Some t)
         ≡ table.rewrite_choose (function_of rules.now) case a b progress.now)) }
+    ensures none { IfOk result (λ r. IfNone r
+        (is_tried (table.rewrite_choose (function_of rules.now) case a b progress.now) ≡ false)) }
     ensures near { IfOk result (λ r. IfSome r (λ t. HasNearAtoms (formula_of t.guard.now))) }
 {
     let Some(first) = a.kind() else {

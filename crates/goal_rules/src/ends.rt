@@ -62,9 +62,9 @@ fn same_documents<'a>(
         CellT::at(bump, left, index)?,
         CellT::at(bump, right, index)?,
     )?;
-    let below = Form::lt(bump, index, Place::length_and(off))?;
+    let below = Form::Lt(index, Place::length_and(off));
     let within = Goal::either(bump, below, same, holds())?;
-    Ok(Goal::either(bump, Form::le(bump, Place::zero(), index)?, within, holds())?)
+    Ok(Goal::either(bump, Form::Le(Place::zero(), index), within, holds())?)
 }
 
 // How many cells two operations add together.
@@ -109,7 +109,7 @@ fn both_ways<'a>(
     let second = enabled_form(bump, a_after_b, b.growth(mode))?;
     Ok(Front::If {
         form: *enabled_form(bump, b_after_a, a.growth(mode))?,
-        yes: Goal::either(bump, second, same, out_of_range())?,
+        yes: Goal::either(bump, *second, same, out_of_range())?,
         no: out_of_range(),
     })
 }

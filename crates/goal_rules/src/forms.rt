@@ -47,10 +47,9 @@ fn by_eq<'a>(
     ensures { IfOk result (λ r. Some (front_tree r) ≡ rewrite_if (trees.Eq x y) (goal_tree yes.now)
         (goal_tree no.now)) }
 {
-    let back = Form::le(bump, y, x)?;
     Ok(Front::If {
         form: Form::Le(x, y),
-        yes: Goal::either(bump, back, yes, no)?,
+        yes: Goal::either(bump, Form::Le(y, x), yes, no)?,
         no,
     })
 }
@@ -69,7 +68,7 @@ fn by_and<'a>(
 {
     Ok(Front::If {
         form: *first,
-        yes: Goal::either(bump, second, yes, no)?,
+        yes: Goal::either(bump, *second, yes, no)?,
         no,
     })
 }
@@ -89,7 +88,7 @@ fn by_or<'a>(
     Ok(Front::If {
         form: *first,
         yes,
-        no: Goal::either(bump, second, yes, no)?,
+        no: Goal::either(bump, *second, yes, no)?,
     })
 }
 

@@ -41,12 +41,6 @@ pub enum Front<'a> {
     },
 }
 
-fn placed_form<'a>(bump: &'a Bump, form: Form<'a>) -> Result<&'a Form<'a>, NoMemory>
-    ensures { IfOk result (λ r. r.now ≡ form.entry) }
-{
-    Ok(bump.try_alloc(form)?)
-}
-
 fn placed_cell<'a>(bump: &'a Bump, cell: CellT<'a>) -> Result<&'a CellT<'a>, NoMemory>
     ensures { IfOk result (λ r. r.now ≡ cell.entry) }
 {
@@ -62,11 +56,7 @@ impl<'a> Front<'a> {
         match *goal {
             Goal::Holds => Front::Holds,
             Goal::Fails(why) => Front::Fails(why),
-            Goal::If { form, yes, no } => Front::If {
-                form: *form,
-                yes,
-                no,
-            },
+            Goal::If { form, yes, no } => Front::If { form, yes, no },
             Goal::Choose {
                 case,
                 a,
@@ -93,12 +83,7 @@ impl<'a> Front<'a> {
         match self {
             Front::Holds => Ok(Goal::holds(bump)?),
             Front::Fails(why) => Ok(Goal::fails(bump, why)?),
-            Front::If { form, yes, no } => Ok(Goal::either(
-                bump,
-                placed_form(bump, form)?,
-                yes,
-                no,
-            )?),
+            Front::If { form, yes, no } => Ok(Goal::either(bump, form, yes, no)?),
             Front::Choose {
                 case,
                 a,

@@ -4,11 +4,12 @@ ghost use Rattle.std.specs.List.{All};
 ghost use Rattle.fn_rules.specs.declared.function.ObName.{ObName};
 ghost use Rattle.fn_rules.specs.Formulas.{formula_of};
 ghost use Rattle.fn_rules.specs.Rules.{function_of};
-ghost use Rattle.ot_questions.specs.Nears.{IsNearOp, HasNearAtoms};
+ghost use Rattle.ot_questions.specs.Nears.{IsNear, IsNearOp, HasNearAtoms};
 ghost use Rattle.ot_terms.specs.Belonging.{IsGoalOf};
+ghost use Rattle.ot_terms.specs.Forms as forms;
 ghost use Rattle.ot_terms.specs.Forms.{form_tree};
 ghost use Rattle.ot_terms.specs.Goals.{goal_tree, laid_form, laid_order, Deliver};
-ghost use Rattle.ot_terms.specs.Placing.{guard_form};
+ghost use Rattle.ot_terms.specs.Placing.{compared, guard_form};
 ghost use Rattle.ot_terms.specs.Weights.{goal_weight};
 ghost use Rattle.ot_rewrite.specs.Reaching.{IsStep};
 ghost use Rattle.ot_rewrite.specs.Splits.{HasLowOffsets};
@@ -19,15 +20,16 @@ use crate::behind::found;
 use crate::kept::Behind;
 use ask_core::NoMemory;
 use bumpalo::Bump;
-use fn_rules::{Guard, Rules};
+use fn_rules::{Cmp, Guard, Rules};
 use goal_rules::Front;
 use ot_rewrite::{front_of, step};
-use ot_terms::{Form, Goal, GoalProgress, Place, SymOp, place_atom};
+use ot_terms::{Form, Goal, GoalProgress, Place, SymOp, places_of};
 
 /// How many bytes an arena may have where more is laid out.
 const ROOM: usize = 2_097_152;
 
 // One of two goals, where the first place is at most the second. Places of one name are compared at once.
+#[inline(always)]
 fn by_order<'a>(
     bump: &'a Bump,
     x: Place,
@@ -38,9 +40,44 @@ fn by_order<'a>(
     ensures { IfOk result (λ r. goal_tree r.now ≡ laid_order x y (goal_tree yes.now) (goal_tree no.now)) }
 {
     match x.is_at_most(y) {
-        None => Ok(Goal::either(bump, Form::le(bump, x, y)?, yes, no)?),
+        None => Ok(Goal::either(bump, Form::Le(x, y), yes, no)?),
         Some(true) => Ok(yes),
         Some(false) => Ok(no),
+    }
+}
+
+// One of two goals, where two places are equal.
+#[inline]
+fn by_equality<'a>(
+    bump: &'a Bump,
+    x: Place,
+    y: Place,
+    yes: &'a Goal<'a>,
+    no: &'a Goal<'a>,
+) -> Result<&'a Goal<'a>, NoMemory>
+    ensures { IfOk result (λ r. goal_tree r.now ≡ laid_form (forms.Eq x y) (goal_tree yes.now) (goal_tree no.now)) }
+{
+    let back = by_order(bump, y, x, yes, no)?;
+    Ok(by_order(bump, x, y, back, no)?)
+}
+
+// One of two goals, as two places compare.
+#[inline(always)]
+fn by_places<'a>(
+    bump: &'a Bump,
+    cmp: Cmp,
+    x: Place,
+    y: Place,
+    yes: &'a Goal<'a>,
+    no: &'a Goal<'a>,
+) -> Result<&'a Goal<'a>, NoMemory>
+    requires { IsNear 999 y.off }
+    ensures { IfOk result (λ r. goal_tree r.now ≡ laid_form (compared cmp x y) (goal_tree yes.now) (goal_tree no.now)) }
+{
+    match cmp {
+        Cmp::Lt => Ok(by_order(bump, x, y.plus(-1), yes, no)?),
+        Cmp::Le => Ok(by_order(bump, x, y, yes, no)?),
+        Cmp::Eq => Ok(by_equality(bump, x, y, yes, no)?),
     }
 }
 
@@ -58,11 +95,8 @@ pub fn by_form<'a>(
     match form {
         Form::True => Ok(yes),
         Form::Le(x, y) => Ok(by_order(bump, *x, *y, yes, no)?),
-        Form::Lt(x, y) => Ok(by_order(bump, *x, y.plus(-1), yes, no)?),
-        Form::Eq(x, y) => {
-            let back = by_order(bump, *y, *x, yes, no)?;
-            Ok(by_order(bump, *x, *y, back, no)?)
-        }
+        Form::Lt(x, y) => Ok(by_places(bump, Cmp::Lt, *x, *y, yes, no)?),
+        Form::Eq(x, y) => Ok(by_equality(bump, *x, *y, yes, no)?),
         Form::And(g, h) => {
             let second = by_form(bump, h, yes, no)?;
             Ok(by_form(bump, g, second, no)?)
@@ -79,23 +113,22 @@ pub fn by_form<'a>(
 pub fn by_guard<'a>(
     bump: &'a Bump,
     guard: &Guard,
-    a: SymOp,
-    b: SymOp,
+    a: &SymOp,
+    b: &SymOp,
     yes: &'a Goal<'a>,
     no: &'a Goal<'a>,
 ) -> Result<&'a Goal<'a>, NoMemory>
-    requires a_near { IsNearOp 200 a }
-    requires b_near { IsNearOp 200 b }
+    requires a_near { IsNearOp 200 a.now }
+    requires b_near { IsNearOp 200 b.now }
     requires atoms_near { HasNearAtoms (formula_of guard.now) }
-    requires low { HasLowOffsets (guard_form (formula_of guard.now) a b) }
-    ensures { IfOk result (λ r. goal_tree r.now ≡ laid_form (guard_form (formula_of guard.now) a b) (goal_tree yes.now)
-        (goal_tree no.now)) }
+    ensures { IfOk result (λ r. goal_tree r.now ≡ laid_form (guard_form (formula_of guard.now) a.now b.now)
+        (goal_tree yes.now) (goal_tree no.now)) }
 {
     match guard {
         Guard::True => Ok(yes),
         Guard::Atom(atom) => {
-            let form = place_atom(atom, a, b);
-            Ok(by_form(bump, &form, yes, no)?)
+            let (x, y) = places_of(atom, a, b);
+            Ok(by_places(bump, atom.cmp, x, y, yes, no)?)
         }
         Guard::And(g, h) => {
             let second = by_guard(bump, h, a, b, yes, no)?;

@@ -29,7 +29,7 @@ fn found<'a>(bump: &'a Bump) -> Result<&'a Goal<'a>, NoMemory>
 fn if_there<'a>(bump: &'a Bump, who: Who, next: &'a Goal<'a>) -> Result<&'a Goal<'a>, NoMemory>
     ensures { IfOk result (λ r. goal_tree r.now ≡ goals.if_there who (goal_tree next.now)) }
 {
-    let there = Form::le(bump, Place::zero(), Place::named(position_name(who)))?;
+    let there = Form::Le(Place::zero(), Place::named(position_name(who)));
     Ok(Goal::either(bump, there, next, Goal::holds(bump)?)?)
 }
 
@@ -48,7 +48,7 @@ fn if_differ<'a>(
     let Some(y) = y else {
         return Ok(next);
     };
-    let equal = Form::eq(bump, Place::named(x), Place::named(y))?;
+    let equal = Form::Eq(Place::named(x), Place::named(y));
     Ok(Goal::either(bump, equal, Goal::holds(bump)?, next)?)
 }
 
@@ -115,7 +115,7 @@ fn unless_true<'a>(
         [case, others @ ..] => {
             let behind = unless_true(bump, others, a, b, next)?;
             let guard = place_form(bump, &case.guard, a, b)?;
-            Ok(Goal::either(bump, guard, Goal::holds(bump)?, behind)?)
+            Ok(Goal::either(bump, *guard, Goal::holds(bump)?, behind)?)
         }
     }
 }
@@ -128,7 +128,7 @@ fn at_own<'a>(bump: &'a Bump, case: &Case, a: SymOp, b: SymOp) -> Result<&'a Goa
     ensures { IfOk result (λ r. goal_tree r.now ≡ goals.at_own (Some (case_of case.now)) a b) }
 {
     let guard = place_form(bump, &case.guard, a, b)?;
-    Ok(Goal::either(bump, guard, found(bump)?, Goal::holds(bump)?)?)
+    Ok(Goal::either(bump, *guard, found(bump)?, Goal::holds(bump)?)?)
 }
 
 // Where a case is taken: its guard behind all earlier ones.
@@ -209,7 +209,7 @@ pub fn unless_one_place<'a>(
         Some(_) => match right.kind() {
             None => Ok(found(bump)?),
             Some(_) => {
-                let equal = Form::eq(bump, left.at(), right.at())?;
+                let equal = Form::Eq(left.at(), right.at());
                 Ok(Goal::either(bump, equal, Goal::holds(bump)?, found(bump)?)?)
             }
         },
@@ -236,7 +236,7 @@ fn with_right<'a>(
             let behind = with_right(bump, others, a, b, left)?;
             let guard = place_form(bump, &case.guard, a, b)?;
             let here = unless_same(bump, left, Some(a.result(case.res, b)))?;
-            Ok(Goal::either(bump, guard, here, behind)?)
+            Ok(Goal::either(bump, *guard, here, behind)?)
         }
     }
 }
@@ -262,7 +262,7 @@ fn unless_agreed<'a>(
             let behind = unless_agreed(bump, rest, others, a, b)?;
             let guard = place_form(bump, &case.guard, a, b)?;
             let here = with_right(bump, others, a, b, Some(a.result(case.res, b)))?;
-            Ok(Goal::either(bump, guard, here, behind)?)
+            Ok(Goal::either(bump, *guard, here, behind)?)
         }
     }
 }

@@ -33,7 +33,7 @@ fn is_settled(goal: &Goal<'_>) -> bool
     match *goal {
         Goal::Holds => true,
         Goal::Fails(_) => true,
-        Goal::If { form, .. } => match *form {
+        Goal::If { form, .. } => match form {
             Form::Le(x, y) => x.var != y.var,
             _ => false,
         },

@@ -31,7 +31,7 @@ fn if_enabled<'a>(bump: &'a Bump, op: SymOp, next: &'a Goal<'a>) -> Result<&'a G
     ensures { IfOk result (λ r. goal_tree r.now ≡ starting.if_enabled op (goal_tree next.now)) }
 {
     let enabled = enabled_form(bump, op, 0)?;
-    Ok(Goal::either(bump, enabled, next, Goal::holds(bump)?)?)
+    Ok(Goal::either(bump, *enabled, next, Goal::holds(bump)?)?)
 }
 
 // The goal, where both operations are enabled on a document of some length.
@@ -46,7 +46,7 @@ fn if_both_enabled<'a>(
 {
     let second = if_enabled(bump, b, next)?;
     let first = if_enabled(bump, a, second)?;
-    let length = Form::le(bump, Place::zero(), Place::length_and(0))?;
+    let length = Form::Le(Place::zero(), Place::length_and(0));
     Ok(Goal::either(bump, length, first, Goal::holds(bump)?)?)
 }
 
@@ -80,7 +80,7 @@ fn with_back<'a>(
             let behind = with_back(bump, others, a, b, there)?;
             let guard = place_form(bump, &case.guard, there, b)?;
             let here = unless_same(bump, a, Some(there.result(case.res, b)))?;
-            Ok(Goal::either(bump, guard, here, behind)?)
+            Ok(Goal::either(bump, *guard, here, behind)?)
         }
     }
 }
@@ -145,7 +145,7 @@ fn unless_taken_back<'a>(
             let behind = unless_taken_back(bump, rest, others, a, b)?;
             let guard = place_form(bump, &case.guard, a, b)?;
             let here = unless_there(bump, others, a, b, Some(a.result(case.res, b)))?;
-            Ok(Goal::either(bump, guard, here, behind)?)
+            Ok(Goal::either(bump, *guard, here, behind)?)
         }
     }
 }

@@ -24,7 +24,7 @@ fn part_of<'a>(goal: &'a Goal<'a>) -> Option<&'a Goal<'a>>
     let Goal::If { form, yes, no } = *goal else {
         return None;
     };
-    match *form {
+    match form {
         Form::True => Some(yes),
         Form::Le(x, y) => {
             if x.is_at_most(y)? {

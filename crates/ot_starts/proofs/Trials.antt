@@ -15,8 +15,7 @@ use Rattle.ot_terms.specs.Weights.{goal_weight}
 use Rattle.goal_rules.specs.declared.choosing.Trial.{Trial}
 use Rattle.goal_rules.specs.Steps.{trial_tree, IsChoosable}
 use Rattle.goal_rules.specs.Table.{rewrite_choose, rewritten}
-use Rattle.ot_rewrite.specs.Splits.{HasLowOffsets}
-use Rattle.laid_goals.proofs.LaidForms.{low_offsets_of, part_of_yes, part_of_no, yes_is_lighter, no_is_lighter}
+use Rattle.laid_goals.proofs.LaidForms.{part_of_yes, part_of_no, yes_is_lighter, no_is_lighter}
 use Rattle.marked_goals.specs.Marking.{marked_goal}
 use Rattle.marked_goals.specs.Settled.{front_start, is_begun, StandsMarked}
 use Rattle.ot_starts.specs.Trials.{IsTrialOf}
@@ -96,9 +95,6 @@ module _ (f : Function) (old was : GoalTree) (a b : SymOp) (t : Trial) (same : o
 
   pub tried_no_belongs : (ob : ObName) → IsGoalOf f ob old → IsGoalOf f ob (goal_tree t.no.now)
   tried_no_belongs ob h = part_of_no f ob tried_form (goal_tree t.yes.now) (goal_tree t.no.now) (tried_belongs ob h)
-
-  pub tried_low : (ob : ObName) → IsGoalOf f ob old → HasLowOffsets tried_form
-  tried_low ob h = low_offsets_of f ob tried_form (goal_tree t.yes.now) (goal_tree t.no.now) (tried_belongs ob h)
 
   pub tried_laid :
       (p q got : GoalTree) → StandsMarked f (goal_tree t.yes.now) p → StandsMarked f (goal_tree t.no.now) q

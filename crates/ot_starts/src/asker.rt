@@ -65,6 +65,7 @@ impl<'a> StartAsker<'a> {
     }
 
     // How the plan of a node begins, with its starts and without them.
+    #[inline(always)]
     fn walked(&mut self, node: &'a Goal<'a>) -> Result<Turn<&'a Goal<'a>, Why>, NoMemory>
         requires { IsStop (function_of self.old.laid) self.old.ob (goal_tree node.now) }
         ensures marked { IfOk result (λ t. BeginsAt (λ n. IsStop (function_of self.old.laid) self.old.ob
@@ -133,6 +134,7 @@ impl<'a> Starter for StartAsker<'a> {
         Ok(self.laid.first(self.ob)?)
     }
 
+    #[inline(always)]
     fn follow(&mut self, node: &'a Goal<'a>) -> Result<Turn<&'a Goal<'a>, Why>, NoMemory> {
         Ok(self.walked(node)?)
     }

@@ -57,7 +57,7 @@ pub(crate) fn is_at_front(goal: &Goal<'_>) -> bool
     match *goal {
         Goal::Holds => true,
         Goal::Fails(_) => true,
-        Goal::If { form, .. } => question(*form).is_some(),
+        Goal::If { form, .. } => question(form).is_some(),
         _ => false,
     }
 }

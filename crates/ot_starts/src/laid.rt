@@ -80,6 +80,7 @@ impl<'a> Laid<'a> {
     }
 
     /// How the plan of a goal begins.
+    #[inline(always)]
     pub(crate) fn turn(&mut self, goal: &'a Goal<'a>) -> Result<Turn<&'a Goal<'a>, Why>, NoMemory>
         requires { (ob : ObName) × IsGoalOf (function_of self.old) ob (goal_tree goal.now) }
         ensures turns { IfOk result (λ t. TurnsAs (function_of self.old) (goal_tree goal.now) t) }

@@ -43,7 +43,7 @@ pub(crate) fn laid<'a>(
         Goal::If { form, yes, no } => {
             let on_no = laid(bump, rules, ends, no)?;
             let on_yes = laid(bump, rules, ends, yes)?;
-            Ok(by_form(bump, form, on_yes, on_no)?)
+            Ok(by_form(bump, &form, on_yes, on_no)?)
         }
         Goal::Deliver { .. } => {
             if let Some(known) = found(ends, goal) {
@@ -64,7 +64,7 @@ pub(crate) fn laid<'a>(
             };
             let on_no = laid(bump, rules, ends, no)?;
             let on_yes = laid(bump, rules, ends, yes)?;
-            Ok(by_guard(bump, guard, a, b, on_yes, on_no)?)
+            Ok(by_guard(bump, guard, &a, &b, on_yes, on_no)?)
         }
         Goal::Same { .. } => {
             let next = next_of(bump, rules, goal)?;

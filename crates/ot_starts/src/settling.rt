@@ -24,7 +24,7 @@ use ot_rewrite::step;
 use ot_terms::{Goal, first_goals_stand_for_obligations};
 
 // Whether the goal is one that an asker stops at.
-#[inline]
+#[inline(always)]
 fn is_settled(goal: &Goal<'_>) -> bool
     ensures { result ≡ marks.is_settled (goal_tree goal.now) }
 {
@@ -52,8 +52,22 @@ pub(crate) fn next_of<'a>(
     }
 }
 
+// The goal by one rule after another, until an asker stops at it.
+fn stopped<'a>(bump: &'a Bump, rules: &Rules, goal: &'a Goal<'a>) -> Result<&'a Goal<'a>, NoMemory>
+    requires { (ob : ObName) × IsGoalOf (function_of rules.now) ob (goal_tree goal.now) }
+    ensures alike { IfOk result (λ r. StandsMarked (function_of rules.now) (goal_tree goal.now) (goal_tree r.now)) }
+    ensures settled { IfOk result (λ r. IsTrue (marks.is_settled (goal_tree r.now))) }
+{
+    if is_settled(goal) {
+        return Ok(goal);
+    }
+    let next = next_of(bump, rules, goal)?;
+    Ok(stopped(bump, rules, next)?)
+}
+
 /// The goal as far as to its first question, to its end, or to where a transformation begins. It stands for the same
-/// plan with the same starts.
+/// plan with the same starts. Most goals are there already.
+#[inline(always)]
 pub(crate) fn settled<'a>(
     bump: &'a Bump,
     rules: &Rules,
@@ -63,11 +77,11 @@ pub(crate) fn settled<'a>(
     ensures alike { IfOk result (λ r. StandsMarked (function_of rules.now) (goal_tree goal.now) (goal_tree r.now)) }
     ensures settled { IfOk result (λ r. IsTrue (marks.is_settled (goal_tree r.now))) }
 {
+    rules_keep_starts();
     if is_settled(goal) {
         return Ok(goal);
     }
-    let next = next_of(bump, rules, goal)?;
-    Ok(settled(bump, rules, next)?)
+    Ok(stopped(bump, rules, goal)?)
 }
 
 /// What an obligation begins with, as far as to its first question.

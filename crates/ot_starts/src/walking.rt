@@ -45,6 +45,7 @@ fn literal(x: Place, y: Place) -> Lit
 }
 
 // How the plan of a question begins, with a goal for each answer.
+#[inline(always)]
 fn asked<'a>(
     bump: &'a Bump,
     rules: &Rules,
@@ -102,7 +103,28 @@ fn opened<'a>(bump: &'a Bump, rules: &Rules, goal: &'a Goal<'a>) -> Result<Front
     Ok(front_of(bump, rules, goal)?)
 }
 
+// How the plan of any goal begins.
+fn turn_on<'a>(
+    bump: &'a Bump,
+    rules: &Rules,
+    starts: &mut Vec<Kept<'a>, &'a Bump>,
+    ends: &mut Vec<Kept<'a>, &'a Bump>,
+    goal: &'a Goal<'a>,
+) -> Result<Turn<&'a Goal<'a>, Why>, NoMemory>
+    requires goal { (ob : ObName) × IsGoalOf (function_of rules.now) ob (goal_tree goal.now) }
+    requires starts { All (IsKeptStart (function_of rules.now)) starts.old.items }
+    requires ends { All (IsKeptEnd (function_of rules.now)) ends.old.items }
+    ensures turns { IfOk result (λ t. TurnsAs (function_of rules.now) (goal_tree goal.now) t) }
+    ensures starts { All (IsKeptStart (function_of rules.now)) starts.new.items }
+    ensures ends { All (IsKeptEnd (function_of rules.now)) ends.new.items }
+{
+    let near = laid_on(bump, rules, starts, ends, goal, MOST_TRANSFORMS)?;
+    let front = opened(bump, rules, near)?;
+    Ok(turn_at(bump, rules, front)?)
+}
+
 /// How the plan of a goal begins. Most goals have a question at their front already.
+#[inline(always)]
 pub(crate) fn turn_of<'a>(
     bump: &'a Bump,
     rules: &Rules,
@@ -118,11 +140,9 @@ pub(crate) fn turn_of<'a>(
     ensures ends { All (IsKeptEnd (function_of rules.now)) ends.new.items }
 {
     if let Goal::If { form, yes, no } = *goal {
-        if question(*form).is_some() {
-            return Ok(asked(bump, rules, *form, yes, no)?);
+        if question(form).is_some() {
+            return Ok(asked(bump, rules, form, yes, no)?);
         }
     }
-    let near = laid_on(bump, rules, starts, ends, goal, MOST_TRANSFORMS)?;
-    let front = opened(bump, rules, near)?;
-    Ok(turn_at(bump, rules, front)?)
+    Ok(turn_on(bump, rules, starts, ends, goal)?)
 }

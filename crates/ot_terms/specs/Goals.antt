@@ -23,7 +23,7 @@ pub data GoalTree : Type 0 where
 abbrev pub goal_tree : Goal → GoalTree
 goal_tree rust.Holds = Holds
 goal_tree (rust.Fails why) = Fails why
-goal_tree (rust.If' g p on_yes q on_no) = If (form_tree g.now) (goal_tree on_yes) (goal_tree on_no)
+goal_tree (rust.If' g p on_yes q on_no) = If (form_tree g) (goal_tree on_yes) (goal_tree on_no)
 goal_tree (rust.Choose case a b progress) = Choose case a b progress.now
 goal_tree (rust.Deliver o progress) = Deliver o progress.now
 goal_tree (rust.Same left right) = Same (cell_tree left.now) (cell_tree right.now)

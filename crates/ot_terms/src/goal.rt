@@ -35,7 +35,7 @@ pub enum Goal<'a> {
 
     /// One of two goals, by a form.
     If {
-        form: &'a Form<'a>,
+        form: Form<'a>,
         yes: &'a Goal<'a>,
         no: &'a Goal<'a>,
     },
@@ -84,11 +84,11 @@ impl<'a> Goal<'a> {
 
     pub fn either(
         bump: &'a Bump,
-        form: &'a Form<'a>,
+        form: Form<'a>,
         yes: &'a Goal<'a>,
         no: &'a Goal<'a>,
     ) -> Result<&'a Goal<'a>, NoMemory>
-        ensures { IfOk result (λ r. goal_tree r.now ≡ trees.If (form_tree form.now) (goal_tree yes.now)
+        ensures { IfOk result (λ r. goal_tree r.now ≡ trees.If (form_tree form.entry) (goal_tree yes.now)
             (goal_tree no.now)) }
     {
         Ok(bump.try_alloc(Goal::If { form, yes, no })?)

@@ -27,4 +27,4 @@ pub use laws::{
     forms_are_asked_as_they_are_true, goals_are_true_as_their_plans,
 };
 pub use ot_questions::{Place, SymOp, Why};
-pub use placing::{place_atom, place_form};
+pub use placing::{place_form, places_of};

@@ -20,6 +20,7 @@ use bumpalo::Bump;
 use fn_rules::{Atom, Cmp, Guard, Side};
 use ot_questions::{Place, SymOp};
 
+#[inline]
 fn compared<'a>(cmp: Cmp, x: Place, y: Place) -> Form<'a>
     ensures { form_tree result ≡ placing.compared cmp x y }
 {
@@ -30,37 +31,42 @@ fn compared<'a>(cmp: Cmp, x: Place, y: Place) -> Form<'a>
     }
 }
 
-/// The form that a comparison is at two operations.
-pub fn place_atom<'a>(atom: &Atom, a: SymOp, b: SymOp) -> Form<'a>
-    requires a_near { IsNearOp 200 a }
-    requires b_near { IsNearOp 200 b }
+/// The two places that a comparison is about at two operations, the left one first.
+#[inline]
+pub fn places_of(atom: &Atom, a: &SymOp, b: &SymOp) -> (Place, Place)
+    requires a_near { IsNearOp 200 a.now }
+    requires b_near { IsNearOp 200 b.now }
     requires atom_near { IsNear 99 atom.now.k }
-    ensures { form_tree result ≡ atom_form atom.now a b }
+    ensures form { placing.compared atom.now.cmp result.0 result.1 ≡ atom_form atom.now a.now b.now }
+    ensures near { IsNear 299 result.1.off }
 {
     match atom.left {
-        Side::First => compared(
-            atom.cmp,
-            a.thing(atom.sort),
-            b.thing(atom.sort).plus(atom.k),
-        ),
-        Side::Second => compared(
-            atom.cmp,
-            b.thing(atom.sort),
-            a.thing(atom.sort).plus(atom.k),
-        ),
+        Side::First => (a.thing(atom.sort), b.thing(atom.sort).plus(atom.k)),
+        Side::Second => (b.thing(atom.sort), a.thing(atom.sort).plus(atom.k)),
     }
+}
+
+#[inline]
+fn place_atom<'a>(atom: &Atom, a: &SymOp, b: &SymOp) -> Form<'a>
+    requires a_near { IsNearOp 200 a.now }
+    requires b_near { IsNearOp 200 b.now }
+    requires atom_near { IsNear 99 atom.now.k }
+    ensures { form_tree result ≡ atom_form atom.now a.now b.now }
+{
+    let (x, y) = places_of(atom, a, b);
+    compared(atom.cmp, x, y)
 }
 
 fn place_part<'a>(
     bump: &'a Bump,
     guard: &Guard,
-    a: SymOp,
-    b: SymOp,
+    a: &SymOp,
+    b: &SymOp,
 ) -> Result<&'a Form<'a>, NoMemory>
-    requires a_near { IsNearOp 200 a }
-    requires b_near { IsNearOp 200 b }
+    requires a_near { IsNearOp 200 a.now }
+    requires b_near { IsNearOp 200 b.now }
     requires atoms_near { HasNearAtoms (formula_of guard.now) }
-    ensures { IfOk result (λ r. form_tree r.now ≡ guard_form (formula_of guard.now) a b) }
+    ensures { IfOk result (λ r. form_tree r.now ≡ guard_form (formula_of guard.now) a.now b.now) }
 {
     match guard {
         Guard::True => Ok(Form::always(bump)?),
@@ -101,5 +107,5 @@ pub fn place_form<'a>(
     ensures asks { IfOk result (λ r. (p q : Plan Why) → ask_form (form_tree r.now) p q
         ≡ ask_guard (formula_of guard.now) a b p q) }
 {
-    Ok(place_part(bump, guard, a, b)?)
+    Ok(place_part(bump, guard, &a, &b)?)
 }

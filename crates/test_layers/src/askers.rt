@@ -31,7 +31,7 @@ fn asker_of_guard<'a>(bump: &'a Bump, rules: &'a Rules) -> Result<PathAsker<'a>,
     let form = place_form(bump, &before, a, b)?;
     let on_yes = Goal::holds(bump)?;
     let on_no = Goal::fails(bump, Why::Undefined)?;
-    let goal = Goal::either(bump, form, on_yes, on_no)?;
+    let goal = Goal::either(bump, *form, on_yes, on_no)?;
     Ok(PathAsker::over(bump, rules, ObName::Pair(Kind::Del, Kind::Del), goal))
 }
 

@@ -1,5 +1,5 @@
 use Rattle.fn_rules.specs.Validity.{compares_chars}
-use Rattle.goal_rules.proofs.CasesLeft.{left_near, left_cases, tried}
+use Rattle.goal_rules.proofs.CasesLeft.{left_near, left_cases, tried, untried}
 use Rattle.goal_rules.proofs.choosing.next_case.Goals as goal
 
 pub first_case-requires-clause-cases_near : goal.first_case-requires-clause-cases_near
@@ -13,3 +13,11 @@ returns-clause-tries c =
     let second = c.in-Some-kind.ensures in
     let given = c.in_ok-first_case.ensures.tries in
     tried c.args.a c.args.b c.in_ok-first_case.field-0 _ (rw (← first, ← second, ← left) given)
+
+pub returns-clause-none : goal.returns-clause-none
+returns-clause-none c =
+    let left = left_cases c.cases-cases.result.now c.args.case _ c.cases-cases.ensures.cases in
+    let first = c.in-Some.ensures in
+    let second = c.in-Some-kind.ensures in
+    let given = c.in_ok-first_case.ensures.tries in
+    untried c.args.a c.args.b c.in_ok-first_case.field-0 _ (rw (← first, ← second, ← left) given)

@@ -10,7 +10,7 @@ use Rattle.ot_starts.specs.declared.kept.Kept.{Kept}
 use Rattle.ot_starts.specs.Kept.{IsKeptEnd}
 use Rattle.ot_starts.proofs.LaidMarks.{yes_falls, no_falls, yes_belongs, no_belongs, form_low, if_laid}
 use Rattle.ot_starts.proofs.SettledGoals.{settled_on}
-use Rattle.ot_starts.proofs.Trials.{not_begun_there, tried_laid, tried_low, tried_no_belongs, tried_no_falls, tried_yes_belongs, tried_yes_falls}
+use Rattle.ot_starts.proofs.Trials.{not_begun_there, tried_laid, tried_no_belongs, tried_no_falls, tried_yes_belongs, tried_yes_falls}
 use Rattle.ot_starts.proofs.laying.+laid.Goals as goal
 
 -- the goal behind no is lighter, and of the obligation
@@ -18,13 +18,13 @@ pub laid-requires : goal.laid-requires
 laid-requires t c =
     let f = function_of c.args.rules.now in
     let falls : goal_weight f (goal_tree c.in-If.no.now) < goal_weight f (goal_tree c.args.goal.now)
-    = no_falls f (goal_tree c.args.goal.now) (form_tree c.in-If.form.now) (goal_tree c.in-If.yes.now) (goal_tree c.in-If.no.now)
+    = no_falls f (goal_tree c.args.goal.now) (form_tree c.in-If.form) (goal_tree c.in-If.yes.now) (goal_tree c.in-If.no.now)
     (ap goal_tree c.in-If.is) in (
       search (rules, falls),
       (
         (
           c.requires.goal.0,
-          no_belongs f (goal_tree c.args.goal.now) (form_tree c.in-If.form.now) (goal_tree c.in-If.yes.now)
+          no_belongs f (goal_tree c.args.goal.now) (form_tree c.in-If.form) (goal_tree c.in-If.yes.now)
               (goal_tree c.in-If.no.now) (ap goal_tree c.in-If.is) c.requires.goal.0 c.requires.goal.1,
         ),
         c.requires.kept,
@@ -36,13 +36,13 @@ pub laid-requires-in-If : goal.laid-requires-in-If
 laid-requires-in-If t c =
     let f = function_of c.args.rules.now in
     let falls : goal_weight f (goal_tree c.in-If.yes.now) < goal_weight f (goal_tree c.args.goal.now)
-    = yes_falls f (goal_tree c.args.goal.now) (form_tree c.in-If.form.now) (goal_tree c.in-If.yes.now) (goal_tree c.in-If.no.now)
+    = yes_falls f (goal_tree c.args.goal.now) (form_tree c.in-If.form) (goal_tree c.in-If.yes.now) (goal_tree c.in-If.no.now)
     (ap goal_tree c.in-If.is) in (
       search (rules, falls),
       (
         (
           c.requires.goal.0,
-          yes_belongs f (goal_tree c.args.goal.now) (form_tree c.in-If.form.now) (goal_tree c.in-If.yes.now)
+          yes_belongs f (goal_tree c.args.goal.now) (form_tree c.in-If.form) (goal_tree c.in-If.yes.now)
               (goal_tree c.in-If.no.now) (ap goal_tree c.in-If.is) c.requires.goal.0 c.requires.goal.1,
         ),
         c.laid.ensures.kept,
@@ -51,12 +51,12 @@ laid-requires-in-If t c =
 
 pub by_form-requires : goal.by_form-requires
 by_form-requires t c =
-    form_low (function_of c.args.rules.now) (goal_tree c.args.goal.now) (form_tree c.in-If.form.now) (goal_tree c.in-If.yes.now)
+    form_low (function_of c.args.rules.now) (goal_tree c.args.goal.now) (form_tree c.in-If.form) (goal_tree c.in-If.yes.now)
     (goal_tree c.in-If.no.now) (ap goal_tree c.in-If.is) c.requires.goal.0 c.requires.goal.1
 
 pub returns-in_ok-by_form-in-If-clause-stands : goal.returns-in_ok-by_form-in-If-clause-stands
 returns-in_ok-by_form-in-If-clause-stands t c =
-    if_laid (function_of c.args.rules.now) (goal_tree c.args.goal.now) (form_tree c.in-If.form.now) (goal_tree c.in-If.yes.now)
+    if_laid (function_of c.args.rules.now) (goal_tree c.args.goal.now) (form_tree c.in-If.form) (goal_tree c.in-If.yes.now)
     (goal_tree c.in-If.no.now) (ap goal_tree c.in-If.is) (goal_tree c.in_ok-on_yes-in-If.on_yes.now)
     (goal_tree c.in_ok-on_no-in-If.on_no.now) (goal_tree c.in_ok-by_form-in-If.field-0.now)
     c.in_ok-on_yes-in-If.ensures.stands c.in_ok-on_no-in-If.ensures.stands c.in_ok-by_form-in-If.ensures
@@ -121,14 +121,6 @@ by_guard-requires-clause-b_near t c =
 pub by_guard-requires-clause-atoms_near : goal.by_guard-requires-clause-atoms_near
 by_guard-requires-clause-atoms_near t c =
     let trial = rw c.in-Some-2.is at c.in_ok-guard-in-Choose.ensures in trial.atoms_near
-
--- the offsets of the guard that is tried are small
-pub by_guard-requires-clause-low : goal.by_guard-requires-clause-low
-by_guard-requires-clause-low t c =
-    let f = function_of c.args.rules.now in
-    let trial = rw c.in-Some-2.is at c.in_ok-guard-in-Choose.ensures in
-    tried_low f (goal_tree c.args.goal.now) (Choose c.in-Choose.case c.in-Choose.a c.in-Choose.b c.in-Choose.plan.now)
-    c.in-Choose.a c.in-Choose.b c.in-Some-2.field-0 (ap goal_tree c.in-Choose.is) trial c.requires.goal.0 c.requires.goal.1
 
 pub returns-in_ok-by_guard-in-Choose-clause-stands : goal.returns-in_ok-by_guard-in-Choose-clause-stands
 returns-in_ok-by_guard-in-Choose-clause-stands t c =

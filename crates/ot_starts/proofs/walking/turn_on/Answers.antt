@@ -3,7 +3,7 @@ use Rattle.fn_rules.specs.Rules.{function_of}
 use Rattle.ot_terms.specs.Goals.{goal_tree}
 use Rattle.goal_rules.specs.Steps.{front_tree}
 use Rattle.ot_starts.proofs.Turns.{opened_node}
-use Rattle.ot_starts.proofs.walking.turn_of.Goals as goal
+use Rattle.ot_starts.proofs.walking.turn_on.Goals as goal
 
 pub opened-requires : goal.opened-requires
 opened-requires c = (c.requires.goal.0, c.in_ok-near.ensures.opens.belongs c.requires.goal.0 c.requires.goal.1)
