@@ -3,7 +3,7 @@
 ghost use Rattle.std.specs.Prelude.{◌≡◌, ◌+◌, true};
 ghost use Rattle.fn_moves.specs.Kinds.{with_kind};
 ghost use Rattle.fn_moves.specs.Moves.{HasRoom};
-ghost use Rattle.fn_text.specs.Reader.{with_want, want_behind, control_behind};
+ghost use Rattle.fn_text.specs.Reader.{want_behind, control_behind};
 
 use fn_moves::{AfterLine, Control, TokenMove, Want};
 use fn_rules::{Cmp, Head, Side, Sort};
@@ -48,144 +48,110 @@ fn behind_atom(sort: Sort, left: Side, cmp: Cmp) -> Want
     }
 }
 
-fn wanting(control: Control, want: Want) -> Control
-    ensures { result ≡ with_want control want }
+fn set_head(control: &mut Control, want: Want, head: Head)
+    ensures { control.new ≡ record control.old { want = want; head = head } }
 {
-    Control { want, ..control }
+    control.want = want;
+    control.head = head;
 }
 
-fn with_head(control: Control, want: Want, head: Head) -> Control
-    ensures { result ≡ record control { want = want; head = head } }
+// A block is begun, whose kinds were read.
+fn begin_block(control: &mut Control, first: Kind, second: Kind)
+    ensures { control.new ≡ control_behind control.old (TokenMove.BeginBlock first second) }
 {
-    Control {
-        want,
-        head,
-        ..control
-    }
+    control.want = Want::BlockEnd;
+    control.begun = true;
+    control.first = first;
+    control.second = second;
+    control.seen = control.seen.with(first, second);
+    control.cases = 0;
 }
 
-// The control in a block whose kinds were read.
-fn in_block(control: Control, first: Kind, second: Kind) -> Control
-    ensures { result ≡ control_behind control (TokenMove.BeginBlock first second) }
+// The guard of one more case is next.
+fn begin_case(control: &mut Control)
+    requires { HasRoom control.old TokenMove.BeginCase }
+    ensures { control.new ≡ control_behind control.old TokenMove.BeginCase }
 {
-    Control {
-        want: Want::BlockEnd,
-        begun: true,
-        first,
-        second,
-        seen: control.seen.with(first, second),
-        cases: 0,
-        ..control
-    }
+    control.want = Want::Operand;
+    control.cases += 1;
+    control.atoms = 0;
 }
 
-// The control at the guard of one more case.
-fn in_case(control: Control) -> Control
-    requires { HasRoom control TokenMove.BeginCase }
-    ensures { result ≡ control_behind control TokenMove.BeginCase }
+// One more pair of parentheses is open.
+fn open(control: &mut Control)
+    requires { HasRoom control.old TokenMove.Open }
+    ensures { control.new ≡ control_behind control.old TokenMove.Open }
 {
-    Control {
-        want: Want::Operand,
-        cases: control.cases + 1,
-        atoms: 0,
-        ..control
-    }
+    control.want = Want::Operand;
+    control.outside = control.outside + control.nots + 1;
+    control.nots = 0;
 }
 
-// The control in one more pair of parentheses.
-fn opened(control: Control) -> Control
-    requires { HasRoom control TokenMove.Open }
-    ensures { result ≡ control_behind control TokenMove.Open }
+// One more `not` stands before the operand.
+fn negate(control: &mut Control)
+    requires { HasRoom control.old TokenMove.Negate }
+    ensures { control.new ≡ control_behind control.old TokenMove.Negate }
 {
-    Control {
-        want: Want::Operand,
-        outside: control.outside + control.nots + 1,
-        nots: 0,
-        ..control
-    }
+    control.want = Want::Operand;
+    control.nots += 1;
 }
 
-// The control behind one more `not`.
-fn negated(control: Control) -> Control
-    requires { HasRoom control TokenMove.Negate }
-    ensures { result ≡ control_behind control TokenMove.Negate }
+// The first token of one more atom was read.
+fn begin_atom(control: &mut Control, want: Want)
+    requires { HasRoom control.old TokenMove.Always }
+    ensures { control.new ≡ record control.old { want = want; atoms = control.old.atoms + 1 } }
 {
-    Control {
-        want: Want::Operand,
-        nots: control.nots + 1,
-        ..control
-    }
+    control.want = want;
+    control.atoms += 1;
 }
 
-// The control behind the first token of one more atom.
-fn with_atom(control: Control, want: Want) -> Control
-    requires { HasRoom control TokenMove.Always }
-    ensures { result ≡ record control { want = want; atoms = control.atoms + 1 } }
+// A whole operand was read.
+fn end_operand(control: &mut Control, want: Want)
+    ensures { control.new ≡ record control.old { want = want; nots = 0 } }
 {
-    Control {
-        want,
-        atoms: control.atoms + 1,
-        ..control
-    }
+    control.want = want;
+    control.nots = 0;
 }
 
-// The control behind a whole operand.
-fn behind_operand(control: Control, want: Want) -> Control
-    ensures { result ≡ record control { want = want; nots = 0 } }
-{
-    Control {
-        want,
-        nots: 0,
-        ..control
-    }
-}
-
-/// The control behind a token that does this.
-pub(crate) fn behind(control: Control, move_: TokenMove) -> Control
-    requires { HasRoom control move_ }
-    ensures { result ≡ control_behind control move_ }
+/// The control goes on behind a token that does this.
+pub(crate) fn go_behind(control: &mut Control, move_: TokenMove)
+    requires { HasRoom control.old move_ }
+    ensures { control.new ≡ control_behind control.old move_ }
 {
     match move_ {
-        TokenMove::Skip(want) => wanting(control, want),
-        TokenMove::SetLanguage(language) => Control {
-            language,
-            ..wanting(control, Want::LineEnd(AfterLine::Text))
-        },
-        TokenMove::SetMode(mode) => with_head(
-            control,
-            Want::LineEnd(AfterLine::Kinds),
-            Head {
-                mode,
-                ..control.head
-            },
-        ),
-        TokenMove::Declare(kind) => with_head(
-            control,
-            Want::NextKind,
-            with_kind(control.head, kind),
-        ),
-        TokenMove::AssumeSites => with_head(control, Want::Differ, with_sites(control.head)),
-        TokenMove::AssumeChars => with_head(control, Want::Differ, with_chars(control.head)),
-        TokenMove::BlockWord(line, column) => Control {
-            line,
-            column,
-            ..wanting(control, Want::BlockFirst)
-        },
-        TokenMove::BeginBlock(first, second) => in_block(control, first, second),
-        TokenMove::BeginCase => in_case(control),
-        TokenMove::Open => opened(control),
-        TokenMove::Negate => negated(control),
-        TokenMove::Always => with_atom(control, Want::Operator),
-        TokenMove::BeginAtom(sort, left) => with_atom(control, Want::Comparison(sort, left)),
-        TokenMove::Compare(sort, left, cmp) => wanting(control, behind_atom(sort, left, cmp)),
-        TokenMove::Shift(..) => wanting(control, Want::Operator),
-        TokenMove::And | TokenMove::Or => behind_operand(control, Want::Operand),
-        TokenMove::Close => wanting(control, Want::Operator),
-        TokenMove::Colon => behind_operand(control, Want::Result),
-        TokenMove::EndCase(_) => wanting(control, Want::Line),
-        TokenMove::End => Control {
-            begun: false,
-            ..wanting(control, Want::LineEnd(AfterLine::File))
-        },
+        TokenMove::Skip(want) => control.want = want,
+        TokenMove::SetLanguage(language) => {
+            control.language = language;
+            control.want = Want::LineEnd(AfterLine::Text);
+        }
+        TokenMove::SetMode(mode) => {
+            control.head.mode = mode;
+            control.want = Want::LineEnd(AfterLine::Kinds);
+        }
+        TokenMove::Declare(kind) => {
+            set_head(control, Want::NextKind, with_kind(control.head, kind));
+        }
+        TokenMove::AssumeSites => set_head(control, Want::Differ, with_sites(control.head)),
+        TokenMove::AssumeChars => set_head(control, Want::Differ, with_chars(control.head)),
+        TokenMove::BlockWord(line, column) => {
+            control.line = line;
+            control.column = column;
+            control.want = Want::BlockFirst;
+        }
+        TokenMove::BeginBlock(first, second) => begin_block(control, first, second),
+        TokenMove::BeginCase => begin_case(control),
+        TokenMove::Open => open(control),
+        TokenMove::Negate => negate(control),
+        TokenMove::Always => begin_atom(control, Want::Operator),
+        TokenMove::BeginAtom(sort, left) => begin_atom(control, Want::Comparison(sort, left)),
+        TokenMove::Compare(sort, left, cmp) => control.want = behind_atom(sort, left, cmp),
+        TokenMove::Shift(..) | TokenMove::Close => control.want = Want::Operator,
+        TokenMove::And | TokenMove::Or => end_operand(control, Want::Operand),
+        TokenMove::Colon => end_operand(control, Want::Result),
+        TokenMove::EndCase(_) => control.want = Want::Line,
+        TokenMove::End => {
+            control.begun = false;
+            control.want = Want::LineEnd(AfterLine::File);
+        }
     }
 }

@@ -1,8 +1,7 @@
 //! What the reader has read, and what each token that can go on makes of it.
 
-ghost use Rattle.std.specs.Prelude.{◌≡◌, IfOk, OnOk, map, option_map, Ok, None, [], ◌<◌, ◌^◌};
+ghost use Rattle.std.specs.Prelude.{◌≡◌, IfOk, OnOk, map, option_map, Ok, None, [], ◌<◌};
 ghost use Rattle.fn_rules.specs.Formulas.{formula_of};
-ghost use Rattle.fn_rules.specs.Functions.{case_of};
 ghost use Rattle.fn_rules.specs.Building.{block_of};
 ghost use Rattle.fn_moves.specs.Meaning.{res_of, signed, to_formulas};
 ghost use Rattle.fn_text.specs.Reader.{negate, join, choose, conjunction, disjunction, blocks_of, left_for, told};
@@ -13,11 +12,11 @@ ghost use Rattle.fn_moves.specs.Moves.{HasRoom};
 ghost use Rattle.fn_text.specs.Made.{state_of, plain_nesting_of, outer_of, GivesView};
 
 use crate::NoMemory;
-use crate::behind::behind;
+use crate::behind::go_behind;
 use crate::stop::TextError;
 use fn_moves::{Control, FaultKind, TextFault, TokenMove, Want, Written};
 use fn_rules::{Atom, Block, Case, Cmp, Guard, Head, Res, Side, Sort};
-use fn_tokens::{Placed, Sign};
+use fn_tokens::{Lexer, Placed, Sign};
 use ot_model::Kind;
 use std::alloc::Global;
 use std::mem;
@@ -159,7 +158,7 @@ impl FunctionReader {
         requires { HasRoom self.old.control move_ }
         ensures { state_of self.new ≡ told (state_of self.old) move_ }
     {
-        self.control = behind(self.control, move_);
+        go_behind(&mut self.control, move_);
     }
 
     /// Puts the block that was begun to those that are done.
@@ -375,13 +374,14 @@ impl FunctionReader {
 }
 
 /// The head and the blocks that tokens give, or the first token that cannot go on.
-pub(crate) fn read_tokens(alloc: Global, tokens: &[Placed]) -> Result<(Head, Vec<Block>), TextError>
+pub(crate) fn read_tokens(alloc: Global, tokens: Lexer<'_>) -> Result<(Head, Vec<Block>), TextError>
     ensures { GivesView (λ x. (x.0, map block_of x.1.items)) result
-        (read_from to_formulas (first_state to_formulas) tokens.now) }
+        (read_from to_formulas (first_state to_formulas) tokens.entry) }
 {
+    let mut tokens = tokens;
     let mut reader = FunctionReader::new(alloc);
-    for at in tokens {
-        reader.turn(alloc, at)?;
+    while let Some(at) = tokens.next() {
+        reader.turn(alloc, &at)?;
     }
     reader.ended()
 }

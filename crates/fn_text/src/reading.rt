@@ -1,6 +1,6 @@
 //! From the bytes of a file to a function.
 
-ghost use Rattle.std.specs.Prelude.{◌≡◌, ◌<◌, ◌^◌, length, map, Ok, Err, IfOk, IsTrue};
+ghost use Rattle.std.specs.Prelude.{◌<◌, ◌^◌, length, map, Ok, IfOk, IsTrue};
 ghost use Rattle.fn_rules.specs.Building.{block_of, is_buildable};
 ghost use Rattle.fn_rules.specs.Rules.{function_of};
 ghost use Rattle.fn_tokens.specs.Tokens.{tokens_in};
@@ -13,7 +13,7 @@ ghost use Rattle.fn_text.specs.Refusals.{IsAnswerFor};
 use crate::reader::read_tokens;
 use crate::stop::TextError;
 use fn_rules::{Block, Head, Rules};
-use fn_tokens::lex;
+use fn_tokens::Lexer;
 use std::alloc::Global;
 
 /// The head and the blocks of a file, which are within the limits.
@@ -23,8 +23,7 @@ fn parts(alloc: Global, bytes: &[u8]) -> Result<(Head, Vec<Block>), TextError>
         (read_from to_formulas (first_state to_formulas) (tokens_in bytes.now)) }
     ensures within_limits { IfOk result (λ x. IsTrue (is_buildable x.0 (map block_of x.1.items))) }
 {
-    let tokens = lex(alloc, bytes)?;
-    read_tokens(alloc, &tokens)
+    read_tokens(alloc, Lexer::new(bytes))
 }
 
 /// What bytes are read as.

@@ -2,3 +2,4 @@ pub mod Lexing
 pub mod LexesBack
 pub mod Ends
 pub mod Size
+pub mod Passing

@@ -1,6 +1,7 @@
 -- Bytes as tokens with their places. The longest token is taken. Blanks and comments are passed over,
 -- and a line without a token gives none.
-use Rattle.std.specs.Prelude.{◌≡◌, ℕ, ◌+◌, ◌-◌, ◌*◌, ◌==◌, min, Bool, true, false, not, ◌&&◌, ◌||◌, if◌then◌else◌}
+use Rattle.std.specs.Prelude.{◌≡◌, ◌<◌, ◌≤◌, ℕ, ◌+◌, ◌-◌, ◌*◌, ◌^◌, ◌==◌, min}
+use Rattle.std.specs.Prelude.{Bool, true, false, not, ◌&&◌, ◌||◌, if◌then◌else◌}
 use Rattle.std.specs.Prelude.{List, [], ◌∷◌, ◌++◌, map, take, nat_lt, nat_le}
 use Rattle.std.specs.List.{prefix_len}
 use Rattle.fn_rules.specs.declared.guard.Cmp.TheVariants.{Lt, Le, Eq}
@@ -119,6 +120,19 @@ tokens_from at (byte ∷ rest) =
 -- the tokens of a file
 abbrev pub tokens_in : List ℕ → List Placed
 tokens_in bytes = tokens_from first_place bytes
+
+-- the tokens that are still to come of bytes from a place on, unless the file's end was told
+abbrev pub tokens_left : Bool → Cursor → List ℕ → List Placed
+tokens_left ended at bytes = if ended then [] else tokens_from at bytes
+
+-- nothing is left of the token or comment that began last, and lines and columns are no more than the bytes before them,
+-- and one
+pub record IsPlaceIn (total passed : ℕ) (at : Cursor) : Type 0 where
+  pub free : at.skip ≡ 0
+  pub few : total < 2 ^ 31
+  pub within : passed ≤ total
+  pub line : at.line ≤ passed + 1
+  pub column : at.column ≤ passed + 1
 
 -- tokens that end with the file's end
 pub record EndsFile (tokens : List Placed) : Type 0 where

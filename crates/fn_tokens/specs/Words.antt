@@ -43,10 +43,10 @@ spelling_of End = codes "end"
 -- the words of the languages
 abbrev pub all_words : List Word
 all_words =
-    Otfn ∷ Text ∷ Mode Plain ∷ Mode Tomb ∷ Kinds ∷ Kind kinds.Ins ∷ Kind kinds.Del ∷ Kind kinds.Upd
-    ∷ Assume ∷ Sites ∷ Chars ∷ Differ ∷ Block ∷ Case ∷ And ∷ Or ∷ Not ∷ True
-    ∷ Thing Pos First ∷ Thing Pos Second ∷ Thing Site First ∷ Thing Site Second ∷ Thing Char First ∷ Thing Char Second
-    ∷ Nop ∷ End ∷ []
+    Thing Pos First ∷ Thing Pos Second ∷ And ∷ Or ∷ Thing Site First ∷ Thing Site Second ∷ Case
+    ∷ Thing Char First ∷ Thing Char Second ∷ Not ∷ Nop ∷ True
+    ∷ Block ∷ Kind kinds.Ins ∷ Kind kinds.Del ∷ Kind kinds.Upd
+    ∷ Otfn ∷ Text ∷ Mode Plain ∷ Mode Tomb ∷ Kinds ∷ Assume ∷ Sites ∷ Chars ∷ Differ ∷ End ∷ []
 
 -- the first of the words that is spelled so, as a token
 abbrev pub known_among : List Word → List ℕ → Token

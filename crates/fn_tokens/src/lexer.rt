@@ -1,16 +1,17 @@
 //! From bytes to tokens, in one pass.
 
-ghost use Rattle.std.specs.Prelude.{◌≡◌, ℕ, ◌+◌, ◌^◌, ◌<◌, ◌≤◌, ◌∷◌, List, drop, take, length, slice_index, IfOk};
-ghost use Rattle.std.specs.Prelude.{option_to_list};
+ghost use Rattle.std.specs.Prelude.{◌≡◌, ◌+◌, ◌^◌, ◌<◌, ◌≤◌, ◌++◌, [], drop, length, slice_index, option_to_list};
+ghost use Rattle.std.specs.Prelude.{IfOk, IfNone};
 ghost use Rattle.std.specs.List.{prefix_len};
 ghost use Rattle.fn_tokens.specs.Tokens.{tokens_in, TokensEndFiles, is_letter, is_digit, is_blank, is_in, number_from};
 ghost use Rattle.fn_tokens.specs.Tokens.{sign_token, front_less, front_word, front_number, front_of, tokens_at};
-ghost use Rattle.fn_tokens.specs.Tokens.{cursor_after, placed_at, line_end_at, stepped, below};
+ghost use Rattle.fn_tokens.specs.Tokens.{cursor_after, placed_at, line_end_at, stepped, below, tokens_from, IsPlaceIn};
 
 use crate::NoMemory;
 use crate::token::{Placed, Sign, Token, word_of};
 use fn_rules::Cmp;
 use std::alloc::Global;
+use std::marker::Model;
 
 /// Where the lexer stands.
 #[derive(Clone, Copy)]
@@ -76,6 +77,23 @@ impl Cursor {
         Cursor {
             line: self.line + 1,
             ..Cursor::FIRST
+        }
+    }
+
+    /// The place behind the bytes that belong to the token or comment that began last.
+    #[tactic(auto, using(crate::proofs::Passing::passed))]
+    fn passed(self, bytes: &[u8]) -> Cursor
+        requires within { self.skip ≤ length bytes.now }
+        requires few { self.column + self.skip < 2 ^ 32 }
+        ensures tokens { tokens_from self bytes.now ≡ tokens_from result (drop self.skip bytes.now) }
+        ensures free { result.skip ≡ 0 }
+        ensures line { result.line ≡ self.line }
+        ensures column { result.column ≡ self.column + self.skip }
+    {
+        Cursor {
+            column: self.column + self.skip as u32,
+            skip: 0,
+            ..self
         }
     }
 
@@ -173,7 +191,8 @@ fn sign_of(byte: u8) -> Token
 
 /// The sign at a `<`, from what is behind it.
 fn less_of(rest: &[u8]) -> FrontToken
-    ensures { result ≡ front_less rest.now }
+    ensures value { result ≡ front_less rest.now }
+    ensures within { result.more ≤ length rest.now }
 {
     match rest {
         [b'=', ..] => FrontToken {
@@ -191,8 +210,9 @@ fn less_of(rest: &[u8]) -> FrontToken
 #[tactic(auto, using(crate::proofs::Lexing::take_first))]
 fn word_front(bytes: &[u8]) -> FrontToken
     requires { 0 < length bytes.now }
-    ensures { result ≡ front_word (slice_index bytes.now 0) (drop 1 bytes.now)
+    ensures value { result ≡ front_word (slice_index bytes.now 0) (drop 1 bytes.now)
         (prefix_len (is_in Run.Word) (drop 1 bytes.now)) }
+    ensures within { result.more < length bytes.now }
 {
     let more = Run::Word.len(&bytes[1..]);
     let token = word_of(&bytes[..more + 1]);
@@ -203,8 +223,9 @@ fn word_front(bytes: &[u8]) -> FrontToken
 #[tactic(auto, using(crate::proofs::Lexing::take_first))]
 fn number_front(bytes: &[u8]) -> FrontToken
     requires { 0 < length bytes.now }
-    ensures { result ≡ front_number (slice_index bytes.now 0) (drop 1 bytes.now)
+    ensures value { result ≡ front_number (slice_index bytes.now 0) (drop 1 bytes.now)
         (prefix_len (is_in Run.Number) (drop 1 bytes.now)) }
+    ensures within { result.more < length bytes.now }
 {
     let more = Run::Number.len(&bytes[1..]);
     let token = number_of(&bytes[..more + 1]);
@@ -215,7 +236,8 @@ fn number_front(bytes: &[u8]) -> FrontToken
 #[tactic(auto, unfolding(crate::specs::Tokens::front_of))]
 fn longest(bytes: &[u8]) -> FrontToken
     requires { 0 < length bytes.now }
-    ensures { result ≡ front_of (slice_index bytes.now 0) (drop 1 bytes.now) }
+    ensures value { result ≡ front_of (slice_index bytes.now 0) (drop 1 bytes.now) }
+    ensures within { result.more < length bytes.now }
 {
     let byte = bytes[0];
     if letter(byte) {
@@ -235,17 +257,17 @@ fn longest(bytes: &[u8]) -> FrontToken
 /// The token that begins at the front of bytes, where one does, and the place behind the first byte.
 fn turn(place: Cursor, bytes: &[u8]) -> (Option<Placed>, Cursor)
     requires bytes { 0 < length bytes.now }
+    requires free { place.skip ≡ 0 }
     requires line { place.line < 2 ^ 31 }
     requires column { place.column < 2 ^ 31 }
     ensures tokens { option_to_list result.0 ≡ tokens_at place (slice_index bytes.now 0) (drop 1 bytes.now) }
     ensures place { result.1 ≡ cursor_after place (slice_index bytes.now 0) (drop 1 bytes.now) }
     ensures line { result.1.line ≤ place.line + 1 }
     ensures column { result.1.column ≤ place.column + 1 }
+    ensures within { result.1.skip < length bytes.now }
 {
     let byte = bytes[0];
-    if place.skip > 0 {
-        (None, place.stepped(place.after, place.skip - 1))
-    } else if byte == b'\n' {
+    if byte == b'\n' {
         (place.line_end(), place.below())
     } else if blank(byte) {
         (None, place.stepped(place.after, 0))
@@ -266,24 +288,101 @@ pub fn tokens_end_files()
     ensures { TokensEndFiles }
 {}
 
-/// The tokens of a file, each with its place: words, numbers and signs by the longest one, the end of
-/// each line that has a token, and the end of the file.
+/// The first token from a place on, and where the bytes go on behind its first one; behind all of them where there is
+/// none.
+fn first_token(from: Cursor, bytes: &[u8], passed: usize) -> (Option<Placed>, Cursor, usize)
+    requires { IsPlaceIn (length bytes.now) passed from }
+    ensures tokens { tokens_from from (drop passed bytes.now)
+        ≡ option_to_list result.0 ++ tokens_from result.1 (drop result.2 bytes.now) }
+    ensures place { IsPlaceIn (length bytes.now) result.2 result.1 }
+    ensures all { IfNone result.0 (result.2 ≡ length bytes.now) }
+{
+    let mut place = from;
+    let mut at = passed;
+    while at < bytes.len() {
+        let (token, next) = turn(place, &bytes[at..]);
+        place = next.passed(&bytes[at + 1..]);
+        at += 1 + next.skip;
+        if token.is_some() {
+            return (token, place, at);
+        }
+    }
+    (None, place, at)
+}
+
+/// The tokens of a file, which are found one after another. It is seen as the list of those that are still to come.
+#[derive(Drop)]
+pub struct Lexer<'a> {
+    bytes: &'a [u8],
+
+    /// How many bytes were passed, and where the next one stands.
+    passed: usize,
+    place: Cursor,
+
+    /// Whether the end of the file was told.
+    ended: bool,
+}
+
+impl<'a> Model for Lexer<'a> {
+    ghost use Rattle.std.specs.Prelude.{List, length, drop};
+    ghost use Rattle.fn_tokens.specs.declared.token.Placed.{Placed};
+    ghost use Rattle.fn_tokens.specs.Tokens.{tokens_left, IsPlaceIn};
+
+    ghost Value = { List Placed };
+
+    ghost view = { λ l. tokens_left l.ended l.place (drop l.passed l.bytes.now) };
+
+    ghost invariant = { λ l. IsPlaceIn (length l.bytes.now) l.passed l.place };
+}
+
+impl<'a> Lexer<'a> {
+    /// The tokens of these bytes: words, numbers and signs by the longest one, the end of each line that has a token,
+    /// and the end of the file.
+    pub fn new(bytes: &'a [u8]) -> Lexer<'a>
+        requires { length bytes.now < 2 ^ 31 }
+        ensures { result ≡ tokens_in bytes.now }
+    {
+        Lexer {
+            bytes,
+            passed: 0,
+            place: Cursor::FIRST,
+            ended: false,
+        }
+    }
+
+    /// The next token, with its place; none behind the end of the file.
+    pub fn next(&mut self) -> Option<Placed>
+        ensures next { self.old ≡ option_to_list result ++ self.new }
+        ensures none { IfNone result (self.old ≡ []) }
+    {
+        if self.ended {
+            return None;
+        }
+        let (token, place, passed) = first_token(self.place, self.bytes, self.passed);
+        self.place = place;
+        self.passed = passed;
+        if token.is_some() {
+            return token;
+        }
+        if self.place.after {
+            let end = self.place.with(Token::LineEnd);
+            self.place.after = false;
+            return Some(end);
+        }
+        self.ended = true;
+        Some(self.place.with(Token::FileEnd))
+    }
+}
+
+/// The tokens of a file, each with its place, as a `Lexer` finds them.
 pub fn lex(alloc: Global, bytes: &[u8]) -> Result<Vec<Placed>, NoMemory>
     requires { length bytes.now < 2 ^ 31 }
     ensures { IfOk result (λ v. v.items ≡ tokens_in bytes.now) }
 {
     let mut tokens = Vec::new(alloc);
-    let mut place = Cursor::FIRST;
-    for at in 0..bytes.len() {
-        let (token, next) = turn(place, &bytes[at..]);
-        if let Some(token) = token {
-            tokens.push(token)?;
-        }
-        place = next;
+    let mut lexer = Lexer::new(bytes);
+    while let Some(token) = lexer.next() {
+        tokens.push(token)?;
     }
-    if place.after {
-        tokens.push(place.with(Token::LineEnd))?;
-    }
-    tokens.push(place.with(Token::FileEnd))?;
     Ok(tokens)
 }

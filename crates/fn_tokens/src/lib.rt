@@ -8,7 +8,7 @@ mod lexer;
 mod spelling;
 mod token;
 
-pub use lexer::{lex, tokens_end_files};
+pub use lexer::{Lexer, lex, tokens_end_files};
 pub use spelling::{lines_lex_back, spell};
 pub use std::alloc::AllocError as NoMemory;
 pub use token::{Placed, Sign, Token, Word};

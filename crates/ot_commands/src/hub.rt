@@ -1,5 +1,5 @@
 //! `hub FUNCTION HUB`: the events of a hub, and whether its clients hold the server's document.
-ghost use Rattle.std.specs.Prelude.{◌≡◌, ◌≢◌, ◌+◌, ◌≤◌, ◌↔◌, ℕ, List, length, map, Err, Some, IfOk, IsErrOf, IsTrue};
+ghost use Rattle.std.specs.Prelude.{◌≡◌, ◌≢◌, ◌+◌, ◌≤◌, ◌↔◌, List, length, map, Err, Some, IfOk, IsErrOf, IsTrue};
 ghost use Rattle.std.specs.Prelude.{OnOk, Ok, true};
 ghost use Rattle.case_json.specs.Hubs.{IsHubPlayable};
 ghost use Rattle.case_json.specs.declared.limits.TheConstants.{MAX_EVENTS, MAX_SITES};

@@ -1,5 +1,5 @@
 //! `prove [--tp1] [--budget N] FUNCTION`: a certificate of the function, or a counterexample.
-ghost use Rattle.std.specs.Prelude.{◌≡◌, IfOk, IsErrOf, IsTrue};
+ghost use Rattle.std.specs.Prelude.{IfOk, IsErrOf, IsTrue};
 ghost use Rattle.ask_core.specs.Plans.{Fails};
 ghost use Rattle.diff_graph.specs.Literals.{IsPossible};
 ghost use Rattle.fn_rules.specs.Obligations.{is_obligation};

@@ -1,6 +1,6 @@
 //! `replay FUNCTION SESSION`: the events of a session, and whether sites that have integrated the same agree.
-ghost use Rattle.std.specs.Prelude.{◌≡◌, ◌≢◌, ◌+◌, ◌-◌, ◌≤◌, ◌↔◌, ℕ, List, length, map, Err, Some, None, IfOk};
-ghost use Rattle.std.specs.Prelude.{IsErrOf, IsTrue, OnOk, Ok, true, false};
+ghost use Rattle.std.specs.Prelude.{◌≡◌, ◌≢◌, ◌+◌, ◌-◌, ◌≤◌, ◌↔◌, length, Err, Some, None, IfOk};
+ghost use Rattle.std.specs.Prelude.{IsErrOf, IsTrue, OnOk, Ok, true};
 ghost use Rattle.std.specs.List.{list_all};
 ghost use Rattle.case_json.specs.Scripts.{IsPlayable};
 ghost use Rattle.case_json.specs.declared.limits.TheConstants.{MAX_EVENTS, MAX_SITES};

@@ -6,4 +6,4 @@ use Rattle.fn_text.proofs.reading.parts.Goals as goal
 pub returns-clause-within_limits : goal.returns-clause-within_limits
 returns-clause-within_limits c =
     answer_is_buildable (λ x. (x.0, map block_of x.1.items)) c.args.bytes.now c.read_tokens.result
-    (rw (c.deref.ensures.value, c.in_ok-tokens.ensures) at c.read_tokens.ensures)
+    (rw (c.new.ensures) at c.read_tokens.ensures)

@@ -1,10 +1,9 @@
-use Rattle.std.proofs.Common.{◌≡◌, ◌+◌, ◌≤◌, ◌++◌, drop}
-use Rattle.fn_tokens.specs.Tokens.{tokens_in, tokens_from}
+use Rattle.std.proofs.Common.{◌≡◌, ◌++◌, length}
+use Rattle.fn_tokens.specs.Tokens.{tokens_in}
 use Rattle.fn_tokens.proofs.lexer.lex.Given as goal
 
-abbrev pub invariant-loop-at : goal.invariant-loop-at
-invariant-loop-at l = record {
-  told : l.tokens.items ++ tokens_from l.place (drop l.at l.bytes) ≡ tokens_in l.bytes;
-  line : l.place.line ≤ l.at + 1;
-  column : l.place.column ≤ l.at + 1;
-}
+abbrev pub invariant-loop-token : goal.invariant-loop-token
+invariant-loop-token l = l.tokens.items ++ l.lexer ≡ tokens_in l.bytes
+
+abbrev pub decreases-loop-token : goal.decreases-loop-token
+decreases-loop-token l = length l.lexer

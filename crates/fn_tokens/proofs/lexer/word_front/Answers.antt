@@ -8,8 +8,8 @@ use Rattle.fn_tokens.specs.Tokens.{is_in}
 use Rattle.fn_tokens.proofs.Lexing.{take_first}
 use Rattle.fn_tokens.proofs.lexer.word_front.Goals as goal
 
-pub returns : goal.returns
-returns c =
+pub returns-clause-value : goal.returns-clause-value
+returns-clause-value c =
     let bytes = c.args.bytes.now in
     let behind : take (length bytes - 1) (drop 1 bytes) ≡ drop 1 bytes = take_rest bytes 1 in
     let count : c.len-more.result ≡ prefix_len (is_in runs.Word) (drop 1 bytes) = c.len-more.ensures.count ∙ ap (prefix_len (is_in runs.Word)) behind in
