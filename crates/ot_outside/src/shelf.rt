@@ -8,7 +8,7 @@ ghost use Rattle.ot_outside.specs.Reads.{Reads, after_reading, gone_on};
 pub struct Failed;
 
 // How many bytes a shelf is asked for at a time.
-pub(crate) const PIECE: usize = 65_536;
+pub(crate) const PIECE: usize = 16_384;
 
 /// Files under names, of which at most one is open.
 ///

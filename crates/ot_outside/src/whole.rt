@@ -10,6 +10,10 @@ ghost use Rattle.ot_outside.specs.declared.whole.ReadError.TheVariants as end;
 use crate::shelf::PIECE;
 use crate::{Failed, NoMemory, Shelf, Sink};
 
+/// How many bytes a file has room for from the first on. Pages of it that nobody writes to take no memory, and a file that
+/// fits is not moved while it grows.
+const ROOM: usize = 1_048_576;
+
 /// Why a file was not read to its end.
 #[derive(Clone, Copy, Debug, PartialEq, Eq)]
 pub enum ReadError {
@@ -77,6 +81,7 @@ pub fn read_all<H: Shelf>(
     ensures full { IsErrOf result ReadError.TooLong → length into.new.items ≡ limit }
 {
     shelf.open(name)?;
+    into.reserve(limit.min(ROOM))?;
     let mut piece = [0u8; PIECE];
     'turns: loop {
         let count = shelf.read(&mut piece)?;
