@@ -81,24 +81,27 @@ pub(crate) fn branches_behind(branches: u64, tok: &Tok) -> u64
     }
 }
 
-// The number of exactly two digits at the front of the bytes, where one stands there and the bytes do not end with it.
+// The same as `number_front`, of a number of one digit or two behind which more bytes come.
 #[inline(always)]
-fn two_digits(bytes: &[u8]) -> Option<u32>
-    ensures { IfSome result (λ n. (n < PICK_LIMIT) × (2 < length bytes.now) × (decimal n ≡ take 2 bytes.now)) }
+fn few_digits(bytes: &[u8]) -> Option<(u32, usize)>
+    ensures { IfSome result (λ x. (x.0 < PICK_LIMIT) × (x.1 < length bytes.now) × (decimal x.0 ≡ take x.1 bytes.now)) }
 {
     if bytes.len() < 3 {
         return None;
     }
     let (first, second, third) = (bytes[0], bytes[1], bytes[2]);
-    if first < b'0' || b'9' < first || second < b'0' || b'9' < second {
+    if first < b'0' || b'9' < first {
         return None;
+    }
+    let number = number_with_digit(None, first)?;
+    if second < b'0' || b'9' < second {
+        return Some((number, 1));
     }
     if b'0' <= third && third <= b'9' {
         return None;
     }
-    let number = number_with_digit(None, first)?;
     let number = number_with_digit(Some(number), second)?;
-    Some(number)
+    Some((number, 2))
 }
 
 // The same as `number_front`, of a number of any digits.
@@ -130,8 +133,8 @@ fn some_digits(bytes: &[u8]) -> Option<(u32, usize)>
 pub fn number_front(bytes: &[u8]) -> Option<(u32, usize)>
     ensures { IfSome result (λ x. (x.0 < PICK_LIMIT) × (x.1 < length bytes.now) × (decimal x.0 ≡ take x.1 bytes.now)) }
 {
-    match two_digits(bytes) {
-        Some(number) => Some((number, 2)),
+    match few_digits(bytes) {
+        Some(found) => Some(found),
         None => some_digits(bytes),
     }
 }

@@ -116,12 +116,21 @@ fn known(words: &[Word], letters: &[u8]) -> Token
     Token::Unknown
 }
 
-/// The token that a letter and the letters and digits behind it make.
+/// The token that a letter and the letters and digits behind it make. The words that a great function has most of are
+/// told at once.
 #[tactic(auto, unfolding(crate::specs::Words::word_token))]
 pub(crate) fn word_of(letters: &[u8]) -> Token
     ensures { result ≡ word_token letters.now }
 {
-    known(&WORDS, letters)
+    match letters {
+        [b'p', b'1'] => Token::Known(Word::Thing(Sort::Pos, Side::First)),
+        [b'p', b'2'] => Token::Known(Word::Thing(Sort::Pos, Side::Second)),
+        [b's', b'1'] => Token::Known(Word::Thing(Sort::Site, Side::First)),
+        [b's', b'2'] => Token::Known(Word::Thing(Sort::Site, Side::Second)),
+        [b'o', b'r'] => Token::Known(Word::Or),
+        [b'a', b'n', b'd'] => Token::Known(Word::And),
+        _ => known(&WORDS, letters),
+    }
 }
 
 /// The sign of an offset.

@@ -1,6 +1,6 @@
 use Rattle.std.proofs.Common.{[], arith, refl}
 use Rattle.cert_text.proofs.PieceLemmas.{digits_grow}
-use Rattle.cert_text.proofs.piece.two_digits.Goals as goal
+use Rattle.cert_text.proofs.piece.few_digits.Goals as goal
 
 pub returns : goal.returns
 returns c =
@@ -9,3 +9,9 @@ returns c =
     let bytes = c.args.bytes.now in
     let first = digits_grow bytes 0 _ [] _ (omega arith) refl refl (one.1 []) in
     (two.0, omega arith, digits_grow bytes 1 _ _ _ (omega arith) refl first (two.1 []))
+
+-- one digit
+pub returns-then-second-lt48 : goal.returns-then-second-lt48
+returns-then-second-lt48 c =
+    let grown = c.in_ok-number.ensures.grown in
+    (grown.0, omega arith, digits_grow c.args.bytes.now 0 _ [] _ (omega arith) refl refl (grown.1 []))
