@@ -30,7 +30,7 @@ front_tree (rust.Same left right) = goals.Same (cell_tree left) (cell_tree right
 -- the goal that a case which is tried at two operations stands for; it fails where none is left
 abbrev pub trial_tree : SymOp → SymOp → Option Trial → GoalTree
 trial_tree a b None = goals.Fails Undefined
-trial_tree a b (Some t) = goals.If (guard_form (formula_of t.guard.now) a b) (goal_tree t.yes.now) (goal_tree t.no.now)
+trial_tree a b (Some t) = goals.If (guard_form (formula_of t.guard.now) a b) (goal_tree t.yes) (goal_tree t.no)
 
 -- whether a goal is one of two by a form, as where a case is tried
 abbrev pub is_tried : GoalTree → Bool

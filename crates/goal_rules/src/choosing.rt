@@ -18,67 +18,68 @@ use ot_terms::{Goal, GoalProgress, SymOp, Why, place_form};
 #[derive(Clone, Copy)]
 pub struct Trial<'r, 'a> {
     pub guard: &'r Guard,
-    pub yes: &'a Goal<'a>,
-    pub no: &'a Goal<'a>,
+    pub yes: Goal<'a>,
+    pub no: Goal<'a>,
 }
 
 // The first of the cases that are left, of the case number on.
 #[inline]
 fn first_case<'r, 'a>(
-    bump: &'a Bump,
     cases: &'r [Case],
     case: u32,
     a: SymOp,
     b: SymOp,
     progress: &'a GoalProgress,
-) -> Result<Option<Trial<'r, 'a>>, NoMemory>
+) -> Option<Trial<'r, 'a>>
     requires a_near { IsNearOp 99 a }
     requires b_near { IsNearOp 99 b }
     requires cases_near { AllByRecursion IsNearCase (map case_of cases.now) }
     requires few { case ≤ 64 }
-    ensures tries { IfOk result (λ r. trial_tree a b r
-        ≡ table.choose_case (map case_of cases.now) case a b progress.now) }
-    ensures near { IfOk result (λ r. IfSome r (λ t. HasNearAtoms (formula_of t.guard.now))) }
+    ensures tries { trial_tree a b result ≡ table.choose_case (map case_of cases.now) case a b progress.now }
+    ensures near { IfSome result (λ t. HasNearAtoms (formula_of t.guard.now)) }
 {
     match cases {
-        [] => Ok(None),
-        [first, ..] => Ok(Some(Trial {
+        [] => None,
+        [first, ..] => Some(Trial {
             guard: &first.guard,
-            yes: Goal::deliver(bump, a.result(first.res, b), progress)?,
-            no: Goal::choose(bump, case + 1, a, b, progress)?,
-        })),
+            yes: Goal::Deliver {
+                op: a.result(first.res, b),
+                plan: progress,
+            },
+            no: Goal::Choose {
+                case: case + 1,
+                a,
+                b,
+                plan: progress,
+            },
+        }),
     }
 }
 
 /// The case that is tried next where the first operation is transformed behind the second one, if both are there and a
 /// case is left.
-///
-/// # Errors
-///
-/// Want of memory.
 pub fn next_case<'r, 'a>(
-    bump: &'a Bump,
     rules: &'r Rules,
     case: u32,
     a: SymOp,
     b: SymOp,
     progress: &'a GoalProgress,
-) -> Result<Option<Trial<'r, 'a>>, NoMemory>
+) -> Option<Trial<'r, 'a>>
     requires { IsChoosable (function_of rules.now) case a b }
-    ensures tries { IfOk result (λ r. IfSome r (λ t. trial_tree a b (Some t)
-        ≡ table.rewrite_choose (function_of rules.now) case a b progress.now)) }
-    ensures none { IfOk result (λ r. IfNone r
-        (is_tried (table.rewrite_choose (function_of rules.now) case a b progress.now) ≡ false)) }
-    ensures near { IfOk result (λ r. IfSome r (λ t. HasNearAtoms (formula_of t.guard.now))) }
+    ensures tries { IfSome result (λ t. trial_tree a b (Some t)
+        ≡ table.rewrite_choose (function_of rules.now) case a b progress.now) }
+    ensures none { IfNone result
+        (is_tried (table.rewrite_choose (function_of rules.now) case a b progress.now) ≡ false) }
+    ensures near { IfSome result (λ t. HasNearAtoms (formula_of t.guard.now)) }
 {
     let Some(first) = a.kind() else {
-        return Ok(None);
+        return None;
     };
     let Some(second) = b.kind() else {
-        return Ok(None);
+        return None;
     };
     let cases = rules.cases(first, second);
-    Ok(first_case(bump, &cases[case as usize..], case, a, b, progress)?)
+    first_case(&cases[case as usize..], case, a, b, progress)
 }
 
 // The first of the cases that are left, of the case number on, with its form.
@@ -97,12 +98,12 @@ fn choose_case<'a>(
     requires few { case ≤ 64 }
     ensures { IfOk result (λ r. front_tree r ≡ table.choose_case (map case_of cases.now) case a b progress.now) }
 {
-    match first_case(bump, cases, case, a, b, progress)? {
+    match first_case(cases, case, a, b, progress) {
         None => Ok(Front::Fails(Why::Undefined)),
         Some(Trial { guard, yes, no }) => Ok(Front::If {
             form: *place_form(bump, guard, a, b)?,
-            yes,
-            no,
+            yes: bump.try_alloc(yes)?,
+            no: bump.try_alloc(no)?,
         }),
     }
 }

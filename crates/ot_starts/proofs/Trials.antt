@@ -84,23 +84,23 @@ module _ (f : Function) (old was : GoalTree) (a b : SymOp) (t : Trial) (same : o
   tried_belongs : (ob : ObName) → IsGoalOf f ob old → IsGoalOf f ob (trial_tree a b (Some t))
   tried_belongs ob h = is.stands.belongs ob (subst (IsGoalOf f ob) same h)
 
-  pub tried_yes_falls : goal_weight f (goal_tree t.yes.now) < goal_weight f old
-  tried_yes_falls = yes_is_lighter f tried_form (goal_tree t.yes.now) (goal_tree t.no.now) old tried_weight
+  pub tried_yes_falls : goal_weight f (goal_tree t.yes) < goal_weight f old
+  tried_yes_falls = yes_is_lighter f tried_form (goal_tree t.yes) (goal_tree t.no) old tried_weight
 
-  pub tried_no_falls : goal_weight f (goal_tree t.no.now) < goal_weight f old
-  tried_no_falls = no_is_lighter f tried_form (goal_tree t.yes.now) (goal_tree t.no.now) old tried_weight
+  pub tried_no_falls : goal_weight f (goal_tree t.no) < goal_weight f old
+  tried_no_falls = no_is_lighter f tried_form (goal_tree t.yes) (goal_tree t.no) old tried_weight
 
-  pub tried_yes_belongs : (ob : ObName) → IsGoalOf f ob old → IsGoalOf f ob (goal_tree t.yes.now)
-  tried_yes_belongs ob h = part_of_yes f ob tried_form (goal_tree t.yes.now) (goal_tree t.no.now) (tried_belongs ob h)
+  pub tried_yes_belongs : (ob : ObName) → IsGoalOf f ob old → IsGoalOf f ob (goal_tree t.yes)
+  tried_yes_belongs ob h = part_of_yes f ob tried_form (goal_tree t.yes) (goal_tree t.no) (tried_belongs ob h)
 
-  pub tried_no_belongs : (ob : ObName) → IsGoalOf f ob old → IsGoalOf f ob (goal_tree t.no.now)
-  tried_no_belongs ob h = part_of_no f ob tried_form (goal_tree t.yes.now) (goal_tree t.no.now) (tried_belongs ob h)
+  pub tried_no_belongs : (ob : ObName) → IsGoalOf f ob old → IsGoalOf f ob (goal_tree t.no)
+  tried_no_belongs ob h = part_of_no f ob tried_form (goal_tree t.yes) (goal_tree t.no) (tried_belongs ob h)
 
   pub tried_laid :
-      (p q got : GoalTree) → StandsMarked f (goal_tree t.yes.now) p → StandsMarked f (goal_tree t.no.now) q
+      (p q got : GoalTree) → StandsMarked f (goal_tree t.yes) p → StandsMarked f (goal_tree t.no) q
       → got ≡ laid_form tried_form p q → StandsMarked f old got
   tried_laid p q got hy hn e =
       subst (λ x. StandsMarked f x got) (sym same)
       (settled_on f was (trial_tree a b (Some t)) got is.stands
       (subst (StandsMarked f (trial_tree a b (Some t))) (sym e)
-      (marked_laid f tried_form (goal_tree t.yes.now) (goal_tree t.no.now) p q hy hn)))
+      (marked_laid f tried_form (goal_tree t.yes) (goal_tree t.no) p q hy hn)))

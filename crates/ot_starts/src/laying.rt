@@ -26,49 +26,49 @@ pub(crate) fn laid<'a>(
     bump: &'a Bump,
     rules: &Rules,
     ends: &mut Vec<Kept<'a>, &'a Bump>,
-    goal: &'a Goal<'a>,
+    goal: Goal<'a>,
 ) -> Result<&'a Goal<'a>, NoMemory>
-    requires goal { (ob : ObName) × IsGoalOf (function_of rules.now) ob (goal_tree goal.now) }
+    requires goal { (ob : ObName) × IsGoalOf (function_of rules.now) ob (goal_tree goal) }
     requires kept { All (IsKeptEnd (function_of rules.now)) ends.old.items }
-    ensures stands { IfOk result (λ r. StandsMarked (function_of rules.now) (goal_tree goal.now) (goal_tree r.now)) }
+    ensures stands { IfOk result (λ r. StandsMarked (function_of rules.now) (goal_tree goal.entry) (goal_tree r.now)) }
     ensures kept { All (IsKeptEnd (function_of rules.now)) ends.new.items }
 {
     rules_keep_starts();
-    if is_begun(goal) {
-        return Ok(goal);
+    if is_begun(&goal) {
+        return Ok(bump.try_alloc(goal)?);
     }
-    match *goal {
-        Goal::Holds => Ok(goal),
-        Goal::Fails(_) => Ok(goal),
+    match goal {
+        Goal::Holds => Ok(bump.try_alloc(goal)?),
+        Goal::Fails(_) => Ok(bump.try_alloc(goal)?),
         Goal::If { form, yes, no } => {
-            let on_no = laid(bump, rules, ends, no)?;
-            let on_yes = laid(bump, rules, ends, yes)?;
+            let on_no = laid(bump, rules, ends, *no)?;
+            let on_yes = laid(bump, rules, ends, *yes)?;
             Ok(by_form(bump, &form, on_yes, on_no)?)
         }
         Goal::Deliver { .. } => {
-            if let Some(known) = found(ends, goal) {
+            if let Some(known) = found(ends, &goal) {
                 return Ok(known);
             }
-            let next = next_of(bump, rules, goal)?;
-            let built = laid(bump, rules, ends, next)?;
-            ends.push(Kept {
-                at: goal,
-                goal: built,
-            })?;
+            let at = bump.try_alloc(goal)?;
+            let next = next_of(bump, rules, at)?;
+            let built = laid(bump, rules, ends, *next)?;
+            ends.push(Kept { at, goal: built })?;
             Ok(built)
         }
         Goal::Choose { case, a, b, plan } => {
-            let Some(Trial { guard, yes, no }) = trial(bump, rules, case, a, b, plan)? else {
-                let next = next_of(bump, rules, goal)?;
-                return Ok(laid(bump, rules, ends, next)?);
+            let Some(Trial { guard, yes, no }) = trial(rules, case, a, b, plan) else {
+                let at = bump.try_alloc(goal)?;
+                let next = next_of(bump, rules, at)?;
+                return Ok(laid(bump, rules, ends, *next)?);
             };
             let on_no = laid(bump, rules, ends, no)?;
             let on_yes = laid(bump, rules, ends, yes)?;
             Ok(by_guard(bump, guard, &a, &b, on_yes, on_no)?)
         }
         Goal::Same { .. } => {
-            let next = next_of(bump, rules, goal)?;
-            Ok(laid(bump, rules, ends, next)?)
+            let at = bump.try_alloc(goal)?;
+            let next = next_of(bump, rules, at)?;
+            Ok(laid(bump, rules, ends, *next)?)
         }
     }
 }

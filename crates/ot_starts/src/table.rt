@@ -36,7 +36,7 @@ fn laid_behind<'a>(
     rules_keep_starts();
     rules_are_valid(rules);
     match step(bump, rules, goal)? {
-        Some(next) => Ok(laid(bump, rules, ends, next)?),
+        Some(next) => Ok(laid(bump, rules, ends, *next)?),
         None => Ok(goal),
     }
 }

@@ -1,5 +1,5 @@
 //! Cases that are tried one after another.
-ghost use Rattle.std.specs.Prelude.{◌≡◌, false, IfOk, IfSome};
+ghost use Rattle.std.specs.Prelude.{◌≡◌, false, IfSome};
 ghost use Rattle.fn_rules.specs.declared.function.ObName.{ObName};
 ghost use Rattle.fn_rules.specs.Rules.{function_of};
 ghost use Rattle.ot_terms.specs.Belonging.{IsGoalOf};
@@ -7,8 +7,6 @@ ghost use Rattle.ot_terms.specs.Goals.{Choose};
 ghost use Rattle.marked_goals.specs.Settled.{is_begun};
 ghost use Rattle.ot_starts.specs.Trials.{IsTrialOf};
 
-use ask_core::NoMemory;
-use bumpalo::Bump;
 use fn_rules::{Rules, rules_are_valid};
 use goal_rules::{Trial, next_case};
 use marked_goals::rules_keep_starts;
@@ -18,19 +16,18 @@ use ot_terms::{GoalProgress, SymOp};
 /// The case that is tried next, not as the first one of a transformation; none where none is left or an operation is
 /// nop.
 pub(crate) fn trial<'r, 'a>(
-    bump: &'a Bump,
     rules: &'r Rules,
     case: u32,
     a: SymOp,
     b: SymOp,
     plan: &'a GoalProgress,
-) -> Result<Option<Trial<'r, 'a>>, NoMemory>
+) -> Option<Trial<'r, 'a>>
     requires goal { (ob : ObName) × IsGoalOf (function_of rules.now) ob (Choose case a b plan.now) }
     requires later { is_begun (Choose case a b plan.now) ≡ false }
-    ensures { IfOk result (λ r. IfSome r (IsTrialOf (function_of rules.now) (Choose case a b plan.now) a b)) }
+    ensures { IfSome result (IsTrialOf (function_of rules.now) (Choose case a b plan.now) a b) }
 {
     rules_keep_starts();
     rules_keep_what_is_asked();
     rules_are_valid(rules);
-    Ok(next_case(bump, rules, case, a, b, plan)?)
+    next_case(rules, case, a, b, plan)
 }

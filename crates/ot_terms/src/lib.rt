@@ -1,7 +1,7 @@
 //! What an obligation still asks, as terms in an arena.
 //!
-//! A goal is what is left to be shown of an obligation at some place of its plan. Its parts are forms,
-//! which are what is asked, and cells, which are read from documents. All of them are shared references
+//! A goal is what is left to be shown of an obligation at some place of its plan. Its parts are forms, which are what is
+//! asked, and cells, which are read from documents. A goal has its form within it; the other parts are shared references
 //! into an arena that stands outside, and nothing writes to a term.
 //!
 //! Contracts see a term as a plain tree, which has the same variants and holds its parts as values. What a

@@ -32,7 +32,7 @@ fn compared<'a>(cmp: Cmp, x: Place, y: Place) -> Form<'a>
 }
 
 /// The two places that a comparison is about at two operations, the left one first.
-#[inline]
+#[inline(always)]
 pub fn places_of(atom: &Atom, a: &SymOp, b: &SymOp) -> (Place, Place)
     requires a_near { IsNearOp 200 a.now }
     requires b_near { IsNearOp 200 b.now }

@@ -11,13 +11,13 @@ returns-clause-tries c =
     let left = left_cases c.cases-cases.result.now c.args.case _ c.cases-cases.ensures.cases in
     let first = c.in-Some.ensures in
     let second = c.in-Some-kind.ensures in
-    let given = c.in_ok-first_case.ensures.tries in
-    tried c.args.a c.args.b c.in_ok-first_case.field-0 _ (rw (← first, ← second, ← left) given)
+    let given = c.first_case.ensures.tries in
+    tried c.args.a c.args.b c.first_case.result _ (rw (← first, ← second, ← left) given)
 
 pub returns-clause-none : goal.returns-clause-none
 returns-clause-none c =
     let left = left_cases c.cases-cases.result.now c.args.case _ c.cases-cases.ensures.cases in
     let first = c.in-Some.ensures in
     let second = c.in-Some-kind.ensures in
-    let given = c.in_ok-first_case.ensures.tries in
-    untried c.args.a c.args.b c.in_ok-first_case.field-0 _ (rw (← first, ← second, ← left) given)
+    let given = c.first_case.ensures.tries in
+    untried c.args.a c.args.b c.first_case.result _ (rw (← first, ← second, ← left) given)

@@ -1,11 +1,13 @@
-use Rattle.std.proofs.Common.{rules, ap, sym, subst, ◌<◌, List}
+use Rattle.std.proofs.Common.{rules, ap, sym, subst, ◌≡◌, ◌<◌, List}
 use Rattle.std.specs.List.{All}
 use Rattle.std.proofs.lemmas.List.Elements.{All-push}
 use Rattle.fn_rules.specs.Rules.{function_of}
 use Rattle.ot_terms.specs.Belonging.{IsGoalOf}
 use Rattle.ot_terms.specs.Forms.{form_tree}
+use Rattle.ot_terms.specs.declared.goal.Goal.{Goal}
 use Rattle.ot_terms.specs.Goals.{goal_tree, Choose}
 use Rattle.ot_terms.specs.Weights.{goal_weight}
+use Rattle.marked_goals.specs.Settled.{StandsMarked}
 use Rattle.ot_starts.specs.declared.kept.Kept.{Kept}
 use Rattle.ot_starts.specs.Kept.{IsKeptEnd}
 use Rattle.ot_starts.proofs.LaidMarks.{yes_falls, no_falls, yes_belongs, no_belongs, form_low, if_laid}
@@ -17,14 +19,14 @@ use Rattle.ot_starts.proofs.laying.+laid.Goals as goal
 pub laid-requires : goal.laid-requires
 laid-requires t c =
     let f = function_of c.args.rules.now in
-    let falls : goal_weight f (goal_tree c.in-If.no.now) < goal_weight f (goal_tree c.args.goal.now)
-    = no_falls f (goal_tree c.args.goal.now) (form_tree c.in-If.form) (goal_tree c.in-If.yes.now) (goal_tree c.in-If.no.now)
+    let falls : goal_weight f (goal_tree c.in-If.no.now) < goal_weight f (goal_tree c.args.goal)
+    = no_falls f (goal_tree c.args.goal) (form_tree c.in-If.form) (goal_tree c.in-If.yes.now) (goal_tree c.in-If.no.now)
     (ap goal_tree c.in-If.is) in (
       search (rules, falls),
       (
         (
           c.requires.goal.0,
-          no_belongs f (goal_tree c.args.goal.now) (form_tree c.in-If.form) (goal_tree c.in-If.yes.now)
+          no_belongs f (goal_tree c.args.goal) (form_tree c.in-If.form) (goal_tree c.in-If.yes.now)
               (goal_tree c.in-If.no.now) (ap goal_tree c.in-If.is) c.requires.goal.0 c.requires.goal.1,
         ),
         c.requires.kept,
@@ -35,14 +37,14 @@ laid-requires t c =
 pub laid-requires-in-If : goal.laid-requires-in-If
 laid-requires-in-If t c =
     let f = function_of c.args.rules.now in
-    let falls : goal_weight f (goal_tree c.in-If.yes.now) < goal_weight f (goal_tree c.args.goal.now)
-    = yes_falls f (goal_tree c.args.goal.now) (form_tree c.in-If.form) (goal_tree c.in-If.yes.now) (goal_tree c.in-If.no.now)
+    let falls : goal_weight f (goal_tree c.in-If.yes.now) < goal_weight f (goal_tree c.args.goal)
+    = yes_falls f (goal_tree c.args.goal) (form_tree c.in-If.form) (goal_tree c.in-If.yes.now) (goal_tree c.in-If.no.now)
     (ap goal_tree c.in-If.is) in (
       search (rules, falls),
       (
         (
           c.requires.goal.0,
-          yes_belongs f (goal_tree c.args.goal.now) (form_tree c.in-If.form) (goal_tree c.in-If.yes.now)
+          yes_belongs f (goal_tree c.args.goal) (form_tree c.in-If.form) (goal_tree c.in-If.yes.now)
               (goal_tree c.in-If.no.now) (ap goal_tree c.in-If.is) c.requires.goal.0 c.requires.goal.1,
         ),
         c.laid.ensures.kept,
@@ -51,12 +53,12 @@ laid-requires-in-If t c =
 
 pub by_form-requires : goal.by_form-requires
 by_form-requires t c =
-    form_low (function_of c.args.rules.now) (goal_tree c.args.goal.now) (form_tree c.in-If.form) (goal_tree c.in-If.yes.now)
+    form_low (function_of c.args.rules.now) (goal_tree c.args.goal) (form_tree c.in-If.form) (goal_tree c.in-If.yes.now)
     (goal_tree c.in-If.no.now) (ap goal_tree c.in-If.is) c.requires.goal.0 c.requires.goal.1
 
 pub returns-in_ok-by_form-in-If-clause-stands : goal.returns-in_ok-by_form-in-If-clause-stands
 returns-in_ok-by_form-in-If-clause-stands t c =
-    if_laid (function_of c.args.rules.now) (goal_tree c.args.goal.now) (form_tree c.in-If.form) (goal_tree c.in-If.yes.now)
+    if_laid (function_of c.args.rules.now) (goal_tree c.args.goal) (form_tree c.in-If.form) (goal_tree c.in-If.yes.now)
     (goal_tree c.in-If.no.now) (ap goal_tree c.in-If.is) (goal_tree c.in_ok-on_yes-in-If.on_yes.now)
     (goal_tree c.in_ok-on_no-in-If.on_no.now) (goal_tree c.in_ok-by_form-in-If.field-0.now)
     c.in_ok-on_yes-in-If.ensures.stands c.in_ok-on_no-in-If.ensures.stands c.in_ok-by_form-in-If.ensures
@@ -68,23 +70,23 @@ trial-requires-clause-goal t c =
 
 pub trial-requires-clause-later : goal.trial-requires-clause-later
 trial-requires-clause-later t c =
-    not_begun_there c.is_begun.result (goal_tree c.args.goal.now)
+    not_begun_there c.is_begun.result (goal_tree c.args.goal)
     (Choose c.in-Choose.case c.in-Choose.a c.in-Choose.b c.in-Choose.plan.now) (ap goal_tree c.in-Choose.is) c.is_begun.ensures
     c.if-is_begun.false c.rules_keep_starts.ensures.begun
 
 pub laid-requires-in-Choose : goal.laid-requires-in-Choose
 laid-requires-in-Choose t c =
     let f = function_of c.args.rules.now in
-    let trial = rw c.in-Some-2.is at c.in_ok-guard-in-Choose.ensures in
-    let old = goal_tree c.args.goal.now in
+    let trial = rw c.in-Some-trial.is at c.trial.ensures in
+    let old = goal_tree c.args.goal in
     let was = Choose c.in-Choose.case c.in-Choose.a c.in-Choose.b c.in-Choose.plan.now in
-    let falls : goal_weight f (goal_tree c.in-Some-2.field-0.no.now) < goal_weight f old
-    = tried_no_falls f old was c.in-Choose.a c.in-Choose.b c.in-Some-2.field-0 (ap goal_tree c.in-Choose.is) trial in (
+    let falls : goal_weight f (goal_tree c.in-Some-trial.field-0.no) < goal_weight f old
+    = tried_no_falls f old was c.in-Choose.a c.in-Choose.b c.in-Some-trial.field-0 (ap goal_tree c.in-Choose.is) trial in (
       search (rules, falls),
       (
         (
           c.requires.goal.0,
-          tried_no_belongs f old was c.in-Choose.a c.in-Choose.b c.in-Some-2.field-0 (ap goal_tree c.in-Choose.is) trial
+          tried_no_belongs f old was c.in-Choose.a c.in-Choose.b c.in-Some-trial.field-0 (ap goal_tree c.in-Choose.is) trial
               c.requires.goal.0 c.requires.goal.1,
         ),
         c.requires.kept,
@@ -94,16 +96,16 @@ laid-requires-in-Choose t c =
 pub laid-requires-in-Choose-2 : goal.laid-requires-in-Choose-2
 laid-requires-in-Choose-2 t c =
     let f = function_of c.args.rules.now in
-    let trial = rw c.in-Some-2.is at c.in_ok-guard-in-Choose.ensures in
-    let old = goal_tree c.args.goal.now in
+    let trial = rw c.in-Some-trial.is at c.trial.ensures in
+    let old = goal_tree c.args.goal in
     let was = Choose c.in-Choose.case c.in-Choose.a c.in-Choose.b c.in-Choose.plan.now in
-    let falls : goal_weight f (goal_tree c.in-Some-2.field-0.yes.now) < goal_weight f old
-    = tried_yes_falls f old was c.in-Choose.a c.in-Choose.b c.in-Some-2.field-0 (ap goal_tree c.in-Choose.is) trial in (
+    let falls : goal_weight f (goal_tree c.in-Some-trial.field-0.yes) < goal_weight f old
+    = tried_yes_falls f old was c.in-Choose.a c.in-Choose.b c.in-Some-trial.field-0 (ap goal_tree c.in-Choose.is) trial in (
       search (rules, falls),
       (
         (
           c.requires.goal.0,
-          tried_yes_belongs f old was c.in-Choose.a c.in-Choose.b c.in-Some-2.field-0 (ap goal_tree c.in-Choose.is) trial
+          tried_yes_belongs f old was c.in-Choose.a c.in-Choose.b c.in-Some-trial.field-0 (ap goal_tree c.in-Choose.is) trial
               c.requires.goal.0 c.requires.goal.1,
         ),
         c.laid-in-Choose.ensures.kept,
@@ -112,22 +114,22 @@ laid-requires-in-Choose-2 t c =
 
 pub by_guard-requires-clause-a_near : goal.by_guard-requires-clause-a_near
 by_guard-requires-clause-a_near t c =
-    let trial = rw c.in-Some-2.is at c.in_ok-guard-in-Choose.ensures in trial.a_near
+    let trial = rw c.in-Some-trial.is at c.trial.ensures in trial.a_near
 
 pub by_guard-requires-clause-b_near : goal.by_guard-requires-clause-b_near
 by_guard-requires-clause-b_near t c =
-    let trial = rw c.in-Some-2.is at c.in_ok-guard-in-Choose.ensures in trial.b_near
+    let trial = rw c.in-Some-trial.is at c.trial.ensures in trial.b_near
 
 pub by_guard-requires-clause-atoms_near : goal.by_guard-requires-clause-atoms_near
 by_guard-requires-clause-atoms_near t c =
-    let trial = rw c.in-Some-2.is at c.in_ok-guard-in-Choose.ensures in trial.atoms_near
+    let trial = rw c.in-Some-trial.is at c.trial.ensures in trial.atoms_near
 
 pub returns-in_ok-by_guard-in-Choose-clause-stands : goal.returns-in_ok-by_guard-in-Choose-clause-stands
 returns-in_ok-by_guard-in-Choose-clause-stands t c =
     let f = function_of c.args.rules.now in
-    let trial = rw c.in-Some-2.is at c.in_ok-guard-in-Choose.ensures in
-    tried_laid f (goal_tree c.args.goal.now) (Choose c.in-Choose.case c.in-Choose.a c.in-Choose.b c.in-Choose.plan.now)
-    c.in-Choose.a c.in-Choose.b c.in-Some-2.field-0 (ap goal_tree c.in-Choose.is) trial
+    let trial = rw c.in-Some-trial.is at c.trial.ensures in
+    tried_laid f (goal_tree c.args.goal) (Choose c.in-Choose.case c.in-Choose.a c.in-Choose.b c.in-Choose.plan.now)
+    c.in-Choose.a c.in-Choose.b c.in-Some-trial.field-0 (ap goal_tree c.in-Choose.is) trial
     (goal_tree c.in_ok-on_yes-in-Choose.on_yes.now) (goal_tree c.in_ok-on_no-in-Choose.on_no.now)
     (goal_tree c.in_ok-by_guard-in-Choose.field-0.now)
     c.in_ok-on_yes-in-Choose.ensures.stands c.in_ok-on_no-in-Choose.ensures.stands
@@ -136,19 +138,28 @@ returns-in_ok-by_guard-in-Choose-clause-stands t c =
 pub laid-requires-in-Same : goal.laid-requires-in-Same
 laid-requires-in-Same t c =
     let f = function_of c.args.rules.now in
-    let falls : goal_weight f (goal_tree c.in_ok-next-in-Same.next.now) < goal_weight f (goal_tree c.args.goal.now)
-    = c.in_ok-next-in-Same.ensures.lighter in (
+    let same : c.in_ok-at-in-Same.at.now ≡ c.args.goal = c.in_ok-at-in-Same.ensures in
+    let falls : goal_weight f (goal_tree c.in_ok-next-in-Same.next.now) < goal_weight f (goal_tree c.args.goal)
+    = subst (λ (g : Goal). goal_weight f (goal_tree c.in_ok-next-in-Same.next.now) < goal_weight f (goal_tree g)) same
+    c.in_ok-next-in-Same.ensures.lighter in (
       search (rules, falls),
       (
-        (c.requires.goal.0, c.in_ok-next-in-Same.ensures.alike.belongs c.requires.goal.0 c.requires.goal.1),
+        (
+          c.requires.goal.0,
+          c.in_ok-next-in-Same.ensures.alike.belongs c.requires.goal.0
+              (subst (λ (g : Goal). IsGoalOf f c.requires.goal.0 (goal_tree g)) (sym same) c.requires.goal.1),
+        ),
         c.requires.kept,
       ),
     )
 
 pub returns-in_ok-laid-in-Same-clause-stands : goal.returns-in_ok-laid-in-Same-clause-stands
 returns-in_ok-laid-in-Same-clause-stands t c =
-    settled_on (function_of c.args.rules.now) (goal_tree c.args.goal.now) (goal_tree c.in_ok-next-in-Same.next.now)
-    (goal_tree c.in_ok-laid-in-Same.field-0.now) c.in_ok-next-in-Same.ensures.alike c.in_ok-laid-in-Same.ensures.stands
+    let f = function_of c.args.rules.now in
+    settled_on f (goal_tree c.args.goal) (goal_tree c.in_ok-next-in-Same.next.now) (goal_tree c.in_ok-laid-in-Same.field-0.now)
+    (subst (λ (g : Goal). StandsMarked f (goal_tree g) (goal_tree c.in_ok-next-in-Same.next.now)) c.in_ok-at-in-Same.ensures
+    c.in_ok-next-in-Same.ensures.alike)
+    c.in_ok-laid-in-Same.ensures.stands
 
 -- what is kept of the same goal stands for it
 pub returns-in-Some-clause-stands : goal.returns-in-Some-clause-stands
@@ -159,11 +170,17 @@ returns-in-Some-clause-stands t c =
 pub laid-requires-in-Deliver : goal.laid-requires-in-Deliver
 laid-requires-in-Deliver t c =
     let f = function_of c.args.rules.now in
-    let falls : goal_weight f (goal_tree c.in_ok-next-in-Deliver.next.now) < goal_weight f (goal_tree c.args.goal.now)
-    = c.in_ok-next-in-Deliver.ensures.lighter in (
+    let same : c.in_ok-at-in-Deliver.at.now ≡ c.args.goal = c.in_ok-at-in-Deliver.ensures in
+    let falls : goal_weight f (goal_tree c.in_ok-next-in-Deliver.next.now) < goal_weight f (goal_tree c.args.goal)
+    = subst (λ (g : Goal). goal_weight f (goal_tree c.in_ok-next-in-Deliver.next.now) < goal_weight f (goal_tree g)) same
+    c.in_ok-next-in-Deliver.ensures.lighter in (
       search (rules, falls),
       (
-        (c.requires.goal.0, c.in_ok-next-in-Deliver.ensures.alike.belongs c.requires.goal.0 c.requires.goal.1),
+        (
+          c.requires.goal.0,
+          c.in_ok-next-in-Deliver.ensures.alike.belongs c.requires.goal.0
+              (subst (λ (g : Goal). IsGoalOf f c.requires.goal.0 (goal_tree g)) (sym same) c.requires.goal.1),
+        ),
         c.requires.kept,
       ),
     )
@@ -175,15 +192,18 @@ returns-in_err-push-in-Deliver-clause-kept t c =
 
 pub returns-in_ok-push-in-Deliver-clause-stands : goal.returns-in_ok-push-in-Deliver-clause-stands
 returns-in_ok-push-in-Deliver-clause-stands t c =
-    settled_on (function_of c.args.rules.now) (goal_tree c.args.goal.now) (goal_tree c.in_ok-next-in-Deliver.next.now)
-    (goal_tree c.in_ok-built-in-Deliver.built.now) c.in_ok-next-in-Deliver.ensures.alike c.in_ok-built-in-Deliver.ensures.stands
+    let f = function_of c.args.rules.now in
+    settled_on f (goal_tree c.args.goal) (goal_tree c.in_ok-next-in-Deliver.next.now)
+    (goal_tree c.in_ok-built-in-Deliver.built.now)
+    (subst (λ (g : Goal). StandsMarked f (goal_tree g) (goal_tree c.in_ok-next-in-Deliver.next.now)) c.in_ok-at-in-Deliver.ensures
+    c.in_ok-next-in-Deliver.ensures.alike)
+    c.in_ok-built-in-Deliver.ensures.stands
 
 -- and what is kept from now on does so too
 pub returns-in_ok-push-in-Deliver-clause-kept : goal.returns-in_ok-push-in-Deliver-clause-kept
 returns-in_ok-push-in-Deliver-clause-kept t c =
     let f = function_of c.args.rules.now in
     subst (λ (kept : List Kept). All (IsKeptEnd f) kept) (sym c.in_ok-push-in-Deliver.ensures.items)
-    (All-push (IsKeptEnd f) c.laid-in-Deliver.new.ends.items (record { at = c.args.goal; goal = c.in_ok-built-in-Deliver.built })
-    c.laid-in-Deliver.ensures.kept
-    (settled_on f (goal_tree c.args.goal.now) (goal_tree c.in_ok-next-in-Deliver.next.now)
+    (All-push (IsKeptEnd f) c.laid-in-Deliver.new.ends.items _ c.laid-in-Deliver.ensures.kept
+    (settled_on f (goal_tree c.in_ok-at-in-Deliver.at.now) (goal_tree c.in_ok-next-in-Deliver.next.now)
     (goal_tree c.in_ok-built-in-Deliver.built.now) c.in_ok-next-in-Deliver.ensures.alike c.in_ok-built-in-Deliver.ensures.stands))

@@ -17,4 +17,4 @@ returns c =
     (λ g rule. c.rules_keep_starts.ensures.kept f c.requires.goal.0 old g valid is_goal rule c.requires.later)
     (λ other g of rule. c.rules_keep_what_is_asked.ensures.belongs f other old g valid of rule)
     (λ g rule. c.rules_keep_what_is_asked.ensures.lighter f c.requires.goal.0 old g valid is_goal rule)
-    c.in_ok-next_case.field-0 c.in_ok-next_case.ensures.tries c.in_ok-next_case.ensures.near
+    c.next_case.result c.next_case.ensures.tries c.next_case.ensures.near
