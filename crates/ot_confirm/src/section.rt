@@ -13,6 +13,9 @@ use ot_starts::StartAsker;
 use proof_sections::{ConfirmError, judge_line_end, judge_ob, judge_tree};
 use std::alloc::Global;
 
+/// How many bytes an arena begins with. Pages of it that nobody writes to take no memory.
+const ARENA: usize = 2_097_152;
+
 // Judges the tree of an obligation, whose goals stand in the arena.
 fn judge_in<'a>(
     alloc: Global,
@@ -30,9 +33,11 @@ fn judge_in<'a>(
     judge_tree(alloc, StartAsker::new(bump, rules, name), bytes, at)
 }
 
-// Judges what a proof has for one obligation: its line, its tree and the newline after it.
+// Judges what a proof has for one obligation: its line, its tree and the newline after it. What the arena has is given
+// up before, so that all obligations share its pages.
 fn judge_section(
     alloc: Global,
+    bump: &mut Bump,
     rules: &Rules,
     name: ObName,
     bytes: &[u8],
@@ -47,9 +52,34 @@ fn judge_section(
         Ok(start) => start,
         Err(end) => return Err(end),
     };
-    let bump = Bump::new(alloc);
-    match judge_in(alloc, &bump, rules, name, bytes, start) {
+    if bump.reset().is_err() {
+        *bump = Bump::new(alloc);
+    }
+    match judge_in(alloc, bump, rules, name, bytes, start) {
         Ok(behind) => judge_line_end(bytes, behind),
+        Err(end) => Err(end),
+    }
+}
+
+// Judges what it has for obligations, in order, whose goals stand in the arena one after another.
+fn judge_each(
+    alloc: Global,
+    bump: &mut Bump,
+    rules: &Rules,
+    names: &[ObName],
+    bytes: &[u8],
+    at: usize,
+) -> Result<usize, ConfirmError>
+    requires listed { list_all (is_obligation (function_of rules.now).head) names.now ≡ true }
+    requires place { at ≤ length bytes.now }
+    ensures { Judges bytes.now (sections_judged compare_starts (marked_plan (function_of rules.now)) names.now
+        (length bytes.now) (drop at bytes.now)) result }
+{
+    let Some((name, others)) = names.split_first() else {
+        return Ok(at);
+    };
+    match judge_section(alloc, bump, rules, *name, bytes, at) {
+        Ok(next) => judge_each(alloc, bump, rules, others, bytes, next),
         Err(end) => Err(end),
     }
 }
@@ -67,11 +97,9 @@ pub(crate) fn judge_sections(
     ensures { Judges bytes.now (sections_judged compare_starts (marked_plan (function_of rules.now)) names.now
         (length bytes.now) (drop at bytes.now)) result }
 {
-    let Some((name, others)) = names.split_first() else {
-        return Ok(at);
+    let mut bump = match Bump::try_with_capacity(alloc, ARENA) {
+        Ok(bump) => bump,
+        Err(_) => Bump::new(alloc),
     };
-    match judge_section(alloc, rules, *name, bytes, at) {
-        Ok(next) => judge_sections(alloc, rules, others, bytes, next),
-        Err(end) => Err(end),
-    }
+    judge_each(alloc, &mut bump, rules, names, bytes, at)
 }

@@ -9,8 +9,8 @@ returns-in-Err c =
     section_no_line compare_starts (marked_plan (function_of c.args.rules.now) c.args.name) c.args.name c.args.bytes.now c.args.at
     c.in-Err.end c.in-Err.ensures
 
-pub returns : goal.returns
-returns c =
+pub returns-in-Err-judge_in : goal.returns-in-Err-judge_in
+returns-in-Err-judge_in c =
     section_no_tree compare_starts (marked_plan (function_of c.args.rules.now) c.args.name) c.args.name c.args.bytes.now c.args.at
     c.in-Ok.start c.in-Ok.ensures c.in-Err-judge_in.end c.in-Err-judge_in.ensures
 
