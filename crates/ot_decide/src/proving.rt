@@ -10,6 +10,10 @@ use cert_text::{write_end, write_header};
 use fn_rules::{Level, Rules, obligations, obligations_are_those_of_the_kinds};
 use std::alloc::Global;
 
+/// How many bytes a certificate has room for from the first on. Pages of it that nobody writes to take no memory, and a
+/// certificate that fits is not moved while it grows.
+const ROOM: usize = 2_097_152;
+
 /// Decides whether a function has the properties of a level, by at most `budget` questions of all its obligations
 /// together: the obligations in order, up to the first one that fails somewhere.
 ///
@@ -29,7 +33,7 @@ pub fn prove_all(
     obligations_are_those_of_the_kinds();
     let head = rules.head();
     let names = obligations(alloc, &head, level)?;
-    let mut bytes = Vec::new(alloc);
+    let mut bytes = Vec::with_capacity(alloc, ROOM)?;
     write_header(&names, level, &mut bytes)?;
     match search_all(alloc, rules, None, &names, budget, &mut bytes)? {
         SearchVerdict::AllHold => {

@@ -4,6 +4,10 @@ use fn_rules::{Level, ObName};
 use proof_text::{write_end, write_header, write_line_end, write_ob_line};
 use std::alloc::Global;
 
+/// How many bytes a proof has room for from the first on. Pages of it that nobody writes to take no memory, and a proof
+/// that fits is not moved while it grows.
+const ROOM: usize = 2_097_152;
+
 /// The text of a proof so far.
 #[derive(Drop)]
 pub(crate) struct Text {
@@ -19,7 +23,7 @@ pub(crate) struct Text {
 impl Text {
     /// The first line of a proof of a level.
     pub(crate) fn new(alloc: Global, level: Level) -> Result<Text, NoMemory> {
-        let mut bytes = Vec::new(alloc);
+        let mut bytes = Vec::with_capacity(alloc, ROOM)?;
         write_header(level, &mut bytes)?;
         let begun = bytes.len();
         Ok(Text {

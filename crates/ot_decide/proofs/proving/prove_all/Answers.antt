@@ -37,7 +37,7 @@ returns-in-AllHold c =
     subst (λ (s : SearchVerdict). AreSettled f.head (plan_of f) obs c.args.budget before after s) c.in-AllHold.is c.in_ok-search_all.ensures.settled in
     let begun : before ≡ header_text obs c.args.level =
     c.in_ok-write_header.ensures.ok
-    ∙ ap (λ (x : List ℕ). x ++ header_text c.deref.result.now c.args.level) c.new-bytes.ensures.items
+    ∙ ap (λ (x : List ℕ). x ++ header_text c.deref.result.now c.args.level) c.in_ok-bytes.ensures.items
     ∙ ap (λ (n : List ObName). header_text n c.args.level) (c.deref.ensures.value ∙ sym c.deref-2.ensures.value) in
     let ended = c.in_ok-write_end-in-AllHold.ensures.ok in
     record {
