@@ -81,15 +81,15 @@ pub(crate) fn branches_behind(branches: u64, tok: &Tok) -> u64
     }
 }
 
-// The same as `number_front`, of a number of one digit or two behind which more bytes come.
+// The same as `number_front`, of a number of at most three digits behind which more bytes come.
 #[inline(always)]
 fn few_digits(bytes: &[u8]) -> Option<(u32, usize)>
     ensures { IfSome result (λ x. (x.0 < PICK_LIMIT) × (x.1 < length bytes.now) × (decimal x.0 ≡ take x.1 bytes.now)) }
 {
-    if bytes.len() < 3 {
+    if bytes.len() < 4 {
         return None;
     }
-    let (first, second, third) = (bytes[0], bytes[1], bytes[2]);
+    let (first, second, third, fourth) = (bytes[0], bytes[1], bytes[2], bytes[3]);
     if first < b'0' || b'9' < first {
         return None;
     }
@@ -97,11 +97,15 @@ fn few_digits(bytes: &[u8]) -> Option<(u32, usize)>
     if second < b'0' || b'9' < second {
         return Some((number, 1));
     }
-    if b'0' <= third && third <= b'9' {
+    let number = number_with_digit(Some(number), second)?;
+    if third < b'0' || b'9' < third {
+        return Some((number, 2));
+    }
+    if b'0' <= fourth && fourth <= b'9' {
         return None;
     }
-    let number = number_with_digit(Some(number), second)?;
-    Some((number, 2))
+    let number = number_with_digit(Some(number), third)?;
+    Some((number, 3))
 }
 
 // The same as `number_front`, of a number of any digits.

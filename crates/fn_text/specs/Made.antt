@@ -1,13 +1,11 @@
 -- What the reader has in memory, as the state that it stands for: formulas in place of guards.
-use Rattle.std.specs.Prelude.{◌≡◌, List, [], ◌∷◌, map, option_map, Result, Ok, Err}
+use Rattle.std.specs.Prelude.{◌≡◌, List, map, reverse, option_map, Result, Ok, Err}
 use Rattle.fn_rules.specs.Formulas.{formula_of}
 use Rattle.fn_rules.specs.Functions.{GuardedCase, case_of}
 use Rattle.fn_rules.specs.Building.{PairCases, block_of}
 use Rattle.fn_text.specs.declared.stop.TextError.{TextError}
 use Rattle.fn_text.specs.declared.stop.TextError.TheVariants as errors
 use Rattle.fn_text.specs.declared.reader.Nesting.{Nesting}
-use Rattle.fn_text.specs.declared.reader.Outer.{Outer}
-use Rattle.fn_text.specs.declared.reader.Outer.TheVariants as rust
 use Rattle.fn_text.specs.declared.reader.FunctionReader.{FunctionReader}
 use Rattle.fn_moves.specs.declared.fault.TextFault.{TextFault}
 use Rattle.fn_moves.specs.Meaning.{Formulas}
@@ -22,9 +20,9 @@ plain_nesting_of nesting = record {
   all = option_map formula_of nesting.all;
 }
 
-abbrev pub outer_of : Outer → List (plain.Nesting Formulas)
-outer_of rust.Top = []
-outer_of (rust.Around' nesting p outer) = plain_nesting_of nesting ∷ outer_of outer
+-- the innermost first, which is the last one in memory
+abbrev pub outer_of : List Nesting → List (plain.Nesting Formulas)
+outer_of nestings = map plain_nesting_of (reverse nestings)
 
 abbrev pub state_of : FunctionReader → State Formulas GuardedCase PairCases
 state_of reader = record {
@@ -32,7 +30,7 @@ state_of reader = record {
   any = option_map formula_of reader.any;
   all = option_map formula_of reader.all;
   last = formula_of reader.last;
-  outer = outer_of reader.outer;
+  outer = outer_of reader.outer.items;
   guard = formula_of reader.guard;
   cases = map case_of reader.cases.items;
   done = map block_of reader.done.items;

@@ -114,6 +114,7 @@ fn end_operand(control: &mut Control, want: Want)
 }
 
 /// The control goes on behind a token that does this.
+#[inline(always)]
 pub(crate) fn go_behind(control: &mut Control, move_: TokenMove)
     requires { HasRoom control.old move_ }
     ensures { control.new ≡ control_behind control.old move_ }

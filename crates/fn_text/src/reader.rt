@@ -9,7 +9,7 @@ ghost use Rattle.fn_text.specs.Reader.{moved, turn, ended};
 ghost use Rattle.fn_text.specs.Reader.{read_from, first_state};
 ghost use Rattle.fn_moves.specs.Controls.{depth_of};
 ghost use Rattle.fn_moves.specs.Moves.{HasRoom};
-ghost use Rattle.fn_text.specs.Made.{state_of, plain_nesting_of, outer_of, GivesView};
+ghost use Rattle.fn_text.specs.Made.{state_of, plain_nesting_of, GivesView};
 
 use crate::NoMemory;
 use crate::behind::go_behind;
@@ -30,13 +30,6 @@ pub(crate) struct Nesting {
     all: Option<Guard>,
 }
 
-/// The parentheses that are open, but for the innermost ones, from the inside out.
-#[derive(Drop)]
-pub(crate) enum Outer {
-    Top,
-    Around(Nesting, Box<Outer>),
-}
-
 /// What was read.
 #[derive(Drop)]
 pub(crate) struct FunctionReader {
@@ -51,7 +44,8 @@ pub(crate) struct FunctionReader {
     /// The last operand, without the `not` before it.
     last: Guard,
 
-    outer: Outer,
+    /// The parentheses that are open, but for the innermost ones, from the outside in.
+    outer: Vec<Nesting>,
 
     /// The guard of the case whose result is read.
     guard: Guard,
@@ -146,7 +140,7 @@ impl FunctionReader {
             any: None,
             all: None,
             last: Guard::True,
-            outer: Outer::Top,
+            outer: Vec::new(alloc),
             guard: Guard::True,
             cases: Vec::new(alloc),
             done: Vec::new(alloc),
@@ -154,6 +148,7 @@ impl FunctionReader {
     }
 
     /// Only the control keeps something of the token.
+    #[inline(always)]
     fn tell(&mut self, move_: TokenMove)
         requires { HasRoom self.old.control move_ }
         ensures { state_of self.new ≡ told (state_of self.old) move_ }
@@ -186,7 +181,7 @@ impl FunctionReader {
         Ok(())
     }
 
-    fn open(&mut self, alloc: Global) -> Result<(), NoMemory>
+    fn open(&mut self) -> Result<(), NoMemory>
         requires { depth_of self.old.control < 32 }
         ensures { OnOk result (state_of self.new ≡ moved to_formulas (state_of self.old) TokenMove.Open) }
     {
@@ -196,8 +191,7 @@ impl FunctionReader {
             any: self.any.take(),
             all: self.all.take(),
         };
-        let outer = mem::replace(&mut self.outer, Outer::Top);
-        self.outer = Outer::Around(nesting, Box::new(alloc, outer)?);
+        self.outer.push(nesting)?;
         self.tell(TokenMove::Open);
         Ok(())
     }
@@ -253,8 +247,8 @@ impl FunctionReader {
     }
 
     /// What stands around the parentheses that are closed goes on.
-    fn leave(&mut self, nesting: Nesting, outer: Outer)
-        ensures { state_of self.new ≡ left_for (state_of self.old) (plain_nesting_of nesting) (outer_of outer) }
+    fn leave(&mut self, nesting: Nesting)
+        ensures { state_of self.new ≡ left_for (state_of self.old) (plain_nesting_of nesting) (state_of self.old).outer }
     {
         let Nesting {
             outside,
@@ -264,7 +258,6 @@ impl FunctionReader {
         } = nesting;
         self.any = any;
         self.all = all;
-        self.outer = outer;
         self.control = Control {
             want: Want::Operator,
             outside,
@@ -276,12 +269,12 @@ impl FunctionReader {
     fn close(&mut self, alloc: Global) -> Result<(), NoMemory>
         ensures { OnOk result (state_of self.new ≡ moved to_formulas (state_of self.old) TokenMove.Close) }
     {
-        match mem::replace(&mut self.outer, Outer::Top) {
-            Outer::Top => self.tell(TokenMove::Close),
-            Outer::Around(nesting, outer) => {
+        match self.outer.pop() {
+            None => self.tell(TokenMove::Close),
+            Some(nesting) => {
                 let disjunction = self.take_disjunction(alloc)?;
                 self.last = disjunction;
-                self.leave(nesting, Box::into_inner(outer));
+                self.leave(nesting);
             }
         }
         Ok(())
@@ -323,7 +316,7 @@ impl FunctionReader {
     {
         match move_ {
             TokenMove::BeginBlock(first, second) => return self.begin_block(alloc, first, second),
-            TokenMove::Open => return self.open(alloc),
+            TokenMove::Open => return self.open(),
             TokenMove::Always => self.always(),
             TokenMove::Compare(sort, left, cmp) => self.compare(sort, left, cmp),
             TokenMove::Shift(left, cmp, sign, number) => self.shift(left, cmp, sign, number),

@@ -16,15 +16,15 @@ use std::marker::Model;
 /// Where the lexer stands.
 #[derive(Clone, Copy)]
 pub(crate) struct Cursor {
+    /// How many further bytes belong to the token or comment that began last.
+    skip: usize,
+
     /// The line and the column of the next byte.
     line: u32,
     column: u32,
 
     /// Whether a token began on this line.
     after: bool,
-
-    /// How many further bytes belong to the token or comment that began last.
-    skip: usize,
 }
 
 /// What several bytes in a row may be.

@@ -47,7 +47,7 @@ fn by_order<'a>(
 }
 
 // One of two goals, where two places are equal.
-#[inline]
+#[inline(never)]
 fn by_equality<'a>(
     bump: &'a Bump,
     x: Place,
@@ -145,24 +145,16 @@ pub fn by_guard<'a>(
     ensures { IfOk result (λ r. goal_tree r.now ≡ laid_form (guard_form (formula_of guard.now) a.now b.now)
         (goal_tree yes.now) (goal_tree no.now)) }
 {
-    match guard {
-        Guard::True => Ok(yes),
-        Guard::Atom(atom) => Ok(by_atom(bump, atom, a, b, yes, no)?),
-        Guard::And(g, h) => {
-            let second = by_guard(bump, h, a, b, yes, no)?;
-            match &**g {
-                Guard::Atom(atom) => Ok(by_atom(bump, atom, a, b, second, no)?),
-                _ => Ok(by_guard(bump, g, a, b, second, no)?),
-            }
-        }
-        Guard::Or(g, h) => {
-            let second = by_guard(bump, h, a, b, yes, no)?;
-            match &**g {
-                Guard::Atom(atom) => Ok(by_atom(bump, atom, a, b, yes, second)?),
-                _ => Ok(by_guard(bump, g, a, b, yes, second)?),
-            }
-        }
-        Guard::Not(g) => Ok(by_guard(bump, g, a, b, no, yes)?),
+    let (first, on_yes, on_no) = match guard {
+        Guard::True => return Ok(yes),
+        Guard::Atom(_) => (guard, yes, no),
+        Guard::And(g, h) => (&**g, by_guard(bump, h, a, b, yes, no)?, no),
+        Guard::Or(g, h) => (&**g, yes, by_guard(bump, h, a, b, yes, no)?),
+        Guard::Not(g) => (&**g, no, yes),
+    };
+    match first {
+        Guard::Atom(atom) => Ok(by_atom(bump, atom, a, b, on_yes, on_no)?),
+        _ => Ok(by_guard(bump, first, a, b, on_yes, on_no)?),
     }
 }
 

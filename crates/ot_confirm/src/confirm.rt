@@ -4,7 +4,7 @@ ghost use Rattle.fn_rules.specs.Rules.{function_of};
 ghost use Rattle.proof_sections.specs.declared.refusal.ConfirmError.TheVariants as confirm;
 ghost use Rattle.ot_confirm.specs.Judgement.{judgement_of};
 
-use crate::section::judge_sections;
+use crate::section::{arena, judge_sections};
 use fn_rules::{Level, Rules, obligations, obligations_are_those_of_the_kinds};
 use proof_sections::{ConfirmError, ProofRefusal, judge_end, judge_header};
 use std::alloc::Global;
@@ -24,7 +24,8 @@ pub fn judge_proof(alloc: Global, rules: &Rules, bytes: &[u8]) -> Result<Level, 
         Ok(names) => names,
         Err(_) => return Err(ConfirmError::NoMemory),
     };
-    let behind = match judge_sections(alloc, rules, &names, bytes, start) {
+    let mut bump = arena(alloc);
+    let behind = match judge_sections(alloc, &mut bump, rules, &names, bytes, start) {
         Ok(behind) => behind,
         Err(end) => return Err(end),
     };

@@ -61,8 +61,16 @@ fn judge_section(
     }
 }
 
-// Judges what it has for obligations, in order, whose goals stand in the arena one after another.
-fn judge_each(
+/// An arena for the goals of one obligation after another.
+pub(crate) fn arena(alloc: Global) -> Bump {
+    match Bump::try_with_capacity(alloc, ARENA) {
+        Ok(bump) => bump,
+        Err(_) => Bump::new(alloc),
+    }
+}
+
+/// Judges what it has for obligations, in order, whose goals stand in the arena one after another.
+pub(crate) fn judge_sections(
     alloc: Global,
     bump: &mut Bump,
     rules: &Rules,
@@ -79,27 +87,7 @@ fn judge_each(
         return Ok(at);
     };
     match judge_section(alloc, bump, rules, *name, bytes, at) {
-        Ok(next) => judge_each(alloc, bump, rules, others, bytes, next),
+        Ok(next) => judge_sections(alloc, bump, rules, others, bytes, next),
         Err(end) => Err(end),
     }
-}
-
-/// Judges what it has for obligations, in order.
-pub(crate) fn judge_sections(
-    alloc: Global,
-    rules: &Rules,
-    names: &[ObName],
-    bytes: &[u8],
-    at: usize,
-) -> Result<usize, ConfirmError>
-    requires listed { list_all (is_obligation (function_of rules.now).head) names.now ≡ true }
-    requires place { at ≤ length bytes.now }
-    ensures { Judges bytes.now (sections_judged compare_starts (marked_plan (function_of rules.now)) names.now
-        (length bytes.now) (drop at bytes.now)) result }
-{
-    let mut bump = match Bump::try_with_capacity(alloc, ARENA) {
-        Ok(bump) => bump,
-        Err(_) => Bump::new(alloc),
-    };
-    judge_each(alloc, &mut bump, rules, names, bytes, at)
 }

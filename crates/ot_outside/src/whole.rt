@@ -10,8 +10,8 @@ ghost use Rattle.ot_outside.specs.declared.whole.ReadError.TheVariants as end;
 use crate::shelf::PIECE;
 use crate::{Failed, NoMemory, Shelf, Sink};
 
-/// How many bytes a file has room for from the first on. Pages of it that nobody writes to take no memory, and a file that
-/// fits is not moved while it grows.
+/// How many bytes a file has room for from the first on. Pages of it that nobody writes to take no memory, and a file
+/// that fits is not moved while it grows.
 const ROOM: usize = 1_048_576;
 
 /// Why a file was not read to its end.

@@ -8,6 +8,7 @@ pub mod Coming
 pub mod Steps
 pub mod OneList
 pub mod ShortCycles
+pub mod Splitting
 pub mod AllPossible
 pub mod Telling
 pub mod Leads

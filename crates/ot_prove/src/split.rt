@@ -66,6 +66,7 @@ fn answer(table: &mut Bounds<MAX_NAMES>, lit: Lit, said: bool, number: u32)
 }
 
 /// Answers a literal by both sides: the last table is that for no now, and the one for yes stands behind it.
+// A table is copied once: room is there before, so that it needs no place between.
 #[inline(never)]
 fn split(tables: &mut Vec<Bounds<MAX_NAMES>>, lit: Lit, number: u32) -> Result<(), NoMemory>
     requires some { 0 < length tables.old.items }
@@ -76,10 +77,11 @@ fn split(tables: &mut Vec<Bounds<MAX_NAMES>>, lit: Lit, number: u32) -> Result<(
     ensures { OnOk result (HasSplit number lit tables.old.items tables.new.items) }
 {
     let last = tables.len() - 1;
-    let mut of_yes = tables[last];
-    answer(&mut of_yes, lit, true, number);
+    tables.reserve(1)?;
+    let table = tables[last];
+    tables.push_reserved(table);
     answer(&mut tables[last], lit, false, number);
-    tables.push(of_yes)?;
+    answer(&mut tables[last + 1], lit, true, number);
     Ok(())
 }
 

@@ -169,6 +169,7 @@ impl SymOp {
     }
 
     /// What an atom of the sort compares.
+    #[inline(always)]
     pub fn thing(self, sort: Sort) -> Place
         ensures { result ≡ places.sym_thing sort self }
     {

@@ -82,6 +82,7 @@ impl<'a> Goal<'a> {
         Ok(bump.try_alloc(Goal::Fails(why))?)
     }
 
+    #[inline(always)]
     pub fn either(
         bump: &'a Bump,
         form: Form<'a>,

@@ -116,6 +116,7 @@ impl<N: Copy> Places<N> {
 
     /// Closes the first place: the innermost part that waits is next. A lemma whose tree ends is known then. Places
     /// that were refused memory are as they were.
+    #[inline(always)]
     pub fn close(&mut self) -> Result<(), NoMemory>
         requires { 0 < length self.old.wanted }
         ensures ok { OnOk result (self.new ≡ closed self.old) }

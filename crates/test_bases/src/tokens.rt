@@ -1,7 +1,7 @@
 //! The tokens of a text with their places, and the bytes of tokens.
 
 use fn_rules::{Cmp, Side, Sort};
-use fn_tokens::{Placed, Sign, Token, Word, lex, spell};
+use fn_tokens::{Lexer, Placed, Sign, Token, Word, lex, spell};
 use ot_model::Kind;
 use std::test::Fail;
 
@@ -30,6 +30,25 @@ fn a_text_is_read_as_its_longest_tokens(rt: HostRuntime) -> Result<(), Fail> {
         at(Token::FileEnd, 4, 1),
     ];
     assert!(rt; found.as_slice() == wanted.as_slice());
+    Ok(())
+}
+
+#[test]
+fn a_lexer_finds_one_token_after_another(rt: HostRuntime) -> Result<(), Fail> {
+    let mut lexer = Lexer::new(b"# none\nor");
+    for (token, column) in [
+        (Token::Known(Word::Or), 1),
+        (Token::LineEnd, 3),
+        (Token::FileEnd, 3),
+    ] {
+        let wanted = Placed {
+            token,
+            line: 2,
+            column,
+        };
+        assert!(rt; lexer.next() == Some(wanted));
+    }
+    assert!(rt; lexer.next().is_none());
     Ok(())
 }
 

@@ -1,4 +1,4 @@
-//! The questions of a guard alone. Those of obligations are rows of `test_commands`.
+//! The questions of a guard alone, asked and laid out. Those of obligations are rows of `test_commands`.
 ghost use Rattle.std.specs.Prelude.{IsTrue};
 ghost use Rattle.fn_rules.specs.Obligations.{is_obligation};
 ghost use Rattle.fn_rules.specs.Rules.{function_of};
@@ -8,24 +8,28 @@ use ask_core::{Asker, NoMemory, Turn};
 use bumpalo::Bump;
 use diff_graph::Lit;
 use fn_rules::{Atom, Cmp, Guard, ObName, Rules, Side, Sort};
+use laid_goals::by_guard;
 use ot_model::Kind;
 use ot_paths::{PathAsker, conditions_are_nodes};
 use ot_questions::Who;
-use ot_terms::{Goal, SymOp, Why, place_form};
+use ot_terms::{Form, Goal, Place, SymOp, Why, place_form, places_of};
 use std::process::Abort;
 use std::test::Fail;
+
+// The position of the first operation is less than that of the second one.
+const BEFORE: Atom = Atom {
+    sort: Sort::Pos,
+    left: Side::First,
+    cmp: Cmp::Lt,
+    k: 0,
+};
 
 // Over a goal that holds where the first deletion is before the second, and fails where it is not.
 fn asker_of_guard<'a>(bump: &'a Bump, rules: &'a Rules) -> Result<PathAsker<'a>, NoMemory>
     requires { IsTrue (is_obligation (function_of rules.now).head (ObName.Pair Kind.Del Kind.Del)) }
 {
     conditions_are_nodes();
-    let before = Guard::Atom(Atom {
-        sort: Sort::Pos,
-        left: Side::First,
-        cmp: Cmp::Lt,
-        k: 0,
-    });
+    let before = Guard::Atom(BEFORE);
     let a = SymOp::named(Kind::Del, Who::A);
     let b = SymOp::named(Kind::Del, Who::B);
     let form = place_form(bump, &before, a, b)?;
@@ -60,5 +64,31 @@ fn a_goal_of_a_guard_asks_the_guard_alone(rt: HostRuntime) -> Result<(), Fail> {
     let mut asker = asker_of_guard(&bump, &rules)?;
     assert_eq!(rt; asker.names(), 9);
     guard_is_asked(&rt, &mut asker)?;
+    Ok(())
+}
+
+#[test]
+fn a_comparison_is_laid_out_as_one_question(rt: HostRuntime) -> Result<(), Fail> {
+    let bump = Bump::new(rt.alloc());
+    let a = SymOp::named(Kind::Del, Who::A);
+    let b = SymOp::named(Kind::Del, Who::B);
+    let (first, second) = places_of(&BEFORE, &a, &b);
+    assert_eq!(rt; first, Place { var: 3, off: 0 });
+    assert_eq!(rt; second, Place { var: 6, off: 0 });
+    let on_yes = Goal::holds(&bump)?;
+    let on_no = Goal::fails(&bump, Why::Undefined)?;
+    match *by_guard(&bump, &Guard::Atom(BEFORE), &a, &b, on_yes, on_no)? {
+        Goal::If {
+            form: Form::Le(x, y),
+            yes,
+            no,
+        } => {
+            assert_eq!(rt; x, first);
+            assert_eq!(rt; y, Place { var: 6, off: -1 });
+            assert!(rt; matches!(yes, Goal::Holds));
+            assert!(rt; matches!(no, Goal::Fails(Why::Undefined)));
+        }
+        _ => rt.abort(),
+    }
     Ok(())
 }

@@ -7,7 +7,7 @@ use Rattle.start_laws.specs.Starts.{compare_starts}
 use Rattle.marked_goals.specs.Marking.{marked_plan}
 use Rattle.proof_sections.proofs.Sections.{sections_not, sections_then}
 use Rattle.ot_confirm.proofs.Listed.{all_parts, sections_empty}
-use Rattle.ot_confirm.proofs.section.+judge_each.Goals as goal
+use Rattle.ot_confirm.proofs.section.+judge_sections.Goals as goal
 
 pub returns-in_default : goal.returns-in_default
 returns-in_default t c =
@@ -37,4 +37,4 @@ returns-in-Ok t c =
     let are : c.args.names.now ≡ c.in-Some.name.now ∷ c.in-Some.others.now = c.in-Some.ensures.cases.0 in
     rw are
     (sections_then compare_starts (marked_plan (function_of c.args.rules.now)) c.args.bytes.now c.args.at c.in-Some.name.now
-    c.in-Some.others.now c.in-Ok.next c.judge_each.result c.in-Ok.ensures c.judge_each.ensures)
+    c.in-Some.others.now c.in-Ok.next c.judge_sections.result c.in-Ok.ensures c.judge_sections.ensures)
