@@ -26,7 +26,7 @@ pub use laws::{
     all_bytes_are_read, parts_are_told_apart, read_certificates_are_written,
     written_certificates_are_read,
 };
-pub use piece::number_front;
+pub use piece::{number_front, short_number_front};
 pub use reader::Reader;
-pub use tree::Tree;
+pub use tree::{CycleNumbers, Tree};
 pub use writer::{begin_ob, end_ob, write_end, write_header};

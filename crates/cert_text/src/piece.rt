@@ -81,9 +81,10 @@ pub(crate) fn branches_behind(branches: u64, tok: &Tok) -> u64
     }
 }
 
-// The same as `number_front`, of a number of at most three digits behind which more bytes come.
+/// The same as `number_front`, where the number has at most three digits and four bytes or more stand there: most are
+/// so, and are told at once.
 #[inline(always)]
-fn few_digits(bytes: &[u8]) -> Option<(u32, usize)>
+pub fn short_number_front(bytes: &[u8]) -> Option<(u32, usize)>
     ensures { IfSome result (λ x. (x.0 < PICK_LIMIT) × (x.1 < length bytes.now) × (decimal x.0 ≡ take x.1 bytes.now)) }
 {
     if bytes.len() < 4 {
@@ -108,9 +109,10 @@ fn few_digits(bytes: &[u8]) -> Option<(u32, usize)>
     Some((number, 3))
 }
 
-// The same as `number_front`, of a number of any digits.
+/// The number of a cycle at the front of the bytes, and how many digits it has. Where the digits of no such number
+/// stand there, or the bytes end with them, there is none.
 #[inline(never)]
-fn some_digits(bytes: &[u8]) -> Option<(u32, usize)>
+pub fn number_front(bytes: &[u8]) -> Option<(u32, usize)>
     ensures { IfSome result (λ x. (x.0 < PICK_LIMIT) × (x.1 < length bytes.now) × (decimal x.0 ≡ take x.1 bytes.now)) }
 {
     if bytes.is_empty() {
@@ -129,16 +131,4 @@ fn some_digits(bytes: &[u8]) -> Option<(u32, usize)>
         number = number_with_digit(Some(number), byte)?;
     }
     None
-}
-
-/// The number of a cycle at the front of the bytes, and how many digits it has. Where the digits of no such number
-/// stand there, or the bytes end with them, there is none.
-#[inline(always)]
-pub fn number_front(bytes: &[u8]) -> Option<(u32, usize)>
-    ensures { IfSome result (λ x. (x.0 < PICK_LIMIT) × (x.1 < length bytes.now) × (decimal x.0 ≡ take x.1 bytes.now)) }
-{
-    match few_digits(bytes) {
-        Some(found) => Some(found),
-        None => some_digits(bytes),
-    }
 }

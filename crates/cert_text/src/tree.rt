@@ -1,14 +1,26 @@
 //! The tree of an obligation, which is written while it is found.
-ghost use Rattle.std.specs.Prelude.{◌≡◌, ◌≤◌, [], ◌∷◌, ◌++◌, length, OnOk, OnErr};
+ghost use Rattle.std.specs.Prelude.{◌≡◌, ◌<◌, ◌≤◌, [], ◌∷◌, ◌++◌, length, OnOk, OnErr};
 ghost use Rattle.ask_core.specs.declared.picks.TheConstants.{MAX_PICKS};
 ghost use Rattle.ask_core.specs.declared.tree.Tok.TheVariants.{Ask, Holds, Cycle};
 ghost use Rattle.cert_text.specs.Spelling.{tokens_text};
 ghost use Rattle.cert_text.specs.TreeTexts.{with_token};
 
 use crate::NoMemory;
-use crate::writer::write_cycle;
+use crate::writer::{write_asked, write_cycle};
 use std::alloc::Global;
 use std::marker::Model;
+
+/// Numbers of a cycle that come one after another, so that no list of them is made.
+pub trait CycleNumbers: Drop {
+    ghost use Rattle.std.specs.Prelude.{◌≡◌, ℕ, List, [], ◌∷◌, MatchOption};
+
+    /// The numbers that are still to come.
+    ghost left: { Self → List ℕ };
+
+    /// The next number, or none where all have come.
+    fn next(&mut self) -> Option<u32>
+        ensures { MatchOption result (left self.old ≡ []) (λ n. left self.old ≡ n ∷ left self.new) };
+}
 
 /// The tokens of a tree in preorder: a question, then its tree for yes, then its tree for no. A list of
 /// tokens may also be none, or more than one tree. They are kept as their text, behind the bytes that stand
@@ -75,6 +87,19 @@ impl Tree {
         ensures err { OnErr result (self.new ≡ self.old) }
     {
         write_cycle(numbers, &mut self.text)?;
+        Ok(())
+    }
+
+    /// Puts a question at the end, and a cycle of a number and others behind it. A tree that was refused memory is as
+    /// it was.
+    #[inline(always)]
+    pub fn push_asked<C: CycleNumbers>(&mut self, first: u32, others: C) -> Result<(), NoMemory>
+        requires { length (C.left others) < MAX_PICKS }
+        ensures ok { OnOk result (self.new
+            ≡ with_token (with_token self.old Ask) (Cycle (first ∷ C.left others))) }
+        ensures err { OnErr result (self.new ≡ self.old) }
+    {
+        write_asked(first, others, &mut self.text)?;
         Ok(())
     }
 

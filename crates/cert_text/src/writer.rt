@@ -1,7 +1,8 @@
 //! Certificates, written part by part.
-ghost use Rattle.std.specs.Prelude.{◌≡◌, ◌+◌, ◌*◌, ◌<◌, ◌≤◌, ◌∷◌, ◌++◌, [], length, vec_len, vec_capacity};
+ghost use Rattle.std.specs.Prelude.{◌≡◌, ◌+◌, ◌*◌, ◌^◌, ◌<◌, ◌≤◌, ◌∷◌, ◌++◌, [], length, vec_len, vec_capacity};
 ghost use Rattle.std.specs.Prelude.{IfOk, OnOk, OnErr, Some};
 ghost use Rattle.std.specs.Fmt.{decimal};
+ghost use Rattle.std.specs.List.{AllByRecursion};
 ghost use Rattle.ask_core.specs.declared.picks.TheConstants.{MAX_PICKS};
 ghost use Rattle.ask_core.specs.declared.tree.Tok.TheVariants.{Cycle};
 ghost use Rattle.ask_core.specs.Trees.{AnswerTree, tokens_of};
@@ -10,7 +11,8 @@ ghost use Rattle.cert_text.specs.Spelling.{AreSpellable, end_text, header_text, 
 ghost use Rattle.ot_outside.specs.Whole.{AppendsFront};
 
 use crate::line::{header_line, ob_line};
-use crate::{NoMemory, Tree};
+use crate::{CycleNumbers, NoMemory, Tree};
+use ask_core::MAX_PICKS;
 use fn_rules::{Level, ObName};
 use itoa::Buffer;
 
@@ -88,30 +90,49 @@ fn put_led(lead: u8, number: u32, out: &mut Vec<u8>)
     ensures len { vec_len out.new ≤ vec_len out.old + 11 }
     ensures capacity { vec_capacity out.old ≤ vec_capacity out.new }
 {
-    out.push_reserved(lead);
     if number < 10 {
+        out.push_reserved(lead);
         out.push_reserved(digit_of(number));
         return;
     }
     if number < 100 {
+        out.push_reserved(lead);
         out.push_reserved(digit_of(number / 10));
         out.push_reserved(digit_of(number % 10));
         return;
     }
+    out.push_reserved(lead);
     put_long(number, out);
+}
+
+/// Numbers of a list.
+#[derive(Drop)]
+struct Listed<'a> {
+    numbers: &'a [u32],
+}
+
+impl CycleNumbers for Listed<'_> {
+    ghost left = { λ listed. listed.numbers.now };
+
+    #[inline(always)]
+    fn next(&mut self) -> Option<u32> {
+        let (first, rest) = self.numbers.split_first()?;
+        self.numbers = rest;
+        Some(*first)
+    }
 }
 
 // Further numbers, for which there is room, and for one more byte.
 #[inline(always)]
-fn put_more_numbers(numbers: &[u32], out: &mut Vec<u8>)
-    requires room { vec_len out.old + 11 * length numbers.now + 1 ≤ vec_capacity out.old }
-    ensures items { out.new.items ≡ out.old.items ++ more_numbers_text numbers.now }
+fn put_more_numbers<C: CycleNumbers>(numbers: C, out: &mut Vec<u8>)
+    requires room { vec_len out.old + 11 * length (C.left numbers) + 1 ≤ vec_capacity out.old }
+    ensures items { out.new.items ≡ out.old.items ++ more_numbers_text (C.left numbers) }
+    ensures words { AllByRecursion (λ n. n < 2 ^ 32) (C.left numbers) }
     ensures room { vec_len out.new + 1 ≤ vec_capacity out.new }
 {
     let mut left = numbers;
-    while let Some((first, rest)) = left.split_first() {
-        put_led(b',', *first, out);
-        left = rest;
+    while let Some(number) = left.next() {
+        put_led(b',', number, out);
     }
 }
 
@@ -127,7 +148,28 @@ fn put_numbers(numbers: &[u32], out: &mut Vec<u8>)
         return;
     };
     put_led(b'x', *first, out);
-    put_more_numbers(rest, out);
+    put_more_numbers(Listed { numbers: rest }, out);
+}
+
+/// Appends a question, and a cycle of a number and others behind it. Nothing is appended where memory is wanting.
+// Room for as many numbers as a cycle may have is taken at once.
+#[inline(always)]
+pub(crate) fn write_asked<C: CycleNumbers>(
+    first: u32,
+    others: C,
+    out: &mut Vec<u8>,
+) -> Result<(), NoMemory>
+    requires { length (C.left others) < MAX_PICKS }
+    ensures ok { OnOk result (out.new.items ≡ out.old.items ++ 63 ∷ token_text (Cycle (first ∷ C.left others))) }
+    ensures words { OnOk result (AllByRecursion (λ n. n < 2 ^ 32) (first ∷ C.left others)) }
+    ensures err { OnErr result (out.new.items ≡ out.old.items) }
+{
+    out.reserve(3 + 11 * MAX_PICKS)?;
+    out.push_reserved(b'?');
+    put_led(b'x', first, out);
+    put_more_numbers(others, out);
+    out.push_reserved(b';');
+    Ok(())
 }
 
 /// Appends a cycle with these numbers. Nothing is appended where memory is wanting.

@@ -1,12 +1,12 @@
 //! The table of distances.
 ghost use Rattle.std.specs.Prelude.{◌≡◌, ◌↔◌, ℕ, ◌<◌, ◌≤◌, IsTrue, true, false, List, [], ◌∷◌, ◌++◌, Option, IfOk};
-ghost use Rattle.std.specs.Prelude.{OnErr, OnOk};
+ghost use Rattle.std.specs.Prelude.{OnErr, OnOk, slice_index_or};
 ghost use Rattle.diff_graph.specs.declared.hop.Hop.{Hop};
 ghost use Rattle.diff_graph.specs.Tables.{IsNamed, IsSmall, Numbered, literals_of, kept_of, StandsFor, Follows};
 ghost use Rattle.diff_graph.specs.Tables.{IsPossibleWith, IsCycleOf};
 ghost use Rattle.diff_bounds.specs.Kept.{AreBounds, has_room, IsTightest};
 
-use crate::rows::{allows, append_cycle, begin_rows, insert, kept};
+use crate::rows::{allows, append_cycle, begin_rows, insert, kept, row_of};
 use diff_graph::{Hop, Lit, NoMemory, new_rows_stand_for_nothing, tables_tell_what_is_possible};
 use std::alloc::Global;
 use std::marker::Model;
@@ -63,6 +63,15 @@ impl<const N: usize> Bounds<N> {
         ensures { (ps : List Numbered) → StandsFor N (kept_of self.now) ps → IsTightest (literals_of ps) x y result }
     {
         kept(&self.rows, x, y).map(|hop| hop.k)
+    }
+
+    /// What is kept from each name to `y`.
+    #[inline(always)]
+    pub fn row(&self, y: u8) -> &[Option<Hop>]
+        requires { y < N }
+        ensures { result.now ≡ slice_index_or self.now y [] }
+    {
+        row_of(&self.rows, y)
     }
 
     /// Adds a literal that is allowed, under a number. One that follows already changes nothing.

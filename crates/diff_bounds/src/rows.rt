@@ -37,6 +37,15 @@ fn keep_own(row: &mut [Option<Hop>], own: u8)
     });
 }
 
+/// What is kept from each name to `y`.
+#[inline(always)]
+pub fn row_of<const N: usize>(rows: &[[Option<Hop>; N]], y: u8) -> &[Option<Hop>]
+    requires { y < length rows.now }
+    ensures { result.now ≡ slice_index_or rows.now y [] }
+{
+    &rows[y as usize][..]
+}
+
 /// What is kept from `x` to `y`.
 #[inline(always)]
 pub fn kept<const N: usize>(rows: &[[Option<Hop>; N]], x: u8, y: u8) -> Option<Hop>

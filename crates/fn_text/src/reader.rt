@@ -248,7 +248,8 @@ impl FunctionReader {
 
     /// What stands around the parentheses that are closed goes on.
     fn leave(&mut self, nesting: Nesting)
-        ensures { state_of self.new ≡ left_for (state_of self.old) (plain_nesting_of nesting) (state_of self.old).outer }
+        ensures { state_of self.new
+            ≡ left_for (state_of self.old) (plain_nesting_of nesting) (state_of self.old).outer }
     {
         let Nesting {
             outside,

@@ -9,7 +9,7 @@ ghost use Rattle.ot_terms.specs.Belonging.{IsGoalOf};
 ghost use Rattle.ot_terms.specs.Forms as forms;
 ghost use Rattle.ot_terms.specs.Forms.{form_tree};
 ghost use Rattle.ot_terms.specs.Goals.{goal_tree, laid_form, laid_order, Deliver};
-ghost use Rattle.ot_terms.specs.Placing.{atom_form, compared, guard_form};
+ghost use Rattle.ot_terms.specs.Placing.{compared, guard_form};
 ghost use Rattle.ot_terms.specs.Weights.{goal_weight};
 ghost use Rattle.ot_rewrite.specs.Reaching.{IsStep};
 ghost use Rattle.ot_rewrite.specs.Splits.{HasLowOffsets};
@@ -20,7 +20,7 @@ use crate::behind::found;
 use crate::kept::Behind;
 use ask_core::NoMemory;
 use bumpalo::Bump;
-use fn_rules::{Atom, Cmp, Guard, Rules};
+use fn_rules::{Cmp, Guard, Rules};
 use goal_rules::Front;
 use ot_rewrite::{front_of, step};
 use ot_terms::{Form, Goal, GoalProgress, Place, SymOp, places_of};
@@ -109,26 +109,6 @@ pub fn by_form<'a>(
     }
 }
 
-// One of two goals, by a comparison at two operations.
-#[inline(always)]
-fn by_atom<'a>(
-    bump: &'a Bump,
-    atom: &Atom,
-    a: &SymOp,
-    b: &SymOp,
-    yes: &'a Goal<'a>,
-    no: &'a Goal<'a>,
-) -> Result<&'a Goal<'a>, NoMemory>
-    requires a_near { IsNearOp 200 a.now }
-    requires b_near { IsNearOp 200 b.now }
-    requires atom_near { IsNear 99 atom.now.k }
-    ensures { IfOk result (λ r. goal_tree r.now ≡ laid_form (atom_form atom.now a.now b.now) (goal_tree yes.now)
-        (goal_tree no.now)) }
-{
-    let (x, y) = places_of(atom, a, b);
-    Ok(by_places(bump, atom.cmp, x, y, yes, no)?)
-}
-
 /// One of two goals, by a guard at two operations: as by its form, of which nothing is placed into the arena. A
 /// comparison before `and` or `or` takes no call of its own.
 pub fn by_guard<'a>(
@@ -153,7 +133,10 @@ pub fn by_guard<'a>(
         Guard::Not(g) => (&**g, no, yes),
     };
     match first {
-        Guard::Atom(atom) => Ok(by_atom(bump, atom, a, b, on_yes, on_no)?),
+        Guard::Atom(atom) => {
+            let (x, y) = places_of(atom, a, b);
+            Ok(by_places(bump, atom.cmp, x, y, on_yes, on_no)?)
+        }
         _ => Ok(by_guard(bump, first, a, b, on_yes, on_no)?),
     }
 }

@@ -8,8 +8,8 @@ use Rattle.ot_model.specs.declared.op.Op.{Op}
 use Rattle.ot_model.specs.Kinds.{kind_pairs}
 use Rattle.fn_rules.specs.Functions.{Function, is_declared_of, is_declared_pair}
 use Rattle.ot_questions.proofs.Listed.{of_contained}
-use Rattle.ot_audit.specs.declared.audits.Same.{Same}
-use Rattle.ot_audit.specs.declared.audits.Same.TheVariants.{Everywhere}
+use Rattle.audit_answers.specs.declared.audits.Same.{Same}
+use Rattle.audit_answers.specs.declared.audits.Same.TheVariants.{Everywhere}
 use Rattle.ot_audit.specs.declared.found.Agree.{Agree as Answer}
 use Rattle.ot_audit.specs.declared.found.Agree.TheVariants as agrees
 use Rattle.ot_audit.specs.Answers.{IsAgreedAs}

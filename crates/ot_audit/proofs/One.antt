@@ -19,10 +19,10 @@ use Rattle.ot_questions.specs.Meaning.{op_at}
 use Rattle.ot_questions.specs.Places.{sym_op}
 use Rattle.ot_terms.specs.Goals.{GoalTree}
 use Rattle.ot_values.specs.Values.{floors_of}
-use Rattle.ot_audit.specs.declared.audits.Audit.{Audit}
-use Rattle.ot_audit.specs.declared.audits.Audit.TheVariants as audits
-use Rattle.ot_audit.specs.declared.audits.BlockAudit.{BlockAudit}
-use Rattle.ot_audit.specs.declared.audits.Same.{Same}
+use Rattle.audit_answers.specs.declared.audits.Audit.{Audit}
+use Rattle.audit_answers.specs.declared.audits.Audit.TheVariants as audits
+use Rattle.audit_answers.specs.declared.audits.BlockAudit.{BlockAudit}
+use Rattle.audit_answers.specs.declared.audits.Same.{Same}
 use Rattle.ot_audit.specs.declared.found.Agree.{Agree}
 use Rattle.ot_audit.specs.declared.found.Agree.TheVariants as agrees
 use Rattle.ot_audit.specs.declared.found.Found.{Found}

@@ -11,7 +11,6 @@
 
 mod agreeing;
 mod auditing;
-mod audits;
 mod comparing;
 mod finding;
 mod found;
@@ -22,8 +21,8 @@ mod target;
 
 pub use agreeing::agree;
 pub use ask_core::NoMemory;
+pub use audit_answers::{Audit, BlockAudit, Same};
 pub use auditing::audit_all;
-pub use audits::{Audit, BlockAudit, Same};
 pub use comparing::same_all;
 pub use finding::seek;
 pub use found::{Agree, Found, Sought};

@@ -6,6 +6,7 @@ use Rattle.diff_graph.specs.declared.lit.Lit.{Lit}
 use Rattle.diff_graph.specs.declared.lit.TheConstants.{MAX_LITERAL_OFFSET}
 use Rattle.diff_graph.specs.declared.hop.Hop.{Hop}
 use Rattle.diff_graph.specs.Literals.{answered_of}
+use Rattle.diff_graph.specs.Steps.{numbers_along}
 use Rattle.diff_graph.specs.Tables.{Numbered, StandsFor, IsCycleOf, kept_of, numbered_from}
 use Rattle.diff_bounds.specs.Kept.{Rows, has_room}
 use Rattle.ask_core.specs.declared.picks.TheConstants.{MAX_PICKS}
@@ -49,15 +50,25 @@ abbrev pub AddsAnswer : ℕ → Lit → Bool → Rows → Rows → Type 0
 AddsAnswer number l said before after =
     (w : List Lit) → length w ≡ number → IsTableOf w before → IsTableOf (with_answer w l said) after
 
--- the table has room for both sides, or it stands for the answers with the side that is named, and the other one
--- closes the cycle
+-- the table has room for both sides, or it stands for the answers with the side that is named and has no room for the
+-- other one; where that is no, it closes the cycle
 abbrev pub HasRoomForSides : Rows → ℕ → Lit → List ℕ → Room → Type 0
 HasRoomForSides rows number l numbers Both =
     (has_room (kept_of rows) (answered_of l true) ≡ true) × (has_room (kept_of rows) (answered_of l false) ≡ true)
 HasRoomForSides rows number l numbers OnlyYes =
     AddsAnswer number l true rows rows × ClosesCycle (kept_of rows) number (answered_of l false) numbers
 HasRoomForSides rows number l numbers OnlyNo =
-    AddsAnswer number l false rows rows × ClosesCycle (kept_of rows) number (answered_of l true) numbers
+    AddsAnswer number l false rows rows × (has_room (kept_of rows) (answered_of l true) ≡ false)
+
+-- the numbers of the cycle that the literal closes under a number, by the table
+abbrev pub cycle_along : Rows → ℕ → Lit → List ℕ
+cycle_along rows number l = number ∷ numbers_along (λ x. kept_of rows x l.x) MAX_NAMES l.y l.x
+
+-- the numbers of the cycle of the side for which there is no room: by the table where that is yes, and else these
+abbrev pub numbers_at : Room → Rows → ℕ → Lit → List ℕ → List ℕ
+numbers_at Both rows number l numbers = numbers
+numbers_at OnlyYes rows number l numbers = numbers
+numbers_at OnlyNo rows number l numbers = cycle_along rows number l
 
 -- where there is a cycle, its numbers are no more than a token may have
 abbrev pub HasFewNumbers : List ℕ → Room → Type 0

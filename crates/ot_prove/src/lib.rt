@@ -10,6 +10,7 @@
 #![tactic(auto)]
 
 mod answers;
+mod chain;
 mod cycles;
 mod laws;
 mod outcome;

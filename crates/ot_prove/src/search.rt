@@ -14,7 +14,7 @@ ghost use Rattle.ot_prove.specs.Searching.{WeighsLess, known_of};
 
 use crate::NoMemory;
 use crate::cycles::Cycles;
-use crate::split::{MAX_NAMES, Room, judge_sides};
+use crate::split::{MAX_NAMES, Room, close_yes, judge_sides};
 use ask_core::{Asker, Path, Turn, turn_at};
 use cert_text::Tree;
 use diff_bounds::Bounds;
@@ -87,22 +87,23 @@ impl<N: Copy> PlanSearch<N> {
     {
         let number = self.path.answers().len() as u32;
         let room = judge_sides(&mut self.numbers, &mut self.tables, lit, number)?;
-        self.tree.push_ask()?;
         self.asked += 1;
         match room {
             Room::Both => {
+                self.tree.push_ask()?;
                 self.path.ask(lit, yes, no)?;
                 self.cycles.push_possible()?;
                 Ok(())
             }
             Room::OnlyYes => {
+                self.tree.push_ask()?;
                 self.path.ask(lit, yes, no)?;
                 self.cycles.push_cycle(self.numbers.as_slice())?;
                 Ok(())
             }
             Room::OnlyNo => {
                 self.path.ask_no(lit, no)?;
-                self.tree.push_cycle(self.numbers.as_slice())?;
+                close_yes(&self.tables, lit, number, &mut self.tree)?;
                 Ok(())
             }
         }

@@ -1,12 +1,17 @@
 //! The two sides of a question at a place that some integers meet.
-ghost use Rattle.std.specs.Prelude.{◌≡◌, ℕ, ◌<◌, true, false, List, Option, length, IfOk, OnOk, reverse};
+ghost use Rattle.std.specs.Prelude.{◌≡◌, ℕ, ◌<◌, ◌≤◌, true, false, List, Option, length, IfOk, OnOk, reverse};
 ghost use Rattle.diff_graph.specs.Literals.{answered_of};
 ghost use Rattle.diff_graph.specs.Tables.{IsNamed, kept_of};
 ghost use Rattle.diff_bounds.specs.Kept.{has_room};
 ghost use Rattle.ot_prove.specs.Sides.{AddsAnswer, HasFewNumbers, HasRoomForSides, HasSplit, IsAsked, JudgesSides};
-ghost use Rattle.ot_prove.specs.Sides.{StandsForSome, cycles_of, last_rows};
+ghost use Rattle.ask_core.specs.declared.picks.TheConstants.{MAX_PICKS};
+ghost use Rattle.ask_core.specs.declared.tree.Tok.TheVariants.{Ask, Cycle};
+ghost use Rattle.cert_text.specs.TreeTexts.{with_token};
+ghost use Rattle.ot_prove.specs.Sides.{StandsForSome, cycle_along, cycles_of, last_rows, numbers_at};
 
 use crate::NoMemory;
+use crate::chain::Chain;
+use cert_text::Tree;
 use diff_bounds::Bounds;
 use diff_graph::{Lit, answered, tables_stand_for_what_is_added, tables_tell_what_is_possible};
 
@@ -26,8 +31,9 @@ pub enum Room {
     OnlyNo,
 }
 
-/// Which sides of a literal a table has room for, under the number of answers there. Of a side for which it
-/// has none, a negative cycle is written; the other one follows already, so the table stands for it too.
+/// Which sides of a literal a table has room for, under the number of answers there. Where it has none for one, the
+/// other one follows already, so the table stands for it too. Where that is no, a negative cycle is written.
+// Most questions have no room for yes, which is asked first.
 #[inline(always)]
 fn room_of(
     table: &Bounds<MAX_NAMES>,
@@ -44,13 +50,12 @@ fn room_of(
     tables_stand_for_what_is_added();
     let yes = answered(lit, true);
     let no = answered(lit, false);
+    if !table.allows(yes) {
+        return Ok(Room::OnlyNo);
+    }
     if !table.allows(no) {
         table.write_why_not(numbers, no, number)?;
         return Ok(Room::OnlyYes);
-    }
-    if !table.allows(yes) {
-        table.write_why_not(numbers, yes, number)?;
-        return Ok(Room::OnlyNo);
     }
     Ok(Room::Both)
 }
@@ -86,7 +91,8 @@ fn split(tables: &mut Vec<Bounds<MAX_NAMES>>, lit: Lit, number: u32) -> Result<(
 }
 
 /// Judges both sides of a question at the place of the last table, which has so many answers. That table is
-/// then one of a side that there is room for. Of a side for which there is none, a negative cycle is written.
+/// then one of a side that there is room for. Where there is none for no, a negative cycle is written; where there is
+/// none for yes, the table has one.
 // In the loop of each asker: a question has so little to do that a call of it would show.
 #[inline(always)]
 pub fn judge_sides(
@@ -100,10 +106,14 @@ pub fn judge_sides(
     requires asked { IsAsked lit }
     requires stands { StandsForSome MAX_NAMES (last_rows tables.old.items) }
     ensures judged { IfOk result (λ room. (cycles : List (Option (List ℕ)))
-        → JudgesSides lit number cycles (reverse tables.old.items) (cycles_of room numbers.new.items cycles)
+        → JudgesSides lit number cycles (reverse tables.old.items)
+        (cycles_of room (numbers_at room (last_rows tables.old.items) number lit numbers.new.items) cycles)
         (reverse tables.new.items)) }
-    ensures few { IfOk result (HasFewNumbers numbers.new.items) }
+    ensures few { IfOk result (λ room. HasFewNumbers
+        (numbers_at room (last_rows tables.old.items) number lit numbers.new.items) room) }
+    ensures same { IfOk result (λ room. room ≡ Room.OnlyNo → tables.new.items ≡ tables.old.items) }
 {
+    tables_tell_what_is_possible();
     let last = tables.len() - 1;
     match room_of(&tables[last], numbers, lit, number)? {
         Room::Both => {
@@ -113,4 +123,26 @@ pub fn judge_sides(
         Room::OnlyYes => Ok(Room::OnlyYes),
         Room::OnlyNo => Ok(Room::OnlyNo),
     }
+}
+
+/// Puts a question at the end of a tree, and the cycle that its literal closes at the last table, which has no room for
+/// it, under a number. The cycle's numbers are read off the table while they are written.
+#[inline(always)]
+pub fn close_yes(
+    tables: &Vec<Bounds<MAX_NAMES>>,
+    lit: Lit,
+    number: u32,
+    tree: &mut Tree,
+) -> Result<(), NoMemory>
+    requires some { 0 < length tables.now.items }
+    requires named { IsNamed MAX_NAMES lit }
+    requires few { length (cycle_along (last_rows tables.now.items) number lit) ≤ MAX_PICKS }
+    ensures { OnOk result (tree.new ≡ with_token (with_token tree.old Ask)
+        (Cycle (cycle_along (last_rows tables.now.items) number lit))) }
+{
+    let table = &tables[tables.len() - 1];
+    tree.push_asked(
+        number,
+        Chain::new(table.row(lit.x), lit.y, lit.x, MAX_NAMES),
+    )
 }

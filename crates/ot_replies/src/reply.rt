@@ -1,13 +1,12 @@
 //! What a command replies.
+use audit_answers::{Audit, Back, Same};
 use case_json::CaseFault;
 use fn_rules::Level;
 use fn_text::TextFault;
-use ot_audit::{Audit, Same};
 use ot_counter::Counter;
 use ot_drill::Tally;
 use ot_integrate::End;
 use ot_model::Doc;
-use ot_reverse::Back;
 use ot_sections::Refusal;
 use ot_session::SiteEnd;
 use plain_list::List;

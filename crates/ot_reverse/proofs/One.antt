@@ -6,7 +6,7 @@ use Rattle.ot_terms.specs.Goals.{GoalTree}
 use Rattle.ot_audit.specs.declared.found.Sought.{Sought}
 use Rattle.ot_audit.specs.declared.found.Sought.TheVariants as sought
 use Rattle.ot_audit.specs.Findings.{IsSoughtIn}
-use Rattle.ot_reverse.specs.declared.back.Back.{Back}
+use Rattle.audit_answers.specs.declared.back.Back.{Back}
 use Rattle.ot_reverse.specs.Answers.{AreSearched, GoesOnUnlessFound}
 use Rattle.ot_reverse.specs.Goals.{reversal_goal}
 

@@ -32,8 +32,8 @@ use Rattle.ot_audit.specs.declared.found.Sought.TheVariants as sought
 use Rattle.ot_audit.specs.Findings.{IsLeastInstance, IsSoughtIn}
 use Rattle.ot_audit.proofs.Everywhere.{of_kept}
 use Rattle.ot_audit.proofs.Telling.{HaveNames, ListsTell, NamesStand, ended, least_named, none_fails}
-use Rattle.ot_reverse.specs.declared.back.Back.{Back}
-use Rattle.ot_reverse.specs.declared.back.Back.TheVariants.{Yes, No, Spent}
+use Rattle.audit_answers.specs.declared.back.Back.{Back}
+use Rattle.audit_answers.specs.declared.back.Back.TheVariants.{Yes, No, Spent}
 use Rattle.ot_reverse.specs.Answers.{AreSearched, GoesOnUnlessFound, TellsReversal}
 use Rattle.ot_reverse.specs.Goals.{reversal_goal}
 use Rattle.ot_reverse.specs.Reversal.{IsTakenBack, Reverses}

@@ -9,13 +9,12 @@
 //! functions and a budget have one answer.
 #![tactic(auto)]
 
-mod back;
 mod goals;
 mod laws;
 mod reversing;
 
 pub use ask_core::NoMemory;
-pub use back::Back;
+pub use audit_answers::Back;
 pub use goals::reversal_goal;
 pub use laws::{
     answers_are_one, answers_tell_of_all_documents, goals_are_searchable,

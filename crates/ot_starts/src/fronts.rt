@@ -50,14 +50,17 @@ pub(crate) fn question(form: Form<'_>) -> Option<(Place, Place)>
 }
 
 /// Whether nothing is left to be rewritten at the front of the goal.
-#[inline]
+#[inline(always)]
 pub(crate) fn is_at_front(goal: &Goal<'_>) -> bool
     ensures { result ≡ fronts.is_at_front (goal_tree goal.now) }
 {
     match *goal {
         Goal::Holds => true,
         Goal::Fails(_) => true,
-        Goal::If { form, .. } => question(form).is_some(),
+        Goal::If { form, .. } => match form {
+            Form::Le(x, y) => x.var != y.var,
+            _ => false,
+        },
         _ => false,
     }
 }

@@ -24,7 +24,6 @@ use ot_rewrite::step;
 use ot_terms::{Goal, first_goals_stand_for_obligations};
 
 // Whether the goal is one that an asker stops at.
-#[inline(always)]
 fn is_settled(goal: &Goal<'_>) -> bool
     ensures { result ≡ marks.is_settled (goal_tree goal.now) }
 {
@@ -53,6 +52,7 @@ pub(crate) fn next_of<'a>(
 }
 
 // The goal by one rule after another, until an asker stops at it.
+#[inline(never)]
 fn stopped<'a>(bump: &'a Bump, rules: &Rules, goal: &'a Goal<'a>) -> Result<&'a Goal<'a>, NoMemory>
     requires { (ob : ObName) × IsGoalOf (function_of rules.now) ob (goal_tree goal.now) }
     ensures alike { IfOk result (λ r. StandsMarked (function_of rules.now) (goal_tree goal.now) (goal_tree r.now)) }
@@ -78,7 +78,7 @@ pub(crate) fn settled<'a>(
     ensures settled { IfOk result (λ r. IsTrue (marks.is_settled (goal_tree r.now))) }
 {
     rules_keep_starts();
-    if is_settled(goal) {
+    if is_at_front(goal) {
         return Ok(goal);
     }
     Ok(stopped(bump, rules, goal)?)

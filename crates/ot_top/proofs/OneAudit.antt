@@ -1,8 +1,8 @@
 -- What is replied to functions that are audited or compared is told by their files.
 use Rattle.std.proofs.Common.{◌≡◌, ℕ, List, Option, Some, sym, ap, ◌∙◌}
 use Rattle.fn_rules.specs.Functions.{Function}
-use Rattle.ot_audit.specs.declared.audits.Audit.{Audit as Found}
-use Rattle.ot_audit.specs.declared.audits.Same.{Same as AnySame}
+use Rattle.audit_answers.specs.declared.audits.Audit.{Audit as Found}
+use Rattle.audit_answers.specs.declared.audits.Same.{Same as AnySame}
 use Rattle.ot_audit.specs.Audits.{IsAuditedAs, IsComparedAs}
 use Rattle.ot_replies.specs.declared.reply.Reply.{Reply}
 use Rattle.ot_replies.specs.declared.reply.Reply.TheVariants.{Audited, Compared}

@@ -8,7 +8,7 @@ use Rattle.ot_replies.specs.declared.reply.Reply.{Reply}
 use Rattle.ot_replies.specs.declared.reply.Reply.TheVariants as replies
 use Rattle.ot_replies.specs.declared.reply.Subject.TheVariants.{First, Second}
 use Rattle.ot_replies.specs.Texts.{status_of, text_of}
-use Rattle.ot_reverse.specs.declared.back.Back.{Back}
+use Rattle.audit_answers.specs.declared.back.Back.{Back}
 use Rattle.ot_reverse.specs.Answers.{AreSearched}
 use Rattle.ot_words.specs.Commands.{Reverse}
 use Rattle.ot_words.specs.Words.{most_questions}

@@ -24,9 +24,9 @@ use Rattle.ot_commands.specs.Check.{IsReplyToChecked}
 use Rattle.ot_commands.specs.Drill.{IsDrilled, IsReplyToQuestions}
 use Rattle.ot_commands.specs.Replies.{IsReply}
 use Rattle.ot_commands.specs.Steady.{AreSteady}
-use Rattle.ot_audit.specs.declared.audits.Audit.TheVariants as audits
-use Rattle.ot_audit.specs.declared.audits.Same.TheVariants as sames
-use Rattle.ot_reverse.specs.declared.back.Back.TheVariants as backs
+use Rattle.audit_answers.specs.declared.audits.Audit.TheVariants as audits
+use Rattle.audit_answers.specs.declared.audits.Same.TheVariants as sames
+use Rattle.audit_answers.specs.declared.back.Back.TheVariants as backs
 use Rattle.ot_replies.specs.AuditTexts.{is_total}
 use Rattle.ot_replies.specs.DrillTexts.{drill_text}
 use Rattle.ot_replies.specs.Limits.{limit_of}

@@ -47,12 +47,12 @@ use Rattle.ot_words.specs.Commands.{Drill}
 use Rattle.ot_questions.specs.declared.why.Why.{Why}
 use Rattle.ot_decide.specs.Verdicts.{ObQuestions}
 use Rattle.std.specs.List.{list_all}
-use Rattle.ot_audit.specs.declared.audits.Audit.{Audit as AnyAudit}
-use Rattle.ot_audit.specs.declared.audits.Audit.TheVariants as audits
-use Rattle.ot_audit.specs.declared.audits.Same.{Same as AnySame}
-use Rattle.ot_audit.specs.declared.audits.Same.TheVariants as sames
-use Rattle.ot_reverse.specs.declared.back.Back.{Back}
-use Rattle.ot_reverse.specs.declared.back.Back.TheVariants as backs
+use Rattle.audit_answers.specs.declared.audits.Audit.{Audit as AnyAudit}
+use Rattle.audit_answers.specs.declared.audits.Audit.TheVariants as audits
+use Rattle.audit_answers.specs.declared.audits.Same.{Same as AnySame}
+use Rattle.audit_answers.specs.declared.audits.Same.TheVariants as sames
+use Rattle.audit_answers.specs.declared.back.Back.{Back}
+use Rattle.audit_answers.specs.declared.back.Back.TheVariants as backs
 use Rattle.ot_replies.specs.AuditTexts.{is_total}
 use Rattle.ot_commands.specs.Bound.{at_least}
 use Rattle.ot_commands.specs.Certificate.{IsReplyToCertificate, Tells}

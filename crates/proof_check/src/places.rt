@@ -176,7 +176,8 @@ impl<N: Copy> Places<N> {
         ensures ok { OnOk result ((yes : N) → self.new ≡ closed (asked lit yes no self.old)) }
         ensures err { OnErr result (self.new ≡ self.old) }
     {
-        self.list.push(answered(lit, false))?;
+        self.list.reserve(1)?;
+        self.list.push_reserved(answered(lit, false));
         self.current = Some(At::Tree(no));
         Ok(())
     }

@@ -3,7 +3,7 @@ ghost use Rattle.std.specs.Prelude.{◌≤◌, ◌<◌, ◌^◌, length};
 ghost use Rattle.diff_graph.specs.Tables.{IsNamed, IsSmall};
 
 use diff_bounds::Bounds;
-use diff_graph::{Lit, MAX_LITERAL_OFFSET, is_negative_cycle};
+use diff_graph::{Hop, Lit, MAX_LITERAL_OFFSET, is_negative_cycle};
 use std::alloc::Global;
 use std::process::Abort;
 use std::test::Fail;
@@ -76,6 +76,26 @@ fn a_copy_is_a_table_of_its_own(rt: HostRuntime) -> Result<(), Fail> {
     bounds.add(below, 0);
     assert!(rt; bounds.tightest(1, 2) == Some(-1));
     assert!(rt; before.tightest(1, 2).is_none());
+    Ok(())
+}
+
+#[test]
+fn a_row_has_where_chains_to_its_name_begin(rt: HostRuntime) -> Result<(), Fail> {
+    let mut bounds = Bounds::<3>::new();
+    let below = lit_of::<3>(&rt, 1, 2, -1);
+    assert!(rt; bounds.allows(below));
+    bounds.add(below, 7);
+    let kept = Hop {
+        k: -1,
+        number: 7,
+        second: 2,
+    };
+    let own = Hop {
+        k: 0,
+        number: 0,
+        second: 2,
+    };
+    assert_eq!(rt; bounds.row(2), [None, Some(kept), Some(own)].as_slice());
     Ok(())
 }
 

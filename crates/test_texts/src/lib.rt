@@ -3,6 +3,8 @@
 #![tactic(auto)]
 
 #[cfg(test)]
+mod cycles;
+#[cfg(test)]
 mod printing;
 #[cfg(test)]
 mod reader;

@@ -1,5 +1,7 @@
 //! Certificates that are written.
-use cert_text::{Tree, begin_ob, end_ob, write_end, write_header};
+ghost use Rattle.std.specs.Prelude.{◌≡◌, [], ◌∷◌};
+
+use cert_text::{CycleNumbers, Tree, begin_ob, end_ob, write_end, write_header};
 use fn_rules::{Level, ObName};
 use ot_model::Kind;
 use std::test::Fail;
@@ -33,5 +35,38 @@ fn a_tree_is_written_token_by_token(rt: HostRuntime) -> Result<(), Fail> {
         tree.as_bytes(),
         b"?x11,4;x4294967295;x100,99999,0;.".as_slice()
     );
+    Ok(())
+}
+
+// A number, where it has not come yet.
+#[derive(Drop)]
+struct Once {
+    number: Option<u32>,
+}
+
+impl CycleNumbers for Once {
+    ghost use Rattle.std.specs.Option.{option_map_or};
+
+    ghost left = { λ once. option_map_or (λ n. n ∷ []) once.number [] };
+
+    fn next(&mut self) -> Option<u32> {
+        let number = self.number;
+        self.number = None;
+        number
+    }
+}
+
+#[test]
+fn a_question_is_written_with_the_cycle_behind_it(rt: HostRuntime) -> Result<(), Fail> {
+    let mut tree = Tree::new(rt.alloc());
+    tree.push_asked(7, Once { number: None })?;
+    tree.push_asked(
+        12,
+        Once {
+            number: Some(4_321),
+        },
+    )?;
+    tree.push_holds()?;
+    assert_eq!(rt; tree.as_bytes(), b"?x7;?x12,4321;.".as_slice());
     Ok(())
 }

@@ -8,7 +8,7 @@ ghost use Rattle.ot_replies.specs.AuditTexts.{difference_text, found_text, is_to
 ghost use Rattle.ot_replies.specs.AuditTexts.{same_status, same_text, spent_text};
 
 use super::counters::{write_op, write_ops, write_way_line};
-use ot_audit::{Audit, BlockAudit, Same};
+use audit_answers::{Audit, BlockAudit, Same};
 use ot_counter::WayResult;
 use ot_model::{Kind, NoMemory, Op};
 use std::alloc::Global;

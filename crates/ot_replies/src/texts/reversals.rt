@@ -5,8 +5,8 @@ ghost use Rattle.ot_replies.specs.ReversalTexts.{loss_text, loss_word, reversal_
 
 use super::audits::{way_of, write_spent};
 use super::counters::{write_doc_line, write_ops, write_way_line};
+use audit_answers::Back;
 use ot_model::{Doc, NoMemory, Op};
-use ot_reverse::Back;
 use std::alloc::Global;
 
 /// The status of whether one function takes back what another one makes.

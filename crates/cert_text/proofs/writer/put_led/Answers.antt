@@ -28,15 +28,15 @@ put_three old one two three lead d e one_is two_is three_is =
 pub returns-then-number-lt10-clause-items : goal.returns-then-number-lt10-clause-items
 returns-then-number-lt10-clause-items c =
     rw (one_digit c.args.number c.digit_of.result c.if-number-lt10.true c.digit_of.ensures)
-    (put_two c.args.out.now.items c.push_reserved.new.self.items c.push_reserved-then-number-lt10.new.self.items c.args.lead
-    c.digit_of.result c.push_reserved.ensures.items c.push_reserved-then-number-lt10.ensures.items)
+    (put_two c.args.out.now.items c.push_reserved.new.self.items c.push_reserved-then-number-lt10.new.self.items
+    c.args.lead c.digit_of.result c.push_reserved.ensures.items c.push_reserved-then-number-lt10.ensures.items)
 
 pub returns-then-number-lt100-clause-items : goal.returns-then-number-lt100-clause-items
 returns-then-number-lt100-clause-items c =
     let above : 10 ≤ c.args.number = omega (arith, c.if-number-lt10.false) in
     rw (two_digits c.args.number c.digit_of-then-number-lt100.result c.digit_of-then-number-lt100-2.result above
     c.if-number-lt100.true c.digit_of-then-number-lt100.ensures c.digit_of-then-number-lt100-2.ensures)
-    (put_three c.args.out.now.items c.push_reserved.new.self.items c.push_reserved-then-number-lt100.new.self.items
-    c.push_reserved-then-number-lt100-2.new.self.items c.args.lead c.digit_of-then-number-lt100.result
-    c.digit_of-then-number-lt100-2.result c.push_reserved.ensures.items c.push_reserved-then-number-lt100.ensures.items
-    c.push_reserved-then-number-lt100-2.ensures.items)
+    (put_three c.args.out.now.items c.push_reserved-then-number-lt100.new.self.items
+    c.push_reserved-then-number-lt100-2.new.self.items c.push_reserved-then-number-lt100-3.new.self.items c.args.lead
+    c.digit_of-then-number-lt100.result c.digit_of-then-number-lt100-2.result c.push_reserved-then-number-lt100.ensures.items
+    c.push_reserved-then-number-lt100-2.ensures.items c.push_reserved-then-number-lt100-3.ensures.items)

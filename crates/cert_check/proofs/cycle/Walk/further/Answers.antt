@@ -9,4 +9,4 @@ returns c =
     rw (append_assoc picks (pick ∷ []) more)
     (walks (pick ∷ more)
     (closes_before lits c.args.self.name c.args.self.start pick c.args.self.sum _ more c.args.lit at
-    c.if-x-self.false (grind (arith, ints, c.in_ok-sum.ensures, c.from.ensures)) rest))
+    c.if-x-self.false (grind (arith, ints, c.from.ensures)) rest))

@@ -1,7 +1,7 @@
 use Rattle.std.proofs.Common.{[], refl, arith}
 use Rattle.std.proofs.lemmas.Bool.Decides.{nat_tests}
 use Rattle.cert_text.proofs.PieceLemmas.{digits_grow}
-use Rattle.cert_text.proofs.piece.some_digits.Goals as goal
+use Rattle.cert_text.proofs.piece.number_front.Goals as goal
 
 pub loop-i-init : goal.loop-i-init
 loop-i-init c =

@@ -1,6 +1,6 @@
 use Rattle.std.proofs.Common.{[], arith, refl}
 use Rattle.cert_text.proofs.PieceLemmas.{digits_grow}
-use Rattle.cert_text.proofs.piece.few_digits.Goals as goal
+use Rattle.cert_text.proofs.piece.short_number_front.Goals as goal
 
 pub returns : goal.returns
 returns c =

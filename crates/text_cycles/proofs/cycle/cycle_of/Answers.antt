@@ -2,7 +2,7 @@ use Rattle.std.proofs.Common.{◌+◌, ◌∷◌, ◌++◌, [], arith, refl, ◌
 use Rattle.std.proofs.lemmas.List.{append-nil}
 use Rattle.std.specs.Fmt.{decimal}
 use Rattle.text_cycles.proofs.Numbers.{bytes_from, next_number, numbers_grow, short_with}
-use Rattle.text_cycles.proofs.cycle.cycle_front.Goals as goal
+use Rattle.text_cycles.proofs.cycle.cycle_of.Goals as goal
 
 pub loop-count-init : goal.loop-count-init
 loop-count-init c =

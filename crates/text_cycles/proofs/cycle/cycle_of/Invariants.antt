@@ -1,7 +1,7 @@
 use Rattle.std.proofs.Common.{◌≡◌, ℕ, ◌<◌, List, [], ◌∷◌, ◌++◌, length, take}
 use Rattle.cert_text.specs.Numbers.{AreShort, numbers_text}
 use Rattle.cert_check.specs.Walks.{IsWalkOf}
-use Rattle.text_cycles.proofs.cycle.cycle_front.Given as goal
+use Rattle.text_cycles.proofs.cycle.cycle_of.Given as goal
 
 -- the numbers that came are those of the walk
 abbrev pub invariant-loop-count : goal.invariant-loop-count

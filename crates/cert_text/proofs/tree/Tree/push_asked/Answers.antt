@@ -1,0 +1,30 @@
+-- Two tokens are put one behind the other.
+use Rattle.std.proofs.Common.{◌≡◌, ℕ, List, [], ◌∷◌, ◌++◌, refl, sym, ◌∙◌, append_assoc}
+use Rattle.ask_core.specs.declared.tree.Tok.TheVariants.{Ask, Cycle}
+use Rattle.cert_text.specs.Spelling.{token_text}
+use Rattle.cert_text.specs.TreeTexts.{with_token}
+use Rattle.cert_text.proofs.TreeTextLemmas.{pushed_token, IsTreeAt-pushed}
+use Rattle.cert_text.proofs.tree.Tree.push_asked.Goals as goal
+
+-- behind a question, which has one byte
+behind_question :
+    (old new : List ℕ) (picks : List ℕ) → new ≡ old ++ 63 ∷ token_text (Cycle picks)
+    → new ≡ (old ++ token_text Ask) ++ token_text (Cycle picks)
+behind_question old new picks is = is ∙ sym (append_assoc old (63 ∷ []) (token_text (Cycle picks)))
+
+pub invariant_of-self-2 : goal.invariant_of-self-2
+invariant_of-self-2 g c =
+    let old = c.self.inside.text.items in
+    let picks = c.args.first ∷ g.C.CycleNumbers.left c.args.others in
+    let between = IsTreeAt-pushed c.self.inside.start old (old ++ token_text Ask) Ask c.self.invariant tt refl in
+    IsTreeAt-pushed c.self.inside.start (old ++ token_text Ask) c.write_asked.new.out.items (Cycle picks) between
+    c.in_ok-write_asked.ensures.words (behind_question old c.write_asked.new.out.items picks c.in_ok-write_asked.ensures.ok)
+
+pub returns-clause-ok : goal.returns-clause-ok
+returns-clause-ok g c =
+    let old = c.self.inside.text.items in
+    let picks = c.args.first ∷ g.C.CycleNumbers.left c.args.others in
+    let between = IsTreeAt-pushed c.self.inside.start old (old ++ token_text Ask) Ask c.self.invariant tt refl in
+    pushed_token c.self.inside.start (old ++ token_text Ask) c.write_asked.new.out.items (Cycle picks) (with_token c.args.self.now Ask) between
+    (pushed_token c.self.inside.start old (old ++ token_text Ask) Ask c.args.self.now c.self.invariant c.self.view_is tt refl)
+    c.in_ok-write_asked.ensures.words (behind_question old c.write_asked.new.out.items picks c.in_ok-write_asked.ensures.ok)
