@@ -27,7 +27,8 @@ fn cycles_close_below_zero(rt: HostRuntime) -> Result<(), Fail> {
         lits.push(Lit { x: 1, y: 2, k: -1 })?;
     }
     let last = Lit { x: 2, y: 1, k: 0 };
-    assert_eq!(rt; cycle_front(&lits[..2], last, b"1,2;x"), Some(4));
+    let one = [Lit { x: 1, y: 2, k: -1 }];
+    assert_eq!(rt; cycle_front(&one, last, b"0,1;x"), Some(4));
     assert_eq!(rt; cycle_front(&lits, last, b"1000,7;"), Some(7));
     assert_eq!(rt; cycle_front(&lits, last, b"7,8;"), None);
     assert_eq!(rt; cycle_front(&lits, last, b"1000;?"), None);
