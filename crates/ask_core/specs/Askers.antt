@@ -15,6 +15,10 @@ Begins is_own plan (turn.Ask lit on_yes on_no) p =
 Begins is_own plan turn.Holds p = p ≡ Holds
 Begins is_own plan (turn.Fails why) p = p ≡ Fails why
 
+-- the plan begins with a question: the literal is asked, and its part for no is the plan of an own node
+abbrev pub AsksFirst : {N W : Type 0} → (N → Type 0) → (N → Plan W) → Lit → N → Plan W → Type 0
+AsksFirst {N = N} is_own plan lit on_no p = (on_yes : N) × Begins is_own plan (turn.Ask lit on_yes on_no) p
+
 -- own nodes stay own, and stand for the same plans
 pub record SamePlans {N W : Type 0} (was_own is_own : N → Type 0) (old new : N → Plan W) : Type 0 where
   pub own : (n : N) → was_own n ↔ is_own n

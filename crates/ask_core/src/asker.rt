@@ -1,10 +1,11 @@
 //! Askers: what asks the questions of a plan.
-ghost use Rattle.std.specs.Prelude.{◌≡◌, ℕ, ◌≤◌, IfOk};
+ghost use Rattle.std.specs.Prelude.{◌≡◌, ℕ, ◌≤◌, IfOk, IfSome};
 ghost use Rattle.ask_core.specs.Plans.{Plan};
-ghost use Rattle.ask_core.specs.Askers.{Begins, IsFine, SamePlans};
+ghost use Rattle.ask_core.specs.Askers.{AsksFirst, Begins, IsFine, SamePlans};
 
 use crate::NoMemory;
 use crate::turn::Turn;
+use diff_graph::Lit;
 
 /// The most questions on one path of a plan.
 pub const MAX_QUESTIONS: u32 = 99_999;
@@ -50,6 +51,15 @@ pub trait Asker: Drop {
         ensures same { SamePlans (is_own self.old) (is_own self.new) (plan self.old) (plan self.new) }
         ensures root_kept { root self.new ≡ root self.old }
         ensures count_kept { name_count self.new ≡ name_count self.old };
+
+    /// The literal with which the plan of a node begins, and the node for no, where the asker has both at hand. None
+    /// tells nothing of the plan.
+    fn look(&self, _node: Self::Node) -> Option<(Lit, Self::Node)>
+        requires { is_own self.now _node }
+        ensures { IfSome result (λ r. AsksFirst (is_own self.now) (plan self.now) r.0 r.1 (plan self.now _node)) }
+    {
+        None
+    }
 
     /// The plan of each node keeps the limits.
     ghost fine: { (a : Self) (n : Self.Node) → is_own a n → IsFine (name_count a) (plan a n) };

@@ -1,12 +1,13 @@
 //! How the plan at the first open place begins.
-ghost use Rattle.std.specs.Prelude.{◌≡◌, ◌<◌, length, IfOk};
-ghost use Rattle.ask_core.specs.Askers.{Begins, IsFine, SamePlans};
+ghost use Rattle.std.specs.Prelude.{◌≡◌, ◌<◌, length, IfOk, IfSome};
+ghost use Rattle.ask_core.specs.Askers.{AsksFirst, Begins, IsFine, SamePlans};
 ghost use Rattle.ask_core.specs.Paths.{AreOwn, branches_at, first_plan};
 
 use crate::NoMemory;
 use crate::asker::Asker;
 use crate::path::Path;
 use crate::turn::Turn;
+use diff_graph::Lit;
 
 /// The turn at the first open place of a path, whose nodes are the asker's own.
 #[inline(always)]
@@ -28,4 +29,17 @@ pub fn turn_at<A: Asker>(
     ensures count_kept { A.name_count asker.new ≡ A.name_count asker.old }
 {
     asker.turn(path.node())
+}
+
+/// The literal with which the plan at the first open place begins, and the node for no, where the asker has both at
+/// hand.
+#[inline(always)]
+pub fn look_at<A: Asker>(asker: &A, path: &Path<A::Node>) -> Option<(Lit, A::Node)>
+    requires opened { 0 < length path.now }
+    requires own { AreOwn (A.is_own asker.now) path.now }
+    ensures asks { IfSome result (λ r. AsksFirst (A.is_own asker.now) (A.plan asker.now) r.0 r.1
+        (first_plan (A.plan asker.now) path.now)) }
+    ensures fine { IsFine (A.name_count asker.now) (first_plan (A.plan asker.now) path.now) }
+{
+    asker.look(path.node())
 }

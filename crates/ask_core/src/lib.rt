@@ -23,7 +23,7 @@ mod turn;
 
 pub use answering::valuations_answer_questions;
 pub use asker::{Asker, MAX_QUESTIONS};
-pub use first::turn_at;
+pub use first::{look_at, turn_at};
 pub use fitting::{fitting_trees_hold, trees_are_judged_token_by_token};
 pub use leading::answers_lead_to_ends;
 pub use lengths::paths_bound_question_lists;

@@ -1,5 +1,5 @@
 //! The open path through a plan, with the parts for no that still wait.
-ghost use Rattle.std.specs.Prelude.{◌≡◌, ◌↔◌, IsTrue, ◌<◌, [], ◌∷◌, Some, drop, length, slice_get, OnOk, OnErr};
+ghost use Rattle.std.specs.Prelude.{◌≡◌, ◌↔◌, IsTrue, false, ◌<◌, [], ◌∷◌, Some, drop, length, slice_get, OnOk, OnErr};
 ghost use Rattle.std.specs.Option.{option_map};
 ghost use Rattle.ask_core.specs.Paths.{OpenPlace, after_question, first_answers};
 
@@ -110,6 +110,22 @@ impl<N: Copy> Path<N> {
         self.answers.push_reserved(answered(lit, false));
         self.current = Some(no);
         Ok(())
+    }
+
+    /// The same, where there is room for a further answer: then the result is true. Else it is false, and the places
+    /// stay as they were. The allocator is not asked for memory.
+    #[inline(always)]
+    pub fn put_no(&mut self, lit: Lit, no: N) -> bool
+        requires { 0 < length self.old }
+        ensures put { IsTrue result → (yes : N) → self.new ≡ drop 1 (after_question lit yes no self.old) }
+        ensures kept { result ≡ false → self.new ≡ self.old }
+    {
+        if self.answers.len() < self.answers.capacity() {
+            self.answers.push_reserved(answered(lit, false));
+            self.current = Some(no);
+            return true;
+        }
+        false
     }
 
     /// Closes the first place: the innermost part that waits is next.

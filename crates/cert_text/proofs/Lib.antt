@@ -10,5 +10,6 @@ pub mod ReaderLemmas
 pub mod ReadingLemmas
 pub mod StepLemmas
 pub mod TreeTextLemmas
+pub mod TwoDigits
 pub mod WholeCertificates
 pub mod WriterLemmas

@@ -129,3 +129,9 @@ pushed_token start text new tok tree h are words is =
 pub HasWords-cycle : (picks : List ℕ) → ((i : ℕ) → Fits w32 (get_or picks i 0)) → HasWords (token.Cycle picks)
 HasWords-cycle [] fits = tt
 HasWords-cycle (n ∷ picks) fits = (omega (arith, fits 0), HasWords-cycle picks (λ i. fits (suc i)))
+
+-- behind a question, which has one byte
+pub behind_question :
+    (old new : List ℕ) (picks : List ℕ) → new ≡ old ++ 63 ∷ token_text (token.Cycle picks)
+    → new ≡ (old ++ token_text token.Ask) ++ token_text (token.Cycle picks)
+behind_question old new picks is = is ∙ sym (append_assoc old (63 ∷ []) (token_text (token.Cycle picks)))

@@ -17,6 +17,7 @@ mod piece;
 mod reader;
 mod stage;
 mod step;
+mod tens;
 mod tree;
 mod writer;
 

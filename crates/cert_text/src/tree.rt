@@ -1,12 +1,12 @@
 //! The tree of an obligation, which is written while it is found.
-ghost use Rattle.std.specs.Prelude.{◌≡◌, ◌<◌, ◌≤◌, [], ◌∷◌, ◌++◌, length, OnOk, OnErr};
+ghost use Rattle.std.specs.Prelude.{◌≡◌, ◌<◌, ◌≤◌, [], ◌∷◌, ◌++◌, length, OnOk, OnErr, IsTrue, false};
 ghost use Rattle.ask_core.specs.declared.picks.TheConstants.{MAX_PICKS};
 ghost use Rattle.ask_core.specs.declared.tree.Tok.TheVariants.{Ask, Holds, Cycle};
 ghost use Rattle.cert_text.specs.Spelling.{tokens_text};
 ghost use Rattle.cert_text.specs.TreeTexts.{with_token};
 
 use crate::NoMemory;
-use crate::writer::{write_asked, write_cycle};
+use crate::writer::{put_asked, write_asked, write_cycle};
 use std::alloc::Global;
 use std::marker::Model;
 
@@ -101,6 +101,21 @@ impl Tree {
     {
         write_asked(first, others, &mut self.text)?;
         Ok(())
+    }
+
+    /// The same, where there is room at hand: then the answer is true. Else it is false, and the tree is as it was. The
+    /// allocator is not asked for memory.
+    #[inline(always)]
+    pub fn put_asked<C: CycleNumbers>(&mut self, first: u32, others: C) -> bool
+        requires { length (C.left others) < MAX_PICKS }
+        ensures put { IsTrue result → self.new
+            ≡ with_token (with_token self.old Ask) (Cycle (first ∷ C.left others)) }
+        ensures kept { result ≡ false → self.new ≡ self.old }
+    {
+        if put_asked(first, others, &mut self.text) {
+            return true;
+        }
+        false
     }
 
     /// The text of the tokens.

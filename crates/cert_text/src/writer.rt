@@ -1,6 +1,6 @@
 //! Certificates, written part by part.
 ghost use Rattle.std.specs.Prelude.{◌≡◌, ◌+◌, ◌*◌, ◌^◌, ◌<◌, ◌≤◌, ◌∷◌, ◌++◌, [], length, vec_len, vec_capacity};
-ghost use Rattle.std.specs.Prelude.{IfOk, OnOk, OnErr, Some};
+ghost use Rattle.std.specs.Prelude.{IfOk, OnOk, OnErr, Some, IsTrue, false};
 ghost use Rattle.std.specs.Fmt.{decimal};
 ghost use Rattle.std.specs.List.{AllByRecursion};
 ghost use Rattle.ask_core.specs.declared.picks.TheConstants.{MAX_PICKS};
@@ -11,10 +11,16 @@ ghost use Rattle.cert_text.specs.Spelling.{AreSpellable, end_text, header_text, 
 ghost use Rattle.ot_outside.specs.Whole.{AppendsFront};
 
 use crate::line::{header_line, ob_line};
+use crate::tens::{tens_of, units_of};
 use crate::{CycleNumbers, NoMemory, Tree};
 use ask_core::MAX_PICKS;
 use fn_rules::{Level, ObName};
 use itoa::Buffer;
+use std::mem;
+
+/// How many bytes a question and a cycle behind it have at most: a `?`, an `x`, at most 10 digits and a byte behind each
+/// number, and a `;`.
+const ASKED_ROOM: usize = 3 + 11 * MAX_PICKS;
 
 /// Appends the first line of a certificate of a level that has these obligations. After `NoMemory` a
 /// front of it was appended.
@@ -70,16 +76,32 @@ fn digit_of(value: u32) -> u8
     b'0' + value as u8
 }
 
-// A number of more than two digits, for which there is room.
+// The bytes with a number of more than two digits behind them, for which there is room. They come and go by value, so
+// that a loop may keep their length and their place in registers.
 #[inline(never)]
+fn with_long(number: u32, bytes: Vec<u8>) -> Vec<u8>
+    requires room { vec_len bytes + 10 ≤ vec_capacity bytes }
+    ensures items { result.items ≡ bytes.items ++ decimal number }
+    ensures len { vec_len result ≤ vec_len bytes + 10 }
+    ensures capacity { vec_capacity bytes ≤ vec_capacity result }
+{
+    let mut bytes = bytes;
+    let mut buffer = Buffer::new();
+    let _ = bytes.extend_from_slice(buffer.format(number).as_bytes());
+    bytes
+}
+
+// A number of more than two digits, for which there is room.
+#[inline(always)]
 fn put_long(number: u32, out: &mut Vec<u8>)
     requires room { vec_len out.old + 10 ≤ vec_capacity out.old }
     ensures items { out.new.items ≡ out.old.items ++ decimal number }
     ensures len { vec_len out.new ≤ vec_len out.old + 10 }
     ensures capacity { vec_capacity out.old ≤ vec_capacity out.new }
 {
-    let mut buffer = Buffer::new();
-    let _ = out.extend_from_slice(buffer.format(number).as_bytes());
+    let none = Vec::new(*out.allocator());
+    let bytes = mem::replace(out, none);
+    *out = with_long(number, bytes);
 }
 
 // A byte and a number, for which there is room. Most numbers have one digit or two.
@@ -97,8 +119,8 @@ fn put_led(lead: u8, number: u32, out: &mut Vec<u8>)
     }
     if number < 100 {
         out.push_reserved(lead);
-        out.push_reserved(digit_of(number / 10));
-        out.push_reserved(digit_of(number % 10));
+        out.push_reserved(tens_of(number));
+        out.push_reserved(units_of(number));
         return;
     }
     out.push_reserved(lead);
@@ -151,8 +173,21 @@ fn put_numbers(numbers: &[u32], out: &mut Vec<u8>)
     put_more_numbers(Listed { numbers: rest }, out);
 }
 
+// A question, and a cycle of a number and others behind it, for which there is room.
+#[inline(always)]
+fn put_question<C: CycleNumbers>(first: u32, others: C, out: &mut Vec<u8>)
+    requires few { length (C.left others) < MAX_PICKS }
+    requires room { vec_len out.old + ASKED_ROOM ≤ vec_capacity out.old }
+    ensures items { out.new.items ≡ out.old.items ++ 63 ∷ token_text (Cycle (first ∷ C.left others)) }
+    ensures words { AllByRecursion (λ n. n < 2 ^ 32) (first ∷ C.left others) }
+{
+    out.push_reserved(b'?');
+    put_led(b'x', first, out);
+    put_more_numbers(others, out);
+    out.push_reserved(b';');
+}
+
 /// Appends a question, and a cycle of a number and others behind it. Nothing is appended where memory is wanting.
-// Room for as many numbers as a cycle may have is taken at once.
 #[inline(always)]
 pub(crate) fn write_asked<C: CycleNumbers>(
     first: u32,
@@ -164,12 +199,26 @@ pub(crate) fn write_asked<C: CycleNumbers>(
     ensures words { OnOk result (AllByRecursion (λ n. n < 2 ^ 32) (first ∷ C.left others)) }
     ensures err { OnErr result (out.new.items ≡ out.old.items) }
 {
-    out.reserve(3 + 11 * MAX_PICKS)?;
-    out.push_reserved(b'?');
-    put_led(b'x', first, out);
-    put_more_numbers(others, out);
-    out.push_reserved(b';');
+    out.reserve(ASKED_ROOM)?;
+    put_question(first, others, out);
     Ok(())
+}
+
+/// The same, where there is room for as many numbers as a cycle may have: then the answer is true. Else it is false, and
+/// nothing is appended. The allocator is not asked for memory.
+#[inline(always)]
+pub(crate) fn put_asked<C: CycleNumbers>(first: u32, others: C, out: &mut Vec<u8>) -> bool
+    requires { length (C.left others) < MAX_PICKS }
+    ensures put { IsTrue result
+        → out.new.items ≡ out.old.items ++ 63 ∷ token_text (Cycle (first ∷ C.left others)) }
+    ensures words { IsTrue result → AllByRecursion (λ n. n < 2 ^ 32) (first ∷ C.left others) }
+    ensures kept { result ≡ false → out.new.items ≡ out.old.items }
+{
+    if out.capacity() - out.len() < ASKED_ROOM {
+        return false;
+    }
+    put_question(first, others, out);
+    true
 }
 
 /// Appends a cycle with these numbers. Nothing is appended where memory is wanting.
@@ -181,7 +230,10 @@ pub(crate) fn write_cycle(numbers: &[u32], out: &mut Vec<u8>) -> Result<(), NoMe
     ensures err { OnErr result (out.new.items ≡ out.old.items) }
 {
     out.reserve(2 + 11 * numbers.len())?;
-    put_numbers(numbers, out);
-    out.push_reserved(b';');
+    let none = Vec::new(*out.allocator());
+    let mut bytes = mem::replace(out, none);
+    put_numbers(numbers, &mut bytes);
+    bytes.push_reserved(b';');
+    *out = bytes;
     Ok(())
 }

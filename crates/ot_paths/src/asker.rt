@@ -232,5 +232,17 @@ impl<'a> Asker for PathAsker<'a> {
         Ok(self.turn_of(node)?)
     }
 
+    #[inline(always)]
+    fn look(&self, node: &'a Goal<'a>) -> Option<(Lit, &'a Goal<'a>)> {
+        if let Goal::If { form, yes, no } = *node {
+            if is_asked(form) {
+                if let Turn::Ask { lit, no, .. } = self.asked(form, yes, no) {
+                    return Some((lit, no));
+                }
+            }
+        }
+        None
+    }
+
     ghost fine = { λ a n own. own.fine };
 }

@@ -4,12 +4,12 @@ use Rattle.std.proofs.Common.{Some, None, IsTrue, arith, refl, sym, ap, ◌∙�
 use Rattle.std.proofs.lemmas.List.{append-nil, length-append, length_push, get_or_push, take_at}
 use Rattle.diff_graph.specs.declared.lit.Lit.{Lit}
 use Rattle.diff_graph.specs.Literals.{IsPossible, negated}
-use Rattle.diff_graph.specs.Tables.{IsNamed, numbered_from}
+use Rattle.diff_graph.specs.Tables.{IsNamed, kept_of, numbered_from}
 use Rattle.ask_core.specs.declared.asker.TheConstants.{MAX_QUESTIONS}
 use Rattle.ask_core.specs.declared.tree.Tok.{Tok}
 use Rattle.ask_core.specs.declared.tree.Tok.TheVariants as token
 use Rattle.ask_core.specs.Plans.{Plan, Ask, Holds, Fails}
-use Rattle.ask_core.specs.Askers.{IsFine, SamePlans, has_fine_literals, longest_path}
+use Rattle.ask_core.specs.Askers.{AsksFirst, IsFine, SamePlans, has_fine_literals, longest_path}
 use Rattle.ask_core.specs.Trees.{Branch, with_answer}
 use Rattle.ask_core.specs.Questions.{Questions, QuestionList}
 use Rattle.ask_core.specs.Paths.{OpenPlace, AreOwn, branch_at, branches_at, after_question, first_answers, first_plan}
@@ -20,7 +20,8 @@ use Rattle.ot_prove.specs.Outcomes.{AreAllPossible, IsDecided}
 use Rattle.ot_prove.specs.declared.split.Room.{Room}
 use Rattle.ot_prove.specs.declared.split.Room.TheVariants.{Both, OnlyYes, OnlyNo}
 use Rattle.diff_bounds.specs.Kept.{Rows}
-use Rattle.ot_prove.specs.Sides.{IsTableOf, IsAsked, StandsForSome, AreJudged, JudgesSides, cycles_of}
+use Rattle.ot_prove.specs.Sides.{IsTableOf, IsAsked, StandsForSome, AddsAnswer, AreJudged, ClosesCycle, HasRoomForSides, JudgesSides, cycle_along, cycles_of}
+use Rattle.ot_prove.specs.Sides.{last_rows}
 use Rattle.ot_prove.specs.Searching.{plan_weight, weight_of, HasCome, answers_at, AgreesWithLists, AreShortBranches, LeadsTo, AreReached, IsSearching, known_by}
 use Rattle.ot_prove.specs.Searching.{GoesOnAfterQuestion}
 use Rattle.cert_text.specs.TreeTexts.{Written, with_token}
@@ -28,7 +29,7 @@ use Rattle.ot_prove.proofs.Literals.{fine_question}
 use Rattle.ot_prove.proofs.Coming.{HasCome-begun, HasCome-question, HasCome-holds, HasCome-cycle, AgreesWithLists-spent, fails_here, AgreesWithLists-yes}
 use Rattle.ot_prove.proofs.Possible.{AreNeverMet, IsPossible-by_table, impossible_by_cycle}
 use Rattle.ot_prove.proofs.Ways.{LeadsTo-yes, LeadsTo-no}
-use Rattle.ot_prove.proofs.Judged.{last_of, reverse-push}
+use Rattle.ot_prove.proofs.Judged.{JudgesSides-only_no, last_at, last_of, reverse-push}
 
 -- ---- the table of the first place
 -- a vector's length is that of its items
@@ -303,6 +304,19 @@ module _ {N W : Type 0} where
         let found = table_at_last p.answers (answers_at places) cycles tables s.judged in
         (found.0, (numbered_from 0 p.answers, found.1))
 
+    -- it is the one that is read at the last place
+    pub first_table_is_read :
+        (places : List (OpenPlace N)) (cycles : List (Option (List ℕ))) (tables : List Rows) (tree : List Tok) (asked : ℕ)
+        (rows : Rows) (len place : ℕ) → 0 < length places
+        → IsSearching is_own plan root budget places (None ∷ cycles) (reverse tables) tree asked
+        → len ≡ length tables → place ≡ len → rows ≡ get_or tables (place - 1) rows
+        → (last_rows tables ≡ rows) × StandsForSome MAX_NAMES rows
+    first_table_is_read places cycles tables tree asked rows len place some s known is read =
+        let table = first_has_table places cycles tables tree asked some s in
+        let at : place - 1 ≡ length tables - 1 = omega arith in
+        let same : last_rows tables ≡ rows = last_at tables rows (place - 1) table.0 at (sym read) in
+        (same, subst (λ (x : Rows). StandsForSome MAX_NAMES x) same table.1)
+
     pub IsSearching-cycle :
         (places : List (OpenPlace N)) (picks : List ℕ) (cycles : List (Option (List ℕ))) (tables : List Rows)
         (tree : List Tok) (asked : ℕ) → 0 < length places → AreNeverMet
@@ -352,6 +366,25 @@ module _ {N W : Type 0} where
         (IsSearching-question is_own plan root budget places cycles tables tree.tokens asked l on_yes on_no (cycles_of room numbers cycles)
         new_tables s begins fits judges)
 
+    -- a question at hand whose side for yes has no room in the last table, and is closed with the cycle along it
+    pub IsSearching-passed :
+        (places new_places : List (OpenPlace N)) (cycles : List (Option (List ℕ))) (tables : List Rows) (rows : Rows)
+        (tree new_tree : Written) (asked : ℕ) (l : Lit) (on_no : N) → 0 < length places → AreNeverMet → last_rows tables ≡ rows
+        → IsSearching is_own plan root budget places (None ∷ cycles) (reverse tables) tree.tokens asked
+        → AsksFirst is_own plan l on_no (first_plan plan places) → asked ≢ budget
+        → HasRoomForSides rows (length (first_answers places)) l OnlyNo
+        → ((on_yes : N) → new_places ≡ drop 1 (after_question l on_yes on_no places))
+        → new_tree ≡ with_token (with_token tree token.Ask) (token.Cycle (cycle_along rows (length (first_answers places)) l))
+        → IsSearching is_own plan root budget new_places (None ∷ cycles) (reverse tables) new_tree.tokens (asked + 1)
+    IsSearching-passed places new_places cycles tables rows tree new_tree asked l on_no some never read s asks fits room on written =
+        let number = length (first_answers places) in
+        let numbers = cycle_along rows number l in
+        let table = first_has_table is_own plan root budget places cycles tables tree.tokens asked some s in
+        let here = subst (λ (x : Rows). AddsAnswer number l false x x × ClosesCycle (kept_of x) number l numbers) (sym read) room in
+        IsSearching-asked places new_places cycles cycles tables (reverse tables) tree new_tree asked l asks.0 on_no OnlyNo numbers some
+        never s asks.1 fits (JudgesSides-only_no l number numbers tables table.0 cycles here.0 here.1)
+        (on asks.0, refl, written)
+
   -- ---- weights
   module _ (plan : N → Plan W) where
     pub weight_of-question :
@@ -390,6 +423,17 @@ module _ {N W : Type 0} where
         weight_of-on room numbers (after_question l on_yes on_no places) new_places cycles new_cycles tree new_tree
         (after_question-some places l on_yes on_no some) on in
         omega (arith, less, more)
+
+    -- so does a question whose side for yes is closed at once, and a place is open behind it
+    pub weight_of-passed :
+        (places new_places : List (OpenPlace N)) (l : Lit) (on_yes on_no : N) → 0 < length places
+        → first_plan plan places ≡ Ask l (plan on_yes) (plan on_no) → new_places ≡ drop 1 (after_question l on_yes on_no places)
+        → (0 < length new_places) × (weight_of (branches_at plan new_places) < weight_of (branches_at plan places))
+    weight_of-passed [] new_places l on_yes on_no some asks on = absurd (omega arith)
+    weight_of-passed (p ∷ places) new_places l on_yes on_no some asks on =
+        let less = weight_of-question (p ∷ places) l on_yes on_no asks in
+        let more = weight_of-close (after_question l on_yes on_no (p ∷ places)) (after_question-some (p ∷ places) l on_yes on_no some) in
+        rw on (omega arith, omega (arith, less, more))
 
   -- ---- the end of a search
   module _ (is_own : N → Type 0) (plan : N → Plan W) (root : Plan W) (budget : ℕ) where

@@ -131,10 +131,10 @@ GoesOnAfterQuestion OnlyYes numbers places cycles tree new_places new_cycles new
 GoesOnAfterQuestion OnlyNo numbers places cycles tree new_places new_cycles new_tree =
     (new_places ≡ drop 1 places) × (new_cycles ≡ cycles) × (new_tree ≡ with_token tree (token.Cycle numbers))
 
--- the literal is asked at the first place, and its sides are judged
-abbrev pub HasAsked : {N : Type 0} → Lit → N → N → PlanSearch N → PlanSearch N → Type 0
-HasAsked l on_yes on_no before after =
-    (room : Room) × (numbers : List ℕ)
+-- the literal is asked at the first place, and its sides are judged, of which some have room
+abbrev pub HasAsked : {N : Type 0} → Room → Lit → N → N → PlanSearch N → PlanSearch N → Type 0
+HasAsked room l on_yes on_no before after =
+    (numbers : List ℕ)
     × JudgesSides l (length (first_answers before.path)) before.cycles (reverse before.tables.items)
     (cycles_of room numbers before.cycles) (reverse after.tables.items)
     × GoesOnAfterQuestion room numbers (after_question l on_yes on_no before.path) before.cycles

@@ -1,6 +1,6 @@
 -- What is known of the open places of a search, the first place first: a negative cycle of its answers, or
 -- else a table that stands for them.
-use Rattle.std.specs.Prelude.{◌≡◌, ℕ, ◌-◌, ◌≤◌, neg_ℤ, ◌≤ℤ◌, Bool, true, false, List, [], ◌∷◌, ◌++◌, length}
+use Rattle.std.specs.Prelude.{◌≡◌, ℕ, ◌-◌, neg_ℤ, ◌≤ℤ◌, Bool, true, false, List, [], ◌∷◌, ◌++◌, length}
 use Rattle.std.specs.Prelude.{slice_index_or, slice_set, Option, Some, None}
 use Rattle.diff_graph.specs.declared.lit.Lit.{Lit}
 use Rattle.diff_graph.specs.declared.lit.TheConstants.{MAX_LITERAL_OFFSET}
@@ -9,7 +9,6 @@ use Rattle.diff_graph.specs.Literals.{answered_of}
 use Rattle.diff_graph.specs.Steps.{numbers_along}
 use Rattle.diff_graph.specs.Tables.{Numbered, StandsFor, IsCycleOf, kept_of, numbered_from}
 use Rattle.diff_bounds.specs.Kept.{Rows, has_room}
-use Rattle.ask_core.specs.declared.picks.TheConstants.{MAX_PICKS}
 use Rattle.ask_core.specs.Trees.{IsCycleAmong, with_answer}
 use Rattle.ot_prove.specs.declared.split.TheConstants.{MAX_NAMES}
 use Rattle.ot_prove.specs.declared.split.Room.{Room}
@@ -50,31 +49,20 @@ abbrev pub AddsAnswer : ℕ → Lit → Bool → Rows → Rows → Type 0
 AddsAnswer number l said before after =
     (w : List Lit) → length w ≡ number → IsTableOf w before → IsTableOf (with_answer w l said) after
 
--- the table has room for both sides, or it stands for the answers with the side that is named and has no room for the
--- other one; where that is no, it closes the cycle
-abbrev pub HasRoomForSides : Rows → ℕ → Lit → List ℕ → Room → Type 0
-HasRoomForSides rows number l numbers Both =
-    (has_room (kept_of rows) (answered_of l true) ≡ true) × (has_room (kept_of rows) (answered_of l false) ≡ true)
-HasRoomForSides rows number l numbers OnlyYes =
-    AddsAnswer number l true rows rows × ClosesCycle (kept_of rows) number (answered_of l false) numbers
-HasRoomForSides rows number l numbers OnlyNo =
-    AddsAnswer number l false rows rows × (has_room (kept_of rows) (answered_of l true) ≡ false)
-
 -- the numbers of the cycle that the literal closes under a number, by the table
 abbrev pub cycle_along : Rows → ℕ → Lit → List ℕ
 cycle_along rows number l = number ∷ numbers_along (λ x. kept_of rows x l.x) MAX_NAMES l.y l.x
 
--- the numbers of the cycle of the side for which there is no room: by the table where that is yes, and else these
-abbrev pub numbers_at : Room → Rows → ℕ → Lit → List ℕ → List ℕ
-numbers_at Both rows number l numbers = numbers
-numbers_at OnlyYes rows number l numbers = numbers
-numbers_at OnlyNo rows number l numbers = cycle_along rows number l
-
--- where there is a cycle, its numbers are no more than a token may have
-abbrev pub HasFewNumbers : List ℕ → Room → Type 0
-HasFewNumbers numbers Both = Unit {0}
-HasFewNumbers numbers OnlyYes = length numbers ≤ MAX_PICKS
-HasFewNumbers numbers OnlyNo = length numbers ≤ MAX_PICKS
+-- the table has room for both sides, or it stands for the answers with the side that is named and has no room for the
+-- other one; where that is yes, it closes the cycle along the table
+abbrev pub HasRoomForSides : Rows → ℕ → Lit → Room → Type 0
+HasRoomForSides rows number l Both =
+    (has_room (kept_of rows) (answered_of l true) ≡ true) × (has_room (kept_of rows) (answered_of l false) ≡ true)
+HasRoomForSides rows number l OnlyYes =
+    AddsAnswer number l true rows rows × (has_room (kept_of rows) (answered_of l false) ≡ false)
+HasRoomForSides rows number l OnlyNo =
+    AddsAnswer number l false rows rows
+    × ClosesCycle (kept_of rows) number (answered_of l true) (cycle_along rows number l)
 
 -- what is known of the two sides, that of yes first, and then of other places
 abbrev pub cycles_of : Room → List ℕ → List (Option (List ℕ)) → List (Option (List ℕ))
@@ -88,6 +76,14 @@ HasSplit number l before after =
     (of_yes of_no : Rows) × AddsAnswer number l true (last_rows before) of_yes
     × AddsAnswer number l false (last_rows before) of_no
     × (after ≡ slice_set before (length before - 1) of_no ++ of_yes ∷ [])
+
+-- each side that there is room for has a table: two where both have room, and else the last one as it was
+abbrev pub HasSides : ℕ → Lit → List Rows → List Rows → Room → Type 0
+HasSides number l before after Both = HasSplit number l before after
+HasSides number l before after OnlyYes =
+    (after ≡ before) × HasRoomForSides (last_rows before) number l OnlyYes
+HasSides number l before after OnlyNo =
+    (after ≡ before) × HasRoomForSides (last_rows before) number l OnlyNo
 
 -- where a place with so many answers has the first table, both its sides are judged after the question
 abbrev pub JudgesSides :

@@ -1,11 +1,17 @@
 //! What is known of places that wait.
-ghost use Rattle.std.specs.Prelude.{◌≡◌, ◌-◌, ◌<◌, ◌≤◌, ◌∷◌, ◌++◌, [], None, Some, length, slice_index_or, IfOk, OnOk};
-ghost use Rattle.std.specs.Prelude.{OnErr};
-ghost use Rattle.ask_core.specs.declared.picks.TheConstants.{MAX_PICKS};
+ghost use Rattle.std.specs.Prelude.{◌≡◌, ℕ, ◌-◌, ◌<◌, false, List, ◌∷◌, [], None, Some, length, slice_index_or};
+ghost use Rattle.std.specs.Prelude.{IfOk, OnOk};
+ghost use Rattle.diff_graph.specs.Tables.{IsNamed, IsSmall, kept_of};
+ghost use Rattle.diff_bounds.specs.Kept.{has_room};
+ghost use Rattle.ot_prove.specs.declared.split.TheConstants.{MAX_NAMES};
+ghost use Rattle.ot_prove.specs.Sides.{ClosesCycle, StandsForSome};
 ghost use Rattle.ot_prove.specs.Waiting.{IsTakenCycle};
 
 use crate::NoMemory;
+use crate::split::MAX_NAMES;
 use cert_text::Tree;
+use diff_bounds::Bounds;
+use diff_graph::Lit;
 use std::alloc::Global;
 use std::marker::Model;
 
@@ -27,19 +33,6 @@ impl Model for Cycles {
     ghost view = { λ c. cycles_of_starts (reverse c.starts.items) c.numbers.items };
 
     ghost invariant = { λ c. HaveCycles (reverse c.starts.items) c.numbers.items };
-}
-
-// Puts numbers at the end, which are so few that they are stored one by one. The error is want of memory.
-#[inline(always)]
-fn append_few(numbers: &mut Vec<u32>, more: &[u32]) -> Result<(), NoMemory>
-    ensures ok { OnOk result (numbers.new.items ≡ numbers.old.items ++ more.now) }
-    ensures err { OnErr result (numbers.new.items ≡ numbers.old.items) }
-{
-    numbers.reserve(more.len())?;
-    for number in more {
-        numbers.push_reserved(*number);
-    }
-    Ok(())
 }
 
 // Where the cycle of the innermost place starts, if it has one.
@@ -71,15 +64,25 @@ impl Cycles {
         Ok(())
     }
 
-    /// A further place waits, and a negative cycle of its answers has these numbers.
+    /// A further place waits, to whose answers a literal belongs that a table of the others does not allow, under a
+    /// number: the place has the negative cycle that shows it.
     #[inline(always)]
-    pub fn push_cycle(&mut self, numbers: &[u32]) -> Result<(), NoMemory>
-        requires { length numbers.now ≤ MAX_PICKS }
-        ensures { OnOk result (self.new ≡ Some numbers.now ∷ self.old) }
+    pub fn push_why_not(
+        &mut self,
+        table: &Bounds<MAX_NAMES>,
+        lit: Lit,
+        number: u32,
+    ) -> Result<(), NoMemory>
+        requires named { IsNamed MAX_NAMES lit }
+        requires small { IsSmall lit }
+        requires stands { StandsForSome MAX_NAMES table.now }
+        requires not_allowed { has_room (kept_of table.now) lit ≡ false }
+        ensures { OnOk result ((numbers : List ℕ) × (self.new ≡ Some numbers ∷ self.old)
+            × ClosesCycle (kept_of table.now) number lit numbers) }
     {
         self.starts.reserve(1)?;
         let start = self.numbers.len();
-        append_few(&mut self.numbers, numbers)?;
+        table.append_why_not(&mut self.numbers, lit, number)?;
         self.starts.push_reserved(Some(start));
         Ok(())
     }

@@ -14,6 +14,7 @@ mod chain;
 mod cycles;
 mod laws;
 mod outcome;
+mod passing;
 mod proving;
 mod search;
 mod split;

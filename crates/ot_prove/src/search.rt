@@ -1,30 +1,34 @@
 //! A search under way: the open places, what is known of each, and the tree so far.
-ghost use Rattle.std.specs.Prelude.{◌≡◌, ◌+◌, ◌<◌, ◌≤◌, ◌^◌, [], ◌∷◌, ◌++◌, true, length, drop, slice_index_or};
+ghost use Rattle.std.specs.Prelude.{◌≡◌, ◌+◌, ◌<◌, ◌≤◌, ◌^◌, [], ◌∷◌, true, length, drop, slice_index_or};
 ghost use Rattle.std.specs.Prelude.{IfOk, OnOk};
 ghost use Rattle.diff_graph.specs.Tables.{IsNamed, StandsFor, kept_of};
 ghost use Rattle.diff_graph.specs.declared.lit.Lit.{Lit};
 ghost use Rattle.ask_core.specs.Askers.{SamePlans};
-ghost use Rattle.ask_core.specs.Paths.{first_answers};
+ghost use Rattle.ask_core.specs.Paths.{branches_at, first_answers};
 ghost use Rattle.ask_core.specs.declared.tree.Tok.TheVariants.{Holds};
 ghost use Rattle.cert_text.specs.TreeTexts.{with_token};
 ghost use Rattle.ot_prove.specs.declared.split.TheConstants.{MAX_NAMES};
 ghost use Rattle.ot_prove.specs.Sides.{IsAsked, StandsForSome, last_rows};
 ghost use Rattle.ot_prove.specs.Searching.{HasAsked, HasClosed, IsSearchUnderWay, IsUnderWayOr};
-ghost use Rattle.ot_prove.specs.Searching.{WeighsLess, known_of};
+ghost use Rattle.ot_prove.specs.Searching.{WeighsLess, known_of, weight_of};
 
 use crate::NoMemory;
 use crate::cycles::Cycles;
-use crate::split::{MAX_NAMES, Room, close_yes, judge_sides};
-use ask_core::{Asker, Path, Turn, turn_at};
+use crate::passing::{Passing, passed};
+use crate::split::{MAX_NAMES, Room, close_yes, excludes_yes, judge_sides, wait_impossible};
+use ask_core::{Asker, Path, Turn, look_at, turn_at};
 use cert_text::Tree;
 use diff_bounds::Bounds;
-use diff_graph::{Lit, negative_cycles_are_never_met};
+use diff_graph::{Lit, negative_cycles_are_never_met, tables_tell_what_is_possible};
 use std::alloc::Global;
+use std::mem;
+
+/// How many tables there is room for from the first on. Pages of it that nobody writes to take no memory.
+const TABLES: usize = 16;
 
 /// A search under way. For each open place `cycles` has a negative cycle of its answers, or none where some
 /// integers meet them, the first place last. Where the first place is known to be `possible`, it has none there. The
-/// places that some integers meet have a table each, the last one that of the first of them. `numbers` is where a
-/// cycle is read from a table.
+/// places that some integers meet have a table each, the last one that of the first of them.
 #[derive(Drop)]
 pub struct PlanSearch<N: Copy> {
     pub path: Path<N>,
@@ -33,7 +37,6 @@ pub struct PlanSearch<N: Copy> {
     pub tables: Vec<Bounds<MAX_NAMES>>,
     pub tree: Tree,
     pub asked: u64,
-    pub numbers: Vec<u32>,
 }
 
 impl<N: Copy> PlanSearch<N> {
@@ -45,7 +48,7 @@ impl<N: Copy> PlanSearch<N> {
             × StandsFor MAX_NAMES (kept_of (slice_index_or s.tables.items 0 [])) []) }
         ensures nothing { IfOk result (λ s. (s.tree ≡ tree) × (s.asked ≡ 0)) }
     {
-        let mut tables = Vec::new(alloc);
+        let mut tables = Vec::with_capacity(alloc, TABLES)?;
         tables.push(Bounds::new())?;
         Ok(PlanSearch {
             path: Path::new(alloc, first),
@@ -54,7 +57,6 @@ impl<N: Copy> PlanSearch<N> {
             tables,
             tree,
             asked: 0,
-            numbers: Vec::new(alloc),
         })
     }
 
@@ -70,10 +72,10 @@ impl<N: Copy> PlanSearch<N> {
         Ok(())
     }
 
-    /// Asks a literal at the first place, which some integers meet. A side for yes that none meet is closed at
-    /// once.
+    /// Asks a literal at the first place, which some integers meet, and answers which sides have room. A side for yes
+    /// that none meet is closed at once.
     #[inline(always)]
-    pub fn ask(&mut self, lit: Lit, yes: N, no: N) -> Result<(), NoMemory>
+    pub fn ask(&mut self, lit: Lit, yes: N, no: N) -> Result<Room, NoMemory>
         requires opened { 0 < length self.old.path }
         requires few { length (first_answers self.old.path) < 2 ^ 32 }
         requires fits { self.old.asked + 1 < 2 ^ 64 }
@@ -83,30 +85,29 @@ impl<N: Copy> PlanSearch<N> {
         requires stands { StandsForSome MAX_NAMES (last_rows self.old.tables.items) }
         ensures asked { OnOk result (self.new.asked ≡ self.old.asked + 1) }
         ensures possible { OnOk result (self.new.possible ≡ self.old.possible) }
-        ensures judged { OnOk result (HasAsked lit yes no self.old self.new) }
+        ensures judged { IfOk result (λ room. HasAsked room lit yes no self.old self.new) }
     {
+        tables_tell_what_is_possible();
         let number = self.path.answers().len() as u32;
-        let room = judge_sides(&mut self.numbers, &mut self.tables, lit, number)?;
+        let room = judge_sides(&mut self.tables, lit, number)?;
         self.asked += 1;
         match room {
             Room::Both => {
                 self.tree.push_ask()?;
                 self.path.ask(lit, yes, no)?;
                 self.cycles.push_possible()?;
-                Ok(())
             }
             Room::OnlyYes => {
                 self.tree.push_ask()?;
                 self.path.ask(lit, yes, no)?;
-                self.cycles.push_cycle(self.numbers.as_slice())?;
-                Ok(())
+                wait_impossible(&mut self.cycles, &self.tables, lit, number)?;
             }
             Room::OnlyNo => {
                 self.path.ask_no(lit, no)?;
                 close_yes(&self.tables, lit, number, &mut self.tree)?;
-                Ok(())
             }
         }
+        Ok(room)
     }
 
     /// Finds what is known of the first place. Where it is a cycle, the place is closed with it: then the answer
@@ -127,6 +128,50 @@ impl<N: Copy> PlanSearch<N> {
         self.possible = true;
         Ok(false)
     }
+}
+
+/// Goes on at no as long as questions at hand have no room for yes.
+// The first of them is looked at before the search is handed on: of some plans few questions have another such behind
+// them.
+#[inline(always)]
+fn pass_on<A: Asker>(
+    asker: &A,
+    search: &mut PlanSearch<A::Node>,
+    budget: u64,
+) -> Result<(), NoMemory>
+    requires names { A.name_count asker.now ≤ MAX_NAMES }
+    requires opened { 0 < length search.old.path }
+    requires possible { search.old.possible ≡ true }
+    requires searching { IsSearchUnderWay (A.is_own asker.now) (A.plan asker.now) (A.root asker.now) budget search.old }
+    ensures searching { OnOk result (IsSearchUnderWay (A.is_own asker.now) (A.plan asker.now) (A.root asker.now) budget
+        search.new) }
+    ensures falls { OnOk result (weight_of (branches_at (A.plan asker.now) search.new.path)
+        ≤ weight_of (branches_at (A.plan asker.now) search.old.path)) }
+    ensures front { OnOk result (search.new.tree.front ≡ search.old.tree.front) }
+{
+    let Some((lit, _)) = look_at(asker, &search.path) else {
+        return Ok(());
+    };
+    let last = search.tables.len() - 1;
+    if !excludes_yes(&search.tables[last], lit, 0) {
+        return Ok(());
+    }
+    let alloc = *search.tables.allocator();
+    let none = Path::new(alloc, search.path.node());
+    let path = mem::replace(&mut search.path, none);
+    let tree = mem::replace(&mut search.tree, Tree::new(alloc));
+    let Passing { path, tree, asked } = passed(
+        asker,
+        &search.tables,
+        path,
+        tree,
+        search.asked,
+        budget,
+    )?;
+    search.path = path;
+    search.tree = tree;
+    search.asked = asked;
+    Ok(())
 }
 
 /// What a step came to.
@@ -165,7 +210,10 @@ fn take_turn<A: Asker>(
             if search.asked == budget {
                 return Ok(Stepped::Spent);
             }
-            search.ask(lit, yes, no)?;
+            if search.ask(lit, yes, no)? == Room::OnlyNo {
+                pass_on(asker, search, budget)?;
+                return Ok(Stepped::GoesOn);
+            }
             Ok(Stepped::GoesOn)
         }
         Turn::Holds => {

@@ -1,16 +1,17 @@
 //! The two sides of a question at a place that some integers meet.
-ghost use Rattle.std.specs.Prelude.{◌≡◌, ℕ, ◌<◌, ◌≤◌, true, false, List, Option, length, IfOk, OnOk, reverse};
+ghost use Rattle.std.specs.Prelude.{◌≡◌, ℕ, ◌<◌, ◌≤◌, true, false, IsTrue, List, ◌∷◌, Some, length, IfOk, OnOk};
 ghost use Rattle.diff_graph.specs.Literals.{answered_of};
 ghost use Rattle.diff_graph.specs.Tables.{IsNamed, kept_of};
 ghost use Rattle.diff_bounds.specs.Kept.{has_room};
-ghost use Rattle.ot_prove.specs.Sides.{AddsAnswer, HasFewNumbers, HasRoomForSides, HasSplit, IsAsked, JudgesSides};
+ghost use Rattle.ot_prove.specs.Sides.{AddsAnswer, ClosesCycle, HasRoomForSides, HasSides, HasSplit, IsAsked};
 ghost use Rattle.ask_core.specs.declared.picks.TheConstants.{MAX_PICKS};
 ghost use Rattle.ask_core.specs.declared.tree.Tok.TheVariants.{Ask, Cycle};
 ghost use Rattle.cert_text.specs.TreeTexts.{with_token};
-ghost use Rattle.ot_prove.specs.Sides.{StandsForSome, cycle_along, cycles_of, last_rows, numbers_at};
+ghost use Rattle.ot_prove.specs.Sides.{StandsForSome, cycle_along, last_rows};
 
 use crate::NoMemory;
 use crate::chain::Chain;
+use crate::cycles::Cycles;
 use cert_text::Tree;
 use diff_bounds::Bounds;
 use diff_graph::{Lit, answered, tables_stand_for_what_is_added, tables_tell_what_is_possible};
@@ -31,33 +32,42 @@ pub enum Room {
     OnlyNo,
 }
 
-/// Which sides of a literal a table has room for, under the number of answers there. Where it has none for one, the
-/// other one follows already, so the table stands for it too. Where that is no, a negative cycle is written.
-// Most questions have no room for yes, which is asked first.
+/// Whether a table has no room for yes, under the number of answers there. Then no follows already, so that the table
+/// stands for it too, and the cycle along the table shows why yes is impossible.
 #[inline(always)]
-fn room_of(
-    table: &Bounds<MAX_NAMES>,
-    numbers: &mut Vec<u32>,
-    lit: Lit,
-    number: u32,
-) -> Result<Room, NoMemory>
+pub fn excludes_yes(table: &Bounds<MAX_NAMES>, lit: Lit, number: u32) -> bool
     requires named { IsNamed MAX_NAMES lit }
     requires asked { IsAsked lit }
     requires stands { StandsForSome MAX_NAMES table.now }
-    ensures { IfOk result (HasRoomForSides table.now number lit numbers.new.items) }
+    ensures excluded { IsTrue result → HasRoomForSides table.now number lit Room.OnlyNo }
+    ensures room { result ≡ false → has_room (kept_of table.now) (answered_of lit true) ≡ true }
 {
     tables_tell_what_is_possible();
     tables_stand_for_what_is_added();
-    let yes = answered(lit, true);
-    let no = answered(lit, false);
-    if !table.allows(yes) {
-        return Ok(Room::OnlyNo);
+    if table.allows(answered(lit, true)) {
+        return false;
     }
-    if !table.allows(no) {
-        table.write_why_not(numbers, no, number)?;
-        return Ok(Room::OnlyYes);
+    true
+}
+
+/// Which sides of a literal a table has room for, under the number of answers there. Where it has none for one, the
+/// other one follows already, so the table stands for it too.
+// Most questions have no room for yes, which is asked first.
+#[inline(always)]
+fn room_of(table: &Bounds<MAX_NAMES>, lit: Lit, number: u32) -> Room
+    requires named { IsNamed MAX_NAMES lit }
+    requires asked { IsAsked lit }
+    requires stands { StandsForSome MAX_NAMES table.now }
+    ensures { HasRoomForSides table.now number lit result }
+{
+    tables_stand_for_what_is_added();
+    if excludes_yes(table, lit, number) {
+        return Room::OnlyNo;
     }
-    Ok(Room::Both)
+    if !table.allows(answered(lit, false)) {
+        return Room::OnlyYes;
+    }
+    Room::Both
 }
 
 /// Adds an answer that a table has room for, under the number of answers there.
@@ -90,13 +100,11 @@ fn split(tables: &mut Vec<Bounds<MAX_NAMES>>, lit: Lit, number: u32) -> Result<(
     Ok(())
 }
 
-/// Judges both sides of a question at the place of the last table, which has so many answers. That table is
-/// then one of a side that there is room for. Where there is none for no, a negative cycle is written; where there is
-/// none for yes, the table has one.
+/// Which sides of a question there is room for at the place of the last table, which has so many answers. Where that
+/// is both, each has a table then. Else the last table stands for the one that there is room for.
 // In the loop of each asker: a question has so little to do that a call of it would show.
 #[inline(always)]
 pub fn judge_sides(
-    numbers: &mut Vec<u32>,
     tables: &mut Vec<Bounds<MAX_NAMES>>,
     lit: Lit,
     number: u32,
@@ -105,17 +113,10 @@ pub fn judge_sides(
     requires named { IsNamed MAX_NAMES lit }
     requires asked { IsAsked lit }
     requires stands { StandsForSome MAX_NAMES (last_rows tables.old.items) }
-    ensures judged { IfOk result (λ room. (cycles : List (Option (List ℕ)))
-        → JudgesSides lit number cycles (reverse tables.old.items)
-        (cycles_of room (numbers_at room (last_rows tables.old.items) number lit numbers.new.items) cycles)
-        (reverse tables.new.items)) }
-    ensures few { IfOk result (λ room. HasFewNumbers
-        (numbers_at room (last_rows tables.old.items) number lit numbers.new.items) room) }
-    ensures same { IfOk result (λ room. room ≡ Room.OnlyNo → tables.new.items ≡ tables.old.items) }
+    ensures { IfOk result (HasSides number lit tables.old.items tables.new.items) }
 {
-    tables_tell_what_is_possible();
     let last = tables.len() - 1;
-    match room_of(&tables[last], numbers, lit, number)? {
+    match room_of(&tables[last], lit, number) {
         Room::Both => {
             split(tables, lit, number)?;
             Ok(Room::Both)
@@ -123,6 +124,27 @@ pub fn judge_sides(
         Room::OnlyYes => Ok(Room::OnlyYes),
         Room::OnlyNo => Ok(Room::OnlyNo),
     }
+}
+
+/// A further place waits, that of the side for no, with a cycle that it closes at the last table, which has no room for
+/// it, under a number.
+#[inline(always)]
+pub fn wait_impossible(
+    cycles: &mut Cycles,
+    tables: &Vec<Bounds<MAX_NAMES>>,
+    lit: Lit,
+    number: u32,
+) -> Result<(), NoMemory>
+    requires some { 0 < length tables.now.items }
+    requires named { IsNamed MAX_NAMES lit }
+    requires asked { IsAsked lit }
+    requires stands { StandsForSome MAX_NAMES (last_rows tables.now.items) }
+    requires no_room { has_room (kept_of (last_rows tables.now.items)) (answered_of lit false) ≡ false }
+    ensures { OnOk result ((numbers : List ℕ) × (cycles.new ≡ Some numbers ∷ cycles.old)
+        × ClosesCycle (kept_of (last_rows tables.now.items)) number (answered_of lit false) numbers) }
+{
+    let table = &tables[tables.len() - 1];
+    cycles.push_why_not(table, answered(lit, false), number)
 }
 
 /// Puts a question at the end of a tree, and the cycle that its literal closes at the last table, which has no room for
@@ -142,6 +164,22 @@ pub fn close_yes(
 {
     let table = &tables[tables.len() - 1];
     tree.push_asked(
+        number,
+        Chain::new(table.row(lit.x), lit.y, lit.x, MAX_NAMES),
+    )
+}
+
+/// The same by a table, where the tree has room at hand: then the answer is true. Else it is false, and the tree is as
+/// it was.
+#[inline(always)]
+pub fn put_yes(table: &Bounds<MAX_NAMES>, lit: Lit, number: u32, tree: &mut Tree) -> bool
+    requires named { IsNamed MAX_NAMES lit }
+    requires few { length (cycle_along table.now number lit) ≤ MAX_PICKS }
+    ensures put { IsTrue result → tree.new ≡ with_token (with_token tree.old Ask)
+        (Cycle (cycle_along table.now number lit)) }
+    ensures kept { result ≡ false → tree.new ≡ tree.old }
+{
+    tree.put_asked(
         number,
         Chain::new(table.row(lit.x), lit.y, lit.x, MAX_NAMES),
     )

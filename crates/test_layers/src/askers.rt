@@ -68,6 +68,25 @@ fn a_goal_of_a_guard_asks_the_guard_alone(rt: HostRuntime) -> Result<(), Fail> {
 }
 
 #[test]
+fn a_question_that_is_laid_out_is_at_hand(rt: HostRuntime) -> Result<(), Fail> {
+    let rules = staying(&rt, rt.alloc(), MARKS)?;
+    let head = rules.head();
+    assert!(rt; head.declares_pair(Kind::Del, Kind::Del));
+    let bump = Bump::new(rt.alloc());
+    let mut asker = PathAsker::new(&bump, &rules, ObName::Pair(Kind::Del, Kind::Del));
+    let start = asker.start()?;
+    let looked = asker.look(start);
+    match asker.turn(start)? {
+        Turn::Ask { lit, .. } => match looked {
+            Some((asked, _)) => assert_eq!(rt; asked, lit),
+            None => rt.abort(),
+        },
+        _ => rt.abort(),
+    }
+    Ok(())
+}
+
+#[test]
 fn a_comparison_is_laid_out_as_one_question(rt: HostRuntime) -> Result<(), Fail> {
     let bump = Bump::new(rt.alloc());
     let a = SymOp::named(Kind::Del, Who::A);

@@ -57,6 +57,24 @@ impl CycleNumbers for Once {
 }
 
 #[test]
+fn a_question_is_put_with_its_cycle_where_there_is_room(rt: HostRuntime) -> Result<(), Fail> {
+    let mut narrow = Tree::new(rt.alloc());
+    let put = narrow.put_asked(7, Once { number: None });
+    assert!(rt; !put);
+    assert_eq!(rt; narrow.as_bytes(), b"".as_slice());
+    let mut tree = Tree::behind(Vec::with_capacity(rt.alloc(), 1_000)?);
+    let put = tree.put_asked(
+        10,
+        Once {
+            number: Some(99_999),
+        },
+    );
+    assert!(rt; put);
+    assert_eq!(rt; tree.as_bytes(), b"?x10,99999;".as_slice());
+    Ok(())
+}
+
+#[test]
 fn a_question_is_written_with_the_cycle_behind_it(rt: HostRuntime) -> Result<(), Fail> {
     let mut tree = Tree::new(rt.alloc());
     tree.push_asked(7, Once { number: None })?;

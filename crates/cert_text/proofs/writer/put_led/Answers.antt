@@ -34,9 +34,9 @@ returns-then-number-lt10-clause-items c =
 pub returns-then-number-lt100-clause-items : goal.returns-then-number-lt100-clause-items
 returns-then-number-lt100-clause-items c =
     let above : 10 ≤ c.args.number = omega (arith, c.if-number-lt10.false) in
-    rw (two_digits c.args.number c.digit_of-then-number-lt100.result c.digit_of-then-number-lt100-2.result above
-    c.if-number-lt100.true c.digit_of-then-number-lt100.ensures c.digit_of-then-number-lt100-2.ensures)
+    rw (two_digits c.args.number c.tens_of.result c.units_of.result above
+    c.if-number-lt100.true c.tens_of.ensures c.units_of.ensures)
     (put_three c.args.out.now.items c.push_reserved-then-number-lt100.new.self.items
     c.push_reserved-then-number-lt100-2.new.self.items c.push_reserved-then-number-lt100-3.new.self.items c.args.lead
-    c.digit_of-then-number-lt100.result c.digit_of-then-number-lt100-2.result c.push_reserved-then-number-lt100.ensures.items
+    c.tens_of.result c.units_of.result c.push_reserved-then-number-lt100.ensures.items
     c.push_reserved-then-number-lt100-2.ensures.items c.push_reserved-then-number-lt100-3.ensures.items)

@@ -1,13 +1,11 @@
 use Rattle.std.proofs.Common.{◌≡◌, ℕ, Bool, true, false, List, ◌∷◌, Option, None, reverse, subst, arith}
 use Rattle.ask_core.specs.Plans.{Plan}
 use Rattle.ask_core.specs.declared.tree.Tok.{Tok}
-use Rattle.ask_core.specs.declared.tree.Tok.TheVariants as token
 use Rattle.ask_core.specs.Paths.{OpenPlace, first_answers, first_plan}
 use Rattle.diff_bounds.specs.Kept.{Rows}
-use Rattle.cert_text.specs.TreeTexts.{with_token}
 use Rattle.ot_prove.specs.Searching.{LeadsTo, IsSearching, known_by}
 use Rattle.ot_prove.proofs.Steps.{IsSearching-same, IsSearching-asked, IsSearching-holds, spent_at_first, failing_at_first, first_is_reached, first_has_table}
-use Rattle.ot_prove.proofs.Steps.{asked_literal, weight_of-asked, weight_of-close, without_last}
+use Rattle.ot_prove.proofs.Steps.{asked_literal, weight_of-close, without_last}
 use Rattle.ot_prove.proofs.search.take_turn.Goals as goal
 
 -- a first place that is known to be possible
@@ -63,8 +61,8 @@ ask-requires-clause-stands g c =
     s.tables.items s.tree.tokens s.asked c.requires.opened (known_first s.possible c.requires.possible c.requires.searching)).1
 
 -- behind a question the search goes on at the sides that have room
-pub returns-in_ok-ask-in-Ask-clause-step : goal.returns-in_ok-ask-in-Ask-clause-step
-returns-in_ok-ask-in-Ask-clause-step g c =
+pub pass_on-requires-clause-searching : goal.pass_on-requires-clause-searching
+pass_on-requires-clause-searching g c =
     let A = g.A.Asker in
     let now = c.turn_at.new.asker in
     let kept = c.turn_at.ensures in
@@ -75,23 +73,27 @@ returns-in_ok-ask-in-Ask-clause-step g c =
     rw (after.possible, c.requires.possible, after.asked)
     (IsSearching-asked (A.is_own now) (A.plan now) (A.root now) c.args.budget s.path c.ask.new.self.path s.cycles
     c.ask.new.self.cycles s.tables.items (reverse c.ask.new.self.tables.items) s.tree c.ask.new.self.tree s.asked
-    c.in-Ask.lit c.in-Ask.yes c.in-Ask.no judged.0 judged.1 c.requires.opened c.negative_cycles_are_never_met.ensures
+    c.in-Ask.lit c.in-Ask.yes c.in-Ask.no c.in_ok-ask-in-Ask.field-0 judged.0 c.requires.opened
+    c.negative_cycles_are_never_met.ensures
     (IsSearching-same (known_first s.possible c.requires.possible c.requires.searching) kept.own kept.branches kept.root_kept)
-    begins c.if-search-budget.false judged.2 judged.3)
+    begins c.if-search-budget.false judged.1 judged.2)
 
--- behind a question the plans that are open weigh less
-pub returns-in_ok-ask-in-Ask-clause-falls : goal.returns-in_ok-ask-in-Ask-clause-falls
-returns-in_ok-ask-in-Ask-clause-falls g c =
+pub returns-else-eq-clause-step : goal.returns-else-eq-clause-step
+returns-else-eq-clause-step g c =
     let A = g.A.Asker in
     let now = c.turn_at.new.asker in
+    let kept = c.turn_at.ensures in
     let s = c.args.search.now in
     let begins = rw c.in-Ask.is at c.in_ok-lit.ensures.begins in
-    let judged = c.in_ok-ask-in-Ask.ensures.judged in
-    let falls =
-    weight_of-asked (A.plan now) judged.0 judged.1 s.path c.ask.new.self.path s.cycles
-    c.ask.new.self.cycles (with_token s.tree token.Ask) c.ask.new.self.tree c.in-Ask.lit c.in-Ask.yes c.in-Ask.no
-    c.requires.opened begins.2 judged.3 in
-    rw (← c.turn_at.ensures.branches) falls
+    let after = c.in_ok-ask-in-Ask.ensures in
+    let judged = after.judged in
+    rw (after.possible, c.requires.possible, after.asked)
+    (IsSearching-asked (A.is_own now) (A.plan now) (A.root now) c.args.budget s.path c.ask.new.self.path s.cycles
+    c.ask.new.self.cycles s.tables.items (reverse c.ask.new.self.tables.items) s.tree c.ask.new.self.tree s.asked
+    c.in-Ask.lit c.in-Ask.yes c.in-Ask.no c.in_ok-ask-in-Ask.field-0 judged.0 c.requires.opened
+    c.negative_cycles_are_never_met.ensures
+    (IsSearching-same (known_first s.possible c.requires.possible c.requires.searching) kept.own kept.branches kept.root_kept)
+    begins c.if-search-budget.false judged.1 judged.2)
 
 -- behind an end that holds the search goes on at the next place
 pub returns-in_ok-close_holds-in-Holds-clause-step : goal.returns-in_ok-close_holds-in-Holds-clause-step

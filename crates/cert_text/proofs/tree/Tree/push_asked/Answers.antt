@@ -1,16 +1,10 @@
 -- Two tokens are put one behind the other.
-use Rattle.std.proofs.Common.{◌≡◌, ℕ, List, [], ◌∷◌, ◌++◌, refl, sym, ◌∙◌, append_assoc}
+use Rattle.std.proofs.Common.{◌∷◌, ◌++◌, refl}
 use Rattle.ask_core.specs.declared.tree.Tok.TheVariants.{Ask, Cycle}
 use Rattle.cert_text.specs.Spelling.{token_text}
 use Rattle.cert_text.specs.TreeTexts.{with_token}
-use Rattle.cert_text.proofs.TreeTextLemmas.{pushed_token, IsTreeAt-pushed}
+use Rattle.cert_text.proofs.TreeTextLemmas.{behind_question, pushed_token, IsTreeAt-pushed}
 use Rattle.cert_text.proofs.tree.Tree.push_asked.Goals as goal
-
--- behind a question, which has one byte
-behind_question :
-    (old new : List ℕ) (picks : List ℕ) → new ≡ old ++ 63 ∷ token_text (Cycle picks)
-    → new ≡ (old ++ token_text Ask) ++ token_text (Cycle picks)
-behind_question old new picks is = is ∙ sym (append_assoc old (63 ∷ []) (token_text (Cycle picks)))
 
 pub invariant_of-self-2 : goal.invariant_of-self-2
 invariant_of-self-2 g c =
