@@ -9,6 +9,7 @@ import subprocess
 import sys
 import tempfile
 import time
+from collections import namedtuple
 
 TOP = os.path.dirname(os.path.dirname(os.path.abspath(__file__)))
 # Programs that share no code with otp; who measures imports them behind this module.
@@ -42,3 +43,16 @@ def measure_processor(words):
     """The seconds are those of the processor, to compare programs on a machine that does other work."""
     text, status, numbers = run_under_time(words, "%U %M")
     return text, status, float(numbers[0]), int(numbers[1])
+
+
+Run = namedtuple("Run", "text status seconds peak")
+
+
+def quickest(commands, count):
+    """A run of each command, with the least time of so many. They take turns, so that what else the machine does meets
+    all of them; one that takes a second is run once."""
+    best = [Run(*measure(words)) for words in commands]
+    for _ in range(count - 1):
+        best = [one if one.seconds >= 1 else one._replace(seconds=min(one.seconds, run_alone(words)))
+                for one, words in zip(best, commands)]
+    return best

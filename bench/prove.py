@@ -1,8 +1,8 @@
 #!/usr/bin/env python3
 """Measures `otp prove` and then `otp check` of what it wrote, and gives the same obligations to z3 and cvc5.
 
-usage: prove.py [RUNS]      (after `otp`, or `rt run` in crates/otp; the least of RUNS runs is shown, 5 where none is
-                            given; OTP=PROGRAM in the environment names another program to measure)
+usage: prove.py [RUNS]      (after `otp`, or `rt run` in crates/otp; the least of RUNS runs is shown, 60 where none is
+                            given, which take turns; OTP=PROGRAM in the environment names another program to measure)
 
 Shown are questions a second of `prove`, its peak memory a question beside the certificate, which it holds whole before it
 writes it, MB a second of `check`, and how often as long the faster of the solvers takes as `prove`. Each is the time of a
@@ -17,13 +17,15 @@ import subprocess
 import sys
 import tempfile
 
-from measure import TOP, measure
+from measure import TOP, measure, quickest
 
 from certificate import read_function
 from smt import script
 
 PROGRAM = os.environ.get("OTP") or os.path.join(TOP, "crates/otp/out/otp")
 SHIPPED = os.path.join(TOP, "examples/functions")
+# So many runs of each command, the least of which is shown.
+RUNS = 60
 SOLVERS = {"z3": ["z3"], "cvc5": ["cvc5", "--incremental"]}
 
 
@@ -90,22 +92,26 @@ def require_agreement(folder, solvers):
                     sys.exit(f"{os.path.basename(path)}: otp ends with {status}, and {solver} answers {answers}")
 
 
-def report(folder, runs, solvers, name, text):
-    function, certificate = os.path.join(folder, "function.ot"), os.path.join(folder, "certificate")
+def prepare(folder, name, text):
+    """The files of a function and of its certificate, as words of `prove` and of `check`."""
+    function, certificate = (os.path.join(folder, f"{name.replace(' ', '-')}.{kind}") for kind in ("ot", "cert"))
     with open(function, "w") as file:
         file.write(text)
-    output, status, seconds, peak = least(runs, [PROGRAM, "prove", function])
+    output, status, _, _ = measure([PROGRAM, "prove", function])
     if status != 0:
-        print(f"{name}: status {status} in {seconds:.3f} s, {peak} KiB at the peak: {output.splitlines()[0]}")
-        return
+        sys.exit(f"{name}: status {status}: {output.splitlines()[0]}")
     with open(certificate, "w") as file:
         file.write(output + "\n")
-    asked, size = output.count("?"), os.path.getsize(certificate)
-    beside = max(0, peak * 1024 - size) / asked
-    print(f"{name}: {asked} questions in {1e3 * seconds:.1f} ms, {asked / seconds / 1e6:.2f} million a second")
-    print(f"    {peak} KiB at the peak: {beside:.0f} bytes a question beside the certificate of {size} bytes")
-    answer, _, checked, check_peak = least(runs, [PROGRAM, "check", function, certificate])
-    print(f"    check: {1e3 * checked:.1f} ms, {size / checked / 1e6:.0f} MB a second, {check_peak} KiB at the peak: {answer}")
+    return [PROGRAM, "prove", function], [PROGRAM, "check", function, certificate]
+
+
+def report(folder, solvers, name, text, proved, checked):
+    asked, size = proved.text.count("?"), len(proved.text) + 1
+    beside = max(0, proved.peak * 1024 - size) / asked
+    print(f"{name}: {asked} questions in {1e3 * proved.seconds:.2f} ms, {asked / proved.seconds / 1e6:.2f} million a second")
+    print(f"    {proved.peak} KiB at the peak: {beside:.0f} bytes a question beside the certificate of {size} bytes")
+    speed = f"{1e3 * checked.seconds:.2f} ms, {size / checked.seconds / 1e6:.0f} MB a second"
+    print(f"    check: {speed}, {checked.peak} KiB at the peak: {checked.text}")
     times = {}
     for solver in solvers:
         answers, times[solver] = solve(folder, solver, text, True)
@@ -114,24 +120,32 @@ def report(folder, runs, solvers, name, text):
     if times:
         faster = min(times, key=times.get)
         told = ", ".join(f"{solver} {taken:.3f} s" for solver, taken in times.items())
-        print(f"    {told}: the faster one, {faster}, takes {times[faster] / seconds:.1f} times as long as prove")
+        print(f"    {told}: the faster one, {faster}, takes {times[faster] / proved.seconds:.1f} times as long as prove")
 
 
 def main():
-    runs = int(sys.argv[1]) if len(sys.argv) > 1 else 5
+    runs = int(sys.argv[1]) if len(sys.argv) > 1 else RUNS
     # Builds the program where that is needed, so that it is not measured.
     if "OTP" not in os.environ:
         subprocess.run([os.path.join(TOP, "otp")], stdout=subprocess.DEVNULL, check=False)
-    empty, idle = least(runs, ["/bin/true"]), least(runs, [PROGRAM])
-    print(f"an empty process: {1e3 * empty[2]:.1f} ms; otp with no words: {1e3 * idle[2]:.1f} ms, {idle[3]} KiB at the peak")
     solvers = installed()
+    functions = {
+        "16 further cases": with_tombstones([16, 0, 0, 0]),
+        "12 cases a block": with_tombstones([9, 11, 10, 11]),
+        "14 cases a block": with_tombstones([11, 13, 12, 13]),
+        "8 nested cases": nested(8),
+        "ttf": shipped("ttf.ot"),
+    }
     with tempfile.TemporaryDirectory() as folder:
         require_agreement(folder, solvers)
-        report(folder, runs, solvers, "16 further cases", with_tombstones([16, 0, 0, 0]))
-        report(folder, runs, solvers, "12 cases a block", with_tombstones([9, 11, 10, 11]))
-        report(folder, runs, solvers, "14 cases a block", with_tombstones([11, 13, 12, 13]))
-        report(folder, runs, solvers, "8 nested cases", nested(8))
-        report(folder, runs, solvers, "ttf", shipped("ttf.ot"))
+        commands = [["/bin/true"], [PROGRAM]]
+        for name, text in functions.items():
+            commands += prepare(folder, name, text)
+        empty, idle, *ran = quickest(commands, runs)
+        print(f"an empty process: {1e3 * empty.seconds:.2f} ms; "
+              f"otp with no words: {1e3 * idle.seconds:.2f} ms, {idle.peak} KiB at the peak")
+        for (name, text), proved, checked in zip(functions.items(), ran[::2], ran[1::2]):
+            report(folder, solvers, name, text, proved, checked)
 
 
 if __name__ == "__main__":

@@ -18,7 +18,7 @@ import tempfile
 from collections import namedtuple
 
 from families import FAMILIES, SIZES, function_of
-from measure import TOP, measure, run_alone
+from measure import TOP, measure, quickest
 from prove import PROGRAM, SHIPPED, SOLVERS, installed, least
 
 from certificate import read_function
@@ -34,19 +34,8 @@ RUNS, OTP_RUNS = 5, 100
 GREAT = 16
 MOST_SECONDS, MOST_BYTES, MOST_PROOF, MOST_RULES, TIMES_SOLVER, TIMES_CONFIRM = 5, 1e9, 20e6, 100e3, 3, 4
 
-Run = namedtuple("Run", "text status seconds peak")
 # The seconds of a solver are None where it was cut off.
 Row = namedtuple("Row", "name cases settled size confirmed proved solved start")
-
-
-def quickest(commands, count):
-    """A run of each command, with the least time of so many. They take turns, so that what else the machine does meets
-    all of them; one that takes a second is run once."""
-    best = [Run(*measure(words)) for words in commands]
-    for _ in range(count - 1):
-        best = [one if one.seconds >= 1 else one._replace(seconds=min(one.seconds, run_alone(words)))
-                for one, words in zip(best, commands)]
-    return best
 
 
 def solved(name, solvers, runs, status):
