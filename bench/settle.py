@@ -18,7 +18,7 @@ import tempfile
 from collections import namedtuple
 
 from families import FAMILIES, SIZES, function_of
-from measure import TOP, measure, quickest
+from measure import TOP, Run, measure, quickest
 from prove import PROGRAM, SHIPPED, SOLVERS, installed, least
 
 from certificate import read_function

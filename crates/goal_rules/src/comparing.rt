@@ -44,8 +44,12 @@ fn same_source<'a>(
     }
 }
 
-// Two finished cells are the same.
-fn same_finished<'a>(bump: &'a Bump, left: Finished, right: Finished) -> Result<Front<'a>, NoMemory>
+/// Two finished cells are the same.
+pub fn same_finished<'a>(
+    bump: &'a Bump,
+    left: Finished,
+    right: Finished,
+) -> Result<Front<'a>, NoMemory>
     ensures { IfOk result (λ r. front_tree r ≡ table.same_finished left right) }
 {
     let why = left.cause_beside(right);

@@ -76,26 +76,38 @@ impl<'a> Front<'a> {
         }
     }
 
-    /// The goal, in the arena.
-    pub fn placed(self, bump: &'a Bump) -> Result<&'a Goal<'a>, NoMemory>
-        ensures { IfOk result (λ r. goal_tree r.now ≡ front_tree self.entry) }
+    /// The goal, with the cells of a comparison in the arena.
+    #[inline]
+    pub fn goal(self, bump: &'a Bump) -> Result<Goal<'a>, NoMemory>
+        ensures { IfOk result (λ r. goal_tree r ≡ front_tree self.entry) }
     {
         match self {
-            Front::Holds => Ok(Goal::holds(bump)?),
-            Front::Fails(why) => Ok(Goal::fails(bump, why)?),
-            Front::If { form, yes, no } => Ok(Goal::either(bump, form, yes, no)?),
+            Front::Holds => Ok(Goal::Holds),
+            Front::Fails(why) => Ok(Goal::Fails(why)),
+            Front::If { form, yes, no } => Ok(Goal::If { form, yes, no }),
             Front::Choose {
                 case,
                 a,
                 b,
                 progress,
-            } => Ok(Goal::choose(bump, case, a, b, progress)?),
-            Front::Deliver { op, progress } => Ok(Goal::deliver(bump, op, progress)?),
-            Front::Same { left, right } => Ok(Goal::same(
-                bump,
-                placed_cell(bump, left)?,
-                placed_cell(bump, right)?,
-            )?),
+            } => Ok(Goal::Choose {
+                case,
+                a,
+                b,
+                plan: progress,
+            }),
+            Front::Deliver { op, progress } => Ok(Goal::Deliver { op, plan: progress }),
+            Front::Same { left, right } => Ok(Goal::Same {
+                left: placed_cell(bump, left)?,
+                right: placed_cell(bump, right)?,
+            }),
         }
+    }
+
+    /// The goal, in the arena.
+    pub fn placed(self, bump: &'a Bump) -> Result<&'a Goal<'a>, NoMemory>
+        ensures { IfOk result (λ r. goal_tree r.now ≡ front_tree self.entry) }
+    {
+        Ok(bump.try_alloc(self.goal(bump)?)?)
     }
 }

@@ -11,5 +11,6 @@ mod known;
 mod rewriting;
 
 pub use choosing::{Trial, next_case};
+pub use comparing::same_finished;
 pub use front::Front;
 pub use rewriting::rewrite;

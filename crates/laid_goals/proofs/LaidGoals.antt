@@ -1,81 +1,75 @@
--- What is known of a goal that is laid out, from what stands at its front.
-use Rattle.std.proofs.Common.{◌≡◌, ◌<◌, ◌≤◌, Option, Some, IfSome, Bor, sym, subst, arith}
+-- What is known of a goal that is laid out, from what it leads to.
+use Rattle.std.proofs.Common.{◌≡◌, ◌<◌, ◌≤◌, IsTrue, Some, refl, ap, sym, subst, arith}
 use Rattle.fn_rules.specs.declared.function.ObName.{ObName}
 use Rattle.fn_rules.specs.Functions.{Function}
-use Rattle.ot_questions.specs.declared.place.SymOp.{SymOp}
-use Rattle.ot_terms.specs.declared.form.Form.{Form}
-use Rattle.ot_terms.specs.declared.goal.Goal.{Goal}
-use Rattle.ot_terms.specs.declared.goal.GoalProgress.{GoalProgress}
+use Rattle.fn_rules.specs.Validity.{is_valid}
 use Rattle.ot_terms.specs.Belonging.{IsGoalOf}
-use Rattle.ot_terms.specs.Forms.{form_tree}
-use Rattle.ot_terms.specs.Goals.{GoalTree, If, Deliver, goal_tree, laid_form}
+use Rattle.ot_terms.specs.Forms.{FormTree}
+use Rattle.ot_terms.specs.Goals.{GoalTree, If, laid_form}
 use Rattle.ot_terms.specs.Weights.{goal_weight}
-use Rattle.goal_rules.specs.declared.front.Front.{Front}
-use Rattle.goal_rules.specs.declared.front.Front.TheVariants as rust
+use Rattle.goal_rules.specs.Table.{rewritten}
 use Rattle.ot_rewrite.specs.Reaching.{IsStep}
 use Rattle.ot_rewrite.specs.Splits.{HasLowOffsets}
-use Rattle.goal_rules.specs.Steps.{front_tree}
+use Rattle.ot_rewrite.proofs.Stepped.{rule_steps}
 use Rattle.laid_goals.specs.Sharing.{StandsAlike}
-use Rattle.laid_goals.proofs.LaidForms.{alike_on, alike_laid, low_offsets_of}
+use Rattle.laid_goals.proofs.LaidForms.{alike_on, alike_laid, low_offsets_of, part_of_yes, part_of_no, yes_is_lighter, no_is_lighter}
 
-pub alike_step : (f : Function) (g h : GoalTree) → IsStep f g h → StandsAlike f g h
-alike_step f g h rule = record { asked = rule.asked; belongs = rule.belongs }
+-- the new goal stands for the old one, and weighs no more
+pub record LeadsTo (f : Function) (old new : GoalTree) : Type 0 where
+  pub alike : StandsAlike f old new
+  pub weighs : goal_weight f new ≤ goal_weight f old
 
-module _ (f : Function) (old : GoalTree) (front : Front) (alike : StandsAlike f old (front_tree front)) where
-  -- a form stands at the front
-  module _ (g : Form) (y n : Bor Goal) (is : front ≡ rust.If g y n) where
-    by_form_alike : StandsAlike f old (If (form_tree g) (goal_tree y.now) (goal_tree n.now))
-    by_form_alike = subst (λ t. StandsAlike f old (front_tree t)) is alike
+pub alike_step : (f : Function) (old new : GoalTree) → IsStep f old new → StandsAlike f old new
+alike_step f old new rule = record { asked = rule.asked; belongs = rule.belongs }
 
-    pub form_is_low : (ob : ObName) → IsGoalOf f ob old → HasLowOffsets (form_tree g)
-    form_is_low ob h = low_offsets_of f ob (form_tree g) (goal_tree y.now) (goal_tree n.now) (by_form_alike.belongs ob h)
+pub alike_same : (f : Function) (old new : GoalTree) → new ≡ old → StandsAlike f old new
+alike_same f old new e = subst (StandsAlike f old) (sym e) (record { asked = refl; belongs = λ ob is_goal. is_goal })
 
-    pub laid_alike :
-        (p q got : GoalTree) → StandsAlike f (goal_tree y.now) p → StandsAlike f (goal_tree n.now) q
-        → got ≡ laid_form (form_tree g) p q → StandsAlike f old got
-    laid_alike p q got hy hn e =
-        subst (StandsAlike f old) (sym e)
-        (alike_on f old (If (form_tree g) (goal_tree y.now) (goal_tree n.now)) (laid_form (form_tree g) p q) by_form_alike
-        (alike_laid f (form_tree g) (goal_tree y.now) (goal_tree n.now) p q hy hn))
+pub leads_same : (f : Function) (old new : GoalTree) → new ≡ old → LeadsTo f old new
+leads_same f old new e = record {
+  alike = alike_same f old new e;
+  weighs = (let same : goal_weight f new ≡ goal_weight f old = ap (goal_weight f) e in omega arith);
+}
 
-  -- a result is delivered at the front
-  module _ (o : SymOp) (plan : Bor GoalProgress) (is : front ≡ rust.Deliver o plan) where
-    pub result_alike : StandsAlike f old (Deliver o plan.now)
-    result_alike = subst (λ t. StandsAlike f old (front_tree t)) is alike
+pub leads_by_rule :
+    (f : Function) (ob : ObName) (old new : GoalTree) → IsTrue (is_valid f) → IsGoalOf f ob old → rewritten f old ≡ Some new
+    → LeadsTo f old new
+leads_by_rule f ob old new valid is_goal e =
+    let rule = rule_steps f ob valid old is_goal new e in
+    let falls : goal_weight f new < goal_weight f old = rule.lighter in
+    record { alike = alike_step f old new rule; weighs = omega arith }
 
-    pub result_belongs : (ob : ObName) → IsGoalOf f ob old → IsGoalOf f ob (Deliver o plan.now)
-    result_belongs ob h = result_alike.belongs ob h
+-- what is laid out behind a step stands for the goal before it
+pub step_alike :
+    (f : Function) (old next built : GoalTree) → IsStep f old next → StandsAlike f next built → StandsAlike f old built
+step_alike f old next built rule h = alike_on f old next built (alike_step f old next rule) h
 
-    -- it is known what is left
-    pub found_alike :
-        (got : Option (Bor Goal)) (built : Bor Goal)
-        → IfSome got (λ g. StandsAlike f (Deliver o plan.now) (goal_tree g.now)) → got ≡ Some built
-        → StandsAlike f old (goal_tree built.now)
-    found_alike got built h e =
-        let known = subst (λ (t : Option (Bor Goal)). IfSome t (λ g. StandsAlike f (Deliver o plan.now) (goal_tree g.now))) e h in
-        alike_on f old (Deliver o plan.now) (goal_tree built.now) result_alike known
+pub step_from : (f : Function) (old was next : GoalTree) → old ≡ was → IsStep f was next → IsStep f old next
+step_from f old was next same rule = subst (λ g. IsStep f g next) (sym same) rule
 
-    -- what is left is the goal after one rule
-    module _ (got : Option (Bor Goal)) (next : Bor Goal)
-        (h : IfSome got (λ g. IsStep f (Deliver o plan.now) (goal_tree g.now))) (e : got ≡ Some next) where
-      next_step : IsStep f (Deliver o plan.now) (goal_tree next.now)
-      next_step = subst (λ (t : Option (Bor Goal)). IfSome t (λ g. IsStep f (Deliver o plan.now) (goal_tree g.now))) e h
+-- a question, or a form, and the goals behind it
+module _ (f : Function) (ob : ObName) (old : GoalTree) (is_goal : IsGoalOf f ob old) (g : FormTree) (y n : GoalTree)
+    (leads : LeadsTo f old (If g y n)) where
+  question_belongs : IsGoalOf f ob (If g y n)
+  question_belongs = leads.alike.belongs ob is_goal
 
-      pub next_is_lighter :
-          goal_weight f (front_tree front) ≤ goal_weight f old → goal_weight f (goal_tree next.now) < goal_weight f old
-      next_is_lighter low =
-          let same : goal_weight f (Deliver o plan.now) ≤ goal_weight f old
-          = subst (λ t. goal_weight f (front_tree t) ≤ goal_weight f old) is low in
-          let falls : goal_weight f (goal_tree next.now) < goal_weight f (Deliver o plan.now) = next_step.lighter in
-          omega arith
+  pub on_yes_lighter : goal_weight f y < goal_weight f old
+  on_yes_lighter = yes_is_lighter f g y n old leads.weighs
 
-      pub next_belongs : (ob : ObName) → IsGoalOf f ob old → IsGoalOf f ob (goal_tree next.now)
-      next_belongs ob h = next_step.belongs ob (result_belongs ob h)
+  pub on_no_lighter : goal_weight f n < goal_weight f old
+  on_no_lighter = no_is_lighter f g y n old leads.weighs
 
-      pub next_kept :
-          (built : GoalTree) → StandsAlike f (goal_tree next.now) built → StandsAlike f (Deliver o plan.now) built
-      next_kept built h =
-          alike_on f (Deliver o plan.now) (goal_tree next.now) built (alike_step f (Deliver o plan.now) (goal_tree next.now) next_step) h
+  pub on_yes_belongs : IsGoalOf f ob y
+  on_yes_belongs = part_of_yes f ob g y n question_belongs
 
-      pub next_alike : (built : GoalTree) → StandsAlike f (goal_tree next.now) built → StandsAlike f old built
-      next_alike built h = alike_on f old (Deliver o plan.now) built result_alike (next_kept built h)
+  pub on_no_belongs : IsGoalOf f ob n
+  on_no_belongs = part_of_no f ob g y n question_belongs
+
+  pub form_low : HasLowOffsets g
+  form_low = low_offsets_of f ob g y n question_belongs
+
+  pub laid_alike :
+      (p q got : GoalTree) → StandsAlike f y p → StandsAlike f n q → got ≡ laid_form g p q → StandsAlike f old got
+  laid_alike p q got hy hn e =
+      alike_on f old (If g y n) got leads.alike
+      (subst (StandsAlike f (If g y n)) (sym e) (alike_laid f g y n p q hy hn))

@@ -1,2 +1,4 @@
 pub mod LaidForms
 mod LaidGoals
+mod LaidCells
+mod LaidTrials

@@ -2,11 +2,13 @@
 ghost use Rattle.std.specs.Prelude.{◌≡◌, IsTrue, IfSome};
 ghost use Rattle.std.specs.List.{All};
 ghost use Rattle.fn_rules.specs.Functions.{Function};
-ghost use Rattle.ot_terms.specs.Goals.{goal_tree, Deliver};
-ghost use Rattle.laid_goals.specs.Sharing.{StandsAlike, IsKeptGoal};
+ghost use Rattle.ot_terms.specs.Cells.{CellTree, cell_tree};
+ghost use Rattle.ot_terms.specs.Documents.{doc_tree};
+ghost use Rattle.ot_terms.specs.Goals.{goal_tree, Deliver, Same};
+ghost use Rattle.laid_goals.specs.Sharing.{StandsAlike, IsKeptGoal, IsKeptRead};
 
-use crate::kept::Behind;
-use ot_terms::{Goal, GoalProgress, SymOp};
+use crate::kept::{Behind, Compared};
+use ot_terms::{CellT, DocT, Goal, GoalProgress, SymOp};
 
 fn are_same(left: &[SymOp], right: &[SymOp]) -> bool
     ensures { IsTrue result → left.now ≡ right.now }
@@ -63,6 +65,63 @@ pub(crate) fn found<'a>(
     for at in 0..known.len() {
         let one = &known[at];
         if is_for(one, op, progress) {
+            return Some(one.goal);
+        }
+    }
+    None
+}
+
+// Whether two cells that are read are one.
+fn is_same_cell(left: CellT<'_>, right: CellT<'_>) -> bool
+    ensures { IsTrue result → cell_tree left.entry ≡ cell_tree right.entry }
+{
+    match left {
+        CellT::At { doc, at } => match right {
+            CellT::At {
+                doc: other,
+                at: there,
+            } => are_both_base(doc, other) && at == there,
+            _ => false,
+        },
+        CellT::Char(ch) => match right {
+            CellT::Char(other) => ch == other,
+            _ => false,
+        },
+        CellT::Dead(cell) => match right {
+            CellT::Dead(other) => is_same_cell(*cell, *other),
+            _ => false,
+        },
+        CellT::Over { ch, cell } => match right {
+            CellT::Over {
+                ch: other,
+                cell: there,
+            } => ch == other && is_same_cell(*cell, *there),
+            _ => false,
+        },
+        CellT::If { .. } => false,
+    }
+}
+
+fn are_both_base(left: &DocT<'_>, right: &DocT<'_>) -> bool
+    ensures { IsTrue result → doc_tree left.now ≡ doc_tree right.now }
+{
+    match left {
+        DocT::Base => match right {
+            DocT::Base => true,
+            _ => false,
+        },
+        _ => false,
+    }
+}
+
+/// What is left of a comparison with the right cell, if it is known for the left one.
+pub(crate) fn found_read<'a>(known: &[Compared<'a>], left: CellT<'a>) -> Option<&'a Goal<'a>>
+    ensures { (f : Function) (right : CellTree) → All (IsKeptRead f right) known.now
+        → IfSome result (λ g. StandsAlike f (Same (cell_tree left.entry) right) (goal_tree g.now)) }
+{
+    for at in 0..known.len() {
+        let one = &known[at];
+        if is_same_cell(one.left, left) {
             return Some(one.goal);
         }
     }

@@ -2,188 +2,82 @@
 ghost use Rattle.std.specs.Prelude.{◌≡◌, ◌≤◌, IfOk, IfSome};
 ghost use Rattle.std.specs.List.{All};
 ghost use Rattle.fn_rules.specs.declared.function.ObName.{ObName};
-ghost use Rattle.fn_rules.specs.Formulas.{formula_of};
 ghost use Rattle.fn_rules.specs.Rules.{function_of};
-ghost use Rattle.ot_questions.specs.Nears.{IsNear, IsNearOp, HasNearAtoms};
 ghost use Rattle.ot_terms.specs.Belonging.{IsGoalOf};
-ghost use Rattle.ot_terms.specs.Forms as forms;
-ghost use Rattle.ot_terms.specs.Forms.{form_tree};
-ghost use Rattle.ot_terms.specs.Goals.{goal_tree, laid_form, laid_order, Deliver};
-ghost use Rattle.ot_terms.specs.Placing.{compared, guard_form};
-ghost use Rattle.ot_terms.specs.Weights.{goal_weight};
+ghost use Rattle.ot_terms.specs.Goals.{goal_tree, Choose, Deliver};
 ghost use Rattle.ot_rewrite.specs.Reaching.{IsStep};
-ghost use Rattle.ot_rewrite.specs.Splits.{HasLowOffsets};
 ghost use Rattle.goal_rules.specs.Steps.{front_tree};
 ghost use Rattle.laid_goals.specs.Sharing.{StandsAlike, IsKeptGoal};
+ghost use Rattle.laid_goals.specs.Trials.{IsTrialOf};
 
 use crate::behind::found;
+use crate::cells::by_cells;
+use crate::forms::{by_form, by_guard};
 use crate::kept::Behind;
 use ask_core::NoMemory;
 use bumpalo::Bump;
-use fn_rules::{Cmp, Guard, Rules};
-use goal_rules::Front;
-use ot_rewrite::{front_of, step};
-use ot_terms::{Form, Goal, GoalProgress, Place, SymOp, places_of};
+use fn_rules::{Rules, rules_are_valid};
+use goal_rules::{Front, Trial, next_case};
+use ot_rewrite::step_front;
+use ot_terms::{Goal, GoalProgress, SymOp};
 
 /// How many bytes an arena may have where more is laid out.
 const ROOM: usize = 2_097_152;
 
-// One of two goals, where the first place is at most the second. Places of one name are compared at once.
-#[inline(always)]
-fn by_order<'a>(
+/// The case that is tried next; none where none is left or an operation is nop.
+#[inline]
+pub fn trial<'r, 'a>(
+    rules: &'r Rules,
+    case: u32,
+    a: SymOp,
+    b: SymOp,
+    progress: &'a GoalProgress,
+) -> Option<Trial<'r, 'a>>
+    requires { (ob : ObName) × IsGoalOf (function_of rules.now) ob (Choose case a b progress.now) }
+    ensures { IfSome result (IsTrialOf (function_of rules.now) (Choose case a b progress.now) a b) }
+{
+    next_case(rules, case, a, b, progress)
+}
+
+// The goal after one rule.
+#[inline]
+fn next_of<'a>(
     bump: &'a Bump,
-    x: Place,
-    y: Place,
-    yes: &'a Goal<'a>,
-    no: &'a Goal<'a>,
-) -> Result<&'a Goal<'a>, NoMemory>
-    ensures { IfOk result (λ r. goal_tree r.now ≡ laid_order x y (goal_tree yes.now) (goal_tree no.now)) }
+    rules: &Rules,
+    front: Front<'a>,
+) -> Result<Option<Goal<'a>>, NoMemory>
+    requires { (ob : ObName) × IsGoalOf (function_of rules.now) ob (front_tree front) }
+    ensures { IfOk result (λ r. IfSome r (λ next. IsStep (function_of rules.now) (front_tree front.entry)
+        (goal_tree next))) }
 {
-    match x.is_at_most(y) {
-        None => Ok(Goal::either(bump, Form::Le(x, y), yes, no)?),
-        Some(true) => Ok(yes),
-        Some(false) => Ok(no),
-    }
-}
-
-// One of two goals, where two places are equal.
-#[inline(never)]
-fn by_equality<'a>(
-    bump: &'a Bump,
-    x: Place,
-    y: Place,
-    yes: &'a Goal<'a>,
-    no: &'a Goal<'a>,
-) -> Result<&'a Goal<'a>, NoMemory>
-    ensures { IfOk result (λ r. goal_tree r.now ≡ laid_form (forms.Eq x y) (goal_tree yes.now) (goal_tree no.now)) }
-{
-    let back = by_order(bump, y, x, yes, no)?;
-    Ok(by_order(bump, x, y, back, no)?)
-}
-
-// One of two goals, as two places compare.
-#[inline(always)]
-fn by_places<'a>(
-    bump: &'a Bump,
-    cmp: Cmp,
-    x: Place,
-    y: Place,
-    yes: &'a Goal<'a>,
-    no: &'a Goal<'a>,
-) -> Result<&'a Goal<'a>, NoMemory>
-    requires { IsNear 999 y.off }
-    ensures { IfOk result (λ r. goal_tree r.now ≡ laid_form (compared cmp x y) (goal_tree yes.now) (goal_tree no.now)) }
-{
-    match cmp {
-        Cmp::Lt => Ok(by_order(bump, x, y.plus(-1), yes, no)?),
-        Cmp::Le => Ok(by_order(bump, x, y, yes, no)?),
-        Cmp::Eq => Ok(by_equality(bump, x, y, yes, no)?),
-    }
-}
-
-/// One of two goals, by a form. All questions of the form share the two goals.
-pub fn by_form<'a>(
-    bump: &'a Bump,
-    form: &Form<'a>,
-    yes: &'a Goal<'a>,
-    no: &'a Goal<'a>,
-) -> Result<&'a Goal<'a>, NoMemory>
-    requires { HasLowOffsets (form_tree form.now) }
-    ensures { IfOk result (λ r. goal_tree r.now ≡ laid_form (form_tree form.now) (goal_tree yes.now)
-        (goal_tree no.now)) }
-{
-    match form {
-        Form::True => Ok(yes),
-        Form::Le(x, y) => Ok(by_order(bump, *x, *y, yes, no)?),
-        Form::Lt(x, y) => Ok(by_places(bump, Cmp::Lt, *x, *y, yes, no)?),
-        Form::Eq(x, y) => Ok(by_equality(bump, *x, *y, yes, no)?),
-        Form::And(g, h) => {
-            let second = by_form(bump, h, yes, no)?;
-            Ok(by_form(bump, g, second, no)?)
-        }
-        Form::Or(g, h) => {
-            let second = by_form(bump, h, yes, no)?;
-            Ok(by_form(bump, g, yes, second)?)
-        }
-        Form::Not(g) => Ok(by_form(bump, g, no, yes)?),
-    }
-}
-
-/// One of two goals, by a guard at two operations: as by its form, of which nothing is placed into the arena. A
-/// comparison before `and` or `or` takes no call of its own.
-pub fn by_guard<'a>(
-    bump: &'a Bump,
-    guard: &Guard,
-    a: &SymOp,
-    b: &SymOp,
-    yes: &'a Goal<'a>,
-    no: &'a Goal<'a>,
-) -> Result<&'a Goal<'a>, NoMemory>
-    requires a_near { IsNearOp 200 a.now }
-    requires b_near { IsNearOp 200 b.now }
-    requires atoms_near { HasNearAtoms (formula_of guard.now) }
-    ensures { IfOk result (λ r. goal_tree r.now ≡ laid_form (guard_form (formula_of guard.now) a.now b.now)
-        (goal_tree yes.now) (goal_tree no.now)) }
-{
-    let (first, on_yes, on_no) = match guard {
-        Guard::True => return Ok(yes),
-        Guard::Atom(_) => (guard, yes, no),
-        Guard::And(g, h) => (&**g, by_guard(bump, h, a, b, yes, no)?, no),
-        Guard::Or(g, h) => (&**g, yes, by_guard(bump, h, a, b, yes, no)?),
-        Guard::Not(g) => (&**g, no, yes),
-    };
-    match first {
-        Guard::Atom(atom) => {
-            let (x, y) = places_of(atom, a, b);
-            Ok(by_places(bump, atom.cmp, x, y, on_yes, on_no)?)
-        }
-        _ => Ok(by_guard(bump, first, a, b, on_yes, on_no)?),
-    }
-}
-
-// The goal after one rule, or the goal itself where none fits.
-fn stepped<'a>(bump: &'a Bump, rules: &Rules, goal: &'a Goal<'a>) -> Result<&'a Goal<'a>, NoMemory>
-    requires { (ob : ObName) × IsGoalOf (function_of rules.now) ob (goal_tree goal.now) }
-    ensures alike { IfOk result (λ r. StandsAlike (function_of rules.now) (goal_tree goal.now) (goal_tree r.now)) }
-    ensures weighs { IfOk result (λ r. goal_weight (function_of rules.now) (goal_tree r.now)
-        ≤ goal_weight (function_of rules.now) (goal_tree goal.now)) }
-{
-    match step(bump, rules, goal)? {
-        Some(next) => Ok(next),
-        None => Ok(goal),
-    }
-}
-
-// The goal as far as to its first form. The cells of a comparison are read as far as to a question.
-fn first_form<'a>(bump: &'a Bump, rules: &Rules, goal: &'a Goal<'a>) -> Result<Front<'a>, NoMemory>
-    requires { (ob : ObName) × IsGoalOf (function_of rules.now) ob (goal_tree goal.now) }
-    ensures alike { IfOk result (λ r. StandsAlike (function_of rules.now) (goal_tree goal.now) (front_tree r)) }
-    ensures weighs { IfOk result (λ r. goal_weight (function_of rules.now) (front_tree r)
-        ≤ goal_weight (function_of rules.now) (goal_tree goal.now)) }
-{
-    match goal {
-        Goal::Choose { .. } => Ok(Front::of(stepped(bump, rules, goal)?)),
-        Goal::Same { .. } => Ok(front_of(bump, rules, goal)?),
-        _ => Ok(Front::of(goal)),
+    match step_front(bump, rules, front)? {
+        Some(next) => Ok(Some(next.goal(bump)?)),
+        None => Ok(None),
     }
 }
 
 // What is left where a result is delivered, after one rule; none where the arena has no room for more.
-fn next_of<'a>(
+#[inline]
+fn behind<'a>(
     bump: &'a Bump,
     rules: &Rules,
     op: SymOp,
     progress: &'a GoalProgress,
-) -> Result<Option<&'a Goal<'a>>, NoMemory>
+) -> Result<Option<Goal<'a>>, NoMemory>
     requires { (ob : ObName) × IsGoalOf (function_of rules.now) ob (Deliver op progress.now) }
     ensures { IfOk result (λ r. IfSome r (λ next. IsStep (function_of rules.now) (Deliver op progress.now)
-        (goal_tree next.now))) }
+        (goal_tree next))) }
 {
     if bump.allocated_bytes() > ROOM {
         return Ok(None);
     }
-    let delivered = Goal::deliver(bump, op, progress)?;
-    Ok(step(bump, rules, delivered)?)
+    Ok(next_of(bump, rules, Front::Deliver { op, progress })?)
+}
+
+// Whether nothing is asked behind either goal, so that they are laid out.
+#[inline]
+fn are_ends(yes: &Goal<'_>, no: &Goal<'_>) -> bool {
+    matches!(*yes, Goal::Holds | Goal::Fails(_)) && matches!(*no, Goal::Holds | Goal::Fails(_))
 }
 
 /// The goal with its questions laid out in the arena. What is left behind equal results is laid out once, where
@@ -197,35 +91,58 @@ pub fn laid_out<'a>(
     bump: &'a Bump,
     rules: &Rules,
     known: &mut Vec<Behind<'a>, &'a Bump>,
-    goal: &'a Goal<'a>,
+    goal: Goal<'a>,
 ) -> Result<&'a Goal<'a>, NoMemory>
-    requires goal { (ob : ObName) × IsGoalOf (function_of rules.now) ob (goal_tree goal.now) }
+    requires goal { (ob : ObName) × IsGoalOf (function_of rules.now) ob (goal_tree goal) }
     requires known { All (IsKeptGoal (function_of rules.now)) known.old.items }
-    ensures alike { IfOk result (λ r. StandsAlike (function_of rules.now) (goal_tree goal.now) (goal_tree r.now)) }
+    ensures alike { IfOk result (λ r. StandsAlike (function_of rules.now) (goal_tree goal.entry) (goal_tree r.now)) }
     ensures known { IfOk result (λ _. All (IsKeptGoal (function_of rules.now)) known.new.items) }
 {
-    match first_form(bump, rules, goal)? {
-        Front::If { form, yes, no } => {
-            let on_no = laid_out(bump, rules, known, no)?;
-            let on_yes = laid_out(bump, rules, known, yes)?;
+    rules_are_valid(rules);
+    match goal {
+        Goal::Holds => Ok(bump.try_alloc(goal)?),
+        Goal::Fails(_) => Ok(bump.try_alloc(goal)?),
+        Goal::If { form, yes, no } => {
+            if are_ends(yes, no) {
+                return Ok(by_form(bump, &form, yes, no)?);
+            }
+            let on_no = laid_out(bump, rules, known, *no)?;
+            let on_yes = laid_out(bump, rules, known, *yes)?;
             Ok(by_form(bump, &form, on_yes, on_no)?)
         }
-        Front::Deliver { op, progress } => {
-            if let Some(built) = found(known, op, progress) {
+        Goal::Choose { case, a, b, plan } => {
+            let Some(Trial { guard, yes, no }) = trial(rules, case, a, b, plan) else {
+                let front = Front::Choose {
+                    case,
+                    a,
+                    b,
+                    progress: plan,
+                };
+                let Some(next) = next_of(bump, rules, front)? else {
+                    return Ok(bump.try_alloc(goal)?);
+                };
+                return Ok(laid_out(bump, rules, known, next)?);
+            };
+            let on_no = laid_out(bump, rules, known, no)?;
+            let on_yes = laid_out(bump, rules, known, yes)?;
+            Ok(by_guard(bump, guard, &a, &b, on_yes, on_no)?)
+        }
+        Goal::Deliver { op, plan } => {
+            if let Some(built) = found(known, op, plan) {
                 return Ok(built);
             }
-            let Some(next) = next_of(bump, rules, op, progress)? else {
-                return Ok(Goal::deliver(bump, op, progress)?);
+            let Some(next) = behind(bump, rules, op, plan)? else {
+                return Ok(Goal::deliver(bump, op, plan)?);
             };
             let mut inner = Vec::new(bump);
             let built = laid_out(bump, rules, &mut inner, next)?;
             known.push(Behind {
                 op,
-                progress,
+                progress: plan,
                 goal: built,
             })?;
             Ok(built)
         }
-        front => Ok(front.placed(bump)?),
+        Goal::Same { left, right } => Ok(by_cells(bump, rules, *left, *right)?),
     }
 }

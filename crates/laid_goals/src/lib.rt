@@ -2,9 +2,12 @@
 #![tactic(auto)]
 
 mod behind;
+mod cells;
+mod forms;
 mod kept;
 mod laying;
 
 pub use behind::is_same_progress;
+pub use forms::{by_form, by_guard};
 pub use kept::Behind;
-pub use laying::{by_form, by_guard, laid_out};
+pub use laying::{laid_out, trial};

@@ -12,9 +12,9 @@ mod DeliveredParts
 mod FrontLaws
 mod RulesKept
 mod Reached
-mod Ready
+pub mod Ready
 mod Fronted
 mod SplitForms
 mod SplitEnds
 pub mod SplitExamples
-mod Stepped
+pub mod Stepped

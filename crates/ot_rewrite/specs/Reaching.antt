@@ -1,5 +1,5 @@
 -- The goals that rules lead to.
-use Rattle.std.specs.Prelude.{◌≡◌, ◌↔◌, ◌<◌, ℕ, zero, suc, ℤ, Option, Some, None}
+use Rattle.std.specs.Prelude.{◌≡◌, ◌↔◌, ◌<◌, ℕ, zero, suc, ℤ, Option, Some}
 use Rattle.fn_rules.specs.declared.function.ObName.{ObName}
 use Rattle.std.specs.Option.{option_and_then}
 use Rattle.fn_rules.specs.Functions.{Function}

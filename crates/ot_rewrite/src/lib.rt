@@ -11,4 +11,4 @@ pub use laws::{rules_keep_what_is_asked, rules_leave_what_forms_leave};
 pub use question::Split;
 pub use simplifying::{front_of, simplify};
 pub use splitting::split;
-pub use stepping::step;
+pub use stepping::{step, step_front};

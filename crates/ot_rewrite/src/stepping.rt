@@ -7,6 +7,7 @@ ghost use Rattle.ot_terms.specs.Belonging.{IsGoalOf};
 ghost use Rattle.ot_terms.specs.Goals.{goal_tree};
 ghost use Rattle.ot_rewrite.specs.Fronts.{is_at_front};
 ghost use Rattle.ot_rewrite.specs.Reaching.{IsStep};
+ghost use Rattle.goal_rules.specs.Steps.{front_tree};
 ghost use Rattle.goal_rules.specs.Table.{rewritten};
 
 use ask_core::NoMemory;
@@ -54,6 +55,21 @@ fn stepped<'a>(
         Some(front) => Ok(Some(front.placed(bump)?)),
         None => Ok(None),
     }
+}
+
+/// The goal after one rule, of one that is held at its front; none where it holds or fails or asks a question.
+#[inline]
+pub fn step_front<'a>(
+    bump: &'a Bump,
+    rules: &Rules,
+    front: Front<'a>,
+) -> Result<Option<Front<'a>>, NoMemory>
+    requires { (ob : ObName) × IsGoalOf (function_of rules.now) ob (front_tree front) }
+    ensures { IfOk result (λ r. MatchOption r (IsTrue (is_at_front (front_tree front.entry)))
+        (λ next. IsStep (function_of rules.now) (front_tree front.entry) (front_tree next))) }
+{
+    rules_are_valid(rules);
+    Ok(rewrite(bump, rules, front)?)
 }
 
 /// The goal after one rule; none where it holds or fails or asks a question. It asks the same, is true at the

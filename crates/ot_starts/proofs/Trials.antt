@@ -15,16 +15,13 @@ use Rattle.ot_terms.specs.Weights.{goal_weight}
 use Rattle.goal_rules.specs.declared.choosing.Trial.{Trial}
 use Rattle.goal_rules.specs.Steps.{trial_tree, IsChoosable}
 use Rattle.goal_rules.specs.Table.{rewrite_choose, rewritten}
+use Rattle.laid_goals.specs.Trials as laid
 use Rattle.laid_goals.proofs.LaidForms.{part_of_yes, part_of_no, yes_is_lighter, no_is_lighter}
 use Rattle.marked_goals.specs.Marking.{marked_goal}
 use Rattle.marked_goals.specs.Settled.{front_start, is_begun, StandsMarked}
 use Rattle.ot_starts.specs.Trials.{IsTrialOf}
 use Rattle.ot_starts.proofs.LaidMarks.{marked_laid}
 use Rattle.ot_starts.proofs.SettledGoals.{settled_on}
-
--- an operation that is near is nearer than a wider bound
-wider : (o : SymOp) → IsNearOp 99 o → IsNearOp 200 o
-wider o near = record { low = omega (arith, ints, near.low); high = omega (arith, ints, near.high) }
 
 -- no transformation begins at the goal
 pub not_begun_there :
@@ -33,43 +30,24 @@ pub not_begun_there :
 not_begun_there test old was same tests denied law =
     subst (λ g. is_begun g ≡ false) same (law old ∙ sym tests ∙ denied)
 
-module _ (f : Function) (ob : ObName) (case : ℕ) (a b : SymOp) (plan : GoalProgress)
-    (h : IsGoalOf f ob (Choose case a b plan)) where
-  pub choosable : IsChoosable f case a b
-  choosable = record {
-    a_declared = h.parts.a_declared;
-    b_declared = h.parts.b_declared;
-    a_near = h.parts.a_near;
-    b_near = h.parts.b_near;
-    cases = h.parts.cases;
-  }
-
-  trying_rule :
-      (t : Trial) → trial_tree a b (Some t) ≡ rewrite_choose f case a b plan
-      → rewritten f (Choose case a b plan) ≡ Some (trial_tree a b (Some t))
-  unfolding rewritten
-  trying_rule t e = ap Some (sym e)
-
-  pub trials :
-      ((g : GoalTree) → rewritten f (Choose case a b plan) ≡ Some g → marked_goal f g ≡ marked_goal f (Choose case a b plan))
-      → ((other : ObName) (g : GoalTree) → IsGoalOf f other (Choose case a b plan) → rewritten f (Choose case a b plan) ≡ Some g
-      → IsGoalOf f other g)
-      → ((g : GoalTree) → rewritten f (Choose case a b plan) ≡ Some g → goal_weight f g < goal_weight f (Choose case a b plan))
-      → (r : Option Trial) → IfSome r (λ t. trial_tree a b (Some t) ≡ rewrite_choose f case a b plan)
-      → IfSome r (λ t. HasNearAtoms (formula_of t.guard.now)) → IfSome r (IsTrialOf f (Choose case a b plan) a b)
-  trials marks stays falls None tries near = tt
-  trials marks stays falls (Some t) tries near =
-      let rule : rewritten f (Choose case a b plan) ≡ Some (trial_tree a b (Some t)) = trying_rule t tries in
-      record {
-        stands = record {
-          marked = marks (trial_tree a b (Some t)) rule;
-          belongs = λ other is_goal. stays other (trial_tree a b (Some t)) is_goal rule;
-        };
-        lighter = falls (trial_tree a b (Some t)) rule;
-        atoms_near = near;
-        a_near = wider a h.parts.a_near;
-        b_near = wider b h.parts.b_near;
-      }
+-- what is tried stands for the goal with its starts
+pub trials :
+    (f : Function) (old : GoalTree) (a b : SymOp)
+    → ((g : GoalTree) → rewritten f old ≡ Some g → marked_goal f g ≡ marked_goal f old)
+    → ((other : ObName) (g : GoalTree) → IsGoalOf f other old → rewritten f old ≡ Some g → IsGoalOf f other g)
+    → ((g : GoalTree) → rewritten f old ≡ Some g → goal_weight f g < goal_weight f old)
+    → (r : Option Trial) → IfSome r (laid.IsTrialOf f old a b) → IfSome r (IsTrialOf f old a b)
+trials f old a b marks stays falls None is = tt
+trials f old a b marks stays falls (Some t) is = record {
+  stands = record {
+    marked = marks (trial_tree a b (Some t)) is.rule;
+    belongs = λ other is_goal. stays other (trial_tree a b (Some t)) is_goal is.rule;
+  };
+  lighter = falls (trial_tree a b (Some t)) is.rule;
+  atoms_near = is.atoms_near;
+  a_near = is.a_near;
+  b_near = is.b_near;
+}
 
 -- the two goals that are left
 module _ (f : Function) (old was : GoalTree) (a b : SymOp) (t : Trial) (same : old ≡ was) (is : IsTrialOf f was a b t) where

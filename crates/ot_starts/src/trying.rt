@@ -8,7 +8,8 @@ ghost use Rattle.marked_goals.specs.Settled.{is_begun};
 ghost use Rattle.ot_starts.specs.Trials.{IsTrialOf};
 
 use fn_rules::{Rules, rules_are_valid};
-use goal_rules::{Trial, next_case};
+use goal_rules::Trial;
+use laid_goals::trial as tried;
 use marked_goals::rules_keep_starts;
 use ot_rewrite::rules_keep_what_is_asked;
 use ot_terms::{GoalProgress, SymOp};
@@ -29,5 +30,5 @@ pub(crate) fn trial<'r, 'a>(
     rules_keep_starts();
     rules_keep_what_is_asked();
     rules_are_valid(rules);
-    next_case(rules, case, a, b, plan)
+    tried(rules, case, a, b, plan)
 }

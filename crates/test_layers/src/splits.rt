@@ -1,7 +1,9 @@
-//! Forms split at their first questions.
+//! Forms split at their first questions, and finished cells compared.
 use bumpalo::Bump;
+use goal_rules::{Front, same_finished};
+use ot_questions::Finished;
 use ot_rewrite::{Split, split};
-use ot_terms::{Form, NoMemory, Place};
+use ot_terms::{Form, Goal, NoMemory, Place};
 use std::process::Abort;
 use std::test::Fail;
 
@@ -51,5 +53,31 @@ fn forms_are_split_at_their_first_question(rt: HostRuntime) -> Result<(), Fail> 
     less_is_split(&rt, &bump)?;
     own_name_is_split(&rt, &bump)?;
     parts_are_left(&rt, &bump)?;
+    Ok(())
+}
+
+// The names of two characters are compared.
+fn characters_are_compared<'a>(rt: &impl Abort, bump: &'a Bump) -> Result<(), NoMemory> {
+    match same_finished(bump, Finished::put(4), Finished::put(7))? {
+        Front::If {
+            form: Form::Eq(x, y),
+            yes: Goal::Holds,
+            no: Goal::Fails(_),
+        } => {
+            assert_eq!(rt; x, Place { var: 4, off: 0 });
+            assert_eq!(rt; y, Place { var: 7, off: 0 });
+        }
+        _ => rt.abort(),
+    }
+    Ok(())
+}
+
+#[test]
+fn finished_cells_are_compared(rt: HostRuntime) -> Result<(), Fail> {
+    let bump = Bump::new(rt.alloc());
+    let cell = Finished::base(1);
+    assert!(rt; matches!(same_finished(&bump, cell, cell)?, Front::Holds));
+    assert!(rt; matches!(same_finished(&bump, cell, cell.buried())?, Front::Fails(_)));
+    characters_are_compared(&rt, &bump)?;
     Ok(())
 }

@@ -1,4 +1,3 @@
-use Rattle.std.proofs.Common.{arith}
 use Rattle.fn_rules.specs.Rules.{function_of}
 use Rattle.ot_terms.specs.Goals.{goal_tree}
 use Rattle.ot_terms.proofs.GoalTruth.{goal_holds_alike}

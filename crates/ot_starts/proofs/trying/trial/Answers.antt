@@ -1,11 +1,7 @@
 use Rattle.fn_rules.specs.Rules.{function_of}
 use Rattle.ot_terms.specs.Goals.{Choose}
-use Rattle.ot_starts.proofs.Trials.{choosable, trials}
+use Rattle.ot_starts.proofs.Trials.{trials}
 use Rattle.ot_starts.proofs.trying.trial.Goals as goal
-
-pub next_case-requires : goal.next_case-requires
-next_case-requires c =
-    choosable (function_of c.args.rules.now) c.requires.goal.0 c.args.case c.args.a c.args.b c.args.plan.now c.requires.goal.1
 
 pub returns : goal.returns
 returns c =
@@ -13,8 +9,8 @@ returns c =
     let old = Choose c.args.case c.args.a c.args.b c.args.plan.now in
     let is_goal = c.requires.goal.1 in
     let valid = c.rules_are_valid.ensures in
-    trials f c.requires.goal.0 c.args.case c.args.a c.args.b c.args.plan.now is_goal
+    trials f old c.args.a c.args.b
     (λ g rule. c.rules_keep_starts.ensures.kept f c.requires.goal.0 old g valid is_goal rule c.requires.later)
     (λ other g of rule. c.rules_keep_what_is_asked.ensures.belongs f other old g valid of rule)
     (λ g rule. c.rules_keep_what_is_asked.ensures.lighter f c.requires.goal.0 old g valid is_goal rule)
-    c.next_case.result c.next_case.ensures.tries c.next_case.ensures.near
+    c.trial.result c.trial.ensures

@@ -1,0 +1,151 @@
+//! Comparisons of two cells with their questions laid out: the left cell is read first, and then the right one.
+ghost use Rattle.std.specs.Prelude.{◌≡◌, false, IfOk, MatchOption};
+ghost use Rattle.std.specs.List.{All};
+ghost use Rattle.fn_rules.specs.declared.function.ObName.{ObName};
+ghost use Rattle.fn_rules.specs.Rules.{function_of};
+ghost use Rattle.ot_terms.specs.Belonging.{IsGoalOf};
+ghost use Rattle.ot_terms.specs.Cells as trees;
+ghost use Rattle.ot_terms.specs.Cells.{cell_tree};
+ghost use Rattle.ot_terms.specs.Forms.{form_tree};
+ghost use Rattle.ot_terms.specs.Goals.{goal_tree, Same};
+ghost use Rattle.laid_goals.specs.Cells.{is_parted, IsRead};
+ghost use Rattle.laid_goals.specs.Sharing.{StandsAlike, IsKeptRead};
+
+use crate::behind::found_read;
+use crate::forms::by_form;
+use crate::kept::Compared;
+use ask_core::NoMemory;
+use bumpalo::Bump;
+use cell_rules::{finished, read_step};
+use fn_rules::{Rules, rules_are_valid};
+use goal_rules::{Front, same_finished};
+use ot_terms::{CellT, Form, Goal};
+
+// The form of a cell that is one of two, and the two.
+#[inline(always)]
+fn parts<'a>(cell: CellT<'a>) -> Option<(&'a Form<'a>, &'a CellT<'a>, &'a CellT<'a>)>
+    ensures { MatchOption result (is_parted (cell_tree cell.entry) ≡ false)
+        (λ p. cell_tree cell.entry ≡ trees.If (form_tree p.0.now) (cell_tree p.1.now) (cell_tree p.2.now)) }
+{
+    match cell {
+        CellT::If { form, yes, no } => Some((form, yes, no)),
+        _ => None,
+    }
+}
+
+// The comparison where both cells are read.
+fn by_ends<'a>(
+    bump: &'a Bump,
+    rules: &Rules,
+    left: CellT<'a>,
+    right: CellT<'a>,
+) -> Result<&'a Goal<'a>, NoMemory>
+    requires goal { (ob : ObName) × IsGoalOf (function_of rules.now) ob (Same (cell_tree left) (cell_tree right)) }
+    requires left_read { IsRead (cell_tree left) }
+    requires right_read { IsRead (cell_tree right) }
+    ensures { IfOk result (λ r. StandsAlike (function_of rules.now)
+        (Same (cell_tree left.entry) (cell_tree right.entry)) (goal_tree r.now)) }
+{
+    rules_are_valid(rules);
+    let Some(first) = finished(left) else {
+        return Ok(Front::Same { left, right }.placed(bump)?);
+    };
+    let Some(second) = finished(right) else {
+        return Ok(Front::Same { left, right }.placed(bump)?);
+    };
+    match same_finished(bump, first, second)? {
+        Front::If { form, yes, no } => Ok(by_form(bump, &form, yes, no)?),
+        front => Ok(front.placed(bump)?),
+    }
+}
+
+// The comparison where the left cell is read.
+fn by_right<'a>(
+    bump: &'a Bump,
+    rules: &Rules,
+    left: CellT<'a>,
+    right: CellT<'a>,
+) -> Result<&'a Goal<'a>, NoMemory>
+    requires goal { (ob : ObName) × IsGoalOf (function_of rules.now) ob (Same (cell_tree left) (cell_tree right)) }
+    requires read { IsRead (cell_tree left) }
+    ensures { IfOk result (λ r. StandsAlike (function_of rules.now)
+        (Same (cell_tree left.entry) (cell_tree right.entry)) (goal_tree r.now)) }
+{
+    rules_are_valid(rules);
+    if let Some(read) = read_step(bump, right)? {
+        return Ok(by_right(bump, rules, left, read)?);
+    }
+    let Some((form, yes, no)) = parts(right) else {
+        return Ok(by_ends(bump, rules, left, right)?);
+    };
+    let on_no = by_right(bump, rules, left, *no)?;
+    let on_yes = by_right(bump, rules, left, *yes)?;
+    Ok(by_form(bump, form, on_yes, on_no)?)
+}
+
+// The comparison where the left cell is read, which is laid out once for each cell that comes of reading.
+fn by_known<'a>(
+    bump: &'a Bump,
+    rules: &Rules,
+    known: &mut Vec<Compared<'a>, &'a Bump>,
+    left: CellT<'a>,
+    right: CellT<'a>,
+) -> Result<&'a Goal<'a>, NoMemory>
+    requires goal { (ob : ObName) × IsGoalOf (function_of rules.now) ob (Same (cell_tree left) (cell_tree right)) }
+    requires read { IsRead (cell_tree left) }
+    requires known { All (IsKeptRead (function_of rules.now) (cell_tree right)) known.old.items }
+    ensures alike { IfOk result (λ r. StandsAlike (function_of rules.now)
+        (Same (cell_tree left.entry) (cell_tree right.entry)) (goal_tree r.now)) }
+    ensures known { IfOk result (λ _. All (IsKeptRead (function_of rules.now) (cell_tree right.entry))
+        known.new.items) }
+{
+    if let Some(built) = found_read(known, left) {
+        return Ok(built);
+    }
+    let built = by_right(bump, rules, left, right)?;
+    known.push(Compared { left, goal: built })?;
+    Ok(built)
+}
+
+// The comparison, where `known` tells what is left of it where the left cell is read.
+fn by_left<'a>(
+    bump: &'a Bump,
+    rules: &Rules,
+    known: &mut Vec<Compared<'a>, &'a Bump>,
+    left: CellT<'a>,
+    right: CellT<'a>,
+) -> Result<&'a Goal<'a>, NoMemory>
+    requires goal { (ob : ObName) × IsGoalOf (function_of rules.now) ob (Same (cell_tree left) (cell_tree right)) }
+    requires known { All (IsKeptRead (function_of rules.now) (cell_tree right)) known.old.items }
+    ensures alike { IfOk result (λ r. StandsAlike (function_of rules.now)
+        (Same (cell_tree left.entry) (cell_tree right.entry)) (goal_tree r.now)) }
+    ensures known { IfOk result (λ _. All (IsKeptRead (function_of rules.now) (cell_tree right.entry))
+        known.new.items) }
+{
+    rules_are_valid(rules);
+    if let Some(read) = read_step(bump, left)? {
+        return Ok(by_left(bump, rules, known, read, right)?);
+    }
+    let Some((form, yes, no)) = parts(left) else {
+        return Ok(by_known(bump, rules, known, left, right)?);
+    };
+    let on_no = by_left(bump, rules, known, *no, right)?;
+    let on_yes = by_left(bump, rules, known, *yes, right)?;
+    Ok(by_form(bump, form, on_yes, on_no)?)
+}
+
+/// The comparison of two cells. What is left of it where the left cell is read is laid out once for each cell that
+/// comes of reading.
+pub(crate) fn by_cells<'a>(
+    bump: &'a Bump,
+    rules: &Rules,
+    left: CellT<'a>,
+    right: CellT<'a>,
+) -> Result<&'a Goal<'a>, NoMemory>
+    requires { (ob : ObName) × IsGoalOf (function_of rules.now) ob (Same (cell_tree left) (cell_tree right)) }
+    ensures { IfOk result (λ r. StandsAlike (function_of rules.now)
+        (Same (cell_tree left.entry) (cell_tree right.entry)) (goal_tree r.now)) }
+{
+    let mut known = Vec::new(bump);
+    Ok(by_left(bump, rules, &mut known, left, right)?)
+}
