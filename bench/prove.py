@@ -2,7 +2,8 @@
 """Measures `otp prove` and then `otp check` of what it wrote, and gives the same obligations to z3 and cvc5.
 
 usage: prove.py [RUNS]      (after `otp`, or `rt run` in crates/otp; the least of RUNS runs is shown, 60 where none is
-                            given, which take turns; OTP=PROGRAM in the environment names another program to measure)
+                            given, and of ten times as many for short processes; they take turns, the short ones among
+                            themselves; OTP=PROGRAM in the environment names another program to measure)
 
 Shown are questions a second of `prove`, its peak memory a question beside the certificate, which it holds whole before it
 writes it, MB a second of `check`, and how often as long the faster of the solvers takes as `prove`. Each is the time of a
@@ -24,8 +25,8 @@ from smt import script
 
 PROGRAM = os.environ.get("OTP") or os.path.join(TOP, "crates/otp/out/otp")
 SHIPPED = os.path.join(TOP, "examples/functions")
-# So many runs of each command, the least of which is shown.
-RUNS = 60
+# So many runs of each command, the least of which is shown, and so many times as many of short processes.
+RUNS, SHORT = 60, 10
 SOLVERS = {"z3": ["z3"], "cvc5": ["cvc5", "--incremental"]}
 
 
@@ -105,6 +106,11 @@ def prepare(folder, name, text):
     return [PROGRAM, "prove", function], [PROGRAM, "check", function, certificate]
 
 
+def commands_of(folder, functions):
+    """`prove` and `check` of each function."""
+    return [words for name, text in functions.items() for words in prepare(folder, name, text)]
+
+
 def report(folder, solvers, name, text, proved, checked):
     asked, size = proved.text.count("?"), len(proved.text) + 1
     beside = max(0, proved.peak * 1024 - size) / asked
@@ -129,23 +135,23 @@ def main():
     if "OTP" not in os.environ:
         subprocess.run([os.path.join(TOP, "otp")], stdout=subprocess.DEVNULL, check=False)
     solvers = installed()
-    functions = {
+    great = {
         "16 further cases": with_tombstones([16, 0, 0, 0]),
         "12 cases a block": with_tombstones([9, 11, 10, 11]),
         "14 cases a block": with_tombstones([11, 13, 12, 13]),
         "8 nested cases": nested(8),
-        "ttf": shipped("ttf.ot"),
     }
+    small = {"ttf": shipped("ttf.ot")}
     with tempfile.TemporaryDirectory() as folder:
         require_agreement(folder, solvers)
-        commands = [["/bin/true"], [PROGRAM]]
-        for name, text in functions.items():
-            commands += prepare(folder, name, text)
-        empty, idle, *ran = quickest(commands, runs)
+        ran = quickest(commands_of(folder, great), runs)
+        # Short processes take no turns with great ones, behind which they find the data of those in the caches.
+        empty, idle, *ran_short = quickest([["/bin/true"], [PROGRAM], *commands_of(folder, small)], SHORT * runs)
         print(f"an empty process: {1e3 * empty.seconds:.2f} ms; "
               f"otp with no words: {1e3 * idle.seconds:.2f} ms, {idle.peak} KiB at the peak")
-        for (name, text), proved, checked in zip(functions.items(), ran[::2], ran[1::2]):
-            report(folder, solvers, name, text, proved, checked)
+        for functions, timed in ((great, ran), (small, ran_short)):
+            for (name, text), proved, checked in zip(functions.items(), timed[::2], timed[1::2]):
+                report(folder, solvers, name, text, proved, checked)
 
 
 if __name__ == "__main__":
