@@ -18,8 +18,8 @@ use fn_rules::{Level, ObName};
 use itoa::Buffer;
 use std::mem;
 
-/// How many bytes a question and a cycle behind it have at most: a `?`, an `x`, at most 10 digits and a byte behind each
-/// number, and a `;`.
+/// How many bytes a question and a cycle behind it have at most: a `?`, an `x`, at most 10 digits and a byte behind
+/// each number, and a `;`.
 const ASKED_ROOM: usize = 3 + 11 * MAX_PICKS;
 
 /// Appends the first line of a certificate of a level that has these obligations. After `NoMemory` a
@@ -204,8 +204,8 @@ pub(crate) fn write_asked<C: CycleNumbers>(
     Ok(())
 }
 
-/// The same, where there is room for as many numbers as a cycle may have: then the answer is true. Else it is false, and
-/// nothing is appended. The allocator is not asked for memory.
+/// The same, where there is room for as many numbers as a cycle may have: then the answer is true. Else it is false,
+/// and nothing is appended. The allocator is not asked for memory.
 #[inline(always)]
 pub(crate) fn put_asked<C: CycleNumbers>(first: u32, others: C, out: &mut Vec<u8>) -> bool
     requires { length (C.left others) < MAX_PICKS }

@@ -1,4 +1,4 @@
-//! What is left behind results.
+//! What is left behind results, and of comparisons whose left cell is read.
 ghost use Rattle.std.specs.Prelude.{◌≡◌, IsTrue, IfSome};
 ghost use Rattle.std.specs.List.{All};
 ghost use Rattle.fn_rules.specs.Functions.{Function};

@@ -32,7 +32,8 @@ fn longer<N: Copy>(path: Path<N>, lit: Lit, no: N) -> Result<Path<N>, NoMemory>
 }
 
 /// Goes on at no, as long as the asker has a question at hand whose side for yes has no room, the tree and the path
-/// have room at hand, and the budget is not spent. The last table is that of the first place, which some integers meet.
+/// have room at hand, and the budget is not spent. The last table is that of the first place, which some integers
+/// meet.
 // By value, so that the loop keeps lengths and places in registers: of some plans nine of ten questions are such.
 #[inline(never)]
 pub fn passed<A: Asker>(
