@@ -9,6 +9,8 @@ it, that of its tests, and its must-fail edits with the proof that they begin wi
 as those that the gate itself spends on copies and sums of files, stand below the table. With `--page` the table is put
 in place of the one on the page, if the gate passed. The status is the gate's.
 
+Each check has one job, as in `.ci/run` (RT_JOBS=N in the environment says how many run side by side).
+
 Twice a second it looks at what the gate has started. What ended in between is read off the time of ended children that
 the gate's own process has. Where several ended at once, each gets an equal part of what they used since they were seen.
 """
@@ -21,6 +23,10 @@ import threading
 import time
 
 TOP = os.path.dirname(os.path.dirname(os.path.abspath(__file__)))
+sys.path.insert(0, os.path.join(TOP, "tools"))
+
+import toolchain  # noqa: E402
+
 PAGE = os.path.join(TOP, "docs/CONTRIBUTING.md")
 HEAD = "| crate | proof | tests | edits |"
 TICKS = os.sysconf("SC_CLK_TCK")
@@ -137,7 +143,7 @@ def minutes(seconds):
 def main():
     words = [word for word in sys.argv[1:] if word != "--page"]
     start, is_over = time.monotonic(), threading.Event()
-    gate = subprocess.Popen(["rt", "ci", *words])
+    gate = subprocess.Popen(["rt", "ci", *words], env={"RT_JOBS": str(toolchain.lanes()), **os.environ})
     book = Book(gate.pid)
     watch = threading.Thread(target=book.follow, args=(is_over,))
     watch.start()

@@ -5,6 +5,8 @@ less than a second runs once more, alone and with its output in a file, so that 
 start to its own end.
 """
 import os
+import re
+import shutil
 import subprocess
 import sys
 import tempfile
@@ -43,6 +45,19 @@ def measure_processor(words):
     """The seconds are those of the processor, to compare programs on a machine that does other work."""
     text, status, numbers = run_under_time(words, "%U %M")
     return text, status, float(numbers[0]), int(numbers[1])
+
+
+def counts_instructions():
+    """Whether there is a program that counts them."""
+    return shutil.which("valgrind") is not None
+
+
+def instructions(words):
+    """How many instructions a whole process takes: as many in each run, whatever else the machine does."""
+    with tempfile.NamedTemporaryFile() as counts:
+        valgrind = ["valgrind", "--tool=callgrind", f"--callgrind-out-file={counts.name}"]
+        run = subprocess.run([*valgrind, *words], stdout=subprocess.DEVNULL, stderr=subprocess.PIPE, text=True)
+    return int(re.search(r"Collected : (\d+)", run.stderr)[1])
 
 
 Run = namedtuple("Run", "text status seconds peak")

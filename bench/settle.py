@@ -8,7 +8,11 @@ The functions are those of bench/families.py with 8, 16, 32 and 63 cases a block
 level tp2. Shown are the seconds of whole processes and the peak memory; of a proof its size and how many questions it
 asks, which are fewer than those of the search; and of `prove` nothing where its budget is spent. The solvers are given
 the obligations in their own words (bench/smt.py), and LIMIT seconds for a function. Where one answers otherwise than
-`settle`, the script ends. Behind all functions it is said what is wanted, and of which functions it does not hold.
+`settle`, the script ends. Where valgrind is installed it counts the instructions of `settle` and `confirm`, as whole
+processes. Behind all functions it is said what is wanted, and of which functions it does not hold.
+
+What a process takes to start, the same for both commands, is more than the smallest functions leave to `confirm`; so its
+part of `settle` is told of the clock without the start, and of the instructions with it.
 """
 import glob
 import os
@@ -18,7 +22,7 @@ import tempfile
 from collections import namedtuple
 
 from families import FAMILIES, SIZES, function_of
-from measure import TOP, Run, measure, quickest
+from measure import TOP, Run, counts_instructions, instructions, measure, quickest
 from prove import PROGRAM, SHIPPED, SOLVERS, installed, least
 
 from certificate import read_function
@@ -34,8 +38,9 @@ RUNS, OTP_RUNS = 5, 100
 GREAT = 16
 MOST_SECONDS, MOST_BYTES, MOST_PROOF, MOST_RULES, TIMES_SOLVER, TIMES_CONFIRM = 5, 1e9, 20e6, 100e3, 3, 4
 
-# The seconds of a solver are None where it was cut off.
-Row = namedtuple("Row", "name cases settled size confirmed proved solved start")
+# The seconds of a solver are None where it was cut off; `counted` is the part of the instructions of `settle` that
+# `confirm` takes, if they were counted.
+Row = namedtuple("Row", "name cases settled size confirmed proved solved start counted")
 
 
 def solved(name, solvers, runs, status):
@@ -67,7 +72,11 @@ def report(folder, solvers, name, cases, text):
     if first.status == 0 and confirmed.text != "confirmed tp2":
         sys.exit(f"{name}: confirm answers {confirmed.text}")
     size, confirmed = (os.path.getsize(proof), confirmed) if first.status == 0 else (0, None)
-    row = Row(name, cases, settled, size, confirmed, proved, solved(name, solvers, runs, settled.status), start.seconds)
+    counted = None
+    if confirmed and counts_instructions():
+        counted = instructions([PROGRAM, "confirm", function, proof]) / instructions([PROGRAM, "settle", function])
+    times = solved(name, solvers, runs, settled.status)
+    row = Row(name, cases, settled, size, confirmed, proved, times, start.seconds, counted)
     show(row)
     return row._replace(settled=settled._replace(text=""), proved=proved._replace(text=""))
 
@@ -79,8 +88,9 @@ def show(row):
     print(f"{row.name}: status {settled.status} in {settled.seconds:.3f} s, {settled.peak} KiB at the peak; {', '.join(beside)}")
     if row.confirmed:
         told = f"{row.size} bytes, {settled.text.count('?')} questions"
+        counted = f", by instructions {row.counted:.3f}" if row.counted else ""
         print(f"    proof of {told}; confirm {row.confirmed.seconds:.4f} s, {row.confirmed.peak} KiB at the peak; without the "
-              f"start of the program {part_of(row):.3f} of settle")
+              f"start of the program {part_of(row):.3f} of settle{counted}")
 
 
 def part_of(row):
@@ -105,10 +115,12 @@ def wanted(rows, solvers):
     rules = [row for row in proofs if row.name == f"rules {GREAT}"]
     yield f"a proof of rules {GREAT} of less than {MOST_RULES / 1e3:.0f} kB", rules, lambda row: row.size < MOST_RULES
     yield f"proofs of less than {MOST_PROOF / 1e6:.0f} MB", proofs, lambda row: row.size < MOST_PROOF
-    yield f"confirm within 1/{TIMES_CONFIRM} of the time of settle", proofs, lambda row: (
+    yield f"confirm within 1/{TIMES_CONFIRM} of the time of settle, both as whole processes", proofs, lambda row: (
         TIMES_CONFIRM * row.confirmed.seconds <= row.settled.seconds)
     yield f"confirm within 1/{TIMES_CONFIRM} of the time of settle, each without the start of the program", proofs, lambda row: (
         TIMES_CONFIRM * part_of(row) <= 1)
+    if counts_instructions():
+        yield f"confirm within 1/{TIMES_CONFIRM} of the instructions of settle", proofs, lambda row: TIMES_CONFIRM * row.counted <= 1
 
 
 def functions(names):

@@ -1,15 +1,32 @@
-"""The toolchain's command `rt` as a module, in which a stamp looks at each library once.
+"""The toolchain's command `rt` as a module, whose libraries hold their statements and not their proofs.
 
-A stamp is a sum of all that a library is made of, with the stamps of the libraries that it uses. For it `rt` goes along
-each way from a crate down to another: from `ot_top` there are more than 30,000, and before it checks anything there it
-asks for the stamps of all that stands below, several times.
+What stands on such a library loads little. But it fits only the very files of the libraries below that it was made
+over, so it stands in a folder of its own, `out/statements` of its crate, where `rt` itself does not look, beside what it
+was made of: its stamp, which is a sum of all sources, and a sum of each library below.
+
+For a stamp `rt` goes along each way from a crate down to another: from `ot_top` there are more than 30,000, and some
+kits ask for the stamps of all that stands below a crate, several times, before they check anything there. Here a stamp
+looks at each library once.
 """
 import importlib.machinery
 import importlib.util
 import os
+import re
+import shutil
 import subprocess
 import sys
 import threading
+
+
+# What a check may take, in bytes.
+MEMORY = 3_000_000_000
+
+
+def lanes():
+    """How many checks may run side by side: as many as there are processors, and memory for."""
+    with open("/proc/meminfo", encoding="utf-8") as told:
+        free = 1024 * int(re.search(r"MemAvailable:\s+(\d+)", told.read())[1])
+    return max(1, min(len(os.sched_getaffinity(0)), free // MEMORY))
 
 
 def looking_once(stamp):
@@ -30,9 +47,48 @@ def looking_once(stamp):
     return stamp_of
 
 
+def with_statements(rtlib):
+    """Has libraries stand in `out/statements`, made over those that stand there."""
+    begin = rtlib.Crate.__init__
+
+    def folder_of(crate):
+        return os.path.join(crate.folder, "out/statements")
+
+    def made_of(crate):
+        # The file `format` of a library holds a sum of its other files.
+        below = [(it.name, rtlib.sum_of(os.path.join(it.rlib, "format"))) for it in crate.below()]
+        return repr((crate.stamp(), below))
+
+    def begin_crate(crate, *given, **named):
+        begin(crate, *given, **named)
+        crate.rlib = os.path.join(folder_of(crate), f"{crate.name}.rlib")
+
+    def is_built(crate):
+        return os.path.isdir(crate.rlib) and rtlib.text_of(os.path.join(folder_of(crate), "made_of")) == made_of(crate)
+
+    def build_rlib(crate, flags, anew):
+        """Proves a library and builds it. The status is 0 if it is built, and what it was made of stood still."""
+        if not anew and is_built(crate):
+            return 0
+        sources = made_of(crate)
+        shutil.rmtree(folder_of(crate), ignore_errors=True)
+        os.makedirs(folder_of(crate))
+        words = crate.words([*flags, "--statements", "-o", crate.rlib], keeps=False)
+        if status := crate.call(rtlib.RATTLE, "build", *words):
+            return status
+        if made_of(crate) != sources:
+            print(f"{crate.name} was changed while it was proved", file=crate.out)
+            return 1
+        with open(os.path.join(folder_of(crate), "made_of"), "w", encoding="utf-8") as kept:
+            kept.write(sources)
+        return 0
+
+    rtlib.Crate.__init__, rtlib.Crate.is_built, rtlib.Crate.build_rlib = begin_crate, is_built, build_rlib
+
+
 # What is used of the module `rtlib` in it, and of the crates there.
-USED = ("RATTLE", "Crate", "crates_below", "guarded", "lock")
-USED_OF_CRATES = ("below", "count", "is_built", "run", "stamp", "words")
+USED = ("RATTLE", "Crate", "crates_below", "guarded", "lock", "sum_of", "text_of")
+USED_OF_CRATES = ("below", "build_rlib", "call", "count", "is_built", "run", "stamp", "words")
 
 
 def load():
@@ -51,4 +107,5 @@ def load():
         for name in names:
             getattr(owner, name)
     rt.rtlib.Crate.stamp = looking_once(rt.rtlib.Crate.stamp)
+    with_statements(rt.rtlib)
     return rt
