@@ -6,10 +6,10 @@ use Rattle.std.proofs.lemmas.List.Elements.{All-nil}
 use Rattle.ask_core.specs.Plans.{Plan}
 use Rattle.proof_trees.specs.Starts.{MarkedPlan, unmarked}
 use Rattle.proof_trees.specs.Starters.{Starts, KeepsStarts, IsWhole}
-use Rattle.proof_search.specs.declared.levels.LemmaLevel.{LemmaLevel}
-use Rattle.proof_search.specs.declared.lemmas.Lemma.{Lemma}
-use Rattle.proof_search.specs.declared.open.WaitingPart.{WaitingPart}
-use Rattle.proof_search.specs.declared.open.Search.{Search}
+use Rattle.lemma_levels.specs.declared.open.LemmaLevel.{LemmaLevel}
+use Rattle.lemma_levels.specs.declared.lemmas.Lemma.{Lemma}
+use Rattle.lemma_levels.specs.declared.open.WaitingPart.{WaitingPart}
+use Rattle.lemma_levels.specs.declared.open.Search.{Search}
 use Rattle.proof_search.specs.Owning.{AreOwnLemmas, IsOwnSearch}
 
 -- a search that has nothing but an open place

@@ -5,10 +5,10 @@ use Rattle.std.specs.List.{All}
 use Rattle.std.proofs.lemmas.List.Elements.{All-weaker, All-push, All-pop}
 use Rattle.proof_trees.specs.Starters.{Starts, KeepsStarts}
 use Rattle.proof_search.proofs.Keeping.{KeepsStarts-refl, KeepsStarts-trans}
-use Rattle.proof_search.specs.declared.levels.LemmaLevel.{LemmaLevel}
-use Rattle.proof_search.specs.declared.lemmas.Lemma.{Lemma}
-use Rattle.proof_search.specs.declared.open.WaitingPart.{WaitingPart}
-use Rattle.proof_search.specs.declared.open.Search.{Search}
+use Rattle.lemma_levels.specs.declared.open.LemmaLevel.{LemmaLevel}
+use Rattle.lemma_levels.specs.declared.lemmas.Lemma.{Lemma}
+use Rattle.lemma_levels.specs.declared.open.WaitingPart.{WaitingPart}
+use Rattle.lemma_levels.specs.declared.open.Search.{Search}
 use Rattle.proof_search.specs.Owning.{AreOwnLemmas, IsOwnSearch, KeepsNodes, KeepsPlaces, BeginsLevel, AddsItem, MayAddItem, HasAskedInSearch, TakesPart}
 use Rattle.proof_search.specs.Owning.{OpensPart, closed_search}
 

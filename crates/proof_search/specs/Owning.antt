@@ -2,13 +2,13 @@
 use Rattle.std.specs.Prelude.{◌≡◌, ◌⊎◌, ℕ, ◌+◌, ◌<◌, ◌≤◌, List, [], ◌∷◌, ◌++◌, Some, None, IfSome, slice_get}
 use Rattle.std.specs.Prelude.{slice_index_or, length}
 use Rattle.std.specs.List.{All}
+use Rattle.lemma_levels.specs.declared.lemmas.Lemma.{Lemma}
+use Rattle.lemma_levels.specs.declared.open.WaitingPart.{WaitingPart}
+use Rattle.lemma_levels.specs.declared.open.Search.{Search}
 use Rattle.proof_trees.specs.Starts.{start_of, conditions_between}
 use Rattle.proof_trees.specs.Starters.{Starts}
 use Rattle.proof_search.specs.declared.blame.Mended.{Mended}
 use Rattle.proof_search.specs.declared.blame.Mended.TheVariants as mended
-use Rattle.proof_search.specs.declared.lemmas.Lemma.{Lemma}
-use Rattle.proof_search.specs.declared.open.WaitingPart.{WaitingPart}
-use Rattle.proof_search.specs.declared.open.Search.{Search}
 use Rattle.proof_search.specs.declared.service.ServingLemma.{ServingLemma}
 
 -- the nodes of the lemmas are the asker's own

@@ -4,13 +4,12 @@ ghost use Rattle.proof_trees.specs.Starters.{KeepsStarts};
 ghost use Rattle.proof_search.specs.Owning.{AreOwnLemmas, KeepsNodes, KeepsPlaces};
 
 use crate::NoMemory;
-use crate::facts::{Added, Facts};
+use crate::blame::drop_from;
 use crate::finder::Finder;
-use crate::lemmas::Lemmas;
-use crate::levels::{LemmaLevel, add_assumed_around, assume_at};
-use crate::open::Search;
+use crate::levels::{add_assumed_around, assume_at};
 use crate::service::{Any, Known, ServingLemma, serving_of};
 use diff_graph::Lit;
+use lemma_levels::{Added, LemmaLevel, Lemmas, Search};
 use std::alloc::Global;
 
 impl<N: Copy> Known for Search<N> {
@@ -65,37 +64,35 @@ fn assume_from<N: Copy>(
     Ok(None)
 }
 
-impl<N: Copy> Search<N> {
-    /// Has the levels assume a literal that follows from what is known around. False where no integers lead here then.
-    fn take(&mut self, lit: Lit) -> Result<bool, NoMemory>
-        ensures { OnOk result (KeepsPlaces self.old self.new) }
-    {
-        if self.facts.implies(lit) {
-            return Ok(true);
-        }
-        let Some(first) = innermost_shown(&self.levels, lit) else {
-            return Ok(false);
-        };
-        if let Some(number) = assume_from(&mut self.levels, first, lit)? {
-            self.drop_from(number);
-            return Ok(false);
-        }
-        Ok(matches!(self.facts.try_add(lit, 0), Added::Yes))
+/// Has the levels assume a literal that follows from what is known around. False where no integers lead here then.
+fn take<N: Copy>(search: &mut Search<N>, lit: Lit) -> Result<bool, NoMemory>
+    ensures { OnOk result (KeepsPlaces search.old search.new) }
+{
+    if search.facts.implies(lit) {
+        return Ok(true);
     }
+    let Some(first) = innermost_shown(&search.levels, lit) else {
+        return Ok(false);
+    };
+    if let Some(number) = assume_from(&mut search.levels, first, lit)? {
+        drop_from(search, number);
+        return Ok(false);
+    }
+    Ok(matches!(search.facts.try_add(lit, 0), Added::Yes))
+}
 
-    /// Has the levels assume literals that follow from what is known around, up to one with which no integers lead
-    /// here.
-    #[tactic(auto, using(crate::proofs::Owning::places_kept))]
-    fn take_all(&mut self, literals: &[Lit]) -> Result<(), NoMemory>
-        ensures { OnOk result (KeepsPlaces self.old self.new) }
-    {
-        for lit in literals {
-            if !self.take(*lit)? {
-                return Ok(());
-            }
+/// Has the levels assume literals that follow from what is known around, up to one with which no integers lead
+/// here.
+#[tactic(auto, using(crate::proofs::Owning::places_kept))]
+fn take_all<N: Copy>(search: &mut Search<N>, literals: &[Lit]) -> Result<(), NoMemory>
+    ensures { OnOk result (KeepsPlaces search.old search.new) }
+{
+    for lit in literals {
+        if !take(search, *lit)? {
+            return Ok(());
         }
-        Ok(())
     }
+    Ok(())
 }
 
 /// What a lemma that serves wants to follow: its literals, and then the conditions.
@@ -135,6 +132,6 @@ pub(crate) fn adopt<A: Finder>(
         return Ok(false);
     };
     let literals = wanted(alloc, &search.lemmas, &found)?;
-    search.take_all(literals.as_slice())?;
+    take_all(search, literals.as_slice())?;
     Ok(true)
 }

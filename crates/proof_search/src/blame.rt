@@ -3,10 +3,9 @@ ghost use Rattle.std.specs.Prelude.{◌<◌, length, IfOk, IfSome, OnOk};
 ghost use Rattle.proof_search.specs.Owning.{KeepsNodes, KeepsPlaces, IsMendedWithin};
 
 use crate::NoMemory;
-use crate::facts::{Facts, MAX_NAMES};
-use crate::levels::{LemmaLevel, add_around, add_assumed_around, assume_at};
-use crate::open::Search;
+use crate::levels::{add_around, add_assumed_around, assume_at};
 use diff_graph::Lit;
+use lemma_levels::{Facts, LemmaLevel, MAX_NAMES, Search};
 
 /// What became of an end that fails.
 #[derive(Clone, Copy)]
@@ -109,35 +108,38 @@ fn mend<N: Copy>(
     Ok(Mended::All)
 }
 
-impl<N: Copy> Search<N> {
-    /// Drops a level, those within it, what waits there, and the answers since it was begun.
-    pub fn drop_from(&mut self, number: usize)
-        requires { number < length self.old.levels.items }
-        ensures { KeepsPlaces self.old self.new }
-    {
-        let waiting = self.levels[number].waiting;
-        let answers = self.levels[number].answers;
-        self.levels.truncate(number);
-        self.waiting.truncate(waiting);
-        self.followed.truncate(waiting);
-        self.answers.truncate(answers);
-    }
+/// Drops a level, those within it, what waits there, and the answers since it was begun.
+pub(crate) fn drop_from<N: Copy>(search: &mut Search<N>, number: usize)
+    requires { number < length search.old.levels.items }
+    ensures { KeepsPlaces search.old search.new }
+{
+    let waiting = search.levels[number].waiting;
+    let answers = search.levels[number].answers;
+    search.levels.truncate(number);
+    search.waiting.truncate(waiting);
+    search.followed.truncate(waiting);
+    search.answers.truncate(answers);
+}
 
-    /// Shuts the end that the answers lead to out of the levels, from the innermost one on around which literals do so.
-    pub fn blame(&mut self) -> Result<Blamed, NoMemory>
-        ensures { OnOk result (KeepsPlaces self.old self.new) }
-    {
-        let first = innermost_shut(&self.levels, &self.answers, &self.facts, &mut self.within)?;
-        let Some(first) = first else {
-            return Ok(Blamed::Real);
-        };
-        match mend(&mut self.levels, &self.answers, &self.within, first)? {
-            Mended::All => Ok(Blamed::ShutOut),
-            Mended::Unreachable(number) => {
-                self.drop_from(number);
-                Ok(Blamed::ShutOut)
-            }
-            Mended::Unexplained => Ok(Blamed::Unexplained),
+/// Shuts the end that the answers lead to out of the levels, from the innermost one on around which literals do so.
+pub(crate) fn blame<N: Copy>(search: &mut Search<N>) -> Result<Blamed, NoMemory>
+    ensures { OnOk result (KeepsPlaces search.old search.new) }
+{
+    let first = innermost_shut(
+        &search.levels,
+        &search.answers,
+        &search.facts,
+        &mut search.within,
+    )?;
+    let Some(first) = first else {
+        return Ok(Blamed::Real);
+    };
+    match mend(&mut search.levels, &search.answers, &search.within, first)? {
+        Mended::All => Ok(Blamed::ShutOut),
+        Mended::Unreachable(number) => {
+            drop_from(search, number);
+            Ok(Blamed::ShutOut)
         }
+        Mended::Unexplained => Ok(Blamed::Unexplained),
     }
 }

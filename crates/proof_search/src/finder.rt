@@ -1,8 +1,8 @@
 //! Askers that number their starts.
 ghost use Rattle.proof_trees.specs.Starters.{KeepsStarts};
 
-use crate::facts::Facts;
 use ask_core::{Asker, NoMemory};
+use lemma_levels::Facts;
 use proof_trees::{Starter, Startless};
 
 /// An asker that numbers its starts, so that what was shown at one of them is found again. Nothing is promised of the

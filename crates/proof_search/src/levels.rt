@@ -3,19 +3,8 @@ ghost use Rattle.std.specs.Prelude.{◌<◌, length};
 ghost use Rattle.proof_search.specs.Owning.{KeepsNodes};
 
 use crate::NoMemory;
-use crate::facts::Facts;
 use diff_graph::Lit;
-
-/// A lemma that is being shown: its start's node, what it assumes so far, what followed where it was begun and from
-/// what was assumed around it since, and how many parts waited and how many answers were given when it was begun.
-#[derive(Drop)]
-pub(crate) struct LemmaLevel<N: Copy> {
-    pub node: N,
-    pub literals: Vec<Lit>,
-    pub outer: Facts,
-    pub waiting: usize,
-    pub answers: usize,
-}
+use lemma_levels::{Facts, LemmaLevel};
 
 /// Makes a literal on the same names as strong as the given one, if there is one.
 fn strengthen(literals: &mut [Lit], lit: Lit) -> bool {

@@ -12,9 +12,7 @@
 
 mod adopt;
 mod blame;
-mod facts;
 mod finder;
-mod lemmas;
 mod levels;
 mod open;
 mod seeking;
@@ -22,8 +20,7 @@ mod service;
 mod turns;
 
 pub use ask_core::NoMemory;
-pub use facts::{Added, Facts, MAX_NAMES};
 pub use finder::Finder;
-pub use lemmas::{Lemma, Lemmas, NEWEST};
+pub use lemma_levels::{Added, Facts, Lemma, Lemmas, MAX_NAMES, NEWEST};
 pub use seeking::{SearchOutcome, SearchResult, search};
 pub use service::{Any, Choice, Known, ServingLemma, serving, serving_of};

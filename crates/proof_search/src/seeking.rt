@@ -5,10 +5,9 @@ ghost use Rattle.proof_search.specs.Owning.{AreOwnLemmas};
 
 use crate::NoMemory;
 use crate::finder::Finder;
-use crate::lemmas::Lemmas;
-use crate::open::Search;
 use crate::turns::{SearchEnd, step};
 use diff_graph::Lit;
+use lemma_levels::{Lemmas, Search};
 use std::alloc::Global;
 
 /// What a search came to.

@@ -5,10 +5,9 @@ ghost use Rattle.proof_trees.specs.Starters.{KeepsStarts};
 ghost use Rattle.proof_search.specs.Owning.{AreOwnLemmas, ServesNode};
 
 use crate::NoMemory;
-use crate::facts::Facts;
 use crate::finder::Finder;
-use crate::lemmas::Lemmas;
 use diff_graph::Lit;
+use lemma_levels::{Facts, Lemmas};
 use plain_list::List;
 use proof_trees::MAX_LITERALS;
 use std::alloc::Global;

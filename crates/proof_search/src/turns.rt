@@ -5,13 +5,13 @@ ghost use Rattle.proof_search.specs.Owning.{AreOwnLemmas, IsOwnSearch, KeepsPlac
 
 use crate::NoMemory;
 use crate::adopt::adopt;
-use crate::blame::Blamed;
+use crate::blame::{Blamed, blame};
 use crate::finder::Finder;
-use crate::lemmas::Lemma;
 use crate::levels::waiting_before;
-use crate::open::Search;
+use crate::open::{answer, ask, begin_level};
 use crate::service::{Any, serving};
 use ask_core::Turn;
+use lemma_levels::{Lemma, Search};
 use plain_list::List;
 use std::alloc::Global;
 
@@ -57,7 +57,7 @@ fn fail<N: Copy>(search: &mut Search<N>) -> Result<Option<SearchEnd>, NoMemory>
     ensures { OnOk result (KeepsPlaces (closed_search search.old) search.new) }
 {
     search.at = None;
-    match search.blame()? {
+    match blame(search)? {
         Blamed::ShutOut => Ok(None),
         Blamed::Real => Ok(Some(SearchEnd::Failing)),
         Blamed::Unexplained => Ok(Some(SearchEnd::Spent)),
@@ -90,8 +90,8 @@ fn arrive<A: Finder>(
             if search.asked == budget {
                 return Ok(Some(SearchEnd::Spent));
             }
-            search.begin_level(alloc, node, begins)?;
-            search.ask(lit, yes, no)?;
+            begin_level(search, alloc, node, begins)?;
+            ask(search, lit, yes, no)?;
             Ok(None)
         }
         Turn::Holds => {
@@ -109,7 +109,7 @@ fn go_on<N: Copy>(search: &mut Search<N>) -> Result<(), NoMemory>
     let Some(part) = search.waiting.pop() else {
         return Ok(());
     };
-    if search.answer(part.answers, part.answer)? {
+    if answer(search, part.answers, part.answer)? {
         search.at = Some(part.node);
         return Ok(());
     }

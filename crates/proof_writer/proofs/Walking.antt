@@ -2,7 +2,7 @@
 use Rattle.std.proofs.Common.{◌≡◌, ◌⊎◌, ℕ, inl, inr, refl, List, [], ◌∷◌, ◌++◌, Option, Some, sym, ap, subst, ◌∙◌}
 use Rattle.std.specs.Prelude.{slice_index_or}
 use Rattle.ask_core.specs.Plans.{Plan}
-use Rattle.proof_search.specs.declared.lemmas.Lemma.{Lemma}
+use Rattle.lemma_levels.specs.declared.lemmas.Lemma.{Lemma}
 use Rattle.proof_search.specs.Owning.{AreOwnLemmas}
 use Rattle.proof_trees.specs.Starts.{unmarked}
 use Rattle.proof_trees.specs.Starters.{Starts, KeepsStarts, IsWhole}

@@ -1,5 +1,5 @@
 use Rattle.std.proofs.Common.{inl, inr, refl, sym, ap, ◌∙◌, [], ◌∷◌, ◌++◌}
-use Rattle.proof_search.specs.declared.open.Search.{Search}
+use Rattle.lemma_levels.specs.declared.open.Search.{Search}
 use Rattle.proof_search.proofs.turns.go_on.Goals as goal
 
 -- the innermost part was taken out, and is open

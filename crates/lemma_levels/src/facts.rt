@@ -3,7 +3,7 @@ ghost use Rattle.std.specs.Prelude.{◌≡◌, ◌↔◌, ◌<◌, ◌≤◌, �
 ghost use Rattle.std.specs.Prelude.{IfSome, IfOk, OnOk};
 ghost use Rattle.diff_graph.specs.Tables.{IsNamed, IsSmall, Numbered, literals_of, kept_of, StandsFor, Follows};
 ghost use Rattle.diff_graph.specs.Tables.{IsPossibleWith, IsCycleOf};
-ghost use Rattle.proof_search.specs.Facts.{HasAdded};
+ghost use Rattle.lemma_levels.specs.Facts.{HasAdded};
 
 use crate::NoMemory;
 use diff_bounds::Bounds;
@@ -174,7 +174,7 @@ impl Facts {
     /// A literal that follows from the facts around and that no integers meet with these, if one of two names does.
     /// It is weakened where it is below 0, as far as 0 or as it may be. Of several it is the one that is nearest to 0
     /// then.
-    pub(crate) fn shut_out_by(&self, around: &Facts) -> Option<Lit> {
+    pub fn shut_out_by(&self, around: &Facts) -> Option<Lit> {
         let mut found: Option<Lit> = None;
         for x in 0..MAX_NAMES as u8 {
             for y in 0..MAX_NAMES as u8 {

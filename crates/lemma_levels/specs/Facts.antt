@@ -3,9 +3,9 @@ use Rattle.std.specs.Prelude.{◌≡◌, ℕ, List, [], ◌∷◌, ◌++◌}
 use Rattle.diff_graph.specs.declared.lit.Lit.{Lit}
 use Rattle.diff_graph.specs.Tables.{Numbered, StandsFor, IsPossibleWith, IsNamed, IsSmall, kept_of, literals_of}
 use Rattle.diff_bounds.specs.Kept.{Rows}
-use Rattle.proof_search.specs.declared.facts.TheConstants.{MAX_NAMES}
-use Rattle.proof_search.specs.declared.facts.Added.{Added}
-use Rattle.proof_search.specs.declared.facts.Added.TheVariants.{Yes, Excluded, OutOfRange}
+use Rattle.lemma_levels.specs.declared.facts.TheConstants.{MAX_NAMES}
+use Rattle.lemma_levels.specs.declared.facts.Added.{Added}
+use Rattle.lemma_levels.specs.declared.facts.Added.TheVariants.{Yes, Excluded, OutOfRange}
 
 -- the literal stands at the end of each list that the facts stand for; or they are as they were, since no integers
 -- meet it with them, or since it is out of range

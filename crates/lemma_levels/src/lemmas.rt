@@ -28,7 +28,7 @@ pub struct Lemmas<N: Copy> {
 
 impl<N: Copy> Model for Lemmas<N> {
     ghost use Rattle.std.specs.Prelude.{List};
-    ghost use Rattle.proof_search.specs.declared.lemmas.Lemma.{Lemma};
+    ghost use Rattle.lemma_levels.specs.declared.lemmas.Lemma.{Lemma};
 
     ghost Value = { List (Lemma N) };
 

@@ -1,5 +1,5 @@
 use Rattle.std.proofs.Common.{inl, inr, refl}
-use Rattle.proof_search.proofs.open.Search.ask.Goals as goal
+use Rattle.proof_search.proofs.open.ask.Goals as goal
 
 -- the part for yes is open, and that for no waits
 pub returns : goal.returns

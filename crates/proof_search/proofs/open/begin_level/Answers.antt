@@ -1,5 +1,5 @@
 use Rattle.std.proofs.Common.{inr, refl}
-use Rattle.proof_search.proofs.open.Search.begin_level.Goals as goal
+use Rattle.proof_search.proofs.open.begin_level.Goals as goal
 
 -- one level more, of the node
 pub returns : goal.returns
@@ -8,7 +8,7 @@ returns g c = record {
       inr
       (record {
         item =
-            record { node = c.args.node; literals = c.new.result; outer = c.args.self.now.facts; waiting = c.len.result; answers = c.len-2.result };
+            record { node = c.args.node; literals = c.new.result; outer = c.args.search.now.facts; waiting = c.len.result; answers = c.len-2.result };
         at_node = refl;
         items = c.in_ok-push.ensures.items;
       });

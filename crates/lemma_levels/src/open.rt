@@ -1,0 +1,68 @@
+//! A search under way.
+ghost use Rattle.std.specs.Prelude.{◌≡◌, [], Some};
+
+use crate::facts::Facts;
+use crate::lemmas::Lemmas;
+use diff_graph::Lit;
+use std::alloc::Global;
+
+/// A lemma that is being shown: its start's node, what it assumes so far, what followed where it was begun and from
+/// what was assumed around it since, and how many parts waited and how many answers were given when it was begun.
+#[derive(Drop)]
+pub struct LemmaLevel<N: Copy> {
+    pub node: N,
+    pub literals: Vec<Lit>,
+    pub outer: Facts,
+    pub waiting: usize,
+    pub answers: usize,
+}
+
+/// A part for no that waits: its node, how many answers it shares with the open place, and its own answer after these.
+#[derive(Clone, Copy)]
+pub struct WaitingPart<N> {
+    pub node: N,
+    pub answers: usize,
+    pub answer: Lit,
+}
+
+/// A search under way: the node of the open place, or none where that was closed; the lemmas that are being shown, the
+/// innermost one last; the parts that wait, and what followed from the answers of each and from what the innermost
+/// level assumed when the question was asked; the answers to the questions that were open both ways; what follows from
+/// what the innermost level assumes and from the answers since it was begun; the lemmas that were shown, how many
+/// questions were asked, and room for what followed within each level where an end fails, which so takes memory once.
+#[derive(Drop)]
+pub struct Search<N: Copy> {
+    pub at: Option<N>,
+    pub levels: Vec<LemmaLevel<N>>,
+    pub waiting: Vec<WaitingPart<N>>,
+    pub followed: Vec<Facts>,
+    pub answers: Vec<Lit>,
+    pub facts: Facts,
+    pub lemmas: Lemmas<N>,
+    pub asked: u64,
+    pub within: Vec<Facts>,
+}
+
+impl<N: Copy> Search<N> {
+    /// A search that begins at a node: no lemma is being shown there, and none was.
+    pub fn begin(alloc: Global, first: N) -> Search<N>
+        ensures open { result.at ≡ Some first }
+        ensures levels { result.levels.items ≡ [] }
+        ensures waiting { result.waiting.items ≡ [] }
+        ensures answers { result.answers.items ≡ [] }
+        ensures lemmas { result.lemmas ≡ [] }
+        ensures asked { result.asked ≡ 0 }
+    {
+        Search {
+            at: Some(first),
+            levels: Vec::new(alloc),
+            waiting: Vec::new(alloc),
+            followed: Vec::new(alloc),
+            answers: Vec::new(alloc),
+            facts: Facts::new(),
+            lemmas: Lemmas::new(alloc),
+            asked: 0,
+            within: Vec::new(alloc),
+        }
+    }
+}

@@ -1,5 +1,0 @@
-use Rattle.proof_search.specs.Owning.{KeepsPlaces}
-use Rattle.proof_search.proofs.open.Search.take_all.Given as goal
-
-abbrev pub invariant-loop-lit : goal.invariant-loop-lit
-invariant-loop-lit g l = KeepsPlaces l.fn.self l.self
