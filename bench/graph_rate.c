@@ -1,7 +1,7 @@
-/* The loop of crates/measure_graphs in C: a closed table of distances over 12 names, which is asked for
+/* The loop of crates/measures/src/graphs.rt in C: a closed table of distances over 12 names, which is asked for
  * each literal whether it is allowed, and takes those that are. Prints how many were taken.
  *
- * usage: measure_graphs bounds COUNT ROUNDS
+ * usage: graph_rate bounds COUNT ROUNDS
  */
 #include <stdbool.h>
 #include <stdint.h>

@@ -1,7 +1,7 @@
 #!/usr/bin/env python3
 """Measures the solver and the table of distances on literals over 12 names.
 
-usage: graphs.py      (after `rt run` in crates/measure_graphs, or `rt ci`)
+usage: graphs.py      (after `rt run` in crates/measures, or `rt ci`)
 
 Reports processor time and peak memory of `solve` and `least`, and how many literals a second a table is asked for
 by `allows`, each followed by `add` where it is allowed, beside the same loop in C (graph_rate.c, by
@@ -14,7 +14,7 @@ import tempfile
 from measure import measure_processor
 
 HERE = os.path.dirname(os.path.abspath(__file__))
-PROGRAM = os.path.join(os.path.dirname(HERE), "crates/measure_graphs/out/measure_graphs")
+PROGRAM = os.path.join(os.path.dirname(HERE), "crates/measures/out/measures")
 
 # How many literals, how often `solve` and `least` are called, and how often a table is filled.
 SIZES = [(10, 300_000, 3_000_000), (1_000, 20_000, 40_000), (100_000, 1_000, 1_500)]
@@ -30,12 +30,12 @@ def fastest(words):
 
 def report_calls(count, rounds):
     for call in ["solve", "least"]:
-        _, seconds, peak = fastest([PROGRAM, call, str(count), str(rounds)])
+        _, seconds, peak = fastest([PROGRAM, "graphs", call, str(count), str(rounds)])
         print(f"{count:,} literals: {call} {1e6 * seconds / rounds:.1f} us, {peak} KiB at the peak")
 
 
 def report_rate(count, rounds, in_c):
-    taken, seconds, peak = fastest([PROGRAM, "bounds", str(count), str(rounds)])
+    taken, seconds, peak = fastest([PROGRAM, "graphs", "bounds", str(count), str(rounds)])
     taken_in_c, seconds_in_c, peak_in_c = fastest([in_c, "bounds", str(count), str(rounds)])
     if taken != taken_in_c:
         raise SystemExit(f"{count} literals: {taken} taken, {taken_in_c} in C")
@@ -48,7 +48,7 @@ def report_rate(count, rounds, in_c):
 
 def main():
     with tempfile.TemporaryDirectory() as folder:
-        in_c = os.path.join(folder, "measure_graphs")
+        in_c = os.path.join(folder, "graph_rate")
         subprocess.run(["gcc", "-O2", "-o", in_c, os.path.join(HERE, "graph_rate.c")], check=True)
         for count, calls, _ in SIZES:
             report_calls(count, calls)

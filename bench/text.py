@@ -1,7 +1,7 @@
 #!/usr/bin/env python3
 """Measures reading and printing function files: time and peak memory of each run.
 
-usage: text.py      (after `rt run` in crates/measure_texts, or `rt ci`)
+usage: text.py      (after `rt run` in crates/measures, or `rt ci`)
 
 Files of 10 KB to 10 MB hold one small function and are filled with comment lines, or with spaces
 and lines without a token. The last file has the most cases that a function may have, 64 in each of its four
@@ -13,7 +13,7 @@ import tempfile
 from measure import measure
 
 TOP = os.path.dirname(os.path.dirname(os.path.abspath(__file__)))
-PROGRAM = os.path.join(TOP, "crates/measure_texts/out/measure_texts")
+PROGRAM = os.path.join(TOP, "crates/measures/out/measures")
 SIZES = (10_000, 100_000, 1_000_000, 10_000_000)
 RUNS = 5
 SMALL = "otfn 1\ntext plain\nkinds ins\nblock ins ins\ncase p1 < p2 : ins p1\ncase true : ins p1 + 1\nend\n"
@@ -37,7 +37,7 @@ def report(name, text):
     with tempfile.NamedTemporaryFile("w", suffix=".ot") as file:
         file.write(text)
         file.flush()
-        runs = [measure([PROGRAM, file.name]) for _ in range(RUNS)]
+        runs = [measure([PROGRAM, "texts", file.name]) for _ in range(RUNS)]
     told, seconds, peak = runs[0][0], min(run[2] for run in runs), max(run[3] for run in runs)
     print(f"{name}: {seconds:.3f} s, {peak} KiB at the peak: {told.split(': ', 1)[1]}")
 

@@ -1,5 +1,0 @@
-use Rattle.std.specs.List.{All}
-use Rattle.measure_questions.proofs.walk.walk_from.Given as goal
-
-abbrev pub invariant-loop-turn : goal.invariant-loop-turn
-invariant-loop-turn g l = g.A.Asker.is_own l.asker l.node × All (g.A.Asker.is_own l.asker) l.waiting.items
