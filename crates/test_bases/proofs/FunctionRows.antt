@@ -106,6 +106,13 @@ obligations_without_deletions = refl
 pairs_without_deletions : obligations_of without_deletions Tp1 ≡ Pair kinds.Ins kinds.Ins ∷ Pair kinds.Ins kinds.Upd ∷ Pair kinds.Upd kinds.Upd ∷ []
 pairs_without_deletions = refl
 
+obligations_without_updates :
+    obligations_of sites.head Tp2
+    ≡ Pair kinds.Ins kinds.Ins ∷ Pair kinds.Ins kinds.Del ∷ Pair kinds.Del kinds.Del
+    ∷ Triple kinds.Ins kinds.Ins kinds.Ins ∷ Triple kinds.Ins kinds.Del kinds.Ins ∷ Triple kinds.Del kinds.Del kinds.Ins
+    ∷ Triple kinds.Ins kinds.Ins kinds.Del ∷ Triple kinds.Ins kinds.Del kinds.Del ∷ Triple kinds.Del kinds.Del kinds.Del ∷ []
+obligations_without_updates = refl
+
 pairs_of_insertions : obligations_of insertions Tp1 ≡ Pair kinds.Ins kinds.Ins ∷ []
 pairs_of_insertions = refl
 

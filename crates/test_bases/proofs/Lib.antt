@@ -1,3 +1,4 @@
 mod OperationRows
 mod FunctionRows
 mod JudgingRows
+mod TokenRows

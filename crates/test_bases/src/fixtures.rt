@@ -33,7 +33,8 @@ pub fn are_within(lits: &[Lit], n: usize) -> bool
     lits.len() <= 1000
 }
 
-fn is_within(lit: Lit, n: usize) -> bool
+/// The same of one literal.
+pub fn is_within(lit: Lit, n: usize) -> bool
     ensures named { result ≡ true → IsNamed n lit }
     ensures small { result ≡ true → IsSmall lit }
 {

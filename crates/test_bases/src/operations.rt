@@ -3,23 +3,31 @@
 use ot_model::{Apply, Cell, Doc, Mode, Op, apply};
 use std::alloc::AllocError;
 
+const LIVE: Cell = Cell {
+    ch: 'a',
+    live: true,
+};
+
+const DEAD: Cell = Cell {
+    ch: 'a',
+    live: false,
+};
+
+fn is_refused(doc: &mut Doc) -> bool {
+    let answer = apply(Mode::Tomb, &Op::Del { at: 1, site: 7 }, doc);
+    matches!(answer, Err(Apply::NotEnabled)) && doc.cells() == [LIVE].as_slice()
+}
+
+fn leaves_a_tombstone(doc: &mut Doc) -> bool {
+    let answer = apply(Mode::Tomb, &Op::Del { at: 0, site: 7 }, doc);
+    answer.is_ok() && doc.cells() == [DEAD].as_slice()
+}
+
 #[test]
 fn a_deletion_leaves_a_tombstone_or_is_refused(rt: HostRuntime) -> Result<(), AllocError> {
     let mut doc = Doc::new(rt.alloc());
-    doc.push(Cell {
-        ch: 'a',
-        live: true,
-    })?;
-    let delete = |at| Op::Del { at, site: 7 };
-    assert_eq!(rt;
-        apply(Mode::Tomb, &delete(1), &mut doc),
-        Err(Apply::NotEnabled)
-    );
-    assert_eq!(rt; apply(Mode::Tomb, &delete(0), &mut doc), Ok(()));
-    let dead = Cell {
-        ch: 'a',
-        live: false,
-    };
-    assert_eq!(rt; doc.cells(), [dead].as_slice());
+    doc.push(LIVE)?;
+    assert!(rt; is_refused(&mut doc));
+    assert!(rt; leaves_a_tombstone(&mut doc));
     Ok(())
 }

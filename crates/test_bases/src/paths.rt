@@ -3,14 +3,21 @@ use ask_core::Path;
 use diff_graph::Lit;
 use std::test::Fail;
 
+const ASKED: Lit = Lit { x: 0, y: 1, k: 0 };
+
+const DENIED: Lit = Lit { x: 1, y: 0, k: -1 };
+
+fn is_at(path: &Path<u8>, node: u8, answers: &[Lit]) -> bool {
+    path.is_open() && path.node() == node && path.answers() == answers
+}
+
 #[test]
 fn a_close_leads_to_the_part_for_no(rt: HostRuntime) -> Result<(), Fail> {
     let mut path = Path::new(rt.alloc(), 0u8);
-    path.ask(Lit { x: 0, y: 1, k: 0 }, 1, 2)?;
-    assert!(rt; path.node() == 1);
+    path.ask(ASKED, 1, 2)?;
+    assert!(rt; is_at(&path, 1, &[ASKED]));
     path.close();
-    assert!(rt; path.node() == 2);
-    assert!(rt; path.answers() == [Lit { x: 1, y: 0, k: -1 }].as_slice());
+    assert!(rt; is_at(&path, 2, &[DENIED]));
     path.close();
     assert!(rt; !path.is_open());
     Ok(())
@@ -18,16 +25,11 @@ fn a_close_leads_to_the_part_for_no(rt: HostRuntime) -> Result<(), Fail> {
 
 #[test]
 fn a_part_for_no_is_put_where_there_is_room(rt: HostRuntime) -> Result<(), Fail> {
-    let lit = Lit { x: 0, y: 1, k: 0 };
     let mut path = Path::new(rt.alloc(), 0u8);
-    let put = path.put_no(lit, 1);
+    let put = path.put_no(ASKED, 1);
     assert!(rt; !put);
-    path.ask_no(lit, 1)?;
-    assert!(rt; path.is_open());
-    let put = path.put_no(lit, 2);
-    assert!(rt; put && path.is_open());
-    assert!(rt; path.node() == 2);
-    let answer = Lit { x: 1, y: 0, k: -1 };
-    assert!(rt; path.answers() == [answer, answer].as_slice());
+    path.ask_no(ASKED, 1)?;
+    let put = path.is_open() && path.put_no(ASKED, 2);
+    assert!(rt; put && is_at(&path, 2, &[DENIED, DENIED]));
     Ok(())
 }

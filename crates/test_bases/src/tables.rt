@@ -1,90 +1,110 @@
 //! Tables of distances.
-ghost use Rattle.std.specs.Prelude.{◌≤◌, ◌<◌, ◌^◌, length};
+ghost use Rattle.std.specs.Prelude.{◌≤◌};
 ghost use Rattle.diff_graph.specs.Tables.{IsNamed, IsSmall};
 
+use crate::fixtures::is_within;
 use diff_bounds::Bounds;
-use diff_graph::{Hop, Lit, MAX_LITERAL_OFFSET, is_negative_cycle};
+use diff_graph::{Hop, Lit, NoMemory, is_negative_cycle};
 use std::alloc::Global;
-use std::process::Abort;
 use std::test::Fail;
 
-/// A literal over `N` names.
-fn lit_of<const N: usize>(rt: &impl Abort, x: u8, y: u8, k: i32) -> Lit
-    ensures named { IsNamed N result }
-    ensures small { IsSmall result }
-{
-    assert!(rt; (x as usize) < N, "{x} is a name");
-    assert!(rt; (y as usize) < N, "{y} is a name");
-    assert!(rt;
-        -1 - MAX_LITERAL_OFFSET <= k && k <= MAX_LITERAL_OFFSET + 1,
-        "{k} is an offset"
-    );
-    Lit { x, y, k }
-}
-
-/// The table after the literals that it allows, each under its place. Each literal has the wanted
-/// answer, and where it is not allowed a negative cycle through it.
-fn table_of<const N: usize>(
-    rt: &impl Abort,
+/// Whether an excluded literal, the last one of a list, is told why by a negative cycle of these.
+fn is_excluded<const N: usize>(
     alloc: Global,
-    steps: &[(u8, u8, i32, bool)],
-) -> Result<Bounds<N>, Fail>
-    requires some { 1 ≤ N }
-    requires few { N ≤ 16 }
-    requires count { length steps.now < 2 ^ 32 }
+    bounds: &Bounds<N>,
+    lits: &[Lit],
+    lit: Lit,
+    place: u32,
+) -> Result<bool, NoMemory>
+    requires named { IsNamed N lit }
+    requires small { IsSmall lit }
 {
-    let mut bounds = Bounds::new();
-    let mut lits = Vec::new(alloc);
-    for place in 0..steps.len() {
-        let (x, y, k, wanted) = steps[place];
-        let lit = lit_of::<N>(rt, x, y, k);
-        lits.push(lit)?;
-        assert!(rt; bounds.allows(lit) == wanted, "literal {place}");
-        if bounds.allows(lit) {
-            bounds.add(lit, place as u32);
-        } else {
-            let picks = bounds.why_not(alloc, lit, place as u32)?;
-            let is_short = picks.len() <= N && is_negative_cycle(&lits, &picks).is_ok();
-            assert!(rt; is_short, "literal {place}");
-        }
+    if bounds.allows(lit) {
+        return Ok(false);
     }
-    Ok(bounds)
+    let picks = bounds.why_not(alloc, lit, place)?;
+    Ok(picks.len() <= N && is_negative_cycle(lits, &picks).is_ok())
 }
 
-/// The least offsets between each name and name 0 are those.
-fn assert_tightest<const N: usize>(
-    rt: &impl Abort,
+/// Adds a literal under its place, and answers whether it was allowed.
+fn is_added<const N: usize>(bounds: &mut Bounds<N>, lit: Lit, place: u32) -> bool
+    requires named { IsNamed N lit }
+    requires small { IsSmall lit }
+{
+    let allowed = bounds.allows(lit);
+    if allowed {
+        bounds.add(lit, place);
+    }
+    allowed
+}
+
+/// Whether the least offsets between each name and name 0 are those.
+fn are_tightest<const N: usize>(
     bounds: &Bounds<N>,
-    from_0: &[Option<i32>; N],
-    to_0: &[Option<i32>; N],
-)
+    from_0: &[Option<i32>],
+    to_0: &[Option<i32>],
+) -> bool
     requires some { 1 ≤ N }
     requires few { N ≤ 16 }
 {
     for x in 0..N as u8 {
-        assert!(rt; bounds.tightest(0, x) == from_0[x as usize], "0 to {x}");
-        assert!(rt; bounds.tightest(x, 0) == to_0[x as usize], "{x} to 0");
+        if from_0.get(x as usize) != Some(&bounds.tightest(0, x))
+            || to_0.get(x as usize) != Some(&bounds.tightest(x, 0))
+        {
+            return false;
+        }
     }
+    true
 }
 
+/// Whether the literals, each under its place, are allowed or excluded as they are to be, and leave these least offsets.
+fn is_table<const N: usize>(
+    alloc: Global,
+    steps: &[(u8, u8, i32, bool)],
+    from_0: &[Option<i32>],
+    to_0: &[Option<i32>],
+) -> Result<bool, NoMemory>
+    requires some { 1 ≤ N }
+    requires few { N ≤ 16 }
+{
+    let mut bounds = Bounds::<N>::new();
+    let mut lits = Vec::new(alloc);
+    let mut place = 0u32;
+    for (x, y, k, wanted) in steps {
+        let lit = Lit {
+            x: *x,
+            y: *y,
+            k: *k,
+        };
+        if !is_within(lit, N) {
+            return Ok(false);
+        }
+        lits.push(lit)?;
+        let as_wanted = if *wanted {
+            is_added(&mut bounds, lit, place)
+        } else {
+            is_excluded(alloc, &bounds, &lits, lit, place)?
+        };
+        if !as_wanted {
+            return Ok(false);
+        }
+        place = place.saturating_add(1);
+    }
+    Ok(are_tightest(&bounds, from_0, to_0))
+}
+
+/// Name 1 is below name 2.
+const BELOW: Lit = Lit { x: 1, y: 2, k: -1 };
+
 #[test]
-fn a_copy_is_a_table_of_its_own(rt: HostRuntime) -> Result<(), Fail> {
+fn a_copy_is_a_table_of_its_own(rt: HostRuntime) {
     let mut bounds = Bounds::<3>::new();
     let before = bounds;
-    let below = lit_of::<3>(&rt, 1, 2, -1);
-    assert!(rt; bounds.allows(below));
-    bounds.add(below, 0);
-    assert!(rt; bounds.tightest(1, 2) == Some(-1));
-    assert!(rt; before.tightest(1, 2).is_none());
-    Ok(())
+    assert!(rt; is_added(&mut bounds, BELOW, 0));
+    assert!(rt; bounds.tightest(1, 2) == Some(-1) && before.tightest(1, 2).is_none());
 }
 
-#[test]
-fn a_row_has_where_chains_to_its_name_begin(rt: HostRuntime) -> Result<(), Fail> {
-    let mut bounds = Bounds::<3>::new();
-    let below = lit_of::<3>(&rt, 1, 2, -1);
-    assert!(rt; bounds.allows(below));
-    bounds.add(below, 7);
+fn is_row_of_below(row: &[Option<Hop>]) -> bool {
     let kept = Hop {
         k: -1,
         number: 7,
@@ -95,77 +115,82 @@ fn a_row_has_where_chains_to_its_name_begin(rt: HostRuntime) -> Result<(), Fail>
         number: 0,
         second: 2,
     };
-    assert_eq!(rt; bounds.row(2), [None, Some(kept), Some(own)].as_slice());
-    Ok(())
+    row == [None, Some(kept), Some(own)].as_slice()
 }
+
+#[test]
+fn a_row_has_where_chains_to_its_name_begin(rt: HostRuntime) {
+    let mut bounds = Bounds::<3>::new();
+    assert!(rt; is_added(&mut bounds, BELOW, 7));
+    assert!(rt; is_row_of_below(bounds.row(2)));
+}
+
+const OF_ONE: &[(u8, u8, i32, bool)] = &[
+    (0, 0, 0, true),
+    (0, 0, 1001, true),
+    (0, 0, -1, false),
+    (0, 0, -1001, false),
+];
+
+const OF_TWO: &[(u8, u8, i32, bool)] = &[
+    (1, 0, -1001, true),
+    (0, 1, 1000, false),
+    (0, 1, 1001, true),
+    (1, 0, -1001, true),
+];
 
 #[test]
 fn one_or_two_names_and_the_offsets_at_the_edges(rt: HostRuntime) -> Result<(), Fail> {
-    let one = table_of::<1>(
-        &rt,
-        rt.alloc(),
-        &[
-            (0, 0, 0, true),
-            (0, 0, 1001, true),
-            (0, 0, -1, false),
-            (0, 0, -1001, false),
-        ],
-    )?;
-    assert_tightest(&rt, &one, &[Some(0)], &[Some(0)]);
-    let two = table_of::<2>(
-        &rt,
-        rt.alloc(),
-        &[
-            (1, 0, -1001, true),
-            (0, 1, 1000, false),
-            (0, 1, 1001, true),
-            (1, 0, -1001, true),
-        ],
-    )?;
-    assert_tightest(&rt, &two, &[Some(0), Some(1001)], &[Some(0), Some(-1001)]);
-    let _excluding = table_of::<3>(
-        &rt,
-        rt.alloc(),
-        &[(1, 2, -1, true), (2, 1, 1, true), (2, 1, 0, false)],
-    )?;
+    let alloc = rt.alloc();
+    assert!(rt; is_table::<1>(alloc, OF_ONE, &[Some(0)], &[Some(0)])?);
+    assert!(rt;
+        is_table::<2>(
+            alloc,
+            OF_TWO,
+            &[Some(0), Some(1001)],
+            &[Some(0), Some(-1001)]
+        )?
+    );
     Ok(())
 }
 
+// Some follow from those before them, and change nothing.
+const OF_THREE: &[(u8, u8, i32, bool)] = &[
+    (1, 0, 5, true),
+    (1, 0, 5, true),
+    (0, 1, -6, false),
+    (1, 0, 7, true),
+    (1, 0, 4, true),
+    (0, 1, -5, false),
+    (0, 1, -4, true),
+    (1, 0, 4, true),
+    (0, 1, -4, true),
+    (1, 0, 3, false),
+];
+
+const CYCLE: &[(u8, u8, i32, bool)] = &[(1, 2, -1, true), (2, 1, 1, true), (2, 1, 0, false)];
+
 #[test]
 fn a_literal_that_follows_changes_nothing(rt: HostRuntime) -> Result<(), Fail> {
-    let steps = [
-        (1, 0, 5, true),
-        (1, 0, 5, true),
-        (0, 1, -6, false),
-        (1, 0, 7, true),
-        (1, 0, 4, true),
-        (0, 1, -5, false),
-        (0, 1, -4, true),
-        (1, 0, 4, true),
-        (0, 1, -4, true),
-        (1, 0, 3, false),
-    ];
-    let bounds = table_of::<3>(&rt, rt.alloc(), &steps)?;
-    assert_tightest(
-        &rt,
-        &bounds,
-        &[Some(0), Some(-4), None],
-        &[Some(0), Some(4), None],
-    );
+    let alloc = rt.alloc();
+    let from_0 = [Some(0), Some(-4), None];
+    let to_0 = [Some(0), Some(4), None];
+    assert!(rt; is_table::<3>(alloc, OF_THREE, &from_0, &to_0)?);
+    let alone = [Some(0), None, None];
+    assert!(rt; is_table::<3>(alloc, CYCLE, &alone, &alone)?);
     Ok(())
 }
 
 #[test]
 fn tables_are_those_of_all_shortest_paths(rt: HostRuntime) -> Result<(), Fail> {
-    let twelve = table_of::<12>(&rt, rt.alloc(), &TWELVE)?;
-    assert_tightest(&rt, &twelve, &TWELVE_FROM_0, &TWELVE_TO_0);
+    assert!(rt; is_table::<12>(rt.alloc(), TWELVE, TWELVE_FROM_0, TWELVE_TO_0)?);
     Ok(())
 }
 
 // Drawn by chance; the answers and offsets by Floyd and Warshall's algorithm, in another program.
 
 // Literals, and whether some integers meet each with those that were allowed before it.
-const TWELVE: [(u8, u8, i32, bool); 40] = [
+const TWELVE: &[(u8, u8, i32, bool)] = &[
     (5, 2, 0, true),
     (10, 0, -5, true),
     (8, 1, -1, true),
@@ -208,7 +233,7 @@ const TWELVE: [(u8, u8, i32, bool); 40] = [
     (11, 10, -5, false),
 ];
 
-const TWELVE_FROM_0: [Option<i32>; 12] = [
+const TWELVE_FROM_0: &[Option<i32>] = &[
     Some(0),
     Some(0),
     None,
@@ -223,7 +248,7 @@ const TWELVE_FROM_0: [Option<i32>; 12] = [
     Some(-3),
 ];
 
-const TWELVE_TO_0: [Option<i32>; 12] = [
+const TWELVE_TO_0: &[Option<i32>] = &[
     Some(0),
     Some(11),
     Some(4),
