@@ -1,151 +1,53 @@
 //! The parts of certificates, read byte by byte and in pieces.
-ghost use Rattle.std.specs.Prelude.{◌≡◌, ◌+◌, ◌<◌, ◌≤◌, IfOk, length};
+ghost use Rattle.std.specs.Prelude.{◌≡◌, ◌+◌, ◌≤◌, IfOk, length};
 ghost use Rattle.cert_text.specs.Reading.{fed_to};
 
-use cert_text::{CertError, Item, Part, Reader, Tok};
-use fn_rules::{Level, ObName};
+use cert_text::Reader;
+use fn_rules::ObName;
 use ot_model::Kind;
 use std::alloc::{AllocError, Global};
 use std::test::Fail;
 
-// A reader of the certificates of functions for one kind alone. Where it refuses bytes are rows of `checks/tables`.
-fn reader(alloc: Global, kind: Kind) -> Result<Reader, AllocError>
+// A reader of the certificates of deletions. Where it refuses bytes are rows of `checks/tables`.
+fn reader(alloc: Global) -> Result<Reader, AllocError>
     ensures { IfOk result (λ r. fed_to r ≡ 0) }
 {
-    let tp1 = vec![in alloc; ObName::Pair(kind, kind)]?;
-    let tp2 = vec![in alloc; ObName::Triple(kind, kind, kind)]?;
+    let tp1 = vec![in alloc; ObName::Pair(Kind::Del, Kind::Del)]?;
+    let tp2 = vec![in alloc; ObName::Triple(Kind::Del, Kind::Del, Kind::Del)]?;
     Ok(Reader::new(alloc, tp1, tp2))
 }
 
-// The certificate of deletions that leave tombstones.
-const MARKS: &str = "otcert 1 tp1\n\
-     ob del del\n\
-     ???????????????.x11,14;x12,13;??x12,14;??.x11,16;x13,15;?x13,14;?x13,15;?.x11,16;????x11,15;?.x12,16\
-     ;x13,14;??x13,15;??x11,17;?.x12,18;x14,16;?x14,15;?x14,16;?x11,17;?.x12,18;???x12,15;?x12,16;.x13,14\
-     ;??x13,15;??x12,17;?x12,18;.x14,16;?x14,15;?x14,16;?x12,17;?x12,18;...x2,8;x1,7;x4,6;x3,5;.....\n\
-     end\n";
-
-fn word_of(part: &Part) -> &'static str {
-    match part {
-        Part::Header(Level::Tp1) => "tp1",
-        Part::Header(Level::Tp2) => "tp2",
-        Part::Ob(_) => "ob",
-        Part::Tok(Tok::Ask) => "ask",
-        Part::Tok(Tok::Holds) => "holds",
-        Part::Tok(Tok::Cycle(_)) => "cycle",
-        Part::LineEnd => "line",
-        Part::End => "end",
-    }
-}
-
-// The number of an obligation, or those of a cycle.
-fn push_numbers(alloc: Global, told: &mut String, part: &Part) -> Result<(), AllocError> {
-    match part {
-        Part::Ob(number) => told.push_str(&format!(in alloc; " {number}")?)?,
-        Part::Tok(Tok::Cycle(picks)) => {
-            for number in picks.as_slice() {
-                told.push_str(&format!(in alloc; " {number}")?)?;
-            }
-        }
-        _ => {}
-    }
-    Ok(())
-}
-
-fn push_end(alloc: Global, told: &mut String, end: CertError) -> Result<(), AllocError> {
-    let (word, offset) = match end {
-        CertError::BadToken(offset) => ("token", offset),
-        CertError::Truncated(offset) => ("truncated", offset),
-        CertError::Trailing(offset) => ("trailing", offset),
-    };
-    told.push_str(&format!(in alloc; "{word} {offset}")?)?;
-    Ok(())
-}
-
-// A line of what was given: the bytes before a part and what it is, or why bytes are refused.
-fn push_given(
-    alloc: Global,
-    told: &mut String,
-    given: &Result<Option<Item>, CertError>,
-) -> Result<(), AllocError> {
-    match given {
-        Ok(None) => told.push_str("none")?,
-        Ok(Some(item)) => {
-            let word = word_of(&item.part);
-            told.push_str(&format!(in alloc; "{} {word}", item.offset)?)?;
-            push_numbers(alloc, told, &item.part)?;
-        }
-        Err(end) => push_end(alloc, told, *end)?,
-    }
-    told.push_str("\n")?;
-    Ok(())
-}
-
-fn push_finish(
-    alloc: Global,
-    told: &mut String,
-    finish: Result<(), CertError>,
-) -> Result<(), AllocError> {
-    match finish {
-        Ok(()) => told.push_str("whole")?,
-        Err(end) => push_end(alloc, told, end)?,
-    }
-    Ok(())
-}
-
-// What the bytes give, one by one: each part, each refusal, and the end.
+// What the bytes give, one by one: a line for each part and each refusal, and the end.
 fn told_by_bytes(alloc: Global, bytes: &[u8]) -> Result<String, AllocError>
     requires { length bytes.now ≤ 1000 }
 {
-    let mut reader = reader(alloc, Kind::Del)?;
+    let mut reader = reader(alloc)?;
     let mut told = String::new(alloc);
     for byte in bytes {
-        match reader.feed(*byte) {
-            Ok(None) => {}
-            given => push_given(alloc, &mut told, &given)?,
+        let given = reader.feed(*byte);
+        if !matches!(given, Ok(None)) {
+            told.push_str(&format!(in alloc; "{given:?}\n")?)?;
         }
     }
-    push_finish(alloc, &mut told, reader.finish())?;
-    Ok(told)
-}
-
-// The same in pieces of so many bytes.
-fn told_by_pieces(alloc: Global, bytes: &[u8], size: usize) -> Result<String, AllocError>
-    requires few { length bytes.now ≤ 1000 }
-    requires some { 0 < size }
-    requires small { size ≤ 1000 }
-{
-    let mut reader = reader(alloc, Kind::Del)?;
-    let mut told = String::new(alloc);
-    let mut at = 0;
-    for _turn in 0..bytes.len() {
-        let end = usize::min(at - at % size + size, bytes.len());
-        let (taken, given) = reader.feed_piece(&bytes[at..end]);
-        at += taken;
-        match given {
-            Ok(None) => {}
-            given => push_given(alloc, &mut told, &given)?,
-        }
-    }
-    push_finish(alloc, &mut told, reader.finish())?;
+    told.push_str(&format!(in alloc; "{:?}", reader.finish())?)?;
     Ok(told)
 }
 
 #[test]
-fn pieces_give_what_their_bytes_give(rt: HostRuntime) -> Result<(), Fail> {
-    for text in [
-        MARKS,
-        "otcert 1 tp1\nob del del\n??x0,12,345,6789;.x0,1",
-        "otcert 1 tp1\nob del del\n?x10,07;.\nend\n",
-        "otcert 1 tp1\nob del del\n?x1,,2;.\nend\n",
-        "otcert 1 tp1\nob del del\n?x1,2;.\nend\n?",
-    ] {
-        let want = told_by_bytes(rt.alloc(), text.as_bytes())?;
-        for size in [1, 2, 3, 7, 1000] {
-            let told = told_by_pieces(rt.alloc(), text.as_bytes(), size)?;
-            assert_eq!(rt; told.as_str(), want.as_str(), "{text} in pieces of {size}");
-        }
-    }
+fn bytes_give_parts_one_after_another(rt: HostRuntime) -> Result<(), Fail> {
+    let told = told_by_bytes(rt.alloc(), b"otcert 1 tp1\nob del del\n?.x10,2;\nend\n?")?;
+    let want = "\
+        Ok(Some(Item { offset: 0, part: Header(Tp1) }))\n\
+        Ok(Some(Item { offset: 13, part: Ob(0) }))\n\
+        Ok(Some(Item { offset: 24, part: Tok(Ask) }))\n\
+        Ok(Some(Item { offset: 25, part: Tok(Holds) }))\n\
+        Ok(Some(Item { offset: 26, part: Tok(Cycle(Picks { numbers: [10, 2] })) }))\n\
+        Ok(Some(Item { offset: 32, part: LineEnd }))\n\
+        Ok(Some(Item { offset: 33, part: End }))\n\
+        Err(Trailing(37))\n\
+        Err(Trailing(37))\
+    ";
+    assert!(rt; told.as_str() == want);
     Ok(())
 }
 
@@ -157,18 +59,17 @@ fn between(bytes: &[u8], at: usize, end: usize) -> &[u8]
     &bytes[at..usize::max(at, usize::min(end, bytes.len()))]
 }
 
-// What a reader of deletions takes of pieces that end at these places, and what it gives.
+// What a reader takes of pieces that end at these places, and what it gives.
 fn told_up_to(alloc: Global, bytes: &[u8], ends: &[usize]) -> Result<String, AllocError>
     requires { length bytes.now ≤ 1000 }
 {
-    let mut reader = reader(alloc, Kind::Del)?;
+    let mut reader = reader(alloc)?;
     let mut told = String::new(alloc);
     let mut at = 0;
     for end in ends {
         let (taken, given) = reader.feed_piece(between(bytes, at, *end));
         at += taken;
-        told.push_str(&format!(in alloc; "{taken} ")?)?;
-        push_given(alloc, &mut told, &given)?;
+        told.push_str(&format!(in alloc; "{taken} {given:?}\n")?)?;
     }
     Ok(told)
 }
@@ -178,9 +79,17 @@ fn a_piece_is_taken_up_to_the_end_of_a_part(rt: HostRuntime) -> Result<(), Fail>
     let text = b"otcert 1 tp1\nob del del\n?x11,1;x1,2,3;.\n";
     let told = told_up_to(rt.alloc(), text, &[11, 16, 26, 26, 27, 33, 31, 39, 40, 40])?;
     let want = "\
-        11 none\n2 0 tp1\n11 13 ob 0\n1 24 ask\n2 none\n4 25 cycle 11 1\n0 none\n\
-        7 31 cycle 1 2 3\n1 token 38\n1 token 38\n\
+        11 Ok(None)\n\
+        2 Ok(Some(Item { offset: 0, part: Header(Tp1) }))\n\
+        11 Ok(Some(Item { offset: 13, part: Ob(0) }))\n\
+        1 Ok(Some(Item { offset: 24, part: Tok(Ask) }))\n\
+        2 Ok(None)\n\
+        4 Ok(Some(Item { offset: 25, part: Tok(Cycle(Picks { numbers: [11, 1] })) }))\n\
+        0 Ok(None)\n\
+        7 Ok(Some(Item { offset: 31, part: Tok(Cycle(Picks { numbers: [1, 2, 3] })) }))\n\
+        1 Err(BadToken(38))\n\
+        1 Err(BadToken(38))\n\
     ";
-    assert_eq!(rt; told.as_str(), want);
+    assert!(rt; told.as_str() == want);
     Ok(())
 }
