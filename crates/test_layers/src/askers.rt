@@ -13,7 +13,6 @@ use ot_model::Kind;
 use ot_paths::{PathAsker, conditions_are_nodes};
 use ot_questions::Who;
 use ot_terms::{Form, Goal, Place, SymOp, Why, place_form, places_of};
-use std::process::Abort;
 use std::test::Fail;
 
 // The position of the first operation is less than that of the second one.
@@ -40,19 +39,18 @@ fn asker_of_guard<'a>(bump: &'a Bump, rules: &'a Rules) -> Result<PathAsker<'a>,
 }
 
 // The guard is asked, and nothing of the obligation.
-fn guard_is_asked(rt: &impl Abort, asker: &mut PathAsker<'_>) -> Result<(), NoMemory> {
+fn is_guard_asked(asker: &mut PathAsker<'_>) -> Result<bool, NoMemory> {
     let start = asker.start()?;
-    match asker.turn(start)? {
-        Turn::Ask { lit, yes, no } => {
-            assert_eq!(rt; lit, Lit { x: 3, y: 6, k: -1 });
-            let behind_yes = asker.turn(yes)?;
-            assert!(rt; matches!(behind_yes, Turn::Holds));
-            let behind_no = asker.turn(no)?;
-            assert!(rt; matches!(behind_no, Turn::Fails(Why::Undefined)));
-        }
-        _ => rt.abort(),
-    }
-    Ok(())
+    let Turn::Ask { lit, yes, no } = asker.turn(start)? else {
+        return Ok(false);
+    };
+    let on_yes = asker.turn(yes)?;
+    let on_no = asker.turn(no)?;
+    Ok(
+        lit == Lit { x: 3, y: 6, k: -1 }
+            && matches!(on_yes, Turn::Holds)
+            && matches!(on_no, Turn::Fails(Why::Undefined)),
+    )
 }
 
 #[test]
@@ -62,9 +60,21 @@ fn a_goal_of_a_guard_asks_the_guard_alone(rt: HostRuntime) -> Result<(), Fail> {
     assert!(rt; head.declares_pair(Kind::Del, Kind::Del));
     let bump = Bump::new(rt.alloc());
     let mut asker = asker_of_guard(&bump, &rules)?;
-    assert_eq!(rt; asker.names(), 9);
-    guard_is_asked(&rt, &mut asker)?;
+    assert!(rt; asker.names() == 9);
+    assert!(rt; is_guard_asked(&mut asker)?);
     Ok(())
+}
+
+// What is at hand of the first question is what is asked.
+fn is_at_hand(asker: &mut PathAsker<'_>) -> Result<bool, NoMemory> {
+    let start = asker.start()?;
+    let Some((asked, _)) = asker.look(start) else {
+        return Ok(false);
+    };
+    match asker.turn(start)? {
+        Turn::Ask { lit, .. } => Ok(lit == asked),
+        _ => Ok(false),
+    }
 }
 
 #[test]
@@ -74,16 +84,20 @@ fn a_question_that_is_laid_out_is_at_hand(rt: HostRuntime) -> Result<(), Fail> {
     assert!(rt; head.declares_pair(Kind::Del, Kind::Del));
     let bump = Bump::new(rt.alloc());
     let mut asker = PathAsker::new(&bump, &rules, ObName::Pair(Kind::Del, Kind::Del));
-    let start = asker.start()?;
-    let looked = asker.look(start);
-    match asker.turn(start)? {
-        Turn::Ask { lit, .. } => match looked {
-            Some((asked, _)) => assert_eq!(rt; asked, lit),
-            None => rt.abort(),
-        },
-        _ => rt.abort(),
-    }
+    assert!(rt; is_at_hand(&mut asker)?);
     Ok(())
+}
+
+// A question whether one place is at most another one, with both ends behind it.
+fn is_comparison(goal: &Goal<'_>, first: Place, second: Place) -> bool {
+    match goal {
+        Goal::If {
+            form: Form::Le(x, y),
+            yes: Goal::Holds,
+            no: Goal::Fails(Why::Undefined),
+        } => *x == first && *y == second,
+        _ => false,
+    }
 }
 
 #[test]
@@ -92,22 +106,10 @@ fn a_comparison_is_laid_out_as_one_question(rt: HostRuntime) -> Result<(), Fail>
     let a = SymOp::named(Kind::Del, Who::A);
     let b = SymOp::named(Kind::Del, Who::B);
     let (first, second) = places_of(&BEFORE, &a, &b);
-    assert_eq!(rt; first, Place { var: 3, off: 0 });
-    assert_eq!(rt; second, Place { var: 6, off: 0 });
+    assert!(rt; first == Place { var: 3, off: 0 } && second == Place { var: 6, off: 0 });
     let on_yes = Goal::holds(&bump)?;
     let on_no = Goal::fails(&bump, Why::Undefined)?;
-    match *by_guard(&bump, &Guard::Atom(BEFORE), &a, &b, on_yes, on_no)? {
-        Goal::If {
-            form: Form::Le(x, y),
-            yes,
-            no,
-        } => {
-            assert_eq!(rt; x, first);
-            assert_eq!(rt; y, Place { var: 6, off: -1 });
-            assert!(rt; matches!(yes, Goal::Holds));
-            assert!(rt; matches!(no, Goal::Fails(Why::Undefined)));
-        }
-        _ => rt.abort(),
-    }
+    let goal = by_guard(&bump, &Guard::Atom(BEFORE), &a, &b, on_yes, on_no)?;
+    assert!(rt; is_comparison(goal, first, Place { var: 6, off: -1 }));
     Ok(())
 }

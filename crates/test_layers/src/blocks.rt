@@ -4,16 +4,14 @@ use fn_rules::{Head, blocks};
 use ot_model::Kind;
 use std::test::Fail;
 
+fn are_those_of_two_kinds(pairs: &[(Kind, Kind)]) -> bool {
+    use Kind::{Del, Ins};
+    pairs == [(Ins, Ins), (Ins, Del), (Del, Ins), (Del, Del)].as_slice()
+}
+
 #[test]
 fn a_function_has_a_block_for_each_ordered_pair_of_its_kinds(rt: HostRuntime) -> Result<(), Fail> {
-    let two_kinds = Head { ins: true, ..MARKS };
-    let pairs = blocks(rt.alloc(), &two_kinds)?;
-    let want = [
-        (Kind::Ins, Kind::Ins),
-        (Kind::Ins, Kind::Del),
-        (Kind::Del, Kind::Ins),
-        (Kind::Del, Kind::Del),
-    ];
-    assert_eq!(rt; pairs.as_slice(), want.as_slice());
+    let pairs = blocks(rt.alloc(), &Head { ins: true, ..MARKS })?;
+    assert!(rt; are_those_of_two_kinds(pairs.as_slice()));
     Ok(())
 }

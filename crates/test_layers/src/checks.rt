@@ -37,21 +37,21 @@ fn last_answer(
     Ok(last)
 }
 
+// Words, over an asker that is strict or not, and what is answered to their last token.
+const WORDS: &[(bool, &str, Result<Progress, CheckError>)] = &[
+    (true, "??x..", Ok(Progress::Done)),
+    (true, "??.", Err(CheckError::GoalFails)),
+    (true, ".", Err(CheckError::NotDone)),
+    (true, "??x?", Err(CheckError::NotAQuestion)),
+    (false, "??x", Err(CheckError::NotNegative)),
+    (true, "??x.", Ok(Progress::More)),
+];
+
 #[test]
 fn a_word_is_answered_as_it_fits_the_plan(rt: HostRuntime) -> Result<(), Fail> {
-    for (strict, word, want) in [
-        (true, "??x..", Ok(Progress::Done)),
-        (true, "??.", Err(CheckError::GoalFails)),
-        (true, ".", Err(CheckError::NotDone)),
-        (true, "??x?", Err(CheckError::NotAQuestion)),
-        (false, "??x", Err(CheckError::NotNegative)),
-        (true, "??x.", Ok(Progress::More)),
-    ] {
-        assert_eq!(rt;
-            last_answer(rt.alloc(), strict, word.as_bytes())?,
-            want,
-            "{word}"
-        );
+    for (strict, word, want) in WORDS {
+        let answer = last_answer(rt.alloc(), *strict, word.as_bytes())?;
+        assert!(rt; answer == *want, "{word}");
     }
     Ok(())
 }

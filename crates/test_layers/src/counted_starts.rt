@@ -110,9 +110,6 @@ impl<'a> Finder for CountedStarts<'a> {
     }
 
     fn number_alike(&mut self, node: &'a Goal<'a>, _facts: &Facts) -> Result<usize, NoMemory> {
-        match self.inner.start_at(node) {
-            Some(start) => Ok(results_before(&start)),
-            None => Ok(0),
-        }
+        Ok(self.number(node)?)
     }
 }

@@ -14,8 +14,6 @@ mod counted_starts;
 #[cfg(test)]
 mod functions;
 #[cfg(test)]
-mod lemmas;
-#[cfg(test)]
 mod outside;
 #[cfg(test)]
 mod proofs_with_lemmas;

@@ -1,11 +1,13 @@
 //! Words over an obligation with starts: `?` and `.` as they are, `l` for a lemma under no literals, and a digit for
 //! the citation of the lemma of that number.
-ghost use Rattle.std.specs.Prelude.{◌≡◌};
+ghost use Rattle.std.specs.Prelude.{◌≡◌, IsTrue};
+ghost use Rattle.fn_rules.specs.Obligations.{is_obligation};
+ghost use Rattle.fn_rules.specs.Rules.{function_of};
 
 use crate::functions::asking;
 use ask_core::NoMemory;
 use bumpalo::Bump;
-use fn_rules::ObName;
+use fn_rules::{ObName, Rules};
 use ot_model::Kind;
 use ot_starts::StartAsker;
 use proof_check::{Progress, ProofChecker, ProofError};
@@ -39,6 +41,34 @@ fn last_answer<A: Starter>(
     Ok(last)
 }
 
+/// The same over the obligation of three deletions.
+fn answer_over_starts(
+    alloc: Global,
+    rules: &Rules,
+    word: &str,
+) -> Result<Result<Progress, ProofError>, NoMemory>
+    requires { IsTrue (is_obligation (function_of rules.now).head (ObName.Triple Kind.Del Kind.Del Kind.Del)) }
+{
+    let bump = Bump::new(alloc);
+    let asker = StartAsker::new(
+        &bump,
+        rules,
+        ObName::Triple(Kind::Del, Kind::Del, Kind::Del),
+    );
+    Ok(last_answer(alloc, asker, word.as_bytes())?)
+}
+
+// Words, and what is answered to their last token.
+const WORDS: &[(&str, Result<Progress, ProofError>)] = &[
+    (
+        "???????l?l?l?l?l?l?..00112233445.......",
+        Ok(Progress::Done),
+    ),
+    ("???????l?l?l?l?l?l?..1", Err(ProofError::UnknownLemma)),
+    ("???????l?l?l?l?l?l?..0", Ok(Progress::More)),
+    ("l", Err(ProofError::NoStart)),
+];
+
 // Past the length and the places of the three deletions six transformations follow one another, each of which asks
 // which deletion is first and goes on in one way. So what is shown where one begins after yes, as a lemma of no
 // literals, shows what is left after no.
@@ -47,26 +77,9 @@ fn what_follows_an_answer_is_cited_after_the_other_one(rt: HostRuntime) -> Resul
     let rules = asking(&rt, rt.alloc())?;
     let head = rules.head();
     assert!(rt; head.declares(Kind::Del));
-    for (word, want) in [
-        (
-            "???????l?l?l?l?l?l?..00112233445.......",
-            Ok(Progress::Done),
-        ),
-        ("???????l?l?l?l?l?l?..1", Err(ProofError::UnknownLemma)),
-        ("???????l?l?l?l?l?l?..0", Ok(Progress::More)),
-        ("l", Err(ProofError::NoStart)),
-    ] {
-        let bump = Bump::new(rt.alloc());
-        let asker = StartAsker::new(
-            &bump,
-            &rules,
-            ObName::Triple(Kind::Del, Kind::Del, Kind::Del),
-        );
-        assert_eq!(rt;
-            last_answer(rt.alloc(), asker, word.as_bytes())?,
-            want,
-            "{word}"
-        );
+    for (word, want) in WORDS {
+        let answer = answer_over_starts(rt.alloc(), &rules, word)?;
+        assert!(rt; answer == *want, "{word}");
     }
     Ok(())
 }

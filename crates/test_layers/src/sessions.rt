@@ -4,20 +4,26 @@ use crate::functions::{MARKS, staying};
 use fn_rules::Head;
 use ot_model::{Doc, Op};
 use ot_session::{Make, Session, SiteEnd, Took};
-use std::process::Abort;
 use std::test::Fail;
 
-fn makes(rt: &impl Abort, session: &mut Session, site: u32, op: Op, want: Result<u32, Make>) {
-    assert!(rt; session.is_open());
-    assert!(rt; session.make(site, op) == want, "{site} {op:?}");
+fn is_made(session: &mut Session, site: u32, op: Op, want: Result<u32, Make>) -> bool {
+    session.is_open() && session.make(site, op) == want
 }
 
-fn takes(rt: &impl Abort, session: &mut Session, number: u32) {
-    assert!(rt; session.is_open());
-    assert!(rt;
-        matches!(session.take(1, number), Ok(Took::Done(_))),
-        "{number}"
-    );
+// The first site takes the operation, and so many forms are counted then.
+fn is_taken(session: &mut Session, number: u32, forms: u64) -> bool {
+    session.is_open()
+        && matches!(session.take(1, number), Ok(Took::Done(_)))
+        && session.forms() == forms
+}
+
+// What the first site has, which took three operations behind its four.
+fn is_first_site(session: &Session) -> bool {
+    session.before(0, 3)
+        && !session.before(3, 4)
+        && session.has_site(1)
+        && session.seen(1) == [0, 1, 2, 3, 4, 5, 6].as_slice()
+        && session.doc(1).len() == 7
 }
 
 // The second site has taken nothing.
@@ -42,7 +48,7 @@ fn each_form_is_counted_once(rt: HostRuntime) -> Result<(), Fail> {
     };
     let rules = staying(&rt, alloc, insertions)?;
     let mut session = Session::new(alloc, &rules, &Doc::new(alloc), 2)?;
-    makes(&rt, &mut session, 1, Op::Nop, Err(Make::WrongSite));
+    assert!(rt; is_made(&mut session, 1, Op::Nop, Err(Make::WrongSite)));
     for number in 0..8 {
         let site = number / 4 + 1;
         let op = Op::Ins {
@@ -50,16 +56,13 @@ fn each_form_is_counted_once(rt: HostRuntime) -> Result<(), Fail> {
             ch: 'a',
             site,
         };
-        makes(&rt, &mut session, site, op, Ok(number));
+        assert!(rt; is_made(&mut session, site, op, Ok(number)));
     }
     // Of each operation that is taken as many forms as the site made, and from the second on of those as many again.
-    for (number, want) in [(4, 4), (5, 12), (6, 20)] {
-        takes(&rt, &mut session, number);
-        assert_eq!(rt; session.forms(), want);
+    for (number, forms) in [(4, 4), (5, 12), (6, 20)] {
+        assert!(rt; is_taken(&mut session, number, forms));
     }
-    assert!(rt; session.before(0, 3) && !session.before(3, 4) && session.has_site(1));
-    assert_eq!(rt; session.seen(1), [0, 1, 2, 3, 4, 5, 6].as_slice());
-    assert_eq!(rt; session.doc(1).len(), 7);
+    assert!(rt; is_first_site(&session));
     assert!(rt; are_ends(session.into_ends()?.as_slice()));
     Ok(())
 }

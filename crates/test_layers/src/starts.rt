@@ -4,9 +4,11 @@ ghost use Rattle.std.specs.Prelude.{IfOk};
 use crate::functions::asking;
 use ask_core::{NoMemory, Turn};
 use bumpalo::Bump;
+use diff_graph::Lit;
 use fn_rules::ObName;
 use ot_model::Kind;
 use ot_starts::StartAsker;
+use plain_list::List;
 use proof_trees::Starter;
 use std::alloc::Global;
 use std::process::Abort;
@@ -35,29 +37,36 @@ fn transformations_begin<A: Starter>(
     rt: &impl Abort,
     alloc: Global,
     asker: &mut A,
-) -> Result<(), NoMemory> {
+) -> Result<bool, NoMemory> {
     let root = asker.first()?;
-    assert!(rt; !asker.begins(root));
+    let early = asker.begins(root);
     let long = answered(rt, asker, root, true)?;
     let a_low = answered(rt, asker, long, true)?;
     let a_high = answered(rt, asker, a_low, true)?;
     let b_low = answered(rt, asker, a_high, true)?;
-    assert!(rt; !asker.begins(b_low));
+    let still_early = asker.begins(b_low);
     let first = answered(rt, asker, b_low, true)?;
-    assert!(rt; asker.begins(first));
     let on_yes = answered(rt, asker, first, true)?;
     let on_no = answered(rt, asker, first, false)?;
-    assert!(rt; asker.begins(on_yes));
-    assert!(rt; asker.begins(on_no));
-    let Some(conditions) = asker.compare(alloc, on_yes, on_no)? else {
-        rt.abort()
-    };
-    assert!(rt; conditions.is_empty());
+    let begun = asker.begins(first) && asker.begins(on_yes) && asker.begins(on_no);
+    let same = asker.compare(alloc, on_yes, on_no)?;
     let other = asker.compare(alloc, first, on_yes)?;
-    assert!(rt; other.is_none());
     let last = answered(rt, asker, on_yes, true)?;
-    assert!(rt; !asker.begins(last));
-    Ok(())
+    Ok(
+        !early
+            && !still_early
+            && begun
+            && has_no_conditions(&same)
+            && other.is_none()
+            && !asker.begins(last),
+    )
+}
+
+fn has_no_conditions(found: &Option<List<Lit>>) -> bool {
+    match found {
+        Some(conditions) => conditions.is_empty(),
+        None => false,
+    }
 }
 
 #[test]
@@ -67,6 +76,6 @@ fn both_transformations_of_a_pair_begin_at_starts(rt: HostRuntime) -> Result<(),
     assert!(rt; head.declares_pair(Kind::Del, Kind::Del));
     let bump = Bump::new(rt.alloc());
     let mut asker = StartAsker::new(&bump, &rules, ObName::Pair(Kind::Del, Kind::Del));
-    transformations_begin(&rt, rt.alloc(), &mut asker)?;
+    assert!(rt; transformations_begin(&rt, rt.alloc(), &mut asker)?);
     Ok(())
 }

@@ -1,10 +1,11 @@
-//! Trees that are written by what searches showed. The texts are those that `reference/settle.py` writes.
+//! A tree that is written by what a search showed. The text is the one that `reference/settle.py` writes; more of them,
+//! and how many questions a search asks, are rows of `checks/tables/settle.rows`.
 ghost use Rattle.std.specs.Prelude.{IsTrue};
 ghost use Rattle.fn_rules.specs.Obligations.{is_obligation};
 ghost use Rattle.fn_rules.specs.Rules.{function_of};
 
 use crate::counted_starts::CountedStarts;
-use crate::functions::{MARKS, asking, staying};
+use crate::functions::asking;
 use ask_core::NoMemory;
 use bumpalo::Bump;
 use fn_rules::{ObName, Rules};
@@ -28,45 +29,32 @@ fn gets_text<A: Finder>(
     Ok(done && bytes.as_slice() == text)
 }
 
-/// The same of the plan of an obligation.
+/// The same of the plan of three deletions.
 fn is_written(
     alloc: Global,
     rules: &Rules,
-    ob: ObName,
     questions: u64,
     most: usize,
     text: &str,
 ) -> Result<bool, NoMemory>
-    requires { IsTrue (is_obligation (function_of rules.now).head ob) }
+    requires { IsTrue (is_obligation (function_of rules.now).head (ObName.Triple Kind.Del Kind.Del Kind.Del)) }
 {
     let bump = Bump::new(alloc);
-    let mut asker = CountedStarts::new(&bump, rules, ob);
+    let mut asker = CountedStarts::new(
+        &bump,
+        rules,
+        ObName::Triple(Kind::Del, Kind::Del, Kind::Del),
+    );
     Ok(gets_text(alloc, &mut asker, questions, most, text.as_bytes())?)
 }
 
 #[test]
-fn lemmas_are_begun_where_they_are_needed_and_cited_after(rt: HostRuntime) -> Result<(), Fail> {
+fn a_tree_is_written_within_its_questions_and_bytes(rt: HostRuntime) -> Result<(), Fail> {
     let rules = asking(&rt, rt.alloc())?;
     let head = rules.head();
     assert!(rt; head.declares(Kind::Del));
-    let ob = ObName::Triple(Kind::Del, Kind::Del, Kind::Del);
     let text = "???????l;?l;?l;?l;?l;?l;?..c0;c0;c1;c1;c2;c2;c3;c3;c4;c4;c5;.......";
-    assert!(rt; is_written(rt.alloc(), &rules, ob, 13, 67, text)?);
-    assert!(rt; !is_written(rt.alloc(), &rules, ob, 13, 66, text)?);
-    Ok(())
-}
-
-#[test]
-fn a_citation_shows_what_its_lemma_assumes(rt: HostRuntime) -> Result<(), Fail> {
-    let rules = staying(&rt, rt.alloc(), MARKS)?;
-    let head = rules.head();
-    assert!(rt; head.declares_pair(Kind::Del, Kind::Del));
-    let ob = ObName::Pair(Kind::Del, Kind::Del);
-    let text =
-        "?????l3,1,-1/0,3,0/6,1,-1/0,6,0;??????????.x10,13;x11,12;??x11,13;??.x10,15;x12,14;?x12,13;?x12,14;\
-        ?.x10,15;????x10,14;?.x11,15;x12,13;??x12,14;??x10,16;?.x11,17;x13,15;?x13,14;?x13,15;?x10,16;?.x11,17;\
-        ???x11,14;?x11,15;.x12,13;??x12,14;??x11,16;?x11,17;.x13,15;?x13,14;?x13,15;?x11,16;?x11,17;...x0,7;x1,6;\
-        x2,5;x3,4;c0;x2,5;x1,5;x4,5;x3,5;.....";
-    assert!(rt; is_written(rt.alloc(), &rules, ob, 49, 345, text)?);
+    assert!(rt; is_written(rt.alloc(), &rules, 13, 67, text)?);
+    assert!(rt; !is_written(rt.alloc(), &rules, 13, 66, text)?);
     Ok(())
 }

@@ -3,6 +3,5 @@ use Rattle.ot_terms.specs.Belonging.{HasPlaces}
 use Rattle.ot_rewrite.proofs.SplitExamples.{less_has_places}
 use Rattle.test_layers.proofs.splits.less_is_split.Goals as goal
 
--- src/splits.rt:16:26
 pub split-requires : goal.split-requires
-split-requires g c = (9, subst (HasPlaces 9) (sym c.in_ok-less.ensures) less_has_places)
+split-requires c = (9, subst (HasPlaces 9) (sym c.in_ok-less.ensures) less_has_places)

@@ -3,11 +3,9 @@ use Rattle.ot_terms.specs.Belonging.{HasPlaces}
 use Rattle.ot_rewrite.proofs.SplitExamples.{equal_has_places}
 use Rattle.test_layers.proofs.splits.own_name_is_split.Goals as goal
 
--- src/splits.rt:22:26
 pub split-requires : goal.split-requires
-split-requires g c = (9, subst (HasPlaces 9) (sym c.in_ok-itself.ensures) equal_has_places)
+split-requires c = (9, subst (HasPlaces 9) (sym c.in_ok-itself.ensures) equal_has_places)
 
--- src/splits.rt:23:26
 pub split-requires-2 : goal.split-requires-2
-split-requires-2 g c =
+split-requires-2 c =
     (9, subst (HasPlaces 9) (sym c.in_ok-not.ensures) (subst (HasPlaces 9) (sym c.in_ok-itself.ensures) equal_has_places))

@@ -3,9 +3,8 @@ use Rattle.ot_terms.specs.Belonging.{HasPlaces}
 use Rattle.ot_rewrite.proofs.SplitExamples.{either_has_places}
 use Rattle.test_layers.proofs.splits.parts_are_left.Goals as goal
 
--- src/splits.rt:30:11
 pub split-requires : goal.split-requires
-split-requires g c = (
+split-requires c = (
   9,
   subst (HasPlaces 9) (sym c.in_ok-either.ensures) (
     subst (HasPlaces 9) (sym c.in_ok-eq.ensures) either_has_places.0,
