@@ -1,9 +1,7 @@
 //! Faults of the outside.
 use crate::samples::{MARKS_CERT, MARKS_OT, SITES_OT, TTF_OT};
-use crate::setting::{Files, expect_faults, shelf_of, status_of};
+use crate::setting::{Files, answers, shelf_of, status_of, tells_faults};
 use ot_outside::MemSink;
-use std::alloc::Global;
-use std::process::Abort;
 use std::test::Fail;
 
 const FILES: Files<'static> = &[
@@ -56,38 +54,33 @@ const COMMANDS: &[(&str, u32, u8, &str)] = &[
 
 #[test]
 fn faults_of_the_outside_are_told(rt: HostRuntime) -> Result<(), Fail> {
-    let alloc = rt.alloc();
     for (line, calls, status, text) in COMMANDS {
-        expect_faults(&rt, alloc, FILES, line, *calls, (*status, text.as_bytes()))?;
+        assert!(rt;
+            tells_faults(rt.alloc(), FILES, line, *calls, *status, text.as_bytes())?,
+            "{line}"
+        );
     }
     Ok(())
 }
 
-// Fails the test unless the sink makes the command end with this status and this text.
-fn expect_over(
-    rt: &impl Abort,
-    alloc: Global,
-    mut sink: MemSink,
-    status: u8,
-    text: &str,
-) -> Result<(), Fail> {
-    let mut shelf = shelf_of(alloc, FILES, &[])?;
-    assert_eq!(rt; status_of(alloc, CHECK, &mut shelf, &mut sink)?, status);
-    assert_eq!(rt; sink.written(), text.as_bytes());
-    Ok(())
-}
+// The room of a sink, how many bytes it takes at a call, the status of `CHECK` and what it writes.
+const SINKS: &[(usize, usize, u8, &str)] = &[
+    (13, 1, 0, "accepted tp1\n"),
+    (13, 5, 0, "accepted tp1\n"),
+    (4, 3, 7, "acce"),
+    (0, 1, 7, ""),
+];
 
 #[test]
 fn a_reply_is_written_in_any_pieces(rt: HostRuntime) -> Result<(), Fail> {
     let alloc = rt.alloc();
-    for (room, per_call, status, text) in [
-        (13, 1, 0, "accepted tp1\n"),
-        (13, 5, 0, "accepted tp1\n"),
-        (4, 3, 7, "acce"),
-        (0, 1, 7, ""),
-    ] {
-        let sink = MemSink::new(alloc, room, per_call, Vec::new(alloc))?;
-        expect_over(&rt, alloc, sink, status, text)?;
+    for (room, per_call, status, text) in SINKS {
+        let sink = MemSink::new(alloc, *room, *per_call, Vec::new(alloc))?;
+        let shelf = shelf_of(alloc, FILES, 0)?;
+        assert!(rt;
+            answers(alloc, CHECK, shelf, sink, *status, text.as_bytes())?,
+            "{room} bytes"
+        );
     }
     Ok(())
 }
@@ -95,10 +88,10 @@ fn a_reply_is_written_in_any_pieces(rt: HostRuntime) -> Result<(), Fail> {
 #[test]
 fn a_fault_leaves_nothing_or_a_front_of_a_certificate(rt: HostRuntime) -> Result<(), Fail> {
     let alloc = rt.alloc();
-    let mut shelf = shelf_of(alloc, FILES, &[])?;
     let mut sink = MemSink::new(alloc, 65_536, 65_536, Vec::new(alloc))?;
     let line = "prove --tp1 marks.ot";
-    assert_eq!(rt; status_of(alloc, line, &mut shelf, &mut sink)?, 0);
+    assert!(rt; status_of(alloc, line, shelf_of(alloc, FILES, 0)?, &mut sink)? == 0);
     // The calls of the shelf: open, read, read at the end.
-    expect_faults(&rt, alloc, FILES, line, 3, (0, sink.written()))
+    assert!(rt; tells_faults(alloc, FILES, line, 3, 0, sink.written())?);
+    Ok(())
 }

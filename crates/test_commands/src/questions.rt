@@ -16,7 +16,6 @@ use ot_paths::PathAsker;
 use ot_questions::{Next, Why};
 use ot_terms::Goal;
 use std::alloc::{AllocError, Global};
-use std::process::Abort;
 use std::test::Fail;
 
 const INSERTIONS: ObName = ObName::Pair(Kind::Ins, Kind::Ins);
@@ -39,16 +38,11 @@ fn is_meant(head: &Head, ob: ObName) -> bool
     }
 }
 
-// The answers that a word of `y` and `n` stands for.
-fn answers_in(alloc: Global, word: &str) -> Result<Vec<bool>, AllocError> {
-    word.bytes().map(|letter| letter == b'y').collect(alloc)
-}
-
-// What comes behind a node and answers.
+// What comes behind a node and answers, a `y` for each yes.
 fn next_at<'a>(
     asker: &mut PathAsker<'a>,
     node: &'a Goal<'a>,
-    answers: &[bool],
+    answers: &[u8],
 ) -> Result<Next, AllocError>
     requires { IsNode (function_of asker.old.rules.now) asker.old.ob (goal_tree node.now) }
 {
@@ -58,7 +52,7 @@ fn next_at<'a>(
         Turn::Ask { lit, yes, no } => match answers {
             [] => Ok(Next::Asked(lit)),
             [answer, others @ ..] => {
-                if *answer {
+                if *answer == b'y' {
                     return Ok(next_at(asker, yes, others)?);
                 }
                 Ok(next_at(asker, no, others)?)
@@ -72,7 +66,7 @@ fn next_question(
     alloc: Global,
     rules: &Rules,
     ob: ObName,
-    answers: &[bool],
+    answers: &[u8],
 ) -> Result<Next, AllocError>
     requires { IsTrue (is_obligation (function_of rules.now).head ob) }
 {
@@ -82,19 +76,25 @@ fn next_question(
     Ok(next_at(&mut asker, start, answers)?)
 }
 
-fn next_in(
-    rt: &impl Abort,
+// Whether the answers to what is asked of a function's obligation lead there.
+fn lead_to(
     alloc: Global,
     text: &str,
     ob: ObName,
-    answers: &[bool],
-) -> Result<Next, Fail> {
-    let bytes = text.as_bytes();
-    assert!(rt; bytes.len() < 1_048_576);
-    let rules = read(alloc, bytes).ok().ok_or("a function")?;
+    answers: &str,
+    want: Next,
+) -> Result<bool, AllocError> {
+    if text.len() >= 1_048_576 {
+        return Ok(false);
+    }
+    let Ok(rules) = read(alloc, text.as_bytes()) else {
+        return Ok(false);
+    };
     let head = rules.head();
-    assert!(rt; is_meant(&head, ob));
-    Ok(next_question(alloc, &rules, ob, answers)?)
+    if !is_meant(&head, ob) {
+        return Ok(false);
+    }
+    Ok(next_question(alloc, &rules, ob, answers.as_bytes())? == want)
 }
 
 // Rows: answers, yes or no, and what comes behind them: `x <= y + k` is asked, or the plan ends.
@@ -198,44 +198,44 @@ const FAILING: &[(&str, ObName, &str, Why)] = &[
     (LAST_OT, UPDATES, "yyyyyyyyyyynynynynyn", CELLS),
 ];
 
-fn expect_rows(
-    rt: &impl Abort,
-    alloc: Global,
-    text: &str,
-    ob: ObName,
-    rows: Rows,
-) -> Result<(), Fail> {
-    for (word, asked) in rows {
-        let answers = answers_in(alloc, word)?;
-        let found = next_in(rt, alloc, text, ob, &answers)?;
-        let want = match *asked {
-            Some((x, y, k)) => Next::Asked(Lit { x, y, k }),
-            None => Next::Holds,
-        };
-        assert_eq!(rt; found, want, "{ob:?} after {word} of {text}");
+fn want_of(asked: Option<(u8, u8, i32)>) -> Next {
+    match asked {
+        Some((x, y, k)) => Next::Asked(Lit { x, y, k }),
+        None => Next::Holds,
+    }
+}
+
+// Functions, obligations, and their rows.
+const TABLES: &[(&str, ObName, Rows)] = &[
+    (INS_OT, INSERTIONS, OF_INS),
+    (FAR_OT, INSERTIONS, OF_FAR),
+    (MARKS_OT, DELETIONS, OF_MARKS),
+    (NOT_OT, DELETIONS, OF_NOT),
+    (MARKS_OT, THREE_DELETIONS, OF_THREE_MARKS),
+    (LAST_OT, UPDATES, OF_LAST),
+    (STAYING_OT, DELETION_AND_UPDATE, OF_STAYING),
+];
+
+#[test]
+fn answers_lead_to_the_next_question(rt: HostRuntime) -> Result<(), Fail> {
+    for (text, ob, rows) in TABLES {
+        for (answers, asked) in *rows {
+            assert!(rt;
+                lead_to(rt.alloc(), text, *ob, answers, want_of(*asked))?,
+                "{answers} of {text}"
+            );
+        }
     }
     Ok(())
 }
 
 #[test]
-fn answers_lead_to_the_next_question(rt: HostRuntime) -> Result<(), Fail> {
-    let alloc = rt.alloc();
-    expect_rows(&rt, alloc, INS_OT, INSERTIONS, OF_INS)?;
-    expect_rows(&rt, alloc, FAR_OT, INSERTIONS, OF_FAR)?;
-    expect_rows(&rt, alloc, MARKS_OT, DELETIONS, OF_MARKS)?;
-    expect_rows(&rt, alloc, NOT_OT, DELETIONS, OF_NOT)?;
-    expect_rows(&rt, alloc, MARKS_OT, THREE_DELETIONS, OF_THREE_MARKS)?;
-    expect_rows(&rt, alloc, LAST_OT, UPDATES, OF_LAST)?;
-    expect_rows(&rt, alloc, STAYING_OT, DELETION_AND_UPDATE, OF_STAYING)
-}
-
-#[test]
 fn answers_lead_to_a_failing_end(rt: HostRuntime) -> Result<(), Fail> {
-    let alloc = rt.alloc();
-    for (text, ob, word, why) in FAILING {
-        let answers = answers_in(alloc, word)?;
-        let found = next_in(&rt, alloc, text, *ob, &answers)?;
-        assert_eq!(rt; found, Next::Fails(*why), "{ob:?} after {word} of {text}");
+    for (text, ob, answers, why) in FAILING {
+        assert!(rt;
+            lead_to(rt.alloc(), text, *ob, answers, Next::Fails(*why))?,
+            "{answers} of {text}"
+        );
     }
     Ok(())
 }

@@ -2,8 +2,6 @@
 use ot_outside::{MemShelf, MemSink};
 use ot_top::run;
 use std::alloc::{AllocError, Global};
-use std::process::Abort;
-use std::test::Fail;
 
 /// The files of a shelf: names and contents.
 pub type Files<'a> = &'a [(&'a str, &'a str)];
@@ -17,85 +15,101 @@ fn words_of(alloc: Global, line: &str) -> Result<Vec<String>, AllocError> {
     Ok(words)
 }
 
-/// A shelf with these files, whose calls of these numbers fail.
-pub fn shelf_of(alloc: Global, files: Files<'_>, failing: &[u32]) -> Result<MemShelf, AllocError> {
+/// A shelf with these files, whose call of this number fails.
+pub fn shelf_of(alloc: Global, files: Files<'_>, failing: u32) -> Result<MemShelf, AllocError> {
     let mut held = Vec::new(alloc);
     for (name, text) in files {
         let name = String::from_str(alloc, name)?;
         let bytes = Vec::from_slice(alloc, text.as_bytes())?;
         held.push((name, bytes))?;
     }
-    Ok(MemShelf::new(held, Vec::from_slice(alloc, failing)?))
+    Ok(MemShelf::new(held, vec![in alloc; failing]?))
+}
+
+/// A sink that takes a byte at a call, of which the one of this number fails.
+fn sink_of_bytes(alloc: Global, failing: u32) -> Result<MemSink, AllocError> {
+    Ok(MemSink::new(alloc, 1_024, 1, vec![in alloc; failing]?)?)
 }
 
 /// The status of a command over a shelf, which writes to the sink.
 pub fn status_of(
     alloc: Global,
     line: &str,
-    shelf: &mut MemShelf,
+    mut shelf: MemShelf,
     sink: &mut MemSink,
 ) -> Result<u8, AllocError> {
     let words = words_of(alloc, line)?;
-    Ok(run(alloc, words.as_slice(), shelf, sink))
+    Ok(run(alloc, words.as_slice(), &mut shelf, sink))
 }
 
-/// Fails the test unless the command over this shelf has the status and the text.
-pub fn expect(
-    rt: &impl Abort,
+/// Whether a command over this shelf ends with the status and has written the text.
+pub fn answers(
     alloc: Global,
-    shelf: &mut MemShelf,
     line: &str,
+    shelf: MemShelf,
+    mut sink: MemSink,
     status: u8,
-    text: &str,
-) -> Result<(), Fail> {
-    let mut sink = MemSink::new(alloc, 256, 64, Vec::new(alloc))?;
+    text: &[u8],
+) -> Result<bool, AllocError> {
     let found = status_of(alloc, line, shelf, &mut sink)?;
-    assert_eq!(rt; found, status, "the status of {line}");
-    assert_eq!(rt; sink.written(), text.as_bytes(), "the text of {line}");
-    Ok(())
+    Ok(found == status && sink.written() == text)
 }
 
-// Fails the test unless the command has the status and the text over a sink that takes a byte at a call, of which these
-// fail.
-fn expect_bytes(
-    rt: &impl Abort,
-    alloc: Global,
-    mut shelf: MemShelf,
-    line: &str,
-    failing: &[u32],
-    (status, text): (u8, &[u8]),
-) -> Result<(), Fail> {
-    let mut sink = MemSink::new(alloc, 1_024, 1, Vec::from_slice(alloc, failing)?)?;
-    let found = status_of(alloc, line, &mut shelf, &mut sink)?;
-    assert_eq!(rt; found, status, "the status of {line}");
-    assert_eq!(rt; sink.written(), text, "the text of {line}");
-    Ok(())
-}
-
-/// Fails the test unless the command over these files tells each fault of the outside, and else has the status and the
-/// text. It makes so many calls of the shelf; where one of them fails, it ends with 6 and writes nothing. Where a sink
-/// that takes a byte at a call fails, it ends with 7 and has written what stands before that byte.
-pub fn expect_faults(
-    rt: &impl Abort,
+// Whether the command ends with 6 and writes nothing where a call of the shelf fails. It makes so many.
+fn tells_failed_calls(
     alloc: Global,
     files: Files<'_>,
     line: &str,
     calls: u32,
-    (status, text): (u8, &[u8]),
-) -> Result<(), Fail> {
+) -> Result<bool, AllocError> {
     for call in 1..=calls {
-        let mut shelf = shelf_of(alloc, files, &[call])?;
-        expect(rt, alloc, &mut shelf, line, 6, "")?;
+        let shelf = shelf_of(alloc, files, call)?;
+        if !answers(alloc, line, shelf, sink_of_bytes(alloc, 0)?, 6, b"")? {
+            return Ok(false);
+        }
     }
-    // A further call of the shelf would fail, but is not made.
-    let further = calls.saturating_add(1);
-    let shelf = shelf_of(alloc, files, &[further])?;
-    expect_bytes(rt, alloc, shelf, line, &[], (status, text))?;
+    Ok(true)
+}
+
+// Whether it ends with 7 where a byte of its text is not taken, and has written what stands before that byte.
+fn tells_failed_bytes(
+    alloc: Global,
+    files: Files<'_>,
+    line: &str,
+    text: &[u8],
+) -> Result<bool, AllocError> {
     let mut front = Vec::new(alloc);
     for (byte, call) in text.iter().zip(1..1_000) {
-        let shelf = shelf_of(alloc, files, &[further])?;
-        expect_bytes(rt, alloc, shelf, line, &[call], (7, front.as_slice()))?;
+        let shelf = shelf_of(alloc, files, 0)?;
+        if !answers(
+            alloc,
+            line,
+            shelf,
+            sink_of_bytes(alloc, call)?,
+            7,
+            front.as_slice(),
+        )? {
+            return Ok(false);
+        }
         front.push(*byte)?;
     }
-    Ok(())
+    Ok(true)
+}
+
+/// Whether the command over these files tells each fault of the outside, and else has the status and the text. It makes
+/// so many calls of the shelf: a further one would fail.
+pub fn tells_faults(
+    alloc: Global,
+    files: Files<'_>,
+    line: &str,
+    calls: u32,
+    status: u8,
+    text: &[u8],
+) -> Result<bool, AllocError> {
+    let shelf = shelf_of(alloc, files, calls.saturating_add(1))?;
+    Ok(
+        answers(alloc, line, shelf, sink_of_bytes(alloc, 0)?, status, text)?
+            && tells_failed_calls(alloc, files, line, calls)?
+            && tells_failed_bytes(alloc, files, line, text)?,
+    )
 }
