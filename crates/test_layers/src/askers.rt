@@ -13,6 +13,7 @@ use ot_model::Kind;
 use ot_paths::{PathAsker, conditions_are_nodes};
 use ot_questions::Who;
 use ot_terms::{Form, Goal, Place, SymOp, Why, place_form, places_of};
+use std::process::Abort;
 use std::test::Fail;
 
 // The position of the first operation is less than that of the second one.
@@ -39,18 +40,19 @@ fn asker_of_guard<'a>(bump: &'a Bump, rules: &'a Rules) -> Result<PathAsker<'a>,
 }
 
 // The guard is asked, and nothing of the obligation.
-fn is_guard_asked(asker: &mut PathAsker<'_>) -> Result<bool, NoMemory> {
+fn guard_is_asked(rt: &impl Abort, asker: &mut PathAsker<'_>) -> Result<(), NoMemory> {
     let start = asker.start()?;
-    let Turn::Ask { lit, yes, no } = asker.turn(start)? else {
-        return Ok(false);
-    };
-    let on_yes = asker.turn(yes)?;
-    let on_no = asker.turn(no)?;
-    Ok(
-        lit == Lit { x: 3, y: 6, k: -1 }
-            && matches!(on_yes, Turn::Holds)
-            && matches!(on_no, Turn::Fails(Why::Undefined)),
-    )
+    match asker.turn(start)? {
+        Turn::Ask { lit, yes, no } => {
+            assert_eq!(rt; lit, Lit { x: 3, y: 6, k: -1 });
+            let behind_yes = asker.turn(yes)?;
+            assert!(rt; matches!(behind_yes, Turn::Holds));
+            let behind_no = asker.turn(no)?;
+            assert!(rt; matches!(behind_no, Turn::Fails(Why::Undefined)));
+        }
+        _ => rt.abort(),
+    }
+    Ok(())
 }
 
 #[test]
@@ -61,7 +63,7 @@ fn a_goal_of_a_guard_asks_the_guard_alone(rt: HostRuntime) -> Result<(), Fail> {
     let bump = Bump::new(rt.alloc());
     let mut asker = asker_of_guard(&bump, &rules)?;
     assert!(rt; asker.names() == 9);
-    assert!(rt; is_guard_asked(&mut asker)?);
+    guard_is_asked(&rt, &mut asker)?;
     Ok(())
 }
 

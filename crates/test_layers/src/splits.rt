@@ -18,10 +18,9 @@ fn less_is_split(bump: &Bump) -> Result<bool, NoMemory> {
 
 fn own_name_is_split(bump: &Bump) -> Result<bool, NoMemory> {
     let itself = Form::eq(bump, X, X)?;
-    Ok(
-        matches!(split(bump, itself)?, Split::Yes)
-            && matches!(split(bump, Form::not(bump, itself)?)?, Split::No),
-    )
+    let is_equal = matches!(split(bump, itself)?, Split::Yes);
+    let is_no_other = matches!(split(bump, Form::not(bump, itself)?)?, Split::No);
+    Ok(is_equal && is_no_other)
 }
 
 // Two different names are equal, or the first is behind the second: what is left behind the first answer.
