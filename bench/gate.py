@@ -143,7 +143,7 @@ def minutes(seconds):
 def main():
     words = [word for word in sys.argv[1:] if word != "--page"]
     start, is_over = time.monotonic(), threading.Event()
-    gate = subprocess.Popen(["rt", "ci", *words], env={"RT_JOBS": str(toolchain.lanes()), **os.environ})
+    gate = subprocess.Popen(["rt", "ci", *words], env={"RT_JOBS": str(toolchain.lanes()), "TMPDIR": toolchain.room(), **os.environ})
     book = Book(gate.pid)
     watch = threading.Thread(target=book.follow, args=(is_over,))
     watch.start()

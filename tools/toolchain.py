@@ -15,18 +15,35 @@ import re
 import shutil
 import subprocess
 import sys
+import tempfile
 import threading
 
 
-# What a check may take, in bytes.
+# What a check may take, in bytes, and what all together may write while they run.
 MEMORY = 3_000_000_000
+ROOM = 6_000_000_000
+
+
+def free_memory():
+    """How many bytes of memory are free."""
+    with open("/proc/meminfo", encoding="utf-8") as told:
+        return 1024 * int(re.search(r"MemAvailable:\s+(\d+)", told.read())[1])
 
 
 def lanes():
     """How many checks may run side by side: as many as there are processors, and memory for."""
-    with open("/proc/meminfo", encoding="utf-8") as told:
-        free = 1024 * int(re.search(r"MemAvailable:\s+(\d+)", told.read())[1])
-    return max(1, min(len(os.sched_getaffinity(0)), free // MEMORY))
+    return max(1, min(len(os.sched_getaffinity(0)), free_memory() // MEMORY))
+
+
+def room():
+    """The folder of what checks write while they run: each of them some thousand small files, which it reads again. That
+    is the one in memory, where there is room and programs may run; it takes a tenth of their time."""
+    told, usual = "/dev/shm", tempfile.gettempdir()
+    if "TMPDIR" in os.environ or not os.access(told, os.W_OK | os.X_OK):
+        return usual
+    found = os.statvfs(told)
+    has_room = min(found.f_bavail * found.f_frsize, free_memory()) >= ROOM
+    return told if has_room and not found.f_flag & os.ST_NOEXEC else usual
 
 
 def looking_once(stamp):
