@@ -8,7 +8,7 @@ use Rattle.std.proofs.lemmas.Int.{ints}
 use Rattle.diff_graph.specs.declared.lit.Lit.{Lit}
 use Rattle.diff_graph.specs.declared.lit.TheConstants.{MAX_LITERAL_OFFSET}
 use Rattle.diff_graph.specs.Literals.{Meets, AreMet, negated, is_met}
-use Rattle.diff_graph.specs.Tables.{AreNamed, IsSmall, AreSmall}
+use Rattle.diff_graph.specs.Limits.{AreNamed, IsSmall, AreSmall}
 use Rattle.ask_core.specs.Plans.{Plan, Ask, Holds, Fails, end_of}
 use Rattle.ask_core.specs.Askers.{is_fine_literal, has_fine_literals, longest_path}
 use Rattle.ask_core.specs.Leading.{LeadTo}

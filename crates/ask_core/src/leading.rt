@@ -2,7 +2,7 @@
 ghost use Rattle.std.specs.Prelude.{◌≡◌, ◌≤◌, ℕ, ℤ, List, length, Some};
 ghost use Rattle.diff_graph.specs.declared.lit.Lit.{Lit};
 ghost use Rattle.diff_graph.specs.Literals.{AreMet};
-ghost use Rattle.diff_graph.specs.Tables.{AreNamed, AreSmall};
+ghost use Rattle.diff_graph.specs.Limits.{AreNamed, AreSmall};
 ghost use Rattle.ask_core.specs.Plans.{Plan, end_of};
 ghost use Rattle.ask_core.specs.Askers.{IsFine, longest_path};
 ghost use Rattle.ask_core.specs.Leading.{LeadTo};

@@ -109,18 +109,18 @@ pub fn read_step<'a>(bump: &'a Bump, cell: CellT<'a>) -> Result<Option<CellT<'a>
     ensures { IfOk result (λ r. option_map cell_tree r ≡ cells.read_step (cell_tree cell.entry)) }
 {
     match cell {
-        CellT::At { doc, at } => Ok(read_change(bump, doc, at)?),
+        CellT::At { doc, at } => read_change(bump, doc, at),
         CellT::Char(_) => Ok(None),
         CellT::Dead(inner) => match read_step(bump, *inner)? {
             Some(read) => Ok(Some(CellT::Dead(placed(bump, read)?))),
-            None => Ok(bury(bump, *inner)?),
+            None => bury(bump, *inner),
         },
         CellT::Over { ch, cell: inner } => match read_step(bump, *inner)? {
             Some(read) => Ok(Some(CellT::Over {
                 ch,
                 cell: placed(bump, read)?,
             })),
-            None => Ok(replace(bump, ch, *inner)?),
+            None => replace(bump, ch, *inner),
         },
         CellT::If { .. } => Ok(None),
     }

@@ -6,10 +6,8 @@ pub mod LineLemmas
 pub mod NumberLists
 pub mod PartLemmas
 pub mod PieceLemmas
-pub mod ReaderLemmas
 pub mod ReadingLemmas
 pub mod StepLemmas
 pub mod TreeTextLemmas
-pub mod TwoDigits
 pub mod WholeCertificates
 pub mod WriterLemmas

@@ -4,7 +4,6 @@ pub mod Numbers
 pub mod Passing
 pub mod Pieces
 pub mod Places
-pub mod Readers
 pub mod Reading
 pub mod Spelling
 pub mod Stages

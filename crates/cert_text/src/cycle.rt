@@ -1,15 +1,16 @@
 //! Cycles, byte by byte.
-ghost use Rattle.std.specs.Prelude.{◌≡◌, ◌↔◌, ℕ, ◌<◌, ◌≤◌, ◌+◌, ◌^◌, List, ◌∷◌, [], ◌++◌, Some, IfSome, IfNone, IsTrue};
+ghost use Rattle.std.specs.Prelude.{◌≡◌, ℕ, ◌<◌, ◌≤◌, ◌+◌, ◌^◌, List, ◌∷◌, [], ◌++◌, Some, IfSome, IfNone};
 ghost use Rattle.cert_text.specs.Numbers.{AreShort, PICK_LIMIT};
 ghost use Rattle.cert_text.specs.Cycles.{CycleStepsTo, IsBegunCycle, IsNoFront, IsShortNumber, cycle_text};
 
 use ask_core::{MAX_PICKS, Picks};
+use pick_digits::takes_digit;
 use std::alloc::Global;
 
 /// A cycle of which a front was read: `x`, whole numbers with a comma behind each, and digits of a
 /// further one.
 #[derive(Drop)]
-pub(crate) struct Cycle {
+pub struct Cycle {
     pub(crate) picks: Picks,
     pub(crate) number: Option<u32>,
 
@@ -137,13 +138,4 @@ pub(crate) fn number_with_digit(number: Option<u32>, digit: u8) -> Option<u32>
         Some(number) if takes_digit(number) => Some(number * 10 + value),
         Some(_) => None,
     }
-}
-
-// Whether a further digit may stand behind those of a number: a leading zero has none, and a number has at
-// most five.
-#[inline(always)]
-fn takes_digit(number: u32) -> bool
-    ensures { IsTrue result ↔ ((0 < number) × (number < 10000)) }
-{
-    0 < number && number < 10_000
 }

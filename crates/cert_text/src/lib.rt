@@ -5,8 +5,8 @@
 //! between commas and a `;` a negative cycle. A number is decimal, without leading zeros and with at most
 //! five digits.
 //!
-//! The layers above rely on two clauses: what a `Reader` gives for a byte or for the bytes of a piece, and
-//! which parts the bytes that are still to come give it; and on the writers, which append the one spelling.
+//! The reader above (`cert_reader`) relies on `part_step`, what a byte makes of the front of a part, and on `whole_token`;
+//! the layers above on the definitions of what is read, and on the writers, which append the one spelling.
 #![tactic(auto)]
 
 mod cycle;
@@ -14,20 +14,21 @@ mod item;
 mod laws;
 mod line;
 mod piece;
-mod reader;
 mod stage;
 mod step;
-mod tens;
 mod tree;
 mod writer;
 
 pub use ask_core::{MAX_PICKS, NoMemory, Picks, Tok};
+pub use cycle::Cycle;
 pub use item::{CertError, Item, Part};
 pub use laws::{
     all_bytes_are_read, parts_are_told_apart, read_certificates_are_written,
     written_certificates_are_read,
 };
-pub use piece::{number_front, short_number_front};
-pub use reader::Reader;
+pub use line::LineBytes;
+pub use piece::{branches_behind, number_front, short_number_front, whole_token};
+pub use stage::Stage;
+pub use step::{PartFront, PartStep, part_step};
 pub use tree::{CycleNumbers, Tree};
 pub use writer::{begin_ob, end_ob, write_end, write_header};

@@ -16,7 +16,7 @@ pub(crate) const LINE_ROOM: usize = 15;
 
 /// Bytes of a line, in place, so that no call takes memory.
 #[derive(Drop)]
-pub(crate) struct LineBytes {
+pub struct LineBytes {
     bytes: SmallVec<u8, LINE_ROOM>,
 }
 
@@ -44,7 +44,7 @@ pub(crate) enum Fit {
 }
 
 impl LineBytes {
-    pub(crate) fn new(alloc: Global) -> LineBytes
+    pub fn new(alloc: Global) -> LineBytes
         ensures { result ≡ [] }
     {
         LineBytes {
@@ -59,7 +59,7 @@ impl LineBytes {
         self.bytes.push_reserved(byte);
     }
 
-    pub(crate) fn as_slice(&self) -> &[u8]
+    pub fn as_slice(&self) -> &[u8]
         ensures value { result.now ≡ self.now }
         ensures most { length result.now ≤ LINE_ROOM }
     {

@@ -42,7 +42,7 @@ fn whole_numbers(bytes: &[u8], picks: &mut Picks) -> Option<usize>
 /// Puts the token at the front of the bytes into `tok`, where they begin with a whole one: how many bytes it has.
 /// Otherwise it is not said what `tok` is.
 #[inline(always)]
-pub(crate) fn whole_token(alloc: Global, bytes: &[u8], tok: &mut Tok) -> Option<usize>
+pub fn whole_token(alloc: Global, bytes: &[u8], tok: &mut Tok) -> Option<usize>
     ensures { IfSome result (λ len. IsSpellable tok.new × (len ≤ length bytes.now)
         × (token_text tok.new ≡ take len bytes.now)) }
 {
@@ -69,7 +69,7 @@ pub(crate) fn whole_token(alloc: Global, bytes: &[u8], tok: &mut Tok) -> Option<
 
 /// How many branches are open behind a token.
 #[inline(always)]
-pub(crate) fn branches_behind(branches: u64, tok: &Tok) -> u64
+pub fn branches_behind(branches: u64, tok: &Tok) -> u64
     requires some { 0 < branches }
     requires few { branches < 2 ^ 63 }
     ensures { result ≡ open_after branches tok.now }

@@ -15,14 +15,14 @@ use std::alloc::Global;
 
 /// What came of the part that is being read. A part of one byte never comes in part.
 #[derive(Drop)]
-pub(crate) enum PartFront {
+pub enum PartFront {
     Line(LineBytes),
     Cycle(Cycle),
 }
 
 /// What a byte makes of it.
 #[derive(Drop)]
-pub(crate) enum PartStep {
+pub enum PartStep {
     /// More of a part.
     More(PartFront),
 
@@ -35,7 +35,7 @@ pub(crate) enum PartStep {
 
 impl PartFront {
     /// How many bytes came.
-    pub(crate) fn len(&self) -> u64
+    pub fn len(&self) -> u64
         requires { KnowsLength self.now }
         ensures { result ≡ length (begun_text self.now) }
     {
@@ -151,7 +151,7 @@ fn cycle_step(cycle: Cycle, level: Level, came: u32, branches: u64, byte: u8) ->
 }
 
 /// What a byte makes of what came.
-pub(crate) fn part_step(
+pub fn part_step(
     alloc: Global,
     tp1: &[ObName],
     tp2: &[ObName],

@@ -11,11 +11,11 @@ ghost use Rattle.cert_text.specs.Spelling.{AreSpellable, end_text, header_text, 
 ghost use Rattle.ot_outside.specs.Whole.{AppendsFront};
 
 use crate::line::{header_line, ob_line};
-use crate::tens::{tens_of, units_of};
 use crate::{CycleNumbers, NoMemory, Tree};
 use ask_core::MAX_PICKS;
 use fn_rules::{Level, ObName};
 use itoa::Buffer;
+use pick_digits::{tens_of, units_of};
 use std::mem;
 
 /// How many bytes a question and a cycle behind it have at most: a `?`, an `x`, at most 10 digits and a byte behind

@@ -2,9 +2,10 @@
 use Rattle.std.proofs.Common.{◌≡◌, ℕ, ◌<◌, ◌≤◌, ℤ, true, List, [], ◌∷◌, ◌++◌, length, Option, Some, None, option_map, refl, ap, arith}
 use Rattle.std.proofs.lemmas.Int.{ints}
 use Rattle.diff_graph.specs.declared.lit.Lit.{Lit}
-use Rattle.diff_graph.specs.declared.hop.Hop.{Hop}
-use Rattle.diff_graph.specs.Tables.{AreSmall, IsNamed, Numbered, literals_of, kept_of, StandsFor, IsAtMost}
-use Rattle.diff_graph.specs.Steps.{keeps, AreModest, IsModest}
+use Rattle.diff_tables.specs.declared.hop.Hop.{Hop}
+use Rattle.diff_graph.specs.Limits.{AreSmall, IsNamed}
+use Rattle.diff_tables.specs.Tables.{Numbered, literals_of, kept_of, StandsFor, IsAtMost}
+use Rattle.diff_tables.specs.Steps.{keeps, AreModest, IsModest}
 use Rattle.diff_bounds.specs.Kept.{AreBounds, IsTightest}
 
 -- a table of few names keeps no offset far from 0

@@ -5,9 +5,10 @@ use Rattle.std.proofs.Common.{arith, refl, sym, ap, ◌∙◌, subst}
 use Rattle.std.proofs.lemmas.Bool.{cases_Bool}
 use Rattle.std.proofs.lemmas.Int.{ints}
 use Rattle.diff_graph.specs.declared.lit.Lit.{Lit}
-use Rattle.diff_graph.specs.declared.hop.Hop.{Hop}
-use Rattle.diff_graph.specs.Tables.{Numbered, literals_of, kept_of, StandsFor, IsAtMost, IsNamed, Follows}
-use Rattle.diff_graph.specs.Steps.{way_of, joined, lower_of, IsLowered, IsModest, IsSquare}
+use Rattle.diff_tables.specs.declared.hop.Hop.{Hop}
+use Rattle.diff_tables.specs.Tables.{Numbered, literals_of, kept_of, StandsFor, IsAtMost, Follows}
+use Rattle.diff_graph.specs.Limits.{IsNamed}
+use Rattle.diff_tables.specs.Steps.{way_of, joined, lower_of, IsLowered, IsModest, IsSquare}
 use Rattle.diff_graph.proofs.Walks.{int_lt-none}
 use Rattle.diff_bounds.specs.Kept.{IsLed, IsNoLower, lower_way}
 

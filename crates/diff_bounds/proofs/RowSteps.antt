@@ -1,7 +1,7 @@
 -- Rows of a new table.
 use Rattle.std.proofs.Common.{◌≡◌, ℕ, ◌<◌, ◌≤◌, List, [], length, get_or, Option}
-use Rattle.diff_graph.specs.declared.hop.Hop.{Hop}
-use Rattle.diff_graph.specs.Steps.{IsNewRow}
+use Rattle.diff_tables.specs.declared.hop.Hop.{Hop}
+use Rattle.diff_tables.specs.Steps.{IsNewRow}
 
 -- the rows below a place are new, and from there on they keep nothing
 pub record AreBegun (initial rows : List (List (Option Hop))) (place : ℕ) : Type 0 where

@@ -2,9 +2,10 @@
 use Rattle.std.specs.Prelude.{◌≡◌, ℕ, ◌<◌, ◌≤◌, ℤ, ◌+ℤ◌, ◌≤ℤ◌, Bool, List, length, slice_index_or, Option, Some, None}
 use Rattle.std.specs.Prelude.{int_lt, if◌then◌else◌}
 use Rattle.diff_graph.specs.declared.lit.Lit.{Lit}
-use Rattle.diff_graph.specs.declared.hop.Hop.{Hop}
-use Rattle.diff_graph.specs.Tables.{Numbered, literals_of, kept_of, StandsFor, AreSmall, Follows}
-use Rattle.diff_graph.specs.Steps.{leaves_room, IsSquare}
+use Rattle.diff_tables.specs.declared.hop.Hop.{Hop}
+use Rattle.diff_tables.specs.Tables.{Numbered, literals_of, kept_of, StandsFor, Follows}
+use Rattle.diff_graph.specs.Limits.{AreSmall}
+use Rattle.diff_tables.specs.Steps.{leaves_room, IsSquare}
 
 -- the rows of a table: the row of y has what is kept for each name x and y
 abbrev pub Rows : Type 0

@@ -1,13 +1,15 @@
 //! The table of distances.
 ghost use Rattle.std.specs.Prelude.{◌≡◌, ◌↔◌, ℕ, ◌<◌, ◌≤◌, IsTrue, true, false, List, [], ◌∷◌, ◌++◌, Option, IfOk};
 ghost use Rattle.std.specs.Prelude.{OnErr, OnOk, slice_index_or};
-ghost use Rattle.diff_graph.specs.declared.hop.Hop.{Hop};
-ghost use Rattle.diff_graph.specs.Tables.{IsNamed, IsSmall, Numbered, literals_of, kept_of, StandsFor, Follows};
-ghost use Rattle.diff_graph.specs.Tables.{IsPossibleWith, IsCycleOf};
+ghost use Rattle.diff_tables.specs.declared.hop.Hop.{Hop};
+ghost use Rattle.diff_graph.specs.Limits.{IsNamed, IsSmall};
+ghost use Rattle.diff_tables.specs.Tables.{Numbered, literals_of, kept_of, StandsFor, Follows};
+ghost use Rattle.diff_tables.specs.Tables.{IsPossibleWith, IsCycleOf};
 ghost use Rattle.diff_bounds.specs.Kept.{AreBounds, has_room, IsTightest};
 
 use crate::rows::{allows, append_cycle, begin_rows, insert, kept, row_of};
-use diff_graph::{Hop, Lit, NoMemory, new_rows_stand_for_nothing, tables_tell_what_is_possible};
+use diff_graph::{Lit, NoMemory};
+use diff_tables::{Hop, new_rows_stand_for_nothing, tables_tell_what_is_possible};
 use std::alloc::Global;
 use std::marker::Model;
 

@@ -1,13 +1,15 @@
 //! The rows of a table in arrays. The row of a name keeps what is known from each name to it.
 ghost use Rattle.std.specs.Prelude.{◌≡◌, ℕ, ◌<◌, ◌≤◌, true, false, List, [], ◌∷◌, ◌++◌, length, slice_index_or, Option};
 ghost use Rattle.std.specs.Prelude.{Some, None, OnErr, OnOk};
-ghost use Rattle.diff_graph.specs.Tables.{IsNamed, IsSmall, Numbered, kept_of, StandsFor, IsAtMost};
-ghost use Rattle.diff_graph.specs.Steps.{added, keeps, numbers_along, IsModest, IsNewRow, AreNewRows, IsSquare};
-ghost use Rattle.diff_graph.specs.Steps.{AreModest, IsLowered};
+ghost use Rattle.diff_graph.specs.Limits.{IsNamed, IsSmall};
+ghost use Rattle.diff_tables.specs.Tables.{Numbered, kept_of, StandsFor, IsAtMost};
+ghost use Rattle.diff_tables.specs.Steps.{added, keeps, numbers_along, IsModest, IsNewRow, AreNewRows, IsSquare};
+ghost use Rattle.diff_tables.specs.Steps.{AreModest, IsLowered};
 ghost use Rattle.diff_bounds.specs.Kept.{has_room, lower_way, IsLed, IsNoLower};
 
-use diff_graph::table::{begin_ways, keeps, leaves_room, lower_row, push_chain};
-use diff_graph::{Hop, Lit, NoMemory, lowered_rows_keep_the_step, tables_stand_for_what_is_added};
+use diff_graph::{Lit, NoMemory};
+use diff_tables::table::{begin_ways, keeps, leaves_room, lower_row, push_chain};
+use diff_tables::{Hop, lowered_rows_keep_the_step, tables_stand_for_what_is_added};
 use std::alloc::AllocError;
 
 /// Keeps each name at 0 to itself, in rows that keep nothing.

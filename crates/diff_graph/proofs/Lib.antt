@@ -1,9 +1,2 @@
 pub mod Walks
-pub mod Closed
-pub mod Chains
-pub mod Stands
-pub mod RowSteps
-pub mod AddingSteps
-pub mod FloorSteps
-pub mod FloorsBeyond
 pub mod Examples

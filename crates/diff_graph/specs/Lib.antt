@@ -1,5 +1,3 @@
 pub mod Literals
+pub mod Limits
 pub mod Cycles
-pub mod Tables
-pub mod Steps
-pub mod Solutions

@@ -29,7 +29,7 @@ fn if_differ<'a>(
         return Ok(next);
     };
     let equal = Form::Eq(Place::named(x), Place::named(y));
-    Ok(Goal::either(bump, equal, Goal::holds(bump)?, next)?)
+    Goal::either(bump, equal, Goal::holds(bump)?, next)
 }
 
 // The goal, where the two names differ if it is assumed that they do.
@@ -43,7 +43,7 @@ fn if_assumed<'a>(
     ensures { IfOk result (λ r. goal_tree r.now ≡ starting.if_assumed assumed x y (goal_tree next.now)) }
 {
     if assumed {
-        return Ok(if_differ(bump, x, y, next)?);
+        return if_differ(bump, x, y, next);
     }
     Ok(next)
 }
@@ -59,7 +59,7 @@ fn if_allowed<'a>(
     ensures { IfOk result (λ r. goal_tree r.now ≡ starting.if_allowed head.now a b (goal_tree next.now)) }
 {
     let next = if_assumed(bump, head.chars_differ, a.ch(), b.ch(), next)?;
-    Ok(if_assumed(bump, head.sites_differ, a.site(), b.site(), next)?)
+    if_assumed(bump, head.sites_differ, a.site(), b.site(), next)
 }
 
 // The goal, where the operation is enabled on the document itself.
@@ -67,7 +67,7 @@ fn if_enabled<'a>(bump: &'a Bump, op: SymOp, next: &'a Goal<'a>) -> Result<&'a G
     ensures { IfOk result (λ r. goal_tree r.now ≡ starting.if_enabled op (goal_tree next.now)) }
 {
     let enabled = enabled_form(bump, op, 0)?;
-    Ok(Goal::either(bump, *enabled, next, Goal::holds(bump)?)?)
+    Goal::either(bump, *enabled, next, Goal::holds(bump)?)
 }
 
 // The goal, where each of the operations is.
@@ -82,7 +82,7 @@ fn if_all_enabled<'a>(
         [] => Ok(next),
         [op, others @ ..] => {
             let next = if_all_enabled(bump, others, next)?;
-            Ok(if_enabled(bump, *op, next)?)
+            if_enabled(bump, *op, next)
         }
     }
 }
@@ -92,7 +92,7 @@ fn if_length<'a>(bump: &'a Bump, next: &'a Goal<'a>) -> Result<&'a Goal<'a>, NoM
     ensures { IfOk result (λ r. goal_tree r.now ≡ starting.if_length (goal_tree next.now)) }
 {
     let length = Form::Le(Place::zero(), Place::length_and(0));
-    Ok(Goal::either(bump, length, next, Goal::holds(bump)?)?)
+    Goal::either(bump, length, next, Goal::holds(bump)?)
 }
 
 // What the second operation becomes behind the first is the first result.
@@ -111,7 +111,7 @@ fn first_choice<'a>(
         got: [SymOp::Nop; 6],
         count: 0,
     };
-    Ok(Goal::choose(bump, 0, b, a, progress.placed(bump)?)?)
+    Goal::choose(bump, 0, b, a, progress.placed(bump)?)
 }
 
 fn start_pair<'a>(bump: &'a Bump, head: &Head, k: Kind, l: Kind) -> Result<&'a Goal<'a>, NoMemory>
@@ -122,7 +122,7 @@ fn start_pair<'a>(bump: &'a Bump, head: &Head, k: Kind, l: Kind) -> Result<&'a G
     let converge = first_choice(bump, ObName::Pair(k, l), a, b, SymOp::Nop)?;
     let allowed = if_allowed(bump, head, a, b, converge)?;
     let enabled = if_all_enabled(bump, &[a, b], allowed)?;
-    Ok(if_length(bump, enabled)?)
+    if_length(bump, enabled)
 }
 
 fn start_triple<'a>(
@@ -142,7 +142,7 @@ fn start_triple<'a>(
     let outer_two = if_allowed(bump, head, a, c, last_two)?;
     let first_two = if_allowed(bump, head, a, b, outer_two)?;
     let enabled = if_all_enabled(bump, &[a, b, c], first_two)?;
-    Ok(if_length(bump, enabled)?)
+    if_length(bump, enabled)
 }
 
 /// The goal that an obligation begins with. What it is of, what it asks and when it is true is told by
@@ -152,7 +152,7 @@ pub fn start_goal<'a>(bump: &'a Bump, rules: &Rules, ob: ObName) -> Result<&'a G
 {
     let head = rules.head();
     match ob {
-        ObName::Pair(k, l) => Ok(start_pair(bump, &head, k, l)?),
-        ObName::Triple(k, l, m) => Ok(start_triple(bump, &head, k, l, m)?),
+        ObName::Pair(k, l) => start_pair(bump, &head, k, l),
+        ObName::Triple(k, l, m) => start_triple(bump, &head, k, l, m),
     }
 }

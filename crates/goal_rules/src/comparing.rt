@@ -54,7 +54,7 @@ pub fn same_finished<'a>(
 {
     let why = left.cause_beside(right);
     if left.flag.is_same(right.flag) {
-        return Ok(same_source(bump, left.source, right.source, why)?);
+        return same_source(bump, left.source, right.source, why);
     }
     Ok(Front::Fails(why))
 }
@@ -86,7 +86,7 @@ fn compare_read<'a>(
         ≡ table.rewrite_right (cell_tree left.entry) (cell_tree right.entry) None) }
 {
     let CellT::If { form, yes, no } = right else {
-        return Ok(both_finished(bump, finished(left), finished(right))?);
+        return both_finished(bump, finished(left), finished(right));
     };
     let left = placed(bump, left)?;
     Ok(Some(Front::If {
@@ -109,7 +109,7 @@ fn compare_right<'a>(
 {
     match read_step(bump, right)? {
         Some(read) => Ok(Some(Front::Same { left, right: read })),
-        None => Ok(compare_read(bump, left, right)?),
+        None => compare_read(bump, left, right),
     }
 }
 
@@ -128,7 +128,7 @@ pub(crate) fn compare<'a>(
         Some(read) => Ok(Some(Front::Same { left: read, right })),
         None => {
             let CellT::If { form, yes, no } = left else {
-                return Ok(compare_right(bump, left, right)?);
+                return compare_right(bump, left, right);
             };
             let right = placed(bump, right)?;
             Ok(Some(Front::If {

@@ -78,8 +78,8 @@ fn end_goal<'a>(
     ensures { IfOk result (λ r. front_tree r ≡ ends.end_goal mode ob ops.now got.now) }
 {
     match ob {
-        ObName::Pair(_, _) => Ok(end_of_pair(bump, mode, ops, got)?),
-        ObName::Triple(_, _, _) => Ok(end_of_triple(bump, got)?),
+        ObName::Pair(_, _) => end_of_pair(bump, mode, ops, got),
+        ObName::Triple(_, _, _) => end_of_triple(bump, got),
     }
 }
 
@@ -115,6 +115,6 @@ pub(crate) fn deliver<'a>(
             b,
             progress: next.placed(bump)?,
         }),
-        None => Ok(end_goal(bump, rules.head().mode, next.ob, &next.ops, got)?),
+        None => end_goal(bump, rules.head().mode, next.ob, &next.ops, got),
     }
 }

@@ -24,12 +24,12 @@ fn changed<'a>(
     ensures { IfOk result (λ r. doc_tree r.now ≡ changes.changed mode op (doc_tree doc.now)) }
 {
     match op {
-        SymOp::Ins { at, ch, .. } => Ok(DocT::put(bump, doc, at, ch)?),
+        SymOp::Ins { at, ch, .. } => DocT::put(bump, doc, at, ch),
         SymOp::Del { at, .. } => match mode {
-            Mode::Plain => Ok(DocT::cut(bump, doc, at)?),
-            Mode::Tomb => Ok(DocT::mark(bump, doc, at)?),
+            Mode::Plain => DocT::cut(bump, doc, at),
+            Mode::Tomb => DocT::mark(bump, doc, at),
         },
-        SymOp::Upd { at, ch, .. } => Ok(DocT::over(bump, doc, at, ch)?),
+        SymOp::Upd { at, ch, .. } => DocT::over(bump, doc, at, ch),
         SymOp::Nop => Ok(doc),
     }
 }
@@ -39,10 +39,10 @@ fn doc_of<'a>(bump: &'a Bump, mode: Mode, ops: &[SymOp]) -> Result<&'a DocT<'a>,
     ensures { IfOk result (λ r. doc_tree r.now ≡ changes.doc_of mode ops.now) }
 {
     match ops {
-        [] => Ok(DocT::base(bump)?),
+        [] => DocT::base(bump),
         [last, others @ ..] => {
             let doc = doc_of(bump, mode, others)?;
-            Ok(changed(bump, mode, *last, doc)?)
+            changed(bump, mode, *last, doc)
         }
     }
 }
@@ -64,7 +64,7 @@ fn same_documents<'a>(
     )?;
     let below = Form::Lt(index, Place::length_and(off));
     let within = Goal::either(bump, below, same, holds())?;
-    Ok(Goal::either(bump, Form::Le(Place::zero(), index), within, holds())?)
+    Goal::either(bump, Form::Le(Place::zero(), index), within, holds())
 }
 
 // How many cells two operations add together.
@@ -91,7 +91,7 @@ fn same_lengths<'a>(
     }
     let left = doc_of(bump, mode, &[b_after_a, a])?;
     let right = doc_of(bump, mode, &[a_after_b, b])?;
-    Ok(same_documents(bump, left, right, grown)?)
+    same_documents(bump, left, right, grown)
 }
 
 // Both forms are enabled behind the other operation, and then both ways give one document.
@@ -125,9 +125,7 @@ pub(crate) fn end_of_pair<'a>(
 {
     match ops {
         [a, b, ..] => match got {
-            [b_after_a, a_after_b, ..] => {
-                Ok(both_ways(bump, mode, *a, *b_after_a, *b, *a_after_b)?)
-            }
+            [b_after_a, a_after_b, ..] => { both_ways(bump, mode, *a, *b_after_a, *b, *a_after_b) }
             _ => Ok(Front::Holds),
         },
         _ => Ok(Front::Holds),
@@ -166,7 +164,7 @@ pub(crate) fn end_of_triple<'a>(bump: &'a Bump, got: &[SymOp]) -> Result<Front<'
 {
     match got {
         [_, _, left, _, _, right, ..] => {
-            Ok(one_place(bump, left.kind(), right.kind(), left.at(), right.at())?)
+            one_place(bump, left.kind(), right.kind(), left.at(), right.at())
         }
         _ => Ok(Front::Holds),
     }

@@ -31,7 +31,7 @@ pub fn rewrite<'a>(
     match front {
         Front::Holds => Ok(None),
         Front::Fails(_) => Ok(None),
-        Front::If { form, yes, no } => Ok(by_form(bump, form, yes, no)?),
+        Front::If { form, yes, no } => by_form(bump, form, yes, no),
         Front::Choose {
             case,
             a,
@@ -39,6 +39,6 @@ pub fn rewrite<'a>(
             progress,
         } => Ok(Some(choose(bump, rules, case, a, b, progress)?)),
         Front::Deliver { op, progress } => Ok(Some(deliver(bump, rules, op, progress)?)),
-        Front::Same { left, right } => Ok(compare(bump, left, right)?),
+        Front::Same { left, right } => compare(bump, left, right),
     }
 }

@@ -25,7 +25,7 @@ fn by_order<'a>(
     ensures { IfOk result (λ r. goal_tree r.now ≡ laid_order x y (goal_tree yes.now) (goal_tree no.now)) }
 {
     match x.is_at_most(y) {
-        None => Ok(Goal::either(bump, Form::Le(x, y), yes, no)?),
+        None => Goal::either(bump, Form::Le(x, y), yes, no),
         Some(true) => Ok(yes),
         Some(false) => Ok(no),
     }
@@ -43,7 +43,7 @@ fn by_equality<'a>(
     ensures { IfOk result (λ r. goal_tree r.now ≡ laid_form (forms.Eq x y) (goal_tree yes.now) (goal_tree no.now)) }
 {
     let back = by_order(bump, y, x, yes, no)?;
-    Ok(by_order(bump, x, y, back, no)?)
+    by_order(bump, x, y, back, no)
 }
 
 // One of two goals, as two places compare.
@@ -60,9 +60,9 @@ fn by_places<'a>(
     ensures { IfOk result (λ r. goal_tree r.now ≡ laid_form (compared cmp x y) (goal_tree yes.now) (goal_tree no.now)) }
 {
     match cmp {
-        Cmp::Lt => Ok(by_order(bump, x, y.plus(-1), yes, no)?),
-        Cmp::Le => Ok(by_order(bump, x, y, yes, no)?),
-        Cmp::Eq => Ok(by_equality(bump, x, y, yes, no)?),
+        Cmp::Lt => by_order(bump, x, y.plus(-1), yes, no),
+        Cmp::Le => by_order(bump, x, y, yes, no),
+        Cmp::Eq => by_equality(bump, x, y, yes, no),
     }
 }
 
@@ -79,18 +79,18 @@ pub fn by_form<'a>(
 {
     match form {
         Form::True => Ok(yes),
-        Form::Le(x, y) => Ok(by_order(bump, *x, *y, yes, no)?),
-        Form::Lt(x, y) => Ok(by_places(bump, Cmp::Lt, *x, *y, yes, no)?),
-        Form::Eq(x, y) => Ok(by_equality(bump, *x, *y, yes, no)?),
+        Form::Le(x, y) => by_order(bump, *x, *y, yes, no),
+        Form::Lt(x, y) => by_places(bump, Cmp::Lt, *x, *y, yes, no),
+        Form::Eq(x, y) => by_equality(bump, *x, *y, yes, no),
         Form::And(g, h) => {
             let second = by_form(bump, h, yes, no)?;
-            Ok(by_form(bump, g, second, no)?)
+            by_form(bump, g, second, no)
         }
         Form::Or(g, h) => {
             let second = by_form(bump, h, yes, no)?;
-            Ok(by_form(bump, g, yes, second)?)
+            by_form(bump, g, yes, second)
         }
-        Form::Not(g) => Ok(by_form(bump, g, no, yes)?),
+        Form::Not(g) => by_form(bump, g, no, yes),
     }
 }
 
@@ -120,8 +120,8 @@ pub fn by_guard<'a>(
     match first {
         Guard::Atom(atom) => {
             let (x, y) = places_of(atom, a, b);
-            Ok(by_places(bump, atom.cmp, x, y, on_yes, on_no)?)
+            by_places(bump, atom.cmp, x, y, on_yes, on_no)
         }
-        _ => Ok(by_guard(bump, first, a, b, on_yes, on_no)?),
+        _ => by_guard(bump, first, a, b, on_yes, on_no),
     }
 }

@@ -71,7 +71,7 @@ fn behind<'a>(
     if bump.allocated_bytes() > ROOM {
         return Ok(None);
     }
-    Ok(next_of(bump, rules, Front::Deliver { op, progress })?)
+    next_of(bump, rules, Front::Deliver { op, progress })
 }
 
 // Whether nothing is asked behind either goal, so that they are laid out.

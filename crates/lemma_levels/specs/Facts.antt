@@ -1,7 +1,8 @@
 -- What becomes of facts to which a literal is added.
 use Rattle.std.specs.Prelude.{◌≡◌, ℕ, List, [], ◌∷◌, ◌++◌}
 use Rattle.diff_graph.specs.declared.lit.Lit.{Lit}
-use Rattle.diff_graph.specs.Tables.{Numbered, StandsFor, IsPossibleWith, IsNamed, IsSmall, kept_of, literals_of}
+use Rattle.diff_tables.specs.Tables.{Numbered, StandsFor, IsPossibleWith, kept_of, literals_of}
+use Rattle.diff_graph.specs.Limits.{IsNamed, IsSmall}
 use Rattle.diff_bounds.specs.Kept.{Rows}
 use Rattle.lemma_levels.specs.declared.facts.TheConstants.{MAX_NAMES}
 use Rattle.lemma_levels.specs.declared.facts.Added.{Added}

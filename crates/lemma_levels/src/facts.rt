@@ -1,8 +1,9 @@
 //! What follows from literals, with literals that are tested first.
 ghost use Rattle.std.specs.Prelude.{◌≡◌, ◌↔◌, ◌<◌, ◌≤◌, ◌≤ℤ◌, ℕ, List, [], ◌∷◌, ◌++◌, pos, ◌-ℤ◌, IsTrue, true, false};
 ghost use Rattle.std.specs.Prelude.{IfSome, IfOk, OnOk};
-ghost use Rattle.diff_graph.specs.Tables.{IsNamed, IsSmall, Numbered, literals_of, kept_of, StandsFor, Follows};
-ghost use Rattle.diff_graph.specs.Tables.{IsPossibleWith, IsCycleOf};
+ghost use Rattle.diff_graph.specs.Limits.{IsNamed, IsSmall};
+ghost use Rattle.diff_tables.specs.Tables.{Numbered, literals_of, kept_of, StandsFor, Follows};
+ghost use Rattle.diff_tables.specs.Tables.{IsPossibleWith, IsCycleOf};
 ghost use Rattle.lemma_levels.specs.Facts.{HasAdded};
 
 use crate::NoMemory;
@@ -36,7 +37,7 @@ pub struct Facts {
 
 impl Model for Facts {
     ghost use Rattle.std.specs.Prelude.{List, Option};
-    ghost use Rattle.diff_graph.specs.declared.hop.Hop.{Hop};
+    ghost use Rattle.diff_tables.specs.declared.hop.Hop.{Hop};
 
     ghost Value = { List (List (Option Hop)) };
 

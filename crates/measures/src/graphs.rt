@@ -1,9 +1,10 @@
 //! What the solver and the table of distances do with many literals over 12 names.
 ghost use Rattle.std.specs.Prelude.{◌≡◌, ℕ, ◌<◌, ◌≤◌, ◌^◌, List, length, IfOk};
-ghost use Rattle.diff_graph.specs.Tables.{IsNamed, AreNamed, IsSmall, AreSmall};
+ghost use Rattle.diff_graph.specs.Limits.{IsNamed, AreNamed, IsSmall, AreSmall};
 
 use diff_bounds::Bounds;
-use diff_graph::{Lit, NoMemory, Solved, least, solve};
+use diff_graph::{Lit, NoMemory};
+use diff_tables::{Solved, least, solve};
 use std::alloc::Global;
 use std::io;
 

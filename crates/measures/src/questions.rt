@@ -86,7 +86,7 @@ fn walk_goal<'a>(
 {
     let mut asker = PathAsker::new(bump, rules, ob);
     let start = asker.start()?;
-    Ok(walk_from(&mut asker, alloc, start, turns)?)
+    walk_from(&mut asker, alloc, start, turns)
 }
 
 // The terms of an obligation are given back when it is done.

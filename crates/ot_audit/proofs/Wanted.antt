@@ -3,7 +3,7 @@ use Rattle.std.proofs.Common.{◌≡◌, ℕ, ◌<◌, ◌≤◌, ◌^◌, ℤ, 
 use Rattle.std.specs.declared.alloc.Global.{Global}
 use Rattle.diff_graph.specs.declared.lit.Lit.{Lit}
 use Rattle.diff_graph.specs.Literals.{AreMet, IsPossible}
-use Rattle.diff_graph.specs.Tables.{AreNamed, AreSmall}
+use Rattle.diff_graph.specs.Limits.{AreNamed, AreSmall}
 use Rattle.ot_model.specs.declared.op.Kind.{Kind}
 use Rattle.fn_rules.specs.declared.function.ObName.TheVariants.{Pair}
 use Rattle.fn_rules.specs.Functions.{Function}

@@ -1,7 +1,7 @@
 -- What the search of a goal comes to, by the one question list of the goal's plan.
 use Rattle.std.specs.Prelude.{◌≡◌, ℕ, ℤ, pos, ◌<◌, ◌≤◌, List, [], length, None, MatchOption}
 use Rattle.diff_graph.specs.declared.lit.Lit.{Lit}
-use Rattle.diff_graph.specs.Solutions.{AreLeast, valuation_of}
+use Rattle.diff_tables.specs.Solutions.{AreLeast, valuation_of}
 use Rattle.ot_model.specs.declared.op.Kind.{Kind}
 use Rattle.ot_model.specs.declared.op.Op.{Op}
 use Rattle.fn_rules.specs.declared.function.ObName.TheVariants as obligations

@@ -36,7 +36,7 @@ fn differ_in<'a>(
     rules_are_valid(others);
     goals_are_searchable();
     let goal = difference_goal(bump, rules, others, first, second)?;
-    Ok(find(alloc, bump, rules, first, second, goal, budget)?)
+    find(alloc, bump, rules, first, second, goal, budget)
 }
 
 /// Whether two functions of one head agree on the block of two kinds, decided by at most `budget` questions.

@@ -29,7 +29,7 @@ fn same_blocks(
         [] => Ok(Same::Everywhere),
         [(first, second), behind @ ..] => {
             match agree(alloc, rules, others, *first, *second, budget)? {
-                Agree::Same => Ok(same_blocks(alloc, rules, others, behind, budget)?),
+                Agree::Same => same_blocks(alloc, rules, others, behind, budget),
                 Agree::Pair { a, b, left, right } => Ok(Same::Differ {
                     first: *first,
                     second: *second,
@@ -69,7 +69,7 @@ pub fn same_all(alloc: Global, rules: &Rules, others: &Rules, budget: u64) -> Re
     ensures { IfOk result (IsComparedAs (function_of rules.now) (function_of others.now) budget) }
 {
     if have_one_head(rules, others) {
-        return Ok(same_headed(alloc, rules, others, budget)?);
+        return same_headed(alloc, rules, others, budget);
     }
     Ok(Same::Heads)
 }

@@ -1,7 +1,7 @@
 //! The search of a goal of two operations.
 ghost use Rattle.std.specs.Prelude.{◌≡◌, ◌<◌, ◌^◌, ◌≤ℤ◌, pos, length, IfOk};
-ghost use Rattle.diff_graph.specs.Solutions.{valuation_of};
-ghost use Rattle.diff_graph.specs.Tables.{AreNamed, AreSmall};
+ghost use Rattle.diff_tables.specs.Solutions.{valuation_of};
+ghost use Rattle.diff_graph.specs.Limits.{AreNamed, AreSmall};
 ghost use Rattle.fn_rules.specs.declared.function.ObName.TheVariants as obligations;
 ghost use Rattle.fn_rules.specs.Conditions.{IsWithin};
 ghost use Rattle.fn_rules.specs.Rules.{function_of};

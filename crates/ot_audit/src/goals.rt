@@ -22,7 +22,7 @@ use ot_terms::{Form, Goal, Place, SymOp, Why, place_form};
 fn found<'a>(bump: &'a Bump) -> Result<&'a Goal<'a>, NoMemory>
     ensures { IfOk result (λ r. goal_tree r.now ≡ goals.found) }
 {
-    Ok(Goal::fails(bump, Why::Operations)?)
+    Goal::fails(bump, Why::Operations)
 }
 
 // The goal, where the operation's position is not negative.
@@ -30,7 +30,7 @@ fn if_there<'a>(bump: &'a Bump, who: Who, next: &'a Goal<'a>) -> Result<&'a Goal
     ensures { IfOk result (λ r. goal_tree r.now ≡ goals.if_there who (goal_tree next.now)) }
 {
     let there = Form::Le(Place::zero(), Place::named(position_name(who)));
-    Ok(Goal::either(bump, there, next, Goal::holds(bump)?)?)
+    Goal::either(bump, there, next, Goal::holds(bump)?)
 }
 
 // The goal, where the two names stand for different integers.
@@ -49,7 +49,7 @@ fn if_differ<'a>(
         return Ok(next);
     };
     let equal = Form::Eq(Place::named(x), Place::named(y));
-    Ok(Goal::either(bump, equal, Goal::holds(bump)?, next)?)
+    Goal::either(bump, equal, Goal::holds(bump)?, next)
 }
 
 // The goal, where the two names differ if it is assumed that they do.
@@ -63,7 +63,7 @@ fn if_assumed<'a>(
     ensures { IfOk result (λ r. goal_tree r.now ≡ starting.if_assumed assumed x y (goal_tree next.now)) }
 {
     if assumed {
-        return Ok(if_differ(bump, x, y, next)?);
+        return if_differ(bump, x, y, next);
     }
     Ok(next)
 }
@@ -79,7 +79,7 @@ pub fn if_allowed<'a>(
     ensures { IfOk result (λ r. goal_tree r.now ≡ starting.if_allowed head.now a b (goal_tree next.now)) }
 {
     let next = if_assumed(bump, head.chars_differ, a.ch(), b.ch(), next)?;
-    Ok(if_assumed(bump, head.sites_differ, a.site(), b.site(), next)?)
+    if_assumed(bump, head.sites_differ, a.site(), b.site(), next)
 }
 
 // The goal, where the two operations are meant.
@@ -94,7 +94,7 @@ fn if_meant<'a>(
 {
     let allowed = if_allowed(bump, head, a, b, next)?;
     let second = if_there(bump, Who::B, allowed)?;
-    Ok(if_there(bump, Who::A, second)?)
+    if_there(bump, Who::A, second)
 }
 
 // The guards in their order, and behind them the goal.
@@ -115,7 +115,7 @@ fn unless_true<'a>(
         [case, others @ ..] => {
             let behind = unless_true(bump, others, a, b, next)?;
             let guard = place_form(bump, &case.guard, a, b)?;
-            Ok(Goal::either(bump, *guard, Goal::holds(bump)?, behind)?)
+            Goal::either(bump, *guard, Goal::holds(bump)?, behind)
         }
     }
 }
@@ -128,7 +128,7 @@ fn at_own<'a>(bump: &'a Bump, case: &Case, a: SymOp, b: SymOp) -> Result<&'a Goa
     ensures { IfOk result (λ r. goal_tree r.now ≡ goals.at_own (Some (case_of case.now)) a b) }
 {
     let guard = place_form(bump, &case.guard, a, b)?;
-    Ok(Goal::either(bump, *guard, found(bump)?, Goal::holds(bump)?)?)
+    Goal::either(bump, *guard, found(bump)?, Goal::holds(bump)?)
 }
 
 // Where a case is taken: its guard behind all earlier ones.
@@ -166,8 +166,8 @@ fn at_target<'a>(
     ensures { IfOk result (λ r. goal_tree r.now ≡ goals.at_target (map case_of cases.now) target a b) }
 {
     match target {
-        Target::Case(number) => Ok(at_case(bump, cases, number, a, b)?),
-        Target::Open => Ok(unless_true(bump, cases, a, b, found(bump)?)?),
+        Target::Case(number) => at_case(bump, cases, number, a, b),
+        Target::Open => unless_true(bump, cases, a, b, found(bump)?),
     }
 }
 
@@ -181,12 +181,12 @@ fn unless_same<'a>(
 {
     match left {
         None => match right {
-            None => Ok(Goal::holds(bump)?),
-            Some(_) => Ok(found(bump)?),
+            None => Goal::holds(bump),
+            Some(_) => found(bump),
         },
         Some(left) => match right {
-            None => Ok(found(bump)?),
-            Some(right) => Ok(unless_one_place(bump, left, right)?),
+            None => found(bump),
+            Some(right) => unless_one_place(bump, left, right),
         },
     }
 }
@@ -203,14 +203,14 @@ pub fn unless_one_place<'a>(
 {
     match left.kind() {
         None => match right.kind() {
-            None => Ok(Goal::holds(bump)?),
-            Some(_) => Ok(found(bump)?),
+            None => Goal::holds(bump),
+            Some(_) => found(bump),
         },
         Some(_) => match right.kind() {
-            None => Ok(found(bump)?),
+            None => found(bump),
             Some(_) => {
                 let equal = Form::Eq(left.at(), right.at());
-                Ok(Goal::either(bump, equal, Goal::holds(bump)?, found(bump)?)?)
+                Goal::either(bump, equal, Goal::holds(bump)?, found(bump)?)
             }
         },
     }
@@ -231,12 +231,12 @@ fn with_right<'a>(
         (λ y. goals.unless_same left y)) }
 {
     match cases {
-        [] => Ok(unless_same(bump, left, None)?),
+        [] => unless_same(bump, left, None),
         [case, others @ ..] => {
             let behind = with_right(bump, others, a, b, left)?;
             let guard = place_form(bump, &case.guard, a, b)?;
             let here = unless_same(bump, left, Some(a.result(case.res, b)))?;
-            Ok(Goal::either(bump, *guard, here, behind)?)
+            Goal::either(bump, *guard, here, behind)
         }
     }
 }
@@ -257,12 +257,12 @@ fn unless_agreed<'a>(
         b) }
 {
     match cases {
-        [] => Ok(with_right(bump, others, a, b, None)?),
+        [] => with_right(bump, others, a, b, None),
         [case, rest @ ..] => {
             let behind = unless_agreed(bump, rest, others, a, b)?;
             let guard = place_form(bump, &case.guard, a, b)?;
             let here = with_right(bump, others, a, b, Some(a.result(case.res, b)))?;
-            Ok(Goal::either(bump, *guard, here, behind)?)
+            Goal::either(bump, *guard, here, behind)
         }
     }
 }

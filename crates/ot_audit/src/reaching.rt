@@ -36,7 +36,7 @@ fn reach_in<'a>(
     rules_are_valid(rules);
     goals_are_searchable();
     let goal = target_goal(bump, rules, first, second, target)?;
-    Ok(find(alloc, bump, rules, first, second, goal, budget)?)
+    find(alloc, bump, rules, first, second, goal, budget)
 }
 
 /// Whether the target of the block of two kinds is ever reached, decided by at most `budget` questions.
@@ -58,5 +58,5 @@ pub fn reach(
 {
     findings_tell_of_all_operations();
     let bump = Bump::new(alloc);
-    Ok(reach_in(alloc, &bump, rules, first, second, target, budget)?)
+    reach_in(alloc, &bump, rules, first, second, target, budget)
 }

@@ -8,10 +8,10 @@ use Rattle.std.specs.Io.KnownBytes.{IsAtEnd}
 use Rattle.ot_outside.specs.declared.shelf.Shelf.{Ghosts}
 use Rattle.ot_outside.specs.declared.shelf_feed.ShelfFeed.{ShelfFeed}
 use Rattle.ot_outside.specs.ShelfFeed.{feed_left, file_left, room_of}
-use Rattle.ot_sections.specs.declared.refusal.JudgeError.{JudgeError}
-use Rattle.ot_sections.specs.declared.refusal.JudgeError.TheVariants as judge
-use Rattle.ot_sections.specs.declared.refusal.Refusal.{Refusal}
-use Rattle.ot_sections.specs.declared.refusal.Refusal.TheVariants as why
+use Rattle.refusals.specs.declared.refusal.JudgeError.{JudgeError}
+use Rattle.refusals.specs.declared.refusal.JudgeError.TheVariants as judge
+use Rattle.refusals.specs.declared.refusal.Refusal.{Refusal}
+use Rattle.refusals.specs.declared.refusal.Refusal.TheVariants as why
 use Rattle.ot_sections.specs.Feeding.{IsTruncated, MayGive}
 use Rattle.ot_least.specs.Judgements.{IsNoJudgement}
 use Rattle.ot_replies.specs.declared.reply.FileKind.TheVariants as files

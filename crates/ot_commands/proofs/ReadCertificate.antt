@@ -6,7 +6,7 @@ use Rattle.ot_outside.specs.declared.shelf.Shelf.{Ghosts}
 use Rattle.ot_outside.specs.declared.shelf_feed.ShelfFeed.{ShelfFeed}
 use Rattle.ot_outside.specs.Reads.{Reads, after_reading}
 use Rattle.ot_outside.specs.ShelfFeed.{IsAllOfReads, KeepsShelf, feed_left, gave_by, hand_of, room_of, shelf_of, unread_of}
-use Rattle.ot_sections.specs.declared.refusal.JudgeError.{JudgeError}
+use Rattle.refusals.specs.declared.refusal.JudgeError.{JudgeError}
 use Rattle.ot_sections.specs.Feeding.{IsSpent, MayGiveOf, MayHave, Whole}
 use Rattle.ot_least.specs.Judgements.{IsNoJudgement}
 use Rattle.ot_replies.specs.declared.reply.FileKind.TheVariants as files

@@ -10,7 +10,7 @@ use Rattle.fn_rules.specs.declared.function.Res.TheVariants as results
 use Rattle.fn_rules.specs.declared.guard.Side.TheVariants.{First}
 use Rattle.fn_rules.specs.Formulas.{Always}
 use Rattle.fn_rules.specs.Functions.{Function}
-use Rattle.diff_graph.specs.Solutions.{valuation_of}
+use Rattle.diff_tables.specs.Solutions.{valuation_of}
 use Rattle.ot_questions.specs.declared.why.Why.TheVariants.{Cells, OutOfRange}
 use Rattle.ot_counter.specs.declared.counter.WayResult.TheVariants as ways
 use Rattle.ot_values.specs.Values.{ops_at}

@@ -10,7 +10,7 @@ pub use Rattle.fn_rules.specs.Obligations
 pub use Rattle.ask_core.specs.Plans
 pub use Rattle.ask_core.specs.Leading
 pub use Rattle.diff_graph.specs.Literals
-pub use Rattle.diff_graph.specs.Solutions
+pub use Rattle.diff_tables.specs.Solutions
 pub use Rattle.ot_questions.specs.Obligation
 pub use Rattle.ot_questions.specs.Instances
 pub use Rattle.ot_values.specs.Values

@@ -4,7 +4,7 @@ ghost use Rattle.fn_rules.specs.declared.function.ObName.TheVariants.{Pair, Trip
 ghost use Rattle.ot_questions.specs.declared.name.Who.{Who};
 ghost use Rattle.ot_questions.specs.declared.name.Who.TheVariants.{A, B, C};
 ghost use Rattle.ot_questions.specs.Names.{char_name};
-ghost use Rattle.diff_graph.specs.Solutions.{valuation_of};
+ghost use Rattle.diff_tables.specs.Solutions.{valuation_of};
 ghost use Rattle.ot_values.specs.Values.{floors_of, ops_at, IsSmallAt};
 ghost use Rattle.ot_counter.specs.Documents.{document_at as document_read};
 ghost use Rattle.fn_rules.specs.Obligations.{is_obligation};

@@ -1,6 +1,6 @@
 //! The document that is read off values.
 ghost use Rattle.std.specs.Prelude.{◌≡◌, ◌<◌, pos, ◌≤ℤ◌, length, IfOk};
-ghost use Rattle.diff_graph.specs.Solutions.{valuation_of};
+ghost use Rattle.diff_tables.specs.Solutions.{valuation_of};
 ghost use Rattle.ot_counter.specs.Documents as documents;
 
 use crate::NoMemory;

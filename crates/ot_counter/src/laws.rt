@@ -3,7 +3,7 @@
 ghost use Rattle.std.specs.Prelude.{◌<◌, ℤ, IsTrue, List, length};
 ghost use Rattle.diff_graph.specs.declared.lit.Lit.{Lit};
 ghost use Rattle.diff_graph.specs.Literals.{IsPossible};
-ghost use Rattle.diff_graph.specs.Solutions.{AreLeast, IsPossibleAbove, valuation_of};
+ghost use Rattle.diff_tables.specs.Solutions.{AreLeast, IsPossibleAbove, valuation_of};
 ghost use Rattle.fn_rules.specs.declared.function.ObName.{ObName};
 ghost use Rattle.fn_rules.specs.Functions.{Function};
 ghost use Rattle.fn_rules.specs.Obligations.{level_of, is_obligation};

@@ -9,7 +9,7 @@ use Rattle.fn_rules.specs.Functions.{Function}
 use Rattle.fn_rules.specs.Shipped.{marks}
 use Rattle.ot_questions.specs.Obligation.{plan_of, ask_pair, ask_all_enabled, ask_converge, ask_ways, ask_lengths, ask_documents}
 use Rattle.ot_questions.specs.Questions.{ask_le, ask_lt, ask_eq, ask_compared, ask_atom, ask_guard, ask_transform, ask_enabled, ask_differ, ask_allowed}
-use Rattle.ot_sections.specs.declared.refusal.Refusal.TheVariants as why
+use Rattle.refusals.specs.declared.refusal.Refusal.TheVariants as why
 use Rattle.ot_sections.specs.Feeding.{MayGive}
 use Rattle.ot_judge.specs.Refusals.{IsRefusal}
 

@@ -8,8 +8,8 @@ use Rattle.cert_text.specs.declared.item.Part.{Part}
 use Rattle.cert_text.specs.declared.item.Part.TheVariants as part
 use Rattle.ot_questions.specs.declared.why.Why.{Why}
 use Rattle.ot_questions.specs.Obligation.{plan_of}
-use Rattle.ot_sections.specs.declared.refusal.JudgeError.{JudgeError}
-use Rattle.ot_sections.specs.declared.refusal.JudgeError.TheVariants as judge
+use Rattle.refusals.specs.declared.refusal.JudgeError.{JudgeError}
+use Rattle.refusals.specs.declared.refusal.JudgeError.TheVariants as judge
 use Rattle.ot_sections.specs.Certificates.{IsCertificate}
 use Rattle.ot_sections.specs.Parts.{FitThen, IsAnswer, IsJudged, Point}
 use Rattle.ot_judge.specs.Refusals.{IsJudgement, IsWholeCertificate, start_point_of}

@@ -15,8 +15,8 @@ use Rattle.cert_text.specs.Reading.{ReaderState, Reading}
 use Rattle.ot_outside.specs.declared.feed.Feed.{Ghosts}
 use Rattle.ot_questions.specs.declared.why.Why.{Why}
 use Rattle.ot_questions.specs.Obligation.{plan_of}
-use Rattle.ot_sections.specs.declared.refusal.JudgeError.{JudgeError}
-use Rattle.ot_sections.specs.declared.refusal.JudgeError.TheVariants as judge
+use Rattle.refusals.specs.declared.refusal.JudgeError.{JudgeError}
+use Rattle.refusals.specs.declared.refusal.JudgeError.TheVariants as judge
 use Rattle.ot_sections.specs.Feeding.{Fed, Has, MayGive, MayGiveOf, MayHave, Whole, Yields, fed}
 use Rattle.ot_sections.specs.Parts.{FitThen, IsRefused, Point, point_behind}
 use Rattle.ot_sections.specs.Sections.{IsLineWith}

@@ -9,9 +9,9 @@ use Rattle.cert_text.specs.declared.item.Part.TheVariants.{Header}
 use Rattle.cert_text.specs.Places.{PartPlace, Start, Line, Tree, Finish}
 use Rattle.ot_questions.specs.declared.why.Why.{Why}
 use Rattle.ot_questions.specs.Obligation.{plan_of}
-use Rattle.ot_sections.specs.declared.refusal.Refusal.{Refusal}
-use Rattle.ot_sections.specs.declared.refusal.JudgeError.{JudgeError}
-use Rattle.ot_sections.specs.declared.refusal.JudgeError.TheVariants as judge
+use Rattle.refusals.specs.declared.refusal.Refusal.{Refusal}
+use Rattle.refusals.specs.declared.refusal.JudgeError.{JudgeError}
+use Rattle.refusals.specs.declared.refusal.JudgeError.TheVariants as judge
 use Rattle.ot_sections.specs.Certificates.{IsCertificate}
 use Rattle.ot_sections.specs.Parts.{Point, FitThen, IsJudged}
 

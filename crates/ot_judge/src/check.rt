@@ -3,7 +3,7 @@ ghost use Rattle.std.specs.Prelude.{◌≡◌, ◌⊎◌, ℕ, ◌^◌, ◌<◌,
 ghost use Rattle.fn_rules.specs.declared.function.Level.{Level};
 ghost use Rattle.fn_rules.specs.Rules.{function_of};
 ghost use Rattle.ot_outside.specs.Faults.{Rose};
-ghost use Rattle.ot_sections.specs.declared.refusal.JudgeError.{JudgeError};
+ghost use Rattle.refusals.specs.declared.refusal.JudgeError.{JudgeError};
 ghost use Rattle.ot_sections.specs.Feeding.{IsKeptFeed, IsSpent, IsTruncated, MayGive, MayGiveOf, MayHave, Whole};
 ghost use Rattle.ot_judge.specs.Refusals.{IsJudgement, IsWant};
 

@@ -4,16 +4,18 @@ ghost use Rattle.fn_rules.specs.declared.function.Level.{Level};
 ghost use Rattle.fn_rules.specs.Rules.{function_of};
 ghost use Rattle.cert_text.specs.Reading.{fed_to};
 ghost use Rattle.ot_outside.specs.Faults.{Rose};
-ghost use Rattle.ot_sections.specs.declared.refusal.JudgeError.{JudgeError};
+ghost use Rattle.refusals.specs.declared.refusal.JudgeError.{JudgeError};
 ghost use Rattle.ot_sections.specs.Feeding.{Has, IsKeptFeed, IsSpent, IsTruncated, Leaves, Whole, Yields, fed};
 ghost use Rattle.ot_sections.specs.Stands.{Came, IsBetween, IsMisspeltBehind, reader_offset_of, reader_place_of};
 ghost use Rattle.ot_judge.specs.Refusals.{IsJudgement, IsStart, IsWant};
 
 use crate::laws::certificates_are_parts_that_fit;
-use cert_text::{Item, Part, Reader};
+use cert_reader::Reader;
+use cert_text::{Item, Part};
 use fn_rules::{Head, Level, Rules, obligations, obligations_are_those_of_the_kinds};
 use ot_outside::Feed;
-use ot_sections::{JudgeError, expect_part, judge_sections};
+use ot_sections::{JudgeError, expect_part};
+use section_lists::judge_sections;
 use std::alloc::Global;
 
 // Takes the first line: its level.

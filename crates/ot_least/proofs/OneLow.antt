@@ -11,10 +11,10 @@ use Rattle.cert_text.specs.Places.{Line}
 use Rattle.cert_text.specs.Spelling.{end_text}
 use Rattle.ot_questions.specs.declared.why.Why.{Why}
 use Rattle.ot_questions.specs.Obligation.{plan_below}
-use Rattle.ot_sections.specs.declared.refusal.Refusal.{Refusal}
-use Rattle.ot_sections.specs.declared.refusal.Refusal.TheVariants as why
-use Rattle.ot_sections.specs.declared.refusal.JudgeError.{JudgeError}
-use Rattle.ot_sections.specs.declared.refusal.JudgeError.TheVariants as judge
+use Rattle.refusals.specs.declared.refusal.Refusal.{Refusal}
+use Rattle.refusals.specs.declared.refusal.Refusal.TheVariants as why
+use Rattle.refusals.specs.declared.refusal.JudgeError.{JudgeError}
+use Rattle.refusals.specs.declared.refusal.JudgeError.TheVariants as judge
 use Rattle.ot_sections.specs.Certificates.{AreAnswers}
 use Rattle.ot_sections.specs.Parts.{FitThen, IsJudged, Point}
 use Rattle.ot_least.specs.Judgements.{IsJudgedLow, IsLowJudgement, IsLowRefusal, IsNoHeader, behind_header}

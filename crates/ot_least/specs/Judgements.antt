@@ -7,10 +7,10 @@ use Rattle.ot_outside.specs.declared.feed.Feed.{Ghosts}
 use Rattle.ot_questions.specs.declared.why.Why.{Why}
 use Rattle.ot_questions.specs.Obligation.{plan_below}
 use Rattle.ot_sections.specs.declared.premise.TheConstants.{MAX_BOUND}
-use Rattle.ot_sections.specs.declared.refusal.Refusal.{Refusal}
-use Rattle.ot_sections.specs.declared.refusal.Refusal.TheVariants as why
-use Rattle.ot_sections.specs.declared.refusal.JudgeError.{JudgeError}
-use Rattle.ot_sections.specs.declared.refusal.JudgeError.TheVariants as judge
+use Rattle.refusals.specs.declared.refusal.Refusal.{Refusal}
+use Rattle.refusals.specs.declared.refusal.Refusal.TheVariants as why
+use Rattle.refusals.specs.declared.refusal.JudgeError.{JudgeError}
+use Rattle.refusals.specs.declared.refusal.JudgeError.TheVariants as judge
 use Rattle.ot_sections.specs.Feeding.{Has, Whole, Yields}
 use Rattle.ot_sections.specs.Parts.{IsJudged, IsRefused, Point}
 use Rattle.ot_least.specs.Headers.{IsFrontOfHeader}

@@ -5,7 +5,7 @@ ghost use Rattle.fn_rules.specs.declared.function.Head.{Head};
 ghost use Rattle.fn_rules.specs.declared.function.Level.{Level};
 ghost use Rattle.fn_rules.specs.Rules.{function_of};
 ghost use Rattle.ot_outside.specs.Faults.{Rose};
-ghost use Rattle.ot_sections.specs.declared.refusal.JudgeError.{JudgeError};
+ghost use Rattle.refusals.specs.declared.refusal.JudgeError.{JudgeError};
 ghost use Rattle.ot_sections.specs.Feeding.{Has, IsKeptFeed, IsSpent, IsTruncated, MayGive, MayGiveOf, MayHave, Whole};
 ghost use Rattle.ot_sections.specs.Feeding.{Yields};
 ghost use Rattle.ot_least.specs.Judgements.{IsLowJudgement, IsNoJudgement};
@@ -13,10 +13,11 @@ ghost use Rattle.ot_least.specs.Judgements.{IsLowJudgement, IsNoJudgement};
 use crate::laws::{bytes_have_one_low_judgement, low_certificates_are_sections};
 use crate::leading::read_low_header;
 use crate::parts::{parts, parts_are_obligations};
-use cert_text::Reader;
+use cert_reader::Reader;
 use fn_rules::{Head, Level, Rules};
 use ot_outside::Feed;
-use ot_sections::{JudgeError, feeds_have_bytes, judge_sections};
+use ot_sections::{JudgeError, feeds_have_bytes};
+use section_lists::judge_sections;
 use std::alloc::Global;
 
 // The judge, whose answer is about the bytes that the feed may have.

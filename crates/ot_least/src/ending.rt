@@ -1,7 +1,7 @@
 //! Failing ends, and how many cells their documents have.
 ghost use Rattle.std.specs.Prelude.{◌≡◌, ◌<◌, ◌≤ℤ◌, pos, drop, length, Some, IfOk, IsTrue};
 ghost use Rattle.diff_graph.specs.Literals.{IsPossible};
-ghost use Rattle.diff_graph.specs.Solutions.{valuation_of};
+ghost use Rattle.diff_tables.specs.Solutions.{valuation_of};
 ghost use Rattle.fn_rules.specs.Obligations.{is_obligation};
 ghost use Rattle.fn_rules.specs.Rules.{function_of};
 ghost use Rattle.ask_core.specs.Leading.{LeadTo};

@@ -3,7 +3,7 @@
 ghost use Rattle.std.specs.Prelude.{◌≡◌, ◌≢◌, ◌<◌, ◌≤ℤ◌, ◌-ℤ◌, ◌∷◌, ℕ, ℤ, pos, IsTrue, List, Ok, Result, Some};
 ghost use Rattle.diff_graph.specs.declared.lit.Lit.{Lit};
 ghost use Rattle.diff_graph.specs.Literals.{AreMet, IsPossible};
-ghost use Rattle.diff_graph.specs.Solutions.{AreLeast, valuation_of};
+ghost use Rattle.diff_tables.specs.Solutions.{AreLeast, valuation_of};
 ghost use Rattle.fn_rules.specs.declared.function.Level.{Level};
 ghost use Rattle.fn_rules.specs.declared.function.ObName.{ObName};
 ghost use Rattle.fn_rules.specs.Functions.{Function};
@@ -14,7 +14,7 @@ ghost use Rattle.ot_questions.specs.declared.why.Why.{Why};
 ghost use Rattle.ot_questions.specs.Names.{length_name, zero_name};
 ghost use Rattle.ot_questions.specs.Obligation.{plan_below, plan_of};
 ghost use Rattle.ot_values.specs.Values.{floors_of};
-ghost use Rattle.ot_sections.specs.declared.refusal.JudgeError.{JudgeError};
+ghost use Rattle.refusals.specs.declared.refusal.JudgeError.{JudgeError};
 ghost use Rattle.ot_least.specs.declared.short.Short.{Short};
 ghost use Rattle.ot_least.specs.declared.short.Short.TheVariants.{TooLong};
 ghost use Rattle.ot_least.specs.Judgements.{IsJudgedLow, IsLowJudgement};

@@ -1,7 +1,7 @@
 //! The first line of a low certificate, of a feed.
 ghost use Rattle.std.specs.Prelude.{◌≡◌, ◌+◌, ◌≤◌, List, [], ◌∷◌, ◌++◌, length, ℕ, IfErr, IfNone, IfOk, IfSome, OnErr};
 ghost use Rattle.ot_outside.specs.Faults.{Rose};
-ghost use Rattle.ot_sections.specs.declared.refusal.JudgeError.{JudgeError};
+ghost use Rattle.refusals.specs.declared.refusal.JudgeError.{JudgeError};
 ghost use Rattle.ot_sections.specs.declared.premise.TheConstants.{MAX_BOUND};
 ghost use Rattle.ot_sections.specs.Feeding.{Has, IsKeptFeed, IsSpent, IsTruncated, Whole, Yields};
 ghost use Rattle.ot_least.specs.Judgements.{IsNoHeaderBehind};

@@ -1,7 +1,7 @@
 //! How long the documents of failing ends are. This function does nothing: its contract is the law.
 ghost use Rattle.std.specs.Prelude.{◌≡◌, ◌≤ℤ◌, pos, IsTrue, List, [], Some, ℤ};
 ghost use Rattle.diff_graph.specs.declared.lit.Lit.{Lit};
-ghost use Rattle.diff_graph.specs.Solutions.{AreLeast, valuation_of};
+ghost use Rattle.diff_tables.specs.Solutions.{AreLeast, valuation_of};
 ghost use Rattle.fn_rules.specs.declared.function.ObName.{ObName};
 ghost use Rattle.fn_rules.specs.Functions.{Function};
 ghost use Rattle.fn_rules.specs.Validity.{is_valid};

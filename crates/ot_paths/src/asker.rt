@@ -229,7 +229,7 @@ impl<'a> Asker for PathAsker<'a> {
                 return Ok(self.asked(form, yes, no));
             }
         }
-        Ok(self.turn_of(node)?)
+        self.turn_of(node)
     }
 
     #[inline(always)]

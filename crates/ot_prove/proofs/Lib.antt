@@ -1,14 +1,11 @@
 pub mod Literals
 pub mod Listing
 pub mod Answering
-pub mod Possible
-pub mod Judged
 pub mod Ways
 pub mod Coming
 pub mod Steps
 pub mod OneList
 pub mod ShortCycles
-pub mod Splitting
 pub mod AllPossible
 pub mod Telling
 pub mod Leads

@@ -5,10 +5,10 @@ use Rattle.std.proofs.lemmas.Bool.{and_parts}
 use Rattle.std.proofs.lemmas.Bool.Decides.{nat_tests}
 use Rattle.diff_graph.specs.declared.lit.Lit.{Lit}
 use Rattle.diff_graph.specs.declared.lit.TheConstants.{MAX_LITERAL_OFFSET}
-use Rattle.diff_graph.specs.Tables.{IsNamed}
+use Rattle.diff_graph.specs.Limits.{IsNamed}
 use Rattle.ask_core.specs.Plans.{Plan, Ask}
 use Rattle.ask_core.specs.Askers.{is_fine_literal, has_fine_literals}
-use Rattle.ot_prove.specs.Sides.{IsAsked}
+use Rattle.search_places.specs.Sides.{IsAsked}
 
 -- what the test of a literal tells
 pub record IsFineLiteral (count : ℕ) (l : Lit) : Type 0 where

@@ -4,16 +4,17 @@ use Rattle.std.proofs.Common.{sym, ap, ◌∙◌, subst, inl, inr}
 use Rattle.std.proofs.lemmas.Bool.{cases_Bool, cases_eq}
 use Rattle.std.proofs.lemmas.List.{get_or_push, get_or_append_left, length_push}
 use Rattle.diff_graph.specs.declared.lit.Lit.{Lit}
-use Rattle.diff_graph.specs.declared.hop.Hop.{Hop}
+use Rattle.diff_tables.specs.declared.hop.Hop.{Hop}
 use Rattle.diff_graph.specs.Literals.{IsPossible, AreMet, Meets, negated}
-use Rattle.diff_graph.specs.Tables.{IsNamed, Numbered, literals_of, numbered_from, StandsFor}
-use Rattle.diff_graph.specs.Steps.{added, leaves_room, AreNewRows, IsNewRow, own_only}
+use Rattle.diff_graph.specs.Limits.{IsNamed}
+use Rattle.diff_tables.specs.Tables.{Numbered, literals_of, numbered_from, StandsFor}
+use Rattle.diff_tables.specs.Steps.{added, leaves_room, AreNewRows, IsNewRow, own_only}
 use Rattle.ask_core.specs.Plans.{Plan, Ask, Holds, Fails}
 use Rattle.ask_core.specs.Askers.{has_fine_literals}
 use Rattle.ask_core.specs.Trees.{with_answer}
 use Rattle.ask_core.specs.Questions.{Questions, FailingEnd, QuestionList, JoinsParts, no_questions, failing_at, asked_with_yes, asked_with_both}
 use Rattle.ot_prove.proofs.Literals.{fine_question}
-use Rattle.ot_prove.proofs.Possible.{IsPossible-by_table, literals_of-numbered_from, numbered_from-next, TellsPossible}
+use Rattle.search_places.proofs.Possible.{IsPossible-by_table, literals_of-numbered_from, numbered_from-next, TellsPossible}
 
 -- ---- new tables
 -- the values of a function at the first numbers

@@ -3,12 +3,13 @@ use Rattle.std.proofs.Common.{◌≡◌, ℕ, zero, suc, ◌≤◌, false, List,
 use Rattle.std.proofs.lemmas.Bool.{cases_Bool}
 use Rattle.std.proofs.lemmas.List.{append_assoc, append-nil}
 use Rattle.diff_graph.specs.declared.lit.Lit.{Lit}
-use Rattle.diff_graph.specs.declared.hop.Hop.{Hop}
+use Rattle.diff_tables.specs.declared.hop.Hop.{Hop}
 use Rattle.diff_graph.specs.Literals.{IsPossible}
 use Rattle.diff_graph.specs.Cycles.{picked, pick_verdict}
-use Rattle.diff_graph.specs.Tables.{IsNamed, AreNamed, Numbered, numbered_from, AreAmong, StandsFor, IsCycleOf}
-use Rattle.diff_graph.specs.Steps.{added, leaves_room, numbers_along}
-use Rattle.ot_prove.proofs.Possible.{IsPossible-by_table, numbered_from-next, picked-from_among, got_at, TellsPossible}
+use Rattle.diff_graph.specs.Limits.{IsNamed, AreNamed}
+use Rattle.diff_tables.specs.Tables.{Numbered, numbered_from, AreAmong, StandsFor, IsCycleOf}
+use Rattle.diff_tables.specs.Steps.{added, leaves_room, numbers_along}
+use Rattle.search_places.proofs.Possible.{IsPossible-by_table, numbered_from-next, picked-from_among, got_at, TellsPossible}
 use Rattle.ot_prove.proofs.OneList.{AddedStands, stands-with}
 
 abbrev pub TellsCycle : Type 0

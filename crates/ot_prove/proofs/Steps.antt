@@ -4,7 +4,8 @@ use Rattle.std.proofs.Common.{Some, None, IsTrue, arith, refl, sym, ap, ◌∙�
 use Rattle.std.proofs.lemmas.List.{append-nil, length-append, length_push, get_or_push, take_at}
 use Rattle.diff_graph.specs.declared.lit.Lit.{Lit}
 use Rattle.diff_graph.specs.Literals.{IsPossible, negated}
-use Rattle.diff_graph.specs.Tables.{IsNamed, kept_of, numbered_from}
+use Rattle.diff_graph.specs.Limits.{IsNamed}
+use Rattle.diff_tables.specs.Tables.{kept_of, numbered_from}
 use Rattle.ask_core.specs.declared.asker.TheConstants.{MAX_QUESTIONS}
 use Rattle.ask_core.specs.declared.tree.Tok.{Tok}
 use Rattle.ask_core.specs.declared.tree.Tok.TheVariants as token
@@ -13,23 +14,24 @@ use Rattle.ask_core.specs.Askers.{AsksFirst, IsFine, SamePlans, has_fine_literal
 use Rattle.ask_core.specs.Trees.{Branch, with_answer}
 use Rattle.ask_core.specs.Questions.{Questions, QuestionList}
 use Rattle.ask_core.specs.Paths.{OpenPlace, AreOwn, branch_at, branches_at, after_question, first_answers, first_plan}
-use Rattle.ot_prove.specs.declared.split.TheConstants.{MAX_NAMES}
+use Rattle.search_places.specs.declared.split.TheConstants.{MAX_NAMES}
 use Rattle.ot_prove.specs.declared.outcome.Outcome.{Outcome}
 use Rattle.ot_prove.specs.declared.outcome.Outcome.TheVariants.{Yes, Spent}
 use Rattle.ot_prove.specs.Outcomes.{AreAllPossible, IsDecided}
-use Rattle.ot_prove.specs.declared.split.Room.{Room}
-use Rattle.ot_prove.specs.declared.split.Room.TheVariants.{Both, OnlyYes, OnlyNo}
+use Rattle.search_places.specs.declared.split.Room.{Room}
+use Rattle.search_places.specs.declared.split.Room.TheVariants.{Both, OnlyYes, OnlyNo}
 use Rattle.diff_bounds.specs.Kept.{Rows}
-use Rattle.ot_prove.specs.Sides.{IsTableOf, IsAsked, StandsForSome, AddsAnswer, AreJudged, ClosesCycle, HasRoomForSides, JudgesSides, cycle_along, cycles_of}
-use Rattle.ot_prove.specs.Sides.{last_rows}
-use Rattle.ot_prove.specs.Searching.{plan_weight, weight_of, HasCome, answers_at, AgreesWithLists, AreShortBranches, LeadsTo, AreReached, IsSearching, known_by}
-use Rattle.ot_prove.specs.Searching.{GoesOnAfterQuestion}
+use Rattle.search_places.specs.Sides.{IsTableOf, IsAsked, StandsForSome, AddsAnswer, AreJudged, ClosesCycle, HasRoomForSides, JudgesSides, cycle_along, cycles_of}
+use Rattle.search_places.specs.Sides.{last_rows}
+use Rattle.ot_prove.specs.Searching.{plan_weight, weight_of, HasCome, answers_at, AgreesWithLists, AreShortBranches, LeadsTo, AreReached, IsSearching}
+use Rattle.search_places.specs.Changes.{known_by}
+use Rattle.search_places.specs.Changes.{GoesOnAfterQuestion}
 use Rattle.cert_text.specs.TreeTexts.{Written, with_token}
 use Rattle.ot_prove.proofs.Literals.{fine_question}
 use Rattle.ot_prove.proofs.Coming.{HasCome-begun, HasCome-question, HasCome-holds, HasCome-cycle, AgreesWithLists-spent, fails_here, AgreesWithLists-yes}
-use Rattle.ot_prove.proofs.Possible.{AreNeverMet, IsPossible-by_table, impossible_by_cycle}
+use Rattle.search_places.proofs.Possible.{AreNeverMet, IsPossible-by_table, impossible_by_cycle}
 use Rattle.ot_prove.proofs.Ways.{LeadsTo-yes, LeadsTo-no}
-use Rattle.ot_prove.proofs.Judged.{JudgesSides-only_no, last_at, last_of, reverse-push}
+use Rattle.search_places.proofs.Judged.{JudgesSides-only_no, last_at, last_of, reverse-push}
 
 -- ---- the table of the first place
 -- a vector's length is that of its items

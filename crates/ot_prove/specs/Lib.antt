@@ -1,4 +1,2 @@
-pub mod Sides
 pub mod Outcomes
-pub mod Waiting
 pub mod Searching

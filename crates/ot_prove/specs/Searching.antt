@@ -1,28 +1,25 @@
 -- How far a search of a plan has come: the open branches, the tokens written and the questions asked.
-use Rattle.std.specs.Prelude.{◌≡◌, ◌⊎◌, ℕ, Bool, true, false, ◌+◌, ◌<◌, ◌≤◌, List, [], ◌∷◌, ◌++◌, length, map, drop}
-use Rattle.std.specs.Prelude.{reverse, Option, Some, None, MatchOption}
+use Rattle.std.specs.Prelude.{◌≡◌, ◌⊎◌, ℕ, true, false, ◌+◌, ◌<◌, ◌≤◌, List, [], ◌∷◌, ◌++◌, length, map}
+use Rattle.std.specs.Prelude.{reverse, Option, Some, MatchOption}
 use Rattle.std.specs.List.{AllByRecursion}
 use Rattle.diff_graph.specs.declared.lit.Lit.{Lit}
 use Rattle.diff_graph.specs.Literals.{answered_of}
 use Rattle.ask_core.specs.declared.asker.TheConstants.{MAX_QUESTIONS}
 use Rattle.ask_core.specs.declared.tree.Tok.{Tok}
-use Rattle.ask_core.specs.declared.tree.Tok.TheVariants as token
 use Rattle.ask_core.specs.Plans.{Plan, Ask, Holds, Fails}
 use Rattle.ask_core.specs.Askers.{longest_path}
 use Rattle.ask_core.specs.Trees.{AnswerTree, Fits, tokens_of, Branch}
 use Rattle.ask_core.specs.Questions.{Questions, QuestionList, no_questions}
-use Rattle.ask_core.specs.Paths.{OpenPlace, AreOwn, branches_at, after_question, first_answers}
-use Rattle.cert_text.specs.TreeTexts.{Written, with_token}
+use Rattle.ask_core.specs.Paths.{OpenPlace, AreOwn, branches_at, first_answers}
 use Rattle.ot_prove.specs.Outcomes.{asked_along, Decides}
 use Rattle.ot_prove.specs.declared.outcome.Outcome.{Outcome}
 use Rattle.ot_prove.specs.declared.outcome.Outcome.TheVariants as outcome
-use Rattle.ot_prove.specs.declared.search.PlanSearch.{PlanSearch}
+use Rattle.search_places.specs.declared.search.PlanSearch.{PlanSearch}
+use Rattle.search_places.specs.Changes.{known_of}
 use Rattle.ot_prove.specs.declared.search.Stepped.{Stepped}
 use Rattle.ot_prove.specs.declared.search.Stepped.TheVariants as step
-use Rattle.ot_prove.specs.declared.split.Room.{Room}
-use Rattle.ot_prove.specs.declared.split.Room.TheVariants.{Both, OnlyYes, OnlyNo}
 use Rattle.diff_bounds.specs.Kept.{Rows}
-use Rattle.ot_prove.specs.Sides.{AreJudged, JudgesSides, cycles_of}
+use Rattle.search_places.specs.Sides.{AreJudged}
 
 -- how many questions and ends a plan has
 abbrev pub plan_weight : {W : Type 0} → Plan W → ℕ
@@ -107,48 +104,10 @@ pub record IsSearching {N W : Type 0} (is_own : N → Type 0) (plan : N → Plan
   pub count : asked ≡ length so_far
   pub within : asked ≤ budget
 
--- what is known of the open places of a search, the first one first
-abbrev pub known_by : Bool → List (Option (List ℕ)) → List (Option (List ℕ))
-known_by true cycles = None ∷ cycles
-known_by false cycles = cycles
-
-abbrev pub known_of : {N : Type 0} → PlanSearch N → List (Option (List ℕ))
-known_of s = known_by s.possible s.cycles
-
 -- the same of a search, whose last table is that of the first place that some integers meet
 abbrev pub IsSearchUnderWay : {N W : Type 0} → (N → Type 0) → (N → Plan W) → Plan W → ℕ → PlanSearch N → Type 0
 IsSearchUnderWay is_own plan root budget s =
     IsSearching is_own plan root budget s.path (known_of s) (reverse s.tables.items) s.tree.tokens s.asked
-
--- behind a question the side for yes is next, or it is closed with a cycle; what is known of the others waits
-abbrev pub GoesOnAfterQuestion :
-    {N : Type 0} → Room → List ℕ → List (OpenPlace N) → List (Option (List ℕ)) → Written
-    → List (OpenPlace N) → List (Option (List ℕ)) → Written → Type 0
-GoesOnAfterQuestion Both numbers places cycles tree new_places new_cycles new_tree =
-    (new_places ≡ places) × (new_cycles ≡ None ∷ cycles) × (new_tree ≡ tree)
-GoesOnAfterQuestion OnlyYes numbers places cycles tree new_places new_cycles new_tree =
-    (new_places ≡ places) × (new_cycles ≡ Some numbers ∷ cycles) × (new_tree ≡ tree)
-GoesOnAfterQuestion OnlyNo numbers places cycles tree new_places new_cycles new_tree =
-    (new_places ≡ drop 1 places) × (new_cycles ≡ cycles) × (new_tree ≡ with_token tree (token.Cycle numbers))
-
--- the literal is asked at the first place, and its sides are judged, of which some have room
-abbrev pub HasAsked : {N : Type 0} → Room → Lit → N → N → PlanSearch N → PlanSearch N → Type 0
-HasAsked room l on_yes on_no before after =
-    (numbers : List ℕ)
-    × JudgesSides l (length (first_answers before.path)) before.cycles (reverse before.tables.items)
-    (cycles_of room numbers before.cycles) (reverse after.tables.items)
-    × GoesOnAfterQuestion room numbers (after_question l on_yes on_no before.path) before.cycles
-    (with_token before.tree token.Ask) after.path after.cycles after.tree
-
--- the first place had a cycle and is closed with it, or some integers meet its answers
-abbrev pub HasClosed : {N : Type 0} → PlanSearch N → PlanSearch N → Bool → Type 0
-HasClosed before after true =
-    (picks : List ℕ) × (known_of before ≡ Some picks ∷ known_of after) × (after.path ≡ drop 1 before.path)
-    × (after.tables.items ≡ before.tables.items) × (after.tree ≡ with_token before.tree (token.Cycle picks))
-    × (after.asked ≡ before.asked)
-HasClosed before after false =
-    (after.possible ≡ true) × (known_of before ≡ known_of after) × (after.path ≡ before.path)
-    × (after.tables.items ≡ before.tables.items) × (after.tree ≡ before.tree) × (after.asked ≡ before.asked)
 
 -- the outcome is that of every question list that the plan may have
 abbrev pub AgreesWithLists : {W : Type 0} → Plan W → ℕ → Outcome W → Type 0

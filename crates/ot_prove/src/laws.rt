@@ -3,14 +3,14 @@ ghost use Rattle.std.specs.Prelude.{◌≡◌, ℕ, ◌≤◌, List, [], length,
 ghost use Rattle.diff_graph.specs.declared.lit.Lit.{Lit};
 ghost use Rattle.diff_graph.specs.Literals.{IsPossible};
 ghost use Rattle.diff_graph.specs.Cycles.{pick_verdict};
-ghost use Rattle.diff_graph.specs.Tables.{AreNamed};
+ghost use Rattle.diff_graph.specs.Limits.{AreNamed};
 ghost use Rattle.ask_core.specs.Plans.{Plan};
 ghost use Rattle.ask_core.specs.Askers.{IsFine};
 ghost use Rattle.ask_core.specs.Questions.{Questions, QuestionList};
 ghost use Rattle.ot_prove.specs.Outcomes.{AreAllPossible, FailsAt, HoldsEverywhere};
 
 use ask_core::valuations_answer_questions;
-use diff_graph::{
+use diff_tables::{
     new_rows_stand_for_nothing, tables_stand_for_what_is_added, tables_tell_what_is_possible,
 };
 

@@ -10,14 +10,11 @@
 #![tactic(auto)]
 
 mod answers;
-mod chain;
-mod cycles;
 mod laws;
 mod outcome;
 mod passing;
 mod proving;
 mod search;
-mod split;
 
 pub use answers::literals_of;
 pub use ask_core::NoMemory;
@@ -27,4 +24,4 @@ pub use laws::{
 };
 pub use outcome::{Answer, Outcome};
 pub use proving::{prove, prove_behind};
-pub use split::MAX_NAMES;
+pub use search_places::MAX_NAMES;

@@ -2,15 +2,16 @@
 ghost use Rattle.std.specs.Prelude.{◌≡◌, ℕ, ◌<◌, ◌≤◌, List, ◌∷◌, Option, None, drop, length, reverse, IfOk};
 ghost use Rattle.diff_graph.specs.declared.lit.Lit.{Lit};
 ghost use Rattle.ask_core.specs.Paths.{after_question, branches_at};
-ghost use Rattle.ot_prove.specs.declared.split.TheConstants.{MAX_NAMES};
+ghost use Rattle.search_places.specs.declared.split.TheConstants.{MAX_NAMES};
 ghost use Rattle.ot_prove.specs.Searching.{IsSearching, weight_of};
 
 use crate::NoMemory;
-use crate::split::{MAX_NAMES, excludes_yes, put_yes};
 use ask_core::{Asker, Path, look_at};
 use cert_text::Tree;
 use diff_bounds::Bounds;
-use diff_graph::{Lit, negative_cycles_are_never_met, tables_tell_what_is_possible};
+use diff_graph::{Lit, negative_cycles_are_never_met};
+use diff_tables::tables_tell_what_is_possible;
+use search_places::{MAX_NAMES, excludes_yes, put_yes};
 
 /// What a question whose side for yes is closed at once changes of a search.
 #[derive(Drop)]

@@ -1,16 +1,17 @@
 //! The calls that search a plan.
 ghost use Rattle.std.specs.Prelude.{◌≡◌, ◌≤◌, [], IfOk};
 ghost use Rattle.ask_core.specs.Askers.{SamePlans};
-ghost use Rattle.ot_prove.specs.declared.split.TheConstants.{MAX_NAMES};
+ghost use Rattle.search_places.specs.declared.split.TheConstants.{MAX_NAMES};
 ghost use Rattle.ot_prove.specs.Outcomes.{IsDecided, StandsBehind};
 
 use crate::NoMemory;
 use crate::answers::answers_along;
 use crate::laws::{plans_have_one_question_list, question_lists_are_possible};
 use crate::outcome::Outcome;
-use crate::search::{PlanSearch, Stepped, step};
+use crate::search::{Stepped, step};
 use ask_core::Asker;
 use cert_text::Tree;
+use search_places::PlanSearch;
 use std::alloc::Global;
 
 /// Decides an asker's own plan by at most `budget` questions, before each of which some integers meet the

@@ -4,8 +4,8 @@ use Rattle.std.specs.Fmt.{decimal}
 use Rattle.fn_moves.specs.declared.fault.FaultKind.{FaultKind}
 use Rattle.fn_moves.specs.declared.fault.FaultKind.TheVariants as kinds
 use Rattle.fn_moves.specs.declared.fault.TextFault.{TextFault}
-use Rattle.ot_sections.specs.declared.refusal.Refusal.{Refusal}
-use Rattle.ot_sections.specs.declared.refusal.Refusal.TheVariants as why
+use Rattle.refusals.specs.declared.refusal.Refusal.{Refusal}
+use Rattle.refusals.specs.declared.refusal.Refusal.TheVariants as why
 use Rattle.proof_sections.specs.declared.refusal.ProofRefusal.{ProofRefusal}
 use Rattle.proof_sections.specs.declared.refusal.ProofRefusal.TheVariants as proof
 use Rattle.case_json.specs.declared.fault.CaseFault.{CaseFault}

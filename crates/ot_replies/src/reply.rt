@@ -7,10 +7,10 @@ use ot_counter::Counter;
 use ot_drill::Tally;
 use ot_integrate::End;
 use ot_model::Doc;
-use ot_sections::Refusal;
 use ot_session::SiteEnd;
 use plain_list::List;
 use proof_sections::ProofRefusal;
+use refusals::Refusal;
 
 /// What a file holds.
 #[derive(Clone, Copy, Debug, PartialEq, Eq)]

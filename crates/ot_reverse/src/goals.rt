@@ -23,7 +23,7 @@ use ot_terms::{Form, Goal, Place, SymOp, Why, enabled_form, place_form};
 fn undefined<'a>(bump: &'a Bump) -> Result<&'a Goal<'a>, NoMemory>
     ensures { IfOk result (λ r. goal_tree r.now ≡ goals.undefined) }
 {
-    Ok(Goal::fails(bump, Why::Undefined)?)
+    Goal::fails(bump, Why::Undefined)
 }
 
 // The goal, where the operation is enabled on the document.
@@ -31,7 +31,7 @@ fn if_enabled<'a>(bump: &'a Bump, op: SymOp, next: &'a Goal<'a>) -> Result<&'a G
     ensures { IfOk result (λ r. goal_tree r.now ≡ starting.if_enabled op (goal_tree next.now)) }
 {
     let enabled = enabled_form(bump, op, 0)?;
-    Ok(Goal::either(bump, *enabled, next, Goal::holds(bump)?)?)
+    Goal::either(bump, *enabled, next, Goal::holds(bump)?)
 }
 
 // The goal, where both operations are enabled on a document of some length.
@@ -47,7 +47,7 @@ fn if_both_enabled<'a>(
     let second = if_enabled(bump, b, next)?;
     let first = if_enabled(bump, a, second)?;
     let length = Form::Le(Place::zero(), Place::length_and(0));
-    Ok(Goal::either(bump, length, first, Goal::holds(bump)?)?)
+    Goal::either(bump, length, first, Goal::holds(bump)?)
 }
 
 // What comes back is to be there, and to be the operation itself.
@@ -55,8 +55,8 @@ fn unless_same<'a>(bump: &'a Bump, a: SymOp, back: Option<SymOp>) -> Result<&'a 
     ensures { IfOk result (λ r. goal_tree r.now ≡ goals.unless_itself a back) }
 {
     match back {
-        None => Ok(undefined(bump)?),
-        Some(back) => Ok(unless_one_place(bump, back, a)?),
+        None => undefined(bump),
+        Some(back) => unless_one_place(bump, back, a),
     }
 }
 
@@ -100,8 +100,8 @@ fn unless_back<'a>(
         (sym_kind there)) }
 {
     match there.kind() {
-        None => Ok(Goal::holds(bump)?),
-        Some(_) => Ok(with_back(bump, cases, a, b, there)?),
+        None => Goal::holds(bump),
+        Some(_) => with_back(bump, cases, a, b, there),
     }
 }
 
@@ -119,8 +119,8 @@ fn unless_there<'a>(
     ensures { IfOk result (λ r. goal_tree r.now ≡ goals.unless_there (map case_of cases.now) a b there) }
 {
     match there {
-        None => Ok(undefined(bump)?),
-        Some(there) => Ok(unless_back(bump, cases, a, b, there)?),
+        None => undefined(bump),
+        Some(there) => unless_back(bump, cases, a, b, there),
     }
 }
 

@@ -66,7 +66,7 @@ fn seek_in<'a>(
     rules_are_valid(others);
     goals_are_searchable();
     let goal = reversal_goal(bump, rules, others, first, second)?;
-    Ok(seek(alloc, bump, rules, first, second, goal, budget)?)
+    seek(alloc, bump, rules, first, second, goal, budget)
 }
 
 // The same with an arena of its own.
@@ -85,7 +85,7 @@ fn seek_pair(
     ensures near { IfOk result IsNearSought }
 {
     let bump = Bump::new(alloc);
-    Ok(seek_in(alloc, &bump, rules, others, first, second, budget)?)
+    seek_in(alloc, &bump, rules, others, first, second, budget)
 }
 
 // What the second function makes of a form of `a` against `b`, if there is one.

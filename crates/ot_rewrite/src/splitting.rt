@@ -19,7 +19,7 @@ use ot_terms::{Form, Place};
 fn always_false<'a>(bump: &'a Bump) -> Result<&'a Form<'a>, NoMemory>
     ensures { IfOk result (λ r. form_tree r.now ≡ forms.Not forms.True) }
 {
-    Ok(Form::not(bump, Form::always(bump)?)?)
+    Form::not(bump, Form::always(bump)?)
 }
 
 fn decided<'a>(holds: bool) -> Split<'a>
@@ -62,11 +62,11 @@ fn split_part<'a>(bump: &'a Bump, form: &'a Form<'a>) -> Result<Split<'a>, NoMem
 {
     match form {
         Form::True => Ok(Split::Yes),
-        Form::Le(x, y) => Ok(split_le(bump, *x, *y)?),
-        Form::Lt(x, y) => Ok(split_le(bump, *x, y.plus(-1))?),
-        Form::Eq(x, y) => Ok(split_eq(bump, *x, *y)?),
+        Form::Le(x, y) => split_le(bump, *x, *y),
+        Form::Lt(x, y) => split_le(bump, *x, y.plus(-1)),
+        Form::Eq(x, y) => split_eq(bump, *x, *y),
         Form::And(first, second) => match split_part(bump, first)? {
-            Split::Yes => Ok(split_part(bump, second)?),
+            Split::Yes => split_part(bump, second),
             Split::No => Ok(Split::No),
             Split::Ask { x, y, yes, no } => Ok(Split::Ask {
                 x,
@@ -77,7 +77,7 @@ fn split_part<'a>(bump: &'a Bump, form: &'a Form<'a>) -> Result<Split<'a>, NoMem
         },
         Form::Or(first, second) => match split_part(bump, first)? {
             Split::Yes => Ok(Split::Yes),
-            Split::No => Ok(split_part(bump, second)?),
+            Split::No => split_part(bump, second),
             Split::Ask { x, y, yes, no } => Ok(Split::Ask {
                 x,
                 y,

@@ -15,8 +15,9 @@ use Rattle.cert_text.specs.declared.item.CertError.{CertError}
 use Rattle.cert_text.specs.declared.item.CertError.TheVariants as cert
 use Rattle.cert_text.specs.Places.{Stands, part_text}
 use Rattle.cert_text.specs.Reading.{ReadsFrom}
-use Rattle.ot_sections.specs.declared.refusal.JudgeError.{JudgeError}
-use Rattle.ot_sections.specs.Parts.{IsAnswer, IsJudged, IsRefused, Point, branches_behind, end_of_spelling, end_of_token, point_behind}
+use Rattle.refusals.specs.declared.refusal.JudgeError.{JudgeError}
+use Rattle.ot_sections.specs.Parts.{IsAnswer, IsJudged, IsRefused, Point, branches_behind, end_of_token, point_behind}
+use Rattle.refusals.specs.Spelling.{end_of_spelling}
 use Rattle.ot_sections.proofs.Tokens.{token_wants_none}
 
 spelling_is_answer : (e : CertError) → IsRefused (end_of_spelling e)

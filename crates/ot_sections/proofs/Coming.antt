@@ -13,8 +13,8 @@ use Rattle.cert_text.specs.declared.item.CertError.TheVariants as cert
 use Rattle.cert_text.specs.Places.{PartPlace, Finish, Stands, part_text, place_after}
 use Rattle.cert_text.specs.Reading.{ReaderState, Reading, Refused, EndsThere, Gives, ReadsParts, ReadsOn}
 use Rattle.cert_text.specs.Pieces.{EndsWithin, GivesOf, GoesOn}
-use Rattle.ot_sections.specs.declared.refusal.JudgeError.{JudgeError}
-use Rattle.ot_sections.specs.Parts.{end_of_spelling}
+use Rattle.refusals.specs.declared.refusal.JudgeError.{JudgeError}
+use Rattle.refusals.specs.Spelling.{end_of_spelling}
 use Rattle.ot_outside.specs.declared.feed.Feed.{Ghosts}
 use Rattle.ot_sections.specs.Feeding.{Fed, Has, IsSpent, IsTruncated, MayGive, MayGiveOf, Whole, Yields, fed}
 use Rattle.ot_sections.specs.Stands.{Came, IsBetween, IsMisspeltBehind, IsOver, begun_of, reader_offset_of, reader_place_of}

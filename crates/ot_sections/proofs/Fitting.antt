@@ -10,7 +10,7 @@ use Rattle.cert_text.specs.declared.item.Part.{Part}
 use Rattle.cert_text.specs.declared.item.Part.TheVariants as part
 use Rattle.cert_text.specs.Spelling.{IsSpellable, AreSpellable, token_text, tokens_text, ob_text, end_text}
 use Rattle.cert_text.specs.Places.{PartPlace, Start, Line, Tree, Finish, Stands, part_text, place_after, open_after}
-use Rattle.ot_sections.specs.declared.refusal.JudgeError.{JudgeError}
+use Rattle.refusals.specs.declared.refusal.JudgeError.{JudgeError}
 use Rattle.ot_sections.specs.Certificates.{AreAnswers}
 use Rattle.cert_text.specs.Certificates.{sections_text}
 use Rattle.ot_sections.specs.Parts.{Point, branches_behind, point_behind, FitThen, IsJudged}

@@ -12,7 +12,7 @@ use Rattle.cert_text.specs.declared.item.Item.{Item}
 use Rattle.cert_text.specs.declared.item.Part.TheVariants as part
 use Rattle.cert_text.specs.Places.{PartPlace, Start, Line, Tree, Finish, part_text, place_after, open_after}
 use Rattle.cert_text.specs.Reading.{ReaderState, Reading}
-use Rattle.ot_sections.specs.declared.refusal.JudgeError.{JudgeError}
+use Rattle.refusals.specs.declared.refusal.JudgeError.{JudgeError}
 use Rattle.ot_sections.specs.Parts.{IsJudged, IsRefused, Point, branches_behind, end_of_token, point_behind}
 use Rattle.ot_outside.specs.declared.feed.Feed.{Ghosts}
 use Rattle.ot_sections.specs.Feeding.{Fed, fed}

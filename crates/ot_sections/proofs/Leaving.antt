@@ -6,9 +6,10 @@ use Rattle.cert_text.specs.declared.item.CertError.{CertError}
 use Rattle.cert_text.specs.declared.item.CertError.TheVariants as cert
 use Rattle.ot_outside.specs.Faults.{Rose}
 use Rattle.ot_outside.specs.declared.feed.Feed.{Ghosts}
-use Rattle.ot_sections.specs.declared.refusal.JudgeError.{JudgeError}
-use Rattle.ot_sections.specs.declared.refusal.JudgeError.TheVariants as judge
-use Rattle.ot_sections.specs.Parts.{end_of_spelling, end_of_token}
+use Rattle.refusals.specs.declared.refusal.JudgeError.{JudgeError}
+use Rattle.refusals.specs.declared.refusal.JudgeError.TheVariants as judge
+use Rattle.refusals.specs.Spelling.{end_of_spelling}
+use Rattle.ot_sections.specs.Parts.{end_of_token}
 use Rattle.ot_sections.specs.Feeding.{Fed, IsKeptFeed, IsTruncated, Leaves}
 
 -- a refusal by spelling is no failure

@@ -1,12 +1,10 @@
 mod AllJudged
 mod Coming
-mod Fitting
-mod Leading
-mod Leaving
-mod Listed
+pub mod Fitting
+pub mod Leading
+pub mod Leaving
 mod Only
 mod Premises
-mod SectionRun
 mod Taking
 mod Tokens
 mod TreeRun

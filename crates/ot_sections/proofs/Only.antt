@@ -14,8 +14,9 @@ use Rattle.cert_text.specs.declared.item.CertError.{CertError}
 use Rattle.cert_text.specs.declared.item.CertError.TheVariants as cert
 use Rattle.cert_text.specs.Places.{PartPlace, Start, Line, Tree, Finish, Stands, part_text}
 use Rattle.cert_text.specs.Reading.{EndsThere, HasNoPart, IsFrontOfPart}
-use Rattle.ot_sections.specs.declared.refusal.JudgeError.{JudgeError}
-use Rattle.ot_sections.specs.Parts.{Point, branches_behind, end_of_spelling, end_of_token, point_behind, FitThen, StopsThere, IsRefusedToken}
+use Rattle.refusals.specs.declared.refusal.JudgeError.{JudgeError}
+use Rattle.ot_sections.specs.Parts.{Point, branches_behind, end_of_token, point_behind, FitThen, StopsThere, IsRefusedToken}
+use Rattle.refusals.specs.Spelling.{end_of_spelling}
 use Rattle.ot_sections.proofs.Tokens.{same_ok}
 
 -- two parts that may stand at a place and begin the same bytes are one

@@ -15,7 +15,7 @@ use Rattle.cert_text.specs.Places.{PartPlace, Start, Line, Tree, Finish, open_af
 use Rattle.cert_text.specs.Passing.{AreOpen, IsPassed, passed}
 use Rattle.cert_text.specs.Reading.{ReaderState, Reading, Refused, fed_to}
 use Rattle.ot_outside.specs.declared.feed.Feed.{Ghosts}
-use Rattle.ot_sections.specs.declared.refusal.JudgeError.{JudgeError}
+use Rattle.refusals.specs.declared.refusal.JudgeError.{JudgeError}
 use Rattle.ot_sections.specs.Feeding.{Fed, fed}
 use Rattle.ot_sections.specs.Parts.{IsJudged, Point}
 use Rattle.ot_sections.specs.Stands.{IsBetween, IsTreeOf, LeadsAnyway, reader_offset_of, reader_place_of, point_of, stand, tree_with}

@@ -11,7 +11,7 @@ use Rattle.cert_check.specs.Judging.{IsCauseOf}
 use Rattle.cert_text.specs.declared.item.Part.TheVariants as part
 use Rattle.cert_text.specs.Places.{PartPlace, Start, Line, Tree, Finish}
 use Rattle.ot_outside.specs.declared.feed.Feed.{Ghosts}
-use Rattle.ot_sections.specs.declared.refusal.JudgeError.{JudgeError}
+use Rattle.refusals.specs.declared.refusal.JudgeError.{JudgeError}
 use Rattle.ot_sections.specs.Parts.{end_of_token}
 use Rattle.ot_sections.specs.Feeding.{Fed}
 use Rattle.ot_sections.specs.Stands.{Came, IsMisspeltBehind, IsRefusedAnyway, IsTreeOf, StandLeads, LeadsAnyway, Stand, opened, stand, tree_with}

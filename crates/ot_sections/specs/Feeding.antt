@@ -5,9 +5,9 @@ use Rattle.std.specs.Io.KnownBytes.{IsAtEnd}
 use Rattle.cert_text.specs.Reading.{ReaderState, fed_to}
 use Rattle.ot_outside.specs.Faults.{Rose}
 use Rattle.ot_outside.specs.declared.feed.Feed.{Ghosts}
-use Rattle.ot_sections.specs.declared.refusal.Refusal.TheVariants as why
-use Rattle.ot_sections.specs.declared.refusal.JudgeError.{JudgeError}
-use Rattle.ot_sections.specs.declared.refusal.JudgeError.TheVariants as judge
+use Rattle.refusals.specs.declared.refusal.Refusal.TheVariants as why
+use Rattle.refusals.specs.declared.refusal.JudgeError.{JudgeError}
+use Rattle.refusals.specs.declared.refusal.JudgeError.TheVariants as judge
 
 -- no call lets the count of a feed's faults fall, or its bound rise, or puts another object in the place of the
 -- one that it holds, or gives up what the feed kept until then

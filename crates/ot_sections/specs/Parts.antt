@@ -11,12 +11,12 @@ use Rattle.cert_check.specs.Steps.{after}
 use Rattle.cert_text.specs.declared.item.Part.{Part}
 use Rattle.cert_text.specs.declared.item.Part.TheVariants as part
 use Rattle.cert_text.specs.declared.item.CertError.{CertError}
-use Rattle.cert_text.specs.declared.item.CertError.TheVariants as cert
 use Rattle.cert_text.specs.Places.{PartPlace, Line, Stands, part_text, place_after}
 use Rattle.cert_text.specs.Reading.{EndsThere}
-use Rattle.ot_sections.specs.declared.refusal.Refusal.TheVariants as why
-use Rattle.ot_sections.specs.declared.refusal.JudgeError.{JudgeError}
-use Rattle.ot_sections.specs.declared.refusal.JudgeError.TheVariants as judge
+use Rattle.refusals.specs.Spelling.{end_of_spelling}
+use Rattle.refusals.specs.declared.refusal.Refusal.TheVariants as why
+use Rattle.refusals.specs.declared.refusal.JudgeError.{JudgeError}
+use Rattle.refusals.specs.declared.refusal.JudgeError.TheVariants as judge
 
 -- a point of a certificate: the place behind the parts before it, how many bytes they have, and the open branches
 pub record Point (W : Type 0) : Type 0 where
@@ -46,12 +46,6 @@ point_behind point p branches =
       offset = point.offset + length (part_text point.place p);
       branches = branches;
     }
-
--- the refusal of bytes by their spelling
-abbrev pub end_of_spelling : CertError → JudgeError
-end_of_spelling (cert.BadToken offset) = judge.Refused offset why.Token
-end_of_spelling (cert.Truncated offset) = judge.Refused offset why.Truncated
-end_of_spelling (cert.Trailing offset) = judge.Refused offset why.Trailing
 
 -- the refusal of a token at an offset
 abbrev pub end_of_token : ℕ → CheckError → JudgeError

@@ -8,9 +8,10 @@ use Rattle.cert_text.specs.declared.item.CertError.{CertError}
 use Rattle.cert_text.specs.Places.{PartPlace, Start, Line, Tree, Finish, Stands, part_text, place_after}
 use Rattle.cert_text.specs.Reading.{ReaderState, Reading, Refused, EndsThere}
 use Rattle.ot_outside.specs.declared.feed.Feed.{Ghosts}
-use Rattle.ot_sections.specs.declared.refusal.JudgeError.{JudgeError}
+use Rattle.refusals.specs.declared.refusal.JudgeError.{JudgeError}
 use Rattle.ot_sections.specs.Feeding.{Fed, Has, Whole, Yields}
-use Rattle.ot_sections.specs.Parts.{IsJudged, IsRefused, Point, end_of_spelling}
+use Rattle.ot_sections.specs.Parts.{IsJudged, IsRefused, Point}
+use Rattle.refusals.specs.Spelling.{end_of_spelling}
 
 -- the place of a reader, how many bytes stand before the part that it reads, and what came of that part
 abbrev pub reader_place_of : ReaderState → PartPlace

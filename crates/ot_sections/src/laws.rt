@@ -8,7 +8,7 @@ ghost use Rattle.cert_text.specs.declared.item.Part.{Part};
 ghost use Rattle.cert_text.specs.Certificates.{sections_text};
 ghost use Rattle.cert_text.specs.Places.{Line};
 ghost use Rattle.cert_text.specs.Spelling.{end_text};
-ghost use Rattle.ot_sections.specs.declared.refusal.JudgeError.{JudgeError};
+ghost use Rattle.refusals.specs.declared.refusal.JudgeError.{JudgeError};
 ghost use Rattle.ot_sections.specs.Certificates.{AreAnswers};
 ghost use Rattle.ot_sections.specs.Feeding.{Has, Whole};
 ghost use Rattle.ot_sections.specs.Parts.{FitThen, IsAnswer, IsJudged, Point};

@@ -8,14 +8,12 @@ mod laws;
 mod obligation;
 mod part;
 mod premise;
-mod refusal;
-mod section;
 mod tree;
 
 pub use laws::{
     all_bytes_are_judged, bytes_are_judged_once, feeds_have_bytes, sections_are_parts_that_fit,
 };
-pub use part::expect_part;
+pub use obligation::judge_in;
+pub use part::{expect_part, next_part};
 pub use premise::{MAX_BOUND, shorter_than};
-pub use refusal::{JudgeError, Refusal};
-pub use section::judge_sections;
+pub use refusals::{JudgeError, Refusal};

@@ -9,11 +9,11 @@ ghost use Rattle.ot_sections.specs.Stands.{IsBetween, IsRefusedAnyway, IsTreeOf,
 ghost use Rattle.ot_sections.specs.Stands.{stand};
 ghost use Rattle.ot_sections.specs.Stands.{tree_with};
 
+use crate::JudgeError;
 use crate::premise::{MAX_BOUND, shorter_than};
-use crate::refusal::JudgeError;
 use crate::tree::{judge_tree, judge_tree_behind};
 use bumpalo::Bump;
-use cert_text::Reader;
+use cert_reader::Reader;
 use fn_rules::{ObName, Rules, rules_are_valid};
 use ot_outside::Feed;
 use ot_paths::PathAsker;
@@ -21,7 +21,7 @@ use ot_questions::plans_keep_limits;
 use std::alloc::Global;
 
 /// Judges the tree of an obligation, whose goals stand in the arena.
-pub(crate) fn judge_in<'a, F: Feed>(
+pub fn judge_in<'a, F: Feed>(
     alloc: Global,
     bump: &'a Bump,
     rules: &'a Rules,

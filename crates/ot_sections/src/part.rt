@@ -5,15 +5,13 @@ ghost use Rattle.cert_text.specs.Reading.{fed_to};
 ghost use Rattle.ot_sections.specs.Feeding.{IsSpent, Leaves, fed};
 ghost use Rattle.ot_sections.specs.Stands.{Came, IsBetween, IsMisspeltBehind, IsOver, reader_place_of};
 
-use crate::refusal::JudgeError;
-use cert_text::{Item, Reader};
+use crate::JudgeError;
+use cert_reader::Reader;
+use cert_text::Item;
 use ot_outside::Feed;
 
 /// The next part, or none where the certificate ends.
-pub(crate) fn next_part<F: Feed>(
-    reader: &mut Reader,
-    feed: &mut F,
-) -> Result<Option<Item>, JudgeError>
+pub fn next_part<F: Feed>(reader: &mut Reader, feed: &mut F) -> Result<Option<Item>, JudgeError>
     requires between { IsBetween reader.old }
     requires room { fed_to reader.old + F.bound feed.old < 2 ^ 63 }
 

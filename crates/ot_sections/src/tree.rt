@@ -12,10 +12,11 @@ ghost use Rattle.ot_sections.specs.Stands.{opened, reader_place_of, stand, tree_
 ghost use Rattle.ot_sections.specs.Taking.{AreTaken, AreTakenFront};
 
 use crate::part::expect_part;
-use crate::refusal::{JudgeError, Refusal};
+use crate::{JudgeError, Refusal};
 use ask_core::{Asker, MAX_QUESTIONS, Premised, Tok};
 use cert_check::{CheckError, Checker, MAX_NAMES, Progress};
-use cert_text::{Item, Part, Reader};
+use cert_reader::Reader;
+use cert_text::{Item, Part};
 use diff_graph::Lit;
 use ot_outside::Feed;
 use std::alloc::Global;

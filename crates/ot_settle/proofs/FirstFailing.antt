@@ -7,11 +7,13 @@ use Rattle.fn_rules.specs.declared.function.ObName.{ObName}
 use Rattle.fn_rules.specs.Functions.{Function}
 use Rattle.fn_rules.specs.Obligations.{is_obligation}
 use Rattle.ot_questions.specs.Obligation.{plan_of}
-use Rattle.ot_settle.specs.declared.ended.Ended.{Ended}
-use Rattle.ot_settle.specs.declared.ended.Ended.TheVariants.{Shown, Fails, Spent}
+use Rattle.plan_proofs.specs.declared.ended.Ended.{Ended}
+use Rattle.plan_proofs.specs.declared.ended.Ended.TheVariants.{Shown, Fails, Spent}
 use Rattle.ot_settle.specs.declared.ended.FailingOb.{FailingOb}
-use Rattle.ot_settle.specs.declared.ending.FailingEnd.{FailingEnd}
-use Rattle.ot_settle.specs.Searching.{FailsAmong, FailsOnlySo, IsFailingEnd}
+use Rattle.failing_ends.specs.declared.ending.FailingEnd.{FailingEnd}
+use Rattle.ot_settle.specs.Searching.{FailsAmong}
+use Rattle.plan_proofs.specs.Searching.{FailsOnlySo}
+use Rattle.failing_ends.specs.Endings.{IsFailingEnd}
 use Rattle.ot_questions.specs.declared.why.Why.{Why}
 
 module _ (f : Function) (names : List ObName) (ob : ObName) (others : List ObName) (are : names ≡ ob ∷ others)

@@ -1,2 +1,1 @@
 mod FirstFailing
-mod Walks

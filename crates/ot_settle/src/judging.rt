@@ -4,10 +4,10 @@ ghost use Rattle.fn_rules.specs.Properties.{HasTp1};
 ghost use Rattle.fn_rules.specs.Rules.{function_of};
 ghost use Rattle.ot_settle.specs.Outcomes.{IsShownByProof};
 
-use crate::settled::MAX_BYTES;
 use ask_core::NoMemory;
 use fn_rules::{Level, Rules};
 use ot_confirm::{ConfirmError, judge_proof, proofs_show_the_properties};
+use plan_proofs::MAX_BYTES;
 use proof_text::{write_end, write_header};
 use std::alloc::Global;
 
@@ -40,5 +40,5 @@ pub(crate) fn pairs_hold(alloc: Global, rules: &Rules, sections: &[u8]) -> Resul
     write_header(Level::Tp1, &mut bytes)?;
     bytes.extend_from_slice(sections)?;
     write_end(&mut bytes)?;
-    Ok(is_proof(alloc, rules, Level::Tp1, &bytes)?)
+    is_proof(alloc, rules, Level::Tp1, &bytes)
 }

@@ -6,16 +6,13 @@
 #![tactic(auto)]
 
 mod ended;
-mod ending;
-mod finding;
 mod judging;
-mod numbers;
-mod planning;
 mod searching;
 mod settled;
 mod settling;
 mod text;
 
 pub use ask_core::NoMemory;
-pub use settled::{MAX_BYTES, Settled};
+pub use plan_proofs::MAX_BYTES;
+pub use settled::Settled;
 pub use settling::settle_all;

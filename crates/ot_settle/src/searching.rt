@@ -4,17 +4,18 @@ ghost use Rattle.std.specs.List.{list_all};
 ghost use Rattle.fn_rules.specs.Obligations.{is_obligation};
 ghost use Rattle.fn_rules.specs.Rules.{function_of};
 ghost use Rattle.ot_questions.specs.Obligation.{plan_of};
-ghost use Rattle.ot_settle.specs.Searching.{FailsAmong, FailsOnlySo, IsFailingEnd};
+ghost use Rattle.ot_settle.specs.Searching.{FailsAmong};
+ghost use Rattle.plan_proofs.specs.Searching.{FailsOnlySo};
+ghost use Rattle.failing_ends.specs.Endings.{IsFailingEnd};
 
-use crate::ended::{Ended, FailingOb, Searched};
-use crate::ending::FailingEnd;
-use crate::finding::FindingStarts;
-use crate::planning::search_plan;
+use crate::ended::FailingOb;
 use crate::text::Text;
 use ask_core::NoMemory;
 use bumpalo::Bump;
+use failing_ends::FailingEnd;
 use fn_rules::{ObName, Rules};
 use ot_questions::Why;
+use plan_proofs::{Ended, FindingStarts, Searched, search_plan};
 use std::alloc::Global;
 
 // Searches the plan of an obligation, whose goals stand in the arena.
@@ -31,7 +32,7 @@ fn search_in<'a>(
     ensures within { IfOk result (λ r. r.asked ≤ budget) }
 {
     let mut asker = FindingStarts::new(alloc, bump, rules, ob);
-    Ok(search_plan(alloc, &mut asker, budget, bytes)?)
+    search_plan(alloc, &mut asker, budget, bytes)
 }
 
 // Searches an obligation in an arena of its own, and appends its section where it is shown.

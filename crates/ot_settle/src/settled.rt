@@ -3,9 +3,6 @@ use fn_rules::ObName;
 use ot_prove::Answer;
 use ot_questions::Why;
 
-/// The most bytes of the text of a proof.
-pub const MAX_BYTES: usize = 83_886_080;
-
 /// What the obligations of a function at a level come to.
 #[derive(Debug, Drop)]
 pub enum Settled {

@@ -6,13 +6,14 @@ ghost use Rattle.ot_settle.specs.declared.settled.Settled.TheVariants.{No};
 ghost use Rattle.ot_settle.specs.Outcomes.{IsSettled};
 ghost use Rattle.ot_settle.specs.Searching.{FailsAmong};
 
-use crate::ended::{Ended, FailingOb};
+use crate::ended::FailingOb;
 use crate::judging::{is_proof, pairs_hold};
 use crate::searching::search_all;
 use crate::settled::Settled;
 use crate::text::Text;
 use ask_core::NoMemory;
 use fn_rules::{Level, ObName, Rules, obligations, obligations_are_those_of_the_kinds};
+use plan_proofs::Ended;
 use std::alloc::Global;
 
 // What is told where the text of all obligations was written.
@@ -77,8 +78,8 @@ pub fn settle_all(
     let mut text = Text::new(alloc, level)?;
     let searched = search_all(alloc, rules, &names, budget, &mut text)?;
     match searched.ended {
-        Ended::Shown => Ok(shown(alloc, rules, level, text)?),
-        Ended::Fails(failing) => Ok(refuted(alloc, rules, level, failing, &text)?),
+        Ended::Shown => shown(alloc, rules, level, text),
+        Ended::Fails(failing) => refuted(alloc, rules, level, failing, &text),
         Ended::Spent => Ok(Settled::Spent),
     }
 }

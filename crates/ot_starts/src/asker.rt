@@ -111,11 +111,11 @@ impl<'a> Asker for StartAsker<'a> {
     }
 
     fn start(&mut self) -> Result<&'a Goal<'a>, NoMemory> {
-        Ok(self.laid.first(self.ob)?)
+        self.laid.first(self.ob)
     }
 
     fn turn(&mut self, node: &'a Goal<'a>) -> Result<Turn<&'a Goal<'a>, Why>, NoMemory> {
-        Ok(self.walked(node)?)
+        self.walked(node)
     }
 
     ghost fine = { λ a n own. own.node.fine };
@@ -131,12 +131,12 @@ impl<'a> Starter for StartAsker<'a> {
     ghost starts = { λ a. starts_of (function_of a.laid) a.ob };
 
     fn first(&mut self) -> Result<&'a Goal<'a>, NoMemory> {
-        Ok(self.laid.first(self.ob)?)
+        self.laid.first(self.ob)
     }
 
     #[inline(always)]
     fn follow(&mut self, node: &'a Goal<'a>) -> Result<Turn<&'a Goal<'a>, Why>, NoMemory> {
-        Ok(self.walked(node)?)
+        self.walked(node)
     }
 
     fn begins(&self, node: &'a Goal<'a>) -> bool {
@@ -151,7 +151,7 @@ impl<'a> Starter for StartAsker<'a> {
         here: &'a Goal<'a>,
     ) -> Result<Option<List<Lit>>, NoMemory> {
         rules_keep_starts();
-        Ok(compared(alloc, self.laid.rules(), lemma, here)?)
+        compared(alloc, self.laid.rules(), lemma, here)
     }
 
     ghost whole = { λ a. IsWhole-starts (function_of a.laid) a.ob a.listed a.lawful };

@@ -124,5 +124,5 @@ pub(crate) fn compared(
     let Some(wanted) = start_at(here) else {
         return Ok(None);
     };
-    Ok(compare(alloc, &shown, &wanted)?)
+    compare(alloc, &shown, &wanted)
 }

@@ -76,7 +76,7 @@ impl<'a> Laid<'a> {
         ensures marked { IfOk result (λ g. marked_goal (function_of self.now) (goal_tree g.now)
             ≡ marked_plan (function_of self.now) ob) }
     {
-        Ok(first_stop(self.bump, self.rules, ob)?)
+        first_stop(self.bump, self.rules, ob)
     }
 
     /// How the plan of a goal begins.
@@ -86,12 +86,12 @@ impl<'a> Laid<'a> {
         ensures turns { IfOk result (λ t. TurnsAs (function_of self.old) (goal_tree goal.now) t) }
         ensures same { self.new ≡ self.old }
     {
-        Ok(turn_of(
+        turn_of(
             self.bump,
             self.rules,
             &mut self.starts,
             &mut self.ends,
             goal,
-        )?)
+        )
     }
 }

@@ -62,7 +62,7 @@ fn stopped<'a>(bump: &'a Bump, rules: &Rules, goal: &'a Goal<'a>) -> Result<&'a 
         return Ok(goal);
     }
     let next = next_of(bump, rules, goal)?;
-    Ok(stopped(bump, rules, next)?)
+    stopped(bump, rules, next)
 }
 
 /// The goal as far as to its first question, to its end, or to where a transformation begins. It stands for the same
@@ -81,7 +81,7 @@ pub(crate) fn settled<'a>(
     if is_at_front(goal) {
         return Ok(goal);
     }
-    Ok(stopped(bump, rules, goal)?)
+    stopped(bump, rules, goal)
 }
 
 /// What an obligation begins with, as far as to its first question.

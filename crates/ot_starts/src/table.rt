@@ -36,7 +36,7 @@ fn laid_behind<'a>(
     rules_keep_starts();
     rules_are_valid(rules);
     match step(bump, rules, goal)? {
-        Some(next) => Ok(laid(bump, rules, ends, *next)?),
+        Some(next) => laid(bump, rules, ends, *next),
         None => Ok(goal),
     }
 }
@@ -92,5 +92,5 @@ pub(crate) fn laid_on<'a>(
         return Ok(goal);
     }
     let next = laid_at(bump, rules, starts, ends, goal)?;
-    Ok(laid_on(bump, rules, starts, ends, next, most - 1)?)
+    laid_on(bump, rules, starts, ends, next, most - 1)
 }

@@ -141,8 +141,8 @@ pub(crate) fn turn_of<'a>(
 {
     if let Goal::If { form, yes, no } = *goal {
         if question(form).is_some() {
-            return Ok(asked(bump, rules, form, yes, no)?);
+            return asked(bump, rules, form, yes, no);
         }
     }
-    Ok(turn_on(bump, rules, starts, ends, goal)?)
+    turn_on(bump, rules, starts, ends, goal)
 }

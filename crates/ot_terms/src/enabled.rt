@@ -12,7 +12,7 @@ use ot_questions::{Place, SymOp};
 fn within<'a>(bump: &'a Bump, at: Place, last: &'a Form<'a>) -> Result<&'a Form<'a>, NoMemory>
     ensures { IfOk result (λ r. form_tree r.now ≡ starting.within at (form_tree last.now)) }
 {
-    Ok(Form::and(bump, Form::le(bump, Place::zero(), at)?, last)?)
+    Form::and(bump, Form::le(bump, Place::zero(), at)?, last)
 }
 
 /// The operation is enabled on a document of the length plus an offset.
@@ -20,10 +20,10 @@ pub fn enabled_form<'a>(bump: &'a Bump, op: SymOp, off: i32) -> Result<&'a Form<
     ensures { IfOk result (λ r. form_tree r.now ≡ starting.enabled_form op off) }
 {
     match op {
-        SymOp::Ins { at, .. } => Ok(within(bump, at, Form::le(bump, at, Place::length_and(off))?)?),
+        SymOp::Ins { at, .. } => within(bump, at, Form::le(bump, at, Place::length_and(off))?),
         SymOp::Del { at, .. } | SymOp::Upd { at, .. } => {
-            Ok(within(bump, at, Form::lt(bump, at, Place::length_and(off))?)?)
+            within(bump, at, Form::lt(bump, at, Place::length_and(off))?)
         }
-        SymOp::Nop => Ok(Form::always(bump)?),
+        SymOp::Nop => Form::always(bump),
     }
 }

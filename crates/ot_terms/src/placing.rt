@@ -69,19 +69,11 @@ fn place_part<'a>(
     ensures { IfOk result (λ r. form_tree r.now ≡ guard_form (formula_of guard.now) a.now b.now) }
 {
     match guard {
-        Guard::True => Ok(Form::always(bump)?),
+        Guard::True => Form::always(bump),
         Guard::Atom(atom) => Ok(bump.try_alloc(place_atom(atom, a, b))?),
-        Guard::And(g, h) => Ok(Form::and(
-            bump,
-            place_part(bump, g, a, b)?,
-            place_part(bump, h, a, b)?,
-        )?),
-        Guard::Or(g, h) => Ok(Form::or(
-            bump,
-            place_part(bump, g, a, b)?,
-            place_part(bump, h, a, b)?,
-        )?),
-        Guard::Not(g) => Ok(Form::not(bump, place_part(bump, g, a, b)?)?),
+        Guard::And(g, h) => Form::and(bump, place_part(bump, g, a, b)?, place_part(bump, h, a, b)?),
+        Guard::Or(g, h) => Form::or(bump, place_part(bump, g, a, b)?, place_part(bump, h, a, b)?),
+        Guard::Not(g) => Form::not(bump, place_part(bump, g, a, b)?),
     }
 }
 

@@ -1,7 +1,7 @@
 -- The counterexample of answers that lead to a failing end breaks its property, and shows what the interpreter gives.
 use Rattle.std.proofs.Common.{◌≡◌, ℕ, ℤ, List, IsTrue, refl}
 use Rattle.diff_graph.specs.declared.lit.Lit.{Lit}
-use Rattle.diff_graph.specs.Solutions.{AreLeast, valuation_of}
+use Rattle.diff_tables.specs.Solutions.{AreLeast, valuation_of}
 use Rattle.ot_model.specs.declared.cell.Cell.{Cell}
 use Rattle.fn_rules.specs.declared.function.Level.{Level}
 use Rattle.fn_rules.specs.declared.function.ObName.{ObName}

@@ -5,7 +5,7 @@ use Rattle.std.specs.Prelude.{MatchOption, ℤ, nat_lt}
 use Rattle.std.proofs.lemmas.Bool.Decides.{nat_tests}
 use Rattle.std.proofs.lemmas.List.{take_all}
 use Rattle.diff_graph.specs.declared.lit.Lit.{Lit}
-use Rattle.diff_graph.specs.Solutions.{AreLeast, valuation_of}
+use Rattle.diff_tables.specs.Solutions.{AreLeast, valuation_of}
 use Rattle.ot_model.specs.declared.op.Kind.{Kind}
 use Rattle.fn_rules.specs.declared.function.Level.{Level}
 use Rattle.fn_rules.specs.declared.function.Level.TheVariants.{Tp1, Tp2}
@@ -22,7 +22,7 @@ use Rattle.ask_core.specs.Questions.{FailingEnd, Questions, QuestionList}
 use Rattle.ot_prove.specs.Outcomes.{answered_by}
 use Rattle.ot_questions.specs.declared.why.Why.{Why}
 use Rattle.ot_questions.specs.Obligation.{plan_of}
-use Rattle.ot_sections.specs.declared.refusal.JudgeError.{JudgeError}
+use Rattle.refusals.specs.declared.refusal.JudgeError.{JudgeError}
 use Rattle.ot_decide.specs.declared.verdict.Verdict.{Verdict}
 use Rattle.ot_decide.specs.declared.verdict.Verdict.TheVariants as verdicts
 use Rattle.ot_sections.specs.Certificates.{IsCertificate}

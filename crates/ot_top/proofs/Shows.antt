@@ -9,7 +9,7 @@ use Rattle.fn_text.specs.Reading.{function_in}
 use Rattle.ask_core.specs.Plans.{Plan}
 use Rattle.ask_core.specs.Questions.{Questions, QuestionList}
 use Rattle.ot_questions.specs.declared.why.Why.{Why}
-use Rattle.ot_sections.specs.declared.refusal.JudgeError.{JudgeError}
+use Rattle.refusals.specs.declared.refusal.JudgeError.{JudgeError}
 use Rattle.ot_sections.specs.Certificates.{IsCertificate}
 use Rattle.ot_judge.specs.Refusals.{IsJudgement}
 use Rattle.ot_confirm.specs.Judgement.{judgement_of}

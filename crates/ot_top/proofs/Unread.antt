@@ -19,8 +19,8 @@ use Rattle.case_json.specs.Cases.{trial_in}
 use Rattle.case_json.specs.Hubs.{hub_script_in}
 use Rattle.case_json.specs.Scripts.{script_in}
 use Rattle.ot_hub.specs.Views.{HubData, begun_hub}
-use Rattle.ot_sections.specs.declared.refusal.JudgeError.{JudgeError}
-use Rattle.ot_sections.specs.declared.refusal.JudgeError.TheVariants as judge
+use Rattle.refusals.specs.declared.refusal.JudgeError.{JudgeError}
+use Rattle.refusals.specs.declared.refusal.JudgeError.TheVariants as judge
 use Rattle.ot_judge.specs.Refusals.{IsJudgement}
 use Rattle.proof_sections.specs.declared.refusal.ConfirmError.{ConfirmError}
 use Rattle.proof_sections.specs.declared.refusal.ConfirmError.TheVariants as confirm

@@ -6,7 +6,7 @@ use Rattle.fn_rules.specs.declared.function.Level.{Level}
 use Rattle.fn_rules.specs.Functions.{Function}
 use Rattle.fn_rules.specs.Properties.{HasTp1, HasTp2}
 use Rattle.fn_grammar.specs.Grammar.{IsTextOf}
-use Rattle.ot_sections.specs.declared.refusal.JudgeError.{JudgeError}
+use Rattle.refusals.specs.declared.refusal.JudgeError.{JudgeError}
 use Rattle.ot_counter.specs.declared.counter.Counter.{Counter}
 use Rattle.ot_counter.specs.Counters.{Breaks, BreaksBy}
 use Rattle.ot_least.specs.declared.short.Short.{Short}

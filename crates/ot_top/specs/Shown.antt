@@ -14,7 +14,7 @@ use Rattle.fn_grammar.specs.Grammar.{IsTextOf}
 use Rattle.ot_questions.specs.declared.why.Why.{Why}
 use Rattle.ot_questions.specs.Instances.{form_behind}
 use Rattle.ot_questions.specs.Obligation.{plan_of}
-use Rattle.ot_sections.specs.declared.refusal.JudgeError.{JudgeError}
+use Rattle.refusals.specs.declared.refusal.JudgeError.{JudgeError}
 use Rattle.ot_sections.specs.Certificates.{IsCertificate}
 use Rattle.ot_judge.specs.Refusals.{IsJudgement}
 use Rattle.ot_decide.specs.Verdicts.{ObQuestions, AreAsked, count_in, failing_in}

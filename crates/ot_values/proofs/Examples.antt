@@ -1,7 +1,7 @@
 -- The definitions on worked rows.
 use Rattle.std.proofs.Common.{◌≡◌, pos, negsuc, true, false, [], ◌∷◌, refl}
 use Rattle.diff_graph.specs.declared.lit.Lit.{Lit}
-use Rattle.diff_graph.specs.Solutions.{valuation_of}
+use Rattle.diff_tables.specs.Solutions.{valuation_of}
 use Rattle.ot_model.specs.declared.op.Kind.TheVariants as kinds
 use Rattle.ot_model.specs.declared.op.Op.TheVariants as ops
 use Rattle.ot_model.specs.Cells.{live_cell}

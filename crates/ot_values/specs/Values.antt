@@ -2,7 +2,7 @@
 use Rattle.std.specs.Prelude.{◌≡◌, ◌<◌, ◌≤ℤ◌, length, ℕ, ℤ, pos, List, [], ◌∷◌, replicate}
 use Rattle.diff_graph.specs.declared.lit.Lit.{Lit}
 use Rattle.diff_graph.specs.Literals.{AreMet}
-use Rattle.diff_graph.specs.Solutions.{valuation_of}
+use Rattle.diff_tables.specs.Solutions.{valuation_of}
 use Rattle.ot_model.specs.declared.cell.Cell.{Cell}
 use Rattle.ot_model.specs.declared.op.Op.{Op}
 use Rattle.ot_model.specs.Cells.{live_cell}

@@ -2,7 +2,7 @@
 ghost use Rattle.std.specs.Prelude.{◌≡◌, Some, IfOk};
 ghost use Rattle.ot_model.specs.Operations.{kind_of};
 ghost use Rattle.fn_rules.specs.Conditions.{IsWithin};
-ghost use Rattle.diff_graph.specs.Solutions.{valuation_of};
+ghost use Rattle.diff_tables.specs.Solutions.{valuation_of};
 ghost use Rattle.ot_questions.specs.Places.{sym_op};
 ghost use Rattle.ot_questions.specs.Meaning as meaning;
 ghost use Rattle.ot_values.specs.Values as values_read;

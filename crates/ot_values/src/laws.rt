@@ -2,7 +2,7 @@
 ghost use Rattle.std.specs.Prelude.{◌≡◌, ◌<◌, ◌≤ℤ◌, ℕ, ℤ, pos, IsTrue, List, length};
 ghost use Rattle.diff_graph.specs.declared.lit.Lit.{Lit};
 ghost use Rattle.diff_graph.specs.Literals.{AreMet};
-ghost use Rattle.diff_graph.specs.Solutions.{AreLeast, IsPossibleAbove, valuation_of};
+ghost use Rattle.diff_tables.specs.Solutions.{AreLeast, IsPossibleAbove, valuation_of};
 ghost use Rattle.fn_rules.specs.declared.function.ObName.{ObName};
 ghost use Rattle.fn_rules.specs.declared.guard.Sort.TheVariants.{Pos};
 ghost use Rattle.ot_questions.specs.declared.name.Who.{Who};

@@ -1,8 +1,8 @@
 //! The least values that meet answers.
 ghost use Rattle.std.specs.Prelude.{◌≡◌, ◌<◌, ◌^◌, pos, length, slice_index_or, IfOk};
 ghost use Rattle.fn_rules.specs.declared.function.ObName.{ObName};
-ghost use Rattle.diff_graph.specs.Solutions.{AreLeast, AreFloors, IsPossibleAbove};
-ghost use Rattle.diff_graph.specs.Tables.{AreNamed, AreSmall};
+ghost use Rattle.diff_tables.specs.Solutions.{AreLeast, AreFloors, IsPossibleAbove};
+ghost use Rattle.diff_graph.specs.Limits.{AreNamed, AreSmall};
 ghost use Rattle.ot_questions.specs.declared.name.Who.{Who};
 ghost use Rattle.ot_questions.specs.Names.{name_count, char_name};
 ghost use Rattle.ot_questions.specs.Sorts.{AreLike};
@@ -10,7 +10,8 @@ ghost use Rattle.ot_values.specs.Values.{floors_of, IsPossibleAtPositions, IsSma
 
 use crate::NoMemory;
 use crate::laws::answers_have_least_values;
-use diff_graph::{Lit, least};
+use diff_graph::Lit;
+use diff_tables::least;
 use fn_rules::ObName;
 use std::alloc::Global;
 

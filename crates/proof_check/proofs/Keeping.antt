@@ -4,9 +4,10 @@ use Rattle.std.specs.Prelude.{slice_get}
 use Rattle.std.specs.List.{AllByRecursion}
 use Rattle.diff_graph.specs.declared.lit.Lit.{Lit}
 use Rattle.proof_trees.specs.Starters.{Starts, KeepsStarts}
-use Rattle.proof_check.specs.declared.places.Known.{Known}
-use Rattle.proof_check.specs.Places.{WantedAt, Tree, Cycle, Learn, OpenProof, IsOwnPlace, AreOwnPlaces, first_node, first_list, settled_at, asked, closed}
-use Rattle.proof_check.specs.Places.{begun, cited, cycles_at, wanted_of, learned_of, standing_of}
+use Rattle.open_places.specs.declared.places.Known.{Known}
+use Rattle.open_places.specs.Places.{WantedAt, Tree, Cycle, Learn, OpenProof, IsOwnPlace, AreOwnPlaces, first_node, first_list, settled_at, asked, closed}
+use Rattle.open_places.specs.Places.{begun, cited, cycles_at}
+use Rattle.proof_check.specs.Standings.{wanted_of, learned_of, standing_of}
 
 module _ {N : Type 0} (is_own : N → Type 0) where
   abbrev AreOwnKnown : List (Known N) → Type 0

@@ -1,5 +1,4 @@
 pub mod Completing
-pub mod PlaceLemmas
 pub mod Standings
 pub mod Keeping
 pub mod Taking

@@ -15,9 +15,10 @@ use Rattle.proof_trees.specs.Starts.{MarkedPlan, Ask, Holds, start_of, Compariso
 use Rattle.proof_trees.specs.Proofs.{Learned}
 use Rattle.proof_trees.specs.Tokens.{Wanted, wanted_cycles}
 use Rattle.proof_trees.specs.Tokens as plan
-use Rattle.proof_check.specs.declared.places.Known.{Known}
-use Rattle.proof_check.specs.Places.{WantedAt, Tree, Cycle, Learn, OpenProof, AreSettledPlaces, first_node, first_list, asked, closed, begun, cited, cycles_at}
-use Rattle.proof_check.specs.Places.{settled_at, wanted_of, learned_of, standing_of}
+use Rattle.open_places.specs.declared.places.Known.{Known}
+use Rattle.open_places.specs.Places.{WantedAt, Tree, Cycle, Learn, OpenProof, AreSettledPlaces, first_node, first_list, asked, closed, begun, cited, cycles_at}
+use Rattle.open_places.specs.Places.{settled_at}
+use Rattle.proof_check.specs.Standings.{wanted_of, learned_of, standing_of}
 use Rattle.proof_check.specs.Steps.{settled, IsTaken, after_proof_token, after_at_cycle, after_at_tree}
 
 module _ {N S W : Type 0} (marked : N → MarkedPlan S W) where

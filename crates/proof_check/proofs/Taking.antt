@@ -17,11 +17,12 @@ use Rattle.proof_trees.specs.Proofs.{ProofTree, Shows}
 use Rattle.proof_trees.specs.Starters.{Starts, KeepsStarts, IsWhole}
 use Rattle.proof_trees.specs.Tokens.{CompletesWanted, HasFew}
 use Rattle.proof_trees.specs.Truth.{HoldsUnder}
-use Rattle.proof_check.specs.declared.places.Known.{Known}
+use Rattle.open_places.specs.declared.places.Known.{Known}
 use Rattle.proof_check.specs.declared.verdict.ProofError.{ProofError}
 use Rattle.proof_check.specs.declared.verdict.ProofError.TheVariants as error
-use Rattle.proof_check.specs.Places.{WantedAt, Tree, Cycle, Learn, OpenProof, AreOwnPlaces, AreSettledPlaces, first_node, first_list, asked, closed, cited}
-use Rattle.proof_check.specs.Places.{literals_at, wanted_of, learned_of}
+use Rattle.open_places.specs.Places.{WantedAt, Tree, Cycle, Learn, OpenProof, AreOwnPlaces, AreSettledPlaces, first_node, first_list, asked, closed, cited}
+use Rattle.open_places.specs.Places.{literals_at}
+use Rattle.proof_check.specs.Standings.{wanted_of, learned_of}
 use Rattle.proof_check.specs.Questions.{IsAskedHere, SkipsTo}
 use Rattle.proof_check.specs.Steps.{Standing, after_proof_token, IsTaken}
 use Rattle.proof_check.specs.Judging.{IsProofUnderWay, IsUnderWayUnless, standing_over, AreCompleted, IsProofCauseOf, IsRefusedBy, IsWantOfMemory}

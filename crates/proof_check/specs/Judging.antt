@@ -11,7 +11,8 @@ use Rattle.proof_trees.specs.Truth.{HoldsUnder}
 use Rattle.proof_check.specs.declared.verdict.ProofError.{ProofError}
 use Rattle.proof_check.specs.declared.verdict.ProofError.TheVariants as error
 use Rattle.proof_check.specs.Steps.{Standing, after_proof_token}
-use Rattle.proof_check.specs.Places.{OpenProof, AreOwnPlaces, standing_of}
+use Rattle.open_places.specs.Places.{OpenProof, AreOwnPlaces}
+use Rattle.proof_check.specs.Standings.{standing_of}
 
 pub record ProofJudging (A N : Type 0) : Type 0 where
   pub asker : A

@@ -1,6 +1,5 @@
 pub mod Steps
-pub mod Places
-pub mod Parts
+pub mod Standings
 pub mod Judging
 pub mod Questions
 pub use Rattle.proof_trees.specs.Tokens

@@ -3,7 +3,7 @@ use Rattle.std.specs.Prelude.{◌≡◌, ℕ, List, Some}
 use Rattle.cert_check.specs.declared.question.Question.{Question}
 use Rattle.proof_trees.specs.declared.token.ProofTok.TheVariants as token
 use Rattle.proof_trees.specs.Starts.{MarkedPlan, Ask, start_of, Comparison}
-use Rattle.proof_check.specs.Places.{OpenProof, first_node}
+use Rattle.open_places.specs.Places.{OpenProof, first_node}
 use Rattle.proof_check.specs.Steps.{Standing, IsTaken}
 
 -- a tree of a node is wanted at the first place, whose plan asks the question and goes on as its two nodes say, which

@@ -12,7 +12,6 @@
 
 mod checker;
 mod laws;
-mod places;
 mod standing;
 mod token;
 mod verdict;
@@ -20,6 +19,5 @@ mod verdict;
 pub use cert_check::{CheckError, Progress};
 pub use checker::ProofChecker;
 pub use laws::{completed_plans_hold, proof_tokens_are_taken_one_by_one};
-pub use places::Places;
 pub use standing::{first_places_take_tokens, places_change_as_tokens_say};
 pub use verdict::ProofError;

@@ -6,9 +6,10 @@ ghost use Rattle.proof_trees.specs.declared.limits.TheConstants.{MAX_LEMMAS};
 ghost use Rattle.proof_trees.specs.declared.token.ProofTok.{ProofTok};
 ghost use Rattle.proof_trees.specs.declared.token.ProofTok.TheVariants as token;
 ghost use Rattle.proof_trees.specs.Starts.{MarkedPlan, Ask, Holds, start_of, Comparison, conditions_between};
-ghost use Rattle.proof_check.specs.declared.places.Known.{Known};
-ghost use Rattle.proof_check.specs.Places.{OpenProof, AreSettledPlaces, first_node, first_list, asked, closed, begun};
-ghost use Rattle.proof_check.specs.Places.{cited, standing_of};
+ghost use Rattle.open_places.specs.declared.places.Known.{Known};
+ghost use Rattle.open_places.specs.Places.{OpenProof, AreSettledPlaces, first_node, first_list, asked, closed, begun};
+ghost use Rattle.open_places.specs.Places.{cited};
+ghost use Rattle.proof_check.specs.Standings.{standing_of};
 ghost use Rattle.proof_check.specs.Steps.{IsTaken, after_proof_token, after_at_cycle, after_at_tree};
 
 /// A law and no code, for any nodes with their plans: what the changes of open places do is what the tokens do. A

@@ -9,16 +9,16 @@ ghost use Rattle.proof_trees.specs.declared.token.ProofTok.TheVariants as token;
 ghost use Rattle.proof_trees.specs.Starters.{KeepsStarts};
 ghost use Rattle.proof_trees.specs.Tokens.{HasFew};
 ghost use Rattle.proof_check.specs.declared.verdict.ProofError.TheVariants as error;
-ghost use Rattle.proof_check.specs.Places.{AreOwnPlaces, AreSettledPlaces, closed, first_list};
+ghost use Rattle.open_places.specs.Places.{AreOwnPlaces, AreSettledPlaces, closed, first_list};
 ghost use Rattle.proof_check.specs.Steps.{IsTaken};
 ghost use Rattle.proof_check.specs.Questions.{IsAskedHere};
 ghost use Rattle.proof_check.specs.Judging.{IsProofCauseOf, IsWantOfMemory, standing_over};
 
-use crate::places::Places;
 use crate::verdict::ProofError;
 use ask_core::{Picks, Turn};
 use cert_check::{CheckError, Question};
 use diff_graph::is_negative_cycle;
+use open_places::Places;
 use proof_trees::{Literals, MAX_LEMMAS, ProofTok, Starter};
 use std::alloc::Global;
 
@@ -39,8 +39,11 @@ fn take_cycle<N: Copy>(places: &mut Places<N>, picks: &Picks) -> Result<(), Proo
     Ok(())
 }
 
-// Takes `.`: it closes the first place where the plan holds there.
-fn take_end<A: Starter>(asker: &mut A, places: &mut Places<A::Node>) -> Result<(), ProofError>
+/// Takes `.`: it closes the first place where the plan holds there.
+pub(crate) fn take_end<A: Starter>(
+    asker: &mut A,
+    places: &mut Places<A::Node>,
+) -> Result<(), ProofError>
     requires open { 0 < length places.old.wanted }
     requires own { AreOwnPlaces (A.is_own asker.old) places.old }
     ensures ok { OnOk result (IsTaken (A.starts asker.old).compare token.Holds

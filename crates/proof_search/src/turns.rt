@@ -163,7 +163,7 @@ pub(crate) fn step<A: Finder>(
     ensures same { KeepsStarts (A.is_own asker.old) (A.is_own asker.new) (A.starts asker.old) (A.starts asker.new) }
 {
     match search.at {
-        Some(node) => Ok(arrive(alloc, asker, search, node, budget)?),
-        None => Ok(close(asker, search)?),
+        Some(node) => arrive(alloc, asker, search, node, budget),
+        None => close(asker, search),
     }
 }

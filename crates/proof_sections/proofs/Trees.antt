@@ -11,7 +11,8 @@ use Rattle.proof_trees.specs.Starters.{Starts}
 use Rattle.proof_trees.specs.Tokens.{Wanted}
 use Rattle.proof_check.specs.declared.verdict.ProofError.{ProofError}
 use Rattle.proof_check.specs.Judging.{IsProofCauseOf, standing_over}
-use Rattle.proof_check.specs.Places.{OpenProof, WantedAt, wanted_of}
+use Rattle.open_places.specs.Places.{OpenProof, WantedAt}
+use Rattle.proof_check.specs.Standings.{wanted_of}
 use Rattle.proof_check.specs.Steps.{Standing, after_proof_token, IsTaken}
 use Rattle.proof_text.specs.declared.unread.Unread.{Unread}
 use Rattle.proof_text.specs.declared.unread.Unread.TheVariants.{Misspelt, Cut}

@@ -142,9 +142,9 @@ fn token<'a>(alloc: Global, bytes: &'a [u8], tok: &mut ProofTok) -> Result<&'a [
             *tok = ProofTok::Holds;
             Ok(rest)
         }
-        b'x' => Ok(cycle(alloc, rest, tok)?),
-        b'l' => Ok(lemma(rest, tok)?),
-        b'c' => Ok(cite(rest, tok)?),
+        b'x' => cycle(alloc, rest, tok),
+        b'l' => lemma(rest, tok),
+        b'c' => cite(rest, tok),
         _ => Err(Unread::Misspelt),
     }
 }

@@ -111,7 +111,7 @@ fn with_results(found: List<Lit>, there: SymOp, here: SymOp) -> Result<Option<Li
     ensures { IfOk result (λ r. r ≡ starts.all_conditions (Some found) (starts.conditions_of there here)) }
 {
     if is_same_but_position(there, here) {
-        return Ok(with_places(found, there.at(), here.at())?);
+        return with_places(found, there.at(), here.at());
     }
     Ok(None)
 }
@@ -163,7 +163,7 @@ fn conditions(
         && are_same_ops(&lemma.progress.ops, &here.progress.ops)
     {
         let read = still_read(lemma.progress.ob, there);
-        return Ok(with_each(List::new(alloc), read, still_read(here.progress.ob, got))?);
+        return with_each(List::new(alloc), read, still_read(here.progress.ob, got));
     }
     Ok(None)
 }
@@ -183,5 +183,5 @@ pub fn compare(
 {
     let there = lemma.results();
     let got = here.results();
-    Ok(conditions(alloc, lemma, there.as_slice(), here, got.as_slice())?)
+    conditions(alloc, lemma, there.as_slice(), here, got.as_slice())
 }

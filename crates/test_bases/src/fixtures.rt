@@ -1,7 +1,7 @@
 //! Literals for the tests, and the conditions of the calls as tests.
 ghost use Rattle.std.specs.Prelude.{◌≡◌, ◌<◌, ◌^◌, pos, true, length, slice_index_or};
-ghost use Rattle.diff_graph.specs.Tables.{IsNamed, AreNamed, IsSmall, AreSmall};
-ghost use Rattle.diff_graph.specs.Solutions.{AreFloors};
+ghost use Rattle.diff_graph.specs.Limits.{IsNamed, AreNamed, IsSmall, AreSmall};
+ghost use Rattle.diff_tables.specs.Solutions.{AreFloors};
 
 use diff_graph::{Lit, MAX_LITERAL_OFFSET, NoMemory};
 use std::alloc::Global;

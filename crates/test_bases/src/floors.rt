@@ -1,6 +1,7 @@
 //! Least values.
 use crate::fixtures::{are_floors, are_within, literals};
-use diff_graph::{NoMemory, least};
+use diff_graph::NoMemory;
+use diff_tables::least;
 use std::alloc::Global;
 use std::test::Fail;
 

@@ -1,6 +1,7 @@
 //! Values, or a negative cycle.
 use crate::fixtures::{are_within, literals};
-use diff_graph::{Lit, NoMemory, Solved, is_negative_cycle, solve};
+use diff_graph::{Lit, NoMemory, is_negative_cycle};
+use diff_tables::{Solved, solve};
 use std::alloc::Global;
 use std::test::Fail;
 

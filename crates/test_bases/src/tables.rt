@@ -1,10 +1,11 @@
 //! Tables of distances.
 ghost use Rattle.std.specs.Prelude.{◌≤◌};
-ghost use Rattle.diff_graph.specs.Tables.{IsNamed, IsSmall};
+ghost use Rattle.diff_graph.specs.Limits.{IsNamed, IsSmall};
 
 use crate::fixtures::is_within;
 use diff_bounds::Bounds;
-use diff_graph::{Hop, Lit, NoMemory, is_negative_cycle};
+use diff_graph::{Lit, NoMemory, is_negative_cycle};
+use diff_tables::Hop;
 use std::alloc::Global;
 use std::test::Fail;
 

@@ -2,7 +2,7 @@
 ghost use Rattle.std.specs.Prelude.{◌≡◌, ◌+◌, ◌≤◌, IfOk, length};
 ghost use Rattle.cert_text.specs.Reading.{fed_to};
 
-use cert_text::Reader;
+use cert_reader::Reader;
 use fn_rules::ObName;
 use ot_model::Kind;
 use std::alloc::{AllocError, Global};

@@ -9,8 +9,8 @@ use crate::reply::Subject;
 use case_json::{CaseFault, Name};
 use fn_text::{FaultKind, TextFault};
 use ot_model::NoMemory;
-use ot_sections::Refusal;
 use proof_sections::ProofRefusal;
+use refusals::Refusal;
 use std::alloc::Global;
 
 fn kind_word(kind: FaultKind) -> &'static str

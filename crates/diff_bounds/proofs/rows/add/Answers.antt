@@ -1,9 +1,9 @@
 use Rattle.std.proofs.Common.{◌≡◌, ℕ, ◌<◌, List, length, get_or, [], Option, None, ap, sym, subst, ◌∙◌, arith, rules}
 use Rattle.std.proofs.lemmas.List.{get_or_read}
-use Rattle.diff_graph.specs.declared.hop.Hop.{Hop}
+use Rattle.diff_tables.specs.declared.hop.Hop.{Hop}
 use Rattle.diff_graph.specs.declared.lit.Lit.{Lit}
-use Rattle.diff_graph.specs.Steps.{way_of, IsModest, IsSquare}
-use Rattle.diff_graph.specs.Tables.{kept_of}
+use Rattle.diff_tables.specs.Steps.{way_of, IsModest, IsSquare}
+use Rattle.diff_tables.specs.Tables.{kept_of}
 use Rattle.diff_bounds.specs.Kept.{lower_way}
 use Rattle.diff_bounds.proofs.Led.{IsLed-through, IsLed-left, IsLowered-left, IsModest-lower_way}
 use Rattle.diff_bounds.proofs.rows.add.Goals as goal

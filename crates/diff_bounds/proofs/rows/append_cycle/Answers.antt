@@ -1,7 +1,7 @@
 use Rattle.std.proofs.Common.{◌≡◌, ℕ, List, [], ◌∷◌, ◌++◌, length, get_or, Option, None, ap, ◌∙◌}
 use Rattle.std.proofs.lemmas.List.{get_or_read}
-use Rattle.diff_graph.specs.declared.hop.Hop.{Hop}
-use Rattle.diff_graph.specs.Steps.{numbers_along}
+use Rattle.diff_tables.specs.declared.hop.Hop.{Hop}
+use Rattle.diff_tables.specs.Steps.{numbers_along}
 use Rattle.diff_bounds.proofs.Kept.{append_on}
 use Rattle.diff_bounds.proofs.rows.append_cycle.Goals as goal
 

@@ -1,5 +1,5 @@
 use Rattle.std.proofs.Common.{get_or, None}
-use Rattle.diff_graph.proofs.RowSteps.{DoneBelow}
+use Rattle.diff_tables.proofs.RowSteps.{DoneBelow}
 use Rattle.diff_bounds.specs.Kept.{lower_way}
 use Rattle.diff_bounds.proofs.rows.drop_ways.Given as goal
 

@@ -1,6 +1,6 @@
 use Rattle.std.proofs.Common.{length, sym, ◌∙◌}
 use Rattle.std.proofs.lemmas.Bool.{true≢false}
-use Rattle.diff_graph.specs.Tables.{kept_of}
+use Rattle.diff_tables.specs.Tables.{kept_of}
 use Rattle.diff_bounds.proofs.Kept.{keeps-from_at_most}
 use Rattle.diff_bounds.proofs.rows.insert.Goals as goal
 

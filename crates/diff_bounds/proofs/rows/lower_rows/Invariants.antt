@@ -1,4 +1,4 @@
-use Rattle.diff_graph.specs.Steps.{AreLowered}
+use Rattle.diff_tables.specs.Steps.{AreLowered}
 use Rattle.diff_bounds.proofs.rows.lower_rows.Given as goal
 
 abbrev pub invariant-loop-y : goal.invariant-loop-y

@@ -1,5 +1,5 @@
 use Rattle.std.proofs.Common.{◌≡◌, length}
-use Rattle.diff_graph.specs.Tables.{AreNamed, AreSmall}
+use Rattle.diff_graph.specs.Limits.{AreNamed, AreSmall}
 use Rattle.measures.proofs.graphs.literals.Given as goal
 
 abbrev pub invariant-loop-place : goal.invariant-loop-place

@@ -1,6 +1,6 @@
 -- The operations and the length are read off the least values.
 use Rattle.std.proofs.Common.{List, ℤ, ap, lit<, sym, subst, ◌∙◌}
-use Rattle.diff_graph.specs.Solutions.{valuation_of}
+use Rattle.diff_tables.specs.Solutions.{valuation_of}
 use Rattle.ot_questions.specs.declared.name.Who.TheVariants.{A, B}
 use Rattle.ot_questions.specs.Meaning.{op_at}
 use Rattle.ot_questions.specs.Names.{length_name}

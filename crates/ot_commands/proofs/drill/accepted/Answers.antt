@@ -2,7 +2,7 @@
 use Rattle.std.proofs.Common.{◌≡◌, ◌≤◌, ◌⊎◌, Result, Ok, Err, subst, arith}
 use Rattle.fn_rules.specs.declared.function.Level.{Level}
 use Rattle.fn_rules.specs.declared.function.Level.TheVariants.{Tp2}
-use Rattle.ot_sections.specs.declared.refusal.JudgeError.{JudgeError}
+use Rattle.refusals.specs.declared.refusal.JudgeError.{JudgeError}
 use Rattle.ot_judge.specs.Refusals.{IsWant}
 use Rattle.ot_commands.proofs.Drilling.{level_is, never_refused}
 use Rattle.ot_commands.proofs.drill.accepted.Goals as goal

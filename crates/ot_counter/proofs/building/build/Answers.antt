@@ -5,7 +5,7 @@ use Rattle.ask_core.specs.Askers.{longest_path}
 use Rattle.ot_questions.specs.Names.{name_count}
 use Rattle.ot_questions.specs.Obligation.{plan_of}
 use Rattle.ot_questions.specs.Sorts.{HasNoNegativePosition}
-use Rattle.diff_graph.specs.Solutions.{AreLeast, valuation_of}
+use Rattle.diff_tables.specs.Solutions.{AreLeast, valuation_of}
 use Rattle.fn_rules.specs.Obligations.{level_of}
 use Rattle.fn_rules.specs.Rules.{function_of}
 use Rattle.ot_values.specs.Values.{floors_of, IsPossibleAtPositions}

@@ -2,7 +2,7 @@ use Rattle.std.proofs.Common.{IsTrue, subst}
 use Rattle.fn_rules.specs.Obligations.{is_obligation}
 use Rattle.fn_rules.specs.Rules.{function_of}
 use Rattle.fn_rules.specs.Properties.{AreConcurrent}
-use Rattle.diff_graph.specs.Solutions.{valuation_of}
+use Rattle.diff_tables.specs.Solutions.{valuation_of}
 use Rattle.ot_values.specs.Values.{ops_at}
 use Rattle.ot_counter.specs.Documents.{document_at}
 use Rattle.ot_counter.proofs.Instances.{parts_of_pair, parts_of_triple}

@@ -1,7 +1,7 @@
 use Rattle.std.proofs.Common.{◌≡◌, List, length, IsTrue, ℤ}
 use Rattle.diff_graph.specs.declared.lit.Lit.{Lit}
 use Rattle.diff_graph.specs.Literals.{AreMet}
-use Rattle.diff_graph.specs.Solutions.{AreLeast, valuation_of}
+use Rattle.diff_tables.specs.Solutions.{AreLeast, valuation_of}
 use Rattle.fn_rules.specs.declared.function.ObName.{ObName}
 use Rattle.fn_rules.specs.Functions.{Function}
 use Rattle.fn_rules.specs.Obligations.{level_of, is_obligation}

@@ -8,7 +8,7 @@ use Rattle.ot_questions.specs.declared.why.Why.{Why}
 use Rattle.ot_questions.specs.Names.{name_count}
 use Rattle.ot_questions.specs.Obligation.{plan_of}
 use Rattle.ot_paths.specs.Given.{own_plan}
-use Rattle.ot_prove.specs.declared.split.TheConstants.{MAX_NAMES}
+use Rattle.search_places.specs.declared.split.TheConstants.{MAX_NAMES}
 use Rattle.ot_decide.proofs.searching.search_below.Goals as goal
 
 few_names : (ob : ObName) → name_count ob ≤ MAX_NAMES

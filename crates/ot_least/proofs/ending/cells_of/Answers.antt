@@ -6,7 +6,7 @@ use Rattle.fn_rules.specs.Rules.{function_of}
 use Rattle.ot_questions.specs.Names.{name_count}
 use Rattle.ot_questions.specs.Obligation.{plan_of}
 use Rattle.ot_questions.specs.Sorts.{HasNoNegativePosition}
-use Rattle.diff_graph.specs.Solutions.{AreLeast}
+use Rattle.diff_tables.specs.Solutions.{AreLeast}
 use Rattle.ot_values.specs.Values.{IsPossibleAtPositions, floors_of}
 use Rattle.ot_least.proofs.Endings.{least_length}
 use Rattle.ot_least.proofs.ending.cells_of.Goals as goal

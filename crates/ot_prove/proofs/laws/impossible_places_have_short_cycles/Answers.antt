@@ -1,5 +1,5 @@
 use Rattle.std.proofs.Common.{[]}
-use Rattle.diff_graph.specs.Tables.{kept_of}
+use Rattle.diff_tables.specs.Tables.{kept_of}
 use Rattle.ot_prove.proofs.OneList.{fresh_rows, AreNewRows-fresh}
 use Rattle.ot_prove.proofs.ShortCycles.{short_cycle}
 use Rattle.ot_prove.proofs.laws.impossible_places_have_short_cycles.Goals as goal

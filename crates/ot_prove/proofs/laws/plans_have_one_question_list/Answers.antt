@@ -1,5 +1,5 @@
 use Rattle.std.proofs.Common.{[]}
-use Rattle.diff_graph.specs.Tables.{kept_of}
+use Rattle.diff_tables.specs.Tables.{kept_of}
 use Rattle.ot_prove.proofs.OneList.{some_list, one_list, fresh_rows, AreNewRows-fresh}
 use Rattle.ot_prove.proofs.laws.plans_have_one_question_list.Goals as goal
 

@@ -2,9 +2,9 @@ use Rattle.std.proofs.Common.{◌≡◌, ℕ, ◌∷◌, None, length, reverse, 
 use Rattle.ask_core.specs.declared.tree.Tok.TheVariants.{Ask, Cycle}
 use Rattle.cert_text.specs.TreeTexts.{Written, with_token}
 use Rattle.ask_core.specs.Paths.{first_answers, first_plan}
-use Rattle.ot_prove.specs.declared.split.Room.TheVariants.{OnlyNo}
+use Rattle.search_places.specs.declared.split.Room.TheVariants.{OnlyNo}
 use Rattle.ot_prove.specs.Searching.{IsSearching}
-use Rattle.ot_prove.specs.Sides.{HasRoomForSides, cycle_along}
+use Rattle.search_places.specs.Sides.{HasRoomForSides, cycle_along}
 use Rattle.ot_prove.proofs.Steps.{IsSearching-passed, asked_literal, first_is_short, first_table_is_read, weight_of-passed}
 use Rattle.ot_prove.proofs.passing.passed.Goals as goal
 

@@ -2,7 +2,7 @@ use Rattle.std.proofs.Common.{◌≡◌, ◌≤◌, []}
 use Rattle.ask_core.specs.Askers.{SamePlans}
 use Rattle.ask_core.specs.Paths.{branches_at}
 use Rattle.ask_core.specs.Questions.{Questions, QuestionList}
-use Rattle.ot_prove.specs.declared.split.TheConstants.{MAX_NAMES}
+use Rattle.search_places.specs.declared.split.TheConstants.{MAX_NAMES}
 use Rattle.ot_prove.specs.Searching.{IsSearchUnderWay, weight_of}
 use Rattle.ot_prove.proofs.proving.prove_behind.Given as goal
 

@@ -1,5 +1,6 @@
 use Rattle.std.proofs.Common.{ℕ, List, Option, reverse, subst}
-use Rattle.ot_prove.specs.Searching.{IsSearching, known_of}
+use Rattle.ot_prove.specs.Searching.{IsSearching}
+use Rattle.search_places.specs.Changes.{known_of}
 use Rattle.ot_prove.proofs.Steps.{IsSearching-cycle, first_is_judged, weight_of-close}
 use Rattle.ot_prove.proofs.search.step.Goals as goal
 

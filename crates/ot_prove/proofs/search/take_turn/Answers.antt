@@ -3,7 +3,8 @@ use Rattle.ask_core.specs.Plans.{Plan}
 use Rattle.ask_core.specs.declared.tree.Tok.{Tok}
 use Rattle.ask_core.specs.Paths.{OpenPlace, first_answers, first_plan}
 use Rattle.diff_bounds.specs.Kept.{Rows}
-use Rattle.ot_prove.specs.Searching.{LeadsTo, IsSearching, known_by}
+use Rattle.ot_prove.specs.Searching.{LeadsTo, IsSearching}
+use Rattle.search_places.specs.Changes.{known_by}
 use Rattle.ot_prove.proofs.Steps.{IsSearching-same, IsSearching-asked, IsSearching-holds, spent_at_first, failing_at_first, first_is_reached, first_has_table}
 use Rattle.ot_prove.proofs.Steps.{asked_literal, weight_of-close, without_last}
 use Rattle.ot_prove.proofs.search.take_turn.Goals as goal

@@ -2,9 +2,10 @@ use Rattle.std.proofs.Common.{subst}
 use Rattle.fn_rules.specs.Rules.{function_of}
 use Rattle.ot_questions.specs.declared.why.Why.{Why}
 use Rattle.ot_questions.specs.Obligation.{plan_of}
-use Rattle.ot_settle.specs.declared.ended.Ended.{Ended}
-use Rattle.ot_settle.specs.declared.ending.FailingEnd.{FailingEnd}
-use Rattle.ot_settle.specs.Searching.{FailsOnlySo, IsFailingEnd}
+use Rattle.plan_proofs.specs.declared.ended.Ended.{Ended}
+use Rattle.failing_ends.specs.declared.ending.FailingEnd.{FailingEnd}
+use Rattle.plan_proofs.specs.Searching.{FailsOnlySo}
+use Rattle.failing_ends.specs.Endings.{IsFailingEnd}
 use Rattle.ot_settle.proofs.FirstFailing.{first_fails, others_fail}
 use Rattle.ot_settle.proofs.searching.+search_all.Goals as goal
 

@@ -1,5 +1,5 @@
 use Rattle.std.proofs.Common.{◌++◌, sym}
-use Rattle.proof_check.specs.Places.{literals_at}
+use Rattle.open_places.specs.Places.{literals_at}
 use Rattle.proof_check.proofs.Keeping.{own_kept, own_cited}
 use Rattle.proof_check.proofs.Taking.{citation_taken_over}
 use Rattle.proof_check.proofs.token.take_citation.Goals as goal

@@ -1,6 +1,6 @@
 use Rattle.std.proofs.Common.{List, Option, subst, sym, ◌∙◌, rules, arith}
-use Rattle.diff_graph.specs.declared.hop.Hop.{Hop}
-use Rattle.diff_graph.specs.Tables.{kept_of, IsAtMost}
+use Rattle.diff_tables.specs.declared.hop.Hop.{Hop}
+use Rattle.diff_tables.specs.Tables.{kept_of, IsAtMost}
 use Rattle.diff_bounds.proofs.Kept.{AreModest-from_bounds, IsNamed-from_bounds}
 use Rattle.diff_bounds.proofs.bounds.Bounds.add.Goals as goal
 

@@ -1,5 +1,5 @@
 use Rattle.std.proofs.Common.{◌≡◌, ◌↔◌, rules, subst, sym, Bool, IsTrue}
-use Rattle.diff_graph.specs.Tables.{kept_of, literals_of, IsPossibleWith}
+use Rattle.diff_tables.specs.Tables.{kept_of, literals_of, IsPossibleWith}
 use Rattle.diff_bounds.specs.Kept.{has_room}
 use Rattle.diff_bounds.proofs.Kept.{AreModest-from_bounds, IsNamed-from_bounds}
 use Rattle.diff_bounds.proofs.bounds.Bounds.allows.Goals as goal

@@ -1,7 +1,7 @@
 use Rattle.std.proofs.Common.{◌≡◌, rules, subst, List, ℕ, ◌∷◌, ◌++◌, Option, length}
-use Rattle.diff_graph.specs.declared.hop.Hop.{Hop}
-use Rattle.diff_graph.specs.Tables.{kept_of}
-use Rattle.diff_graph.specs.Steps.{numbers_along}
+use Rattle.diff_tables.specs.declared.hop.Hop.{Hop}
+use Rattle.diff_tables.specs.Tables.{kept_of}
+use Rattle.diff_tables.specs.Steps.{numbers_along}
 use Rattle.diff_bounds.proofs.bounds.Bounds.append_why_not.Goals as goal
 
 -- the literal's number and those of the chain that leads back name a negative cycle

@@ -1,5 +1,5 @@
 use Rattle.std.proofs.Common.{rules, []}
-use Rattle.diff_graph.specs.Steps.{AreNewRows}
+use Rattle.diff_tables.specs.Steps.{AreNewRows}
 use Rattle.diff_bounds.proofs.bounds.Bounds.new.Goals as goal
 
 pub returns : goal.returns

@@ -1,6 +1,6 @@
 use Rattle.std.proofs.Common.{◌≡◌, rules, option_map, sym, subst, ◌∙◌, ap, Option, ℤ, List}
-use Rattle.diff_graph.specs.declared.hop.Hop.{Hop}
-use Rattle.diff_graph.specs.Tables.{kept_of, literals_of}
+use Rattle.diff_tables.specs.declared.hop.Hop.{Hop}
+use Rattle.diff_tables.specs.Tables.{kept_of, literals_of}
 use Rattle.diff_bounds.specs.Kept.{IsTightest}
 use Rattle.diff_bounds.proofs.Kept.{IsTightest-kept}
 use Rattle.diff_bounds.proofs.bounds.Bounds.tightest.Goals as goal

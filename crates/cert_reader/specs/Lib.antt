@@ -1,0 +1,2 @@
+pub mod Readers
+pub use Rattle.cert_text.specs.Reading

@@ -1,5 +1,0 @@
-use Rattle.cert_text.proofs.TwoDigits.{digits_at}
-use Rattle.cert_text.proofs.tens.units_of.Goals as goal
-
-pub returns : goal.returns
-returns c = (digits_at c.args.number c.requires).1

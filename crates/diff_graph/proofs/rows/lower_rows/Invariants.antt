@@ -1,5 +1,0 @@
-use Rattle.diff_graph.specs.Steps.{AreLowered}
-use Rattle.diff_graph.proofs.rows.lower_rows.Given as goal
-
-abbrev pub invariant-loop-y : goal.invariant-loop-y
-invariant-loop-y l = AreLowered l.ways l.from l.initial.rows l.rows l.y

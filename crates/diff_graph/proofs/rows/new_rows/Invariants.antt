@@ -1,5 +1,0 @@
-use Rattle.diff_graph.specs.Steps.{AreNewRows}
-use Rattle.diff_graph.proofs.rows.new_rows.Given as goal
-
-abbrev pub invariant-loop-own : goal.invariant-loop-own
-invariant-loop-own l = AreNewRows l.n l.own l.rows.items

@@ -1,6 +1,0 @@
-use Rattle.diff_graph.specs.Steps.{way_of}
-use Rattle.diff_graph.proofs.RowSteps.{DoneBelow}
-use Rattle.diff_graph.proofs.table.begin_ways.Given as goal
-
-abbrev pub invariant-loop-x : goal.invariant-loop-x
-invariant-loop-x l = DoneBelow (λ x old. way_of l.number l.lit x old) l.initial.ways l.ways l.x

@@ -1,0 +1,68 @@
+use Rattle.std.proofs.Common.{ℕ, ◌++◌, ◌∙◌, ap, sym, subst, length, List, arith}
+use Rattle.std.proofs.lemmas.Option.{IfSome_then}
+use Rattle.diff_graph.specs.declared.lit.Lit.{Lit}
+use Rattle.diff_graph.specs.Literals.{Meets, AreMet}
+use Rattle.diff_graph.specs.Limits.{AreNamed, AreSmall}
+use Rattle.diff_tables.specs.Solutions.{AreLeastMeeting, floors_from, IsBoundedBelow}
+use Rattle.diff_tables.proofs.AddingSteps.{All-append}
+use Rattle.diff_tables.proofs.FloorSteps.{AreNamed-floors_from, AreSmall-floors_from, length-floors_from, IsBoundedBelow-floors_from, AreLeast-from_meeting}
+use Rattle.diff_tables.proofs.FloorSteps.{All-first, All-second, AreMet-floors_from, floors-from_met}
+use Rattle.diff_tables.proofs.floors.least_of_named.Goals as goal
+
+pub least_in-requires-clause-bounds_named : goal.least_in-requires-clause-bounds_named
+least_in-requires-clause-bounds_named c =
+    let bounds = c.deref.ensures.value ∙ c.in_ok-bounds.ensures in
+    let len = ap length c.deref_mut.ensures.value ∙ c.in_ok-rows.ensures.0 in
+    subst (λ (ls : List Lit). AreNamed (length c.deref_mut.result.now) ls) (sym bounds)
+    (subst (λ (n : ℕ). AreNamed n (floors_from 0 c.args.floors.now)) (sym len)
+    (AreNamed-floors_from (length c.args.floors.now) 0 c.args.floors.now c.requires.names (omega arith)))
+
+pub least_in-requires-clause-bounds_small : goal.least_in-requires-clause-bounds_small
+least_in-requires-clause-bounds_small c =
+    let bounds = c.deref.ensures.value ∙ c.in_ok-bounds.ensures in
+    subst (λ (ls : List Lit). AreSmall ls) (sym bounds) (AreSmall-floors_from 0 c.args.floors.now c.requires.floors)
+
+pub least_in-requires-clause-bounds_count : goal.least_in-requires-clause-bounds_count
+least_in-requires-clause-bounds_count c =
+    let bounds = c.deref.ensures.value ∙ c.in_ok-bounds.ensures in
+    omega (arith, ap length bounds, length-floors_from 0 c.args.floors.now)
+
+pub least_in-requires-clause-bounded : goal.least_in-requires-clause-bounded
+least_in-requires-clause-bounded c =
+    let bounds = c.deref.ensures.value ∙ c.in_ok-bounds.ensures in
+    let len = ap length c.deref_mut.ensures.value ∙ c.in_ok-rows.ensures.0 in
+    subst (λ (ls : List Lit). IsBoundedBelow (length c.deref_mut.result.now) ls) (sym bounds)
+    (subst (λ (n : ℕ). IsBoundedBelow n (floors_from 0 c.args.floors.now)) (sym len) (IsBoundedBelow-floors_from c.args.floors.now))
+
+pub returns-clause-least : goal.returns-clause-least
+returns-clause-least c =
+    let bounds = c.deref.ensures.value ∙ c.in_ok-bounds.ensures in
+    let len = ap length c.deref_mut.ensures.value ∙ c.in_ok-rows.ensures.0 in
+    IfSome_then c.in_ok-found.found c.in_ok-found.ensures.least (λ values least.
+    AreLeast-from_meeting c.args.lits.now c.args.floors.now values.items (length c.deref_mut.result.now) len
+    (subst (λ (ls : List Lit). AreLeastMeeting (length c.deref_mut.result.now) (c.args.lits.now ++ ls) values.items) bounds least))
+
+-- none come exactly where no integers that are at least the floors meet the literals
+pub returns-clause-none : goal.returns-clause-none
+returns-clause-none c =
+    let bounds = c.deref.ensures.value ∙ c.in_ok-bounds.ensures in (
+      λ none above.
+          c.in_ok-found.ensures.none.0 none (
+            above.0,
+            above.1,
+            subst (λ (ls : List Lit). AreMet above.0 (c.args.lits.now ++ ls)) (sym bounds)
+                (All-append (λ m. Meets above.0 m) c.args.lits.now (floors_from 0 c.args.floors.now) above.2
+                (AreMet-floors_from c.args.floors.now above.0 above.1 above.3)),
+          ),
+      λ not. c.in_ok-found.ensures.none.1 (λ possible.
+          (let met : AreMet possible.0
+          (c.args.lits.now ++ floors_from 0 c.args.floors.now) = subst (λ (ls : List Lit). AreMet possible.0 (c.args.lits.now ++ ls))
+          bounds possible.2 in
+          not (
+            possible.0,
+            possible.1,
+            All-first (λ m. Meets possible.0 m) c.args.lits.now (floors_from 0 c.args.floors.now) met,
+            floors-from_met c.args.floors.now possible.0 possible.1
+                (All-second (λ m. Meets possible.0 m) c.args.lits.now (floors_from 0 c.args.floors.now) met),
+          ))),
+    )

@@ -1,8 +1,0 @@
-use Rattle.diff_graph.specs.Literals.{answered_of}
-use Rattle.ot_prove.proofs.Possible.{IsTableOf-answered}
-use Rattle.ot_prove.proofs.split.answer.Goals as goal
-
-pub returns : goal.returns
-returns c w long stands =
-    IsTableOf-answered w (answered_of c.args.lit c.args.said) c.answered.result c.args.number c.args.table.now c.add.new.self
-    c.answered.ensures long c.add.ensures.stands stands

@@ -1,0 +1,128 @@
+//! The asker of one obligation, with its starts numbered.
+ghost use Rattle.std.specs.Prelude.{◌≡◌, IsTrue};
+ghost use Rattle.fn_rules.specs.Obligations.{is_obligation};
+ghost use Rattle.fn_rules.specs.Rules.{function_of};
+ghost use Rattle.ot_questions.specs.Names as names;
+ghost use Rattle.ot_questions.specs.Obligation.{plan_of};
+ghost use Rattle.start_laws.specs.Begun.{IsBegunProgress};
+
+use crate::numbers::{Numbers, Read};
+use ask_core::{Asker, NoMemory, Turn};
+use bumpalo::Bump;
+use diff_graph::Lit;
+use fn_rules::{ObName, Rules};
+use ot_questions::Why;
+use ot_starts::{Begun, StartAsker};
+use ot_terms::Goal;
+use plain_list::List;
+use proof_search::{Facts, Finder};
+use proof_trees::Starter;
+use start_laws::{StartAt, still_read};
+use std::alloc::Global;
+
+// What is read of a start.
+fn read_of(start: &StartAt<'_>, facts: Option<&Facts>) -> Read
+    requires { IsBegunProgress start.now.progress.now start.now.last }
+{
+    let results = start.results();
+    let got = results.as_slice();
+    Read::new(got.len(), still_read(start.progress.ob, got), facts)
+}
+
+/// What an obligation of a function asks, with a start wherever a transformation begins, and a number for each of these
+/// that is met.
+#[derive(Drop)]
+pub struct FindingStarts<'a> {
+    inner: StartAsker<'a>,
+    numbers: Numbers,
+}
+
+impl<'a> FindingStarts<'a> {
+    /// The asker of an obligation that is one of the function's. It takes no memory.
+    pub fn new(alloc: Global, bump: &'a Bump, rules: &'a Rules, ob: ObName) -> FindingStarts<'a>
+        requires { IsTrue (is_obligation (function_of rules.now).head ob) }
+        ensures root { ⟦<FindingStarts<'a> as Asker>⟧.root result ≡ plan_of (function_of rules.now) ob }
+        ensures count { ⟦<FindingStarts<'a> as Asker>⟧.name_count result ≡ names.name_count ob }
+    {
+        FindingStarts {
+            inner: StartAsker::new(bump, rules, ob),
+            numbers: Numbers::new(alloc),
+        }
+    }
+}
+
+impl<'a> Asker for FindingStarts<'a> {
+    type Node = &'a Goal<'a>;
+
+    type Why = Why;
+
+    ghost is_own = { λ a. ⟦<StartAsker<'a> as Asker>⟧.is_own a.inner };
+
+    ghost plan = { λ a. ⟦<StartAsker<'a> as Asker>⟧.plan a.inner };
+
+    ghost root = { λ a. ⟦<StartAsker<'a> as Asker>⟧.root a.inner };
+
+    ghost name_count = { λ a. ⟦<StartAsker<'a> as Asker>⟧.name_count a.inner };
+
+    fn names(&self) -> u8 {
+        self.inner.names()
+    }
+
+    fn start(&mut self) -> Result<&'a Goal<'a>, NoMemory> {
+        self.inner.start()
+    }
+
+    fn turn(&mut self, node: &'a Goal<'a>) -> Result<Turn<&'a Goal<'a>, Why>, NoMemory> {
+        self.inner.turn(node)
+    }
+
+    ghost fine = { λ a n own. own.node.fine };
+}
+
+impl<'a> Starter for FindingStarts<'a> {
+    ghost use Rattle.fn_rules.specs.Rules.{function_of};
+    ghost use Rattle.ot_starts.specs.Whole.{IsWhole-starts};
+
+    type Start = Begun;
+
+    ghost starts = { λ a. ⟦<StartAsker<'a> as Starter>⟧.starts a.inner };
+
+    fn first(&mut self) -> Result<&'a Goal<'a>, NoMemory> {
+        self.inner.first()
+    }
+
+    fn follow(&mut self, node: &'a Goal<'a>) -> Result<Turn<&'a Goal<'a>, Why>, NoMemory> {
+        self.inner.follow(node)
+    }
+
+    fn begins(&self, node: &'a Goal<'a>) -> bool {
+        self.inner.begins(node)
+    }
+
+    fn compare(
+        &mut self,
+        alloc: Global,
+        lemma: &'a Goal<'a>,
+        here: &'a Goal<'a>,
+    ) -> Result<Option<List<Lit>>, NoMemory> {
+        self.inner.compare(alloc, lemma, here)
+    }
+
+    ghost whole = { λ a. IsWhole-starts (function_of a.inner.laid) a.inner.ob a.inner.listed a.inner.lawful };
+}
+
+impl<'a> Finder for FindingStarts<'a> {
+    fn number(&mut self, node: &'a Goal<'a>) -> Result<usize, NoMemory> {
+        match self.inner.start_at(node) {
+            Some(start) => self.numbers.number(read_of(&start, None)),
+            None => Ok(0),
+        }
+    }
+
+    fn number_alike(&mut self, node: &'a Goal<'a>, facts: &Facts) -> Result<usize, NoMemory> {
+        match self.inner.start_at(node) {
+            Some(start) => self.numbers.number(read_of(&start, Some(facts))),
+            None => Ok(0),
+        }
+    }
+}

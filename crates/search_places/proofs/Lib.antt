@@ -1,0 +1,3 @@
+pub mod Possible
+pub mod Judged
+pub mod Splitting
