@@ -1,2 +1,3 @@
 mod GuardGoals
 mod FirstGoals
+mod LaidRows

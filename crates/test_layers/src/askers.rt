@@ -3,26 +3,18 @@ ghost use Rattle.std.specs.Prelude.{IsTrue};
 ghost use Rattle.fn_rules.specs.Obligations.{is_obligation};
 ghost use Rattle.fn_rules.specs.Rules.{function_of};
 
-use crate::functions::{MARKS, staying};
+use crate::functions::{BEFORE, MARKS, staying};
 use ask_core::{Asker, NoMemory, Turn};
 use bumpalo::Bump;
 use diff_graph::Lit;
-use fn_rules::{Atom, Cmp, Guard, ObName, Rules, Side, Sort};
+use fn_rules::{Guard, ObName, Rules};
 use laid_goals::by_guard;
 use ot_model::Kind;
 use ot_paths::{PathAsker, conditions_are_nodes};
 use ot_questions::Who;
-use ot_terms::{Form, Goal, Place, SymOp, Why, place_form, places_of};
+use ot_terms::{Goal, Place, SymOp, Why, place_form, places_of};
+use std::alloc::Global;
 use std::process::Abort;
-use std::test::Fail;
-
-// The position of the first operation is less than that of the second one.
-const BEFORE: Atom = Atom {
-    sort: Sort::Pos,
-    left: Side::First,
-    cmp: Cmp::Lt,
-    k: 0,
-};
 
 // Over a goal that holds where the first deletion is before the second, and fails where it is not.
 fn asker_of_guard<'a>(bump: &'a Bump, rules: &'a Rules) -> Result<PathAsker<'a>, NoMemory>
@@ -39,35 +31,48 @@ fn asker_of_guard<'a>(bump: &'a Bump, rules: &'a Rules) -> Result<PathAsker<'a>,
     Ok(PathAsker::over(bump, rules, ObName::Pair(Kind::Del, Kind::Del), goal))
 }
 
-// The guard is asked, and nothing of the obligation.
-fn guard_is_asked(rt: &impl Abort, asker: &mut PathAsker<'_>) -> Result<(), NoMemory> {
+// Whether the guard is asked, and nothing behind yes.
+fn holds_after_yes(asker: &mut PathAsker<'_>) -> Result<bool, NoMemory> {
     let start = asker.start()?;
     match asker.turn(start)? {
-        Turn::Ask { lit, yes, no } => {
-            assert_eq!(rt; lit, Lit { x: 3, y: 6, k: -1 });
-            let behind_yes = asker.turn(yes)?;
-            assert!(rt; matches!(behind_yes, Turn::Holds));
-            let behind_no = asker.turn(no)?;
-            assert!(rt; matches!(behind_no, Turn::Fails(Why::Undefined)));
+        Turn::Ask { lit, yes, .. } => {
+            let behind = asker.turn(yes)?;
+            Ok(lit == Lit { x: 3, y: 6, k: -1 } && matches!(behind, Turn::Holds))
         }
-        _ => rt.abort(),
+        _ => Ok(false),
     }
-    Ok(())
+}
+
+// Whether nothing is asked behind no.
+fn fails_after_no(asker: &mut PathAsker<'_>) -> Result<bool, NoMemory> {
+    let start = asker.start()?;
+    match asker.turn(start)? {
+        Turn::Ask { no, .. } => {
+            let behind = asker.turn(no)?;
+            Ok(matches!(behind, Turn::Fails(Why::Undefined)))
+        }
+        _ => Ok(false),
+    }
+}
+
+fn is_guard_asked(asker: &mut PathAsker<'_>) -> Result<bool, NoMemory> {
+    Ok(holds_after_yes(asker)? && fails_after_no(asker)?)
+}
+
+fn asks_a_guard(rt: &impl Abort, alloc: Global) -> Result<bool, NoMemory> {
+    let rules = staying(rt, alloc, MARKS, Kind::Del)?;
+    assert!(rt; rules.head().declares_pair(Kind::Del, Kind::Del));
+    let bump = Bump::new(alloc);
+    let mut asker = asker_of_guard(&bump, &rules)?;
+    Ok(asker.names() == 9 && is_guard_asked(&mut asker)?)
 }
 
 #[test]
-fn a_goal_of_a_guard_asks_the_guard_alone(rt: HostRuntime) -> Result<(), Fail> {
-    let rules = staying(&rt, rt.alloc(), MARKS)?;
-    let head = rules.head();
-    assert!(rt; head.declares_pair(Kind::Del, Kind::Del));
-    let bump = Bump::new(rt.alloc());
-    let mut asker = asker_of_guard(&bump, &rules)?;
-    assert!(rt; asker.names() == 9);
-    guard_is_asked(&rt, &mut asker)?;
-    Ok(())
+fn a_goal_of_a_guard_asks_the_guard_alone(rt: HostRuntime) {
+    assert!(rt; asks_a_guard(&rt, rt.alloc()) == Ok(true));
 }
 
-// What is at hand of the first question is what is asked.
+// Whether what is at hand of the first question is what is asked.
 fn is_at_hand(asker: &mut PathAsker<'_>) -> Result<bool, NoMemory> {
     let start = asker.start()?;
     let Some((asked, _)) = asker.look(start) else {
@@ -79,39 +84,33 @@ fn is_at_hand(asker: &mut PathAsker<'_>) -> Result<bool, NoMemory> {
     }
 }
 
-#[test]
-fn a_question_that_is_laid_out_is_at_hand(rt: HostRuntime) -> Result<(), Fail> {
-    let rules = staying(&rt, rt.alloc(), MARKS)?;
-    let head = rules.head();
-    assert!(rt; head.declares_pair(Kind::Del, Kind::Del));
-    let bump = Bump::new(rt.alloc());
+fn looks_at_a_pair(rt: &impl Abort, alloc: Global) -> Result<bool, NoMemory> {
+    let rules = staying(rt, alloc, MARKS, Kind::Del)?;
+    assert!(rt; rules.head().declares_pair(Kind::Del, Kind::Del));
+    let bump = Bump::new(alloc);
     let mut asker = PathAsker::new(&bump, &rules, ObName::Pair(Kind::Del, Kind::Del));
-    assert!(rt; is_at_hand(&mut asker)?);
-    Ok(())
-}
-
-// A question whether one place is at most another one, with both ends behind it.
-fn is_comparison(goal: &Goal<'_>, first: Place, second: Place) -> bool {
-    match goal {
-        Goal::If {
-            form: Form::Le(x, y),
-            yes: Goal::Holds,
-            no: Goal::Fails(Why::Undefined),
-        } => *x == first && *y == second,
-        _ => false,
-    }
+    Ok(is_at_hand(&mut asker)?)
 }
 
 #[test]
-fn a_comparison_is_laid_out_as_one_question(rt: HostRuntime) -> Result<(), Fail> {
-    let bump = Bump::new(rt.alloc());
+fn a_question_that_is_laid_out_is_at_hand(rt: HostRuntime) {
+    assert!(rt; looks_at_a_pair(&rt, rt.alloc()) == Ok(true));
+}
+
+// Whether a comparison of the guard is of these places and laid out. That it is one question is a row of
+// `proofs/LaidRows.antt`.
+fn is_laid_out(bump: &Bump) -> Result<bool, NoMemory> {
     let a = SymOp::named(Kind::Del, Who::A);
     let b = SymOp::named(Kind::Del, Who::B);
     let (first, second) = places_of(&BEFORE, &a, &b);
-    assert!(rt; first == Place { var: 3, off: 0 } && second == Place { var: 6, off: 0 });
-    let on_yes = Goal::holds(&bump)?;
-    let on_no = Goal::fails(&bump, Why::Undefined)?;
-    let goal = by_guard(&bump, &Guard::Atom(BEFORE), &a, &b, on_yes, on_no)?;
-    assert!(rt; is_comparison(goal, first, Place { var: 6, off: -1 }));
-    Ok(())
+    let on_yes = Goal::holds(bump)?;
+    let on_no = Goal::fails(bump, Why::Undefined)?;
+    let goal = by_guard(bump, &Guard::Atom(BEFORE), &a, &b, on_yes, on_no)?;
+    let is_question = matches!(goal, Goal::If { .. });
+    Ok(is_question && first == Place { var: 3, off: 0 } && second == Place { var: 6, off: 0 })
+}
+
+#[test]
+fn a_comparison_is_laid_out_as_a_question(rt: HostRuntime) {
+    assert!(rt; is_laid_out(&Bump::new(rt.alloc())) == Ok(true));
 }

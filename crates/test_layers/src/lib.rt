@@ -10,8 +10,6 @@ mod blocks;
 #[cfg(test)]
 mod checks;
 #[cfg(test)]
-mod counted_starts;
-#[cfg(test)]
 mod functions;
 #[cfg(test)]
 mod outside;

@@ -1,13 +1,42 @@
 //! A session of two sites: how many forms it counts, and what it knows of its operations. What sites hold behind
 //! sessions, and each refusal, are rows of `checks/tables/replay.rows`.
 use crate::functions::{MARKS, staying};
-use fn_rules::Head;
-use ot_model::{Doc, Op};
+use fn_rules::{Head, NoMemory};
+use ot_model::{Doc, Kind, Op};
 use ot_session::{Make, Session, SiteEnd, Took};
-use std::test::Fail;
+use std::alloc::Global;
+use std::process::Abort;
+
+const INSERTIONS: Head = Head {
+    ins: true,
+    del: false,
+    ..MARKS
+};
+
+// A session of two sites on an empty document.
+fn begun(rt: &impl Abort, alloc: Global) -> Result<Session, NoMemory> {
+    let rules = staying(rt, alloc, INSERTIONS, Kind::Ins)?;
+    Ok(Session::new(alloc, &rules, &Doc::new(alloc), 2)?)
+}
 
 fn is_made(session: &mut Session, site: u32, op: Op, want: Result<u32, Make>) -> bool {
     session.is_open() && session.make(site, op) == want
+}
+
+// Each site makes four operations.
+fn are_made(session: &mut Session) -> bool {
+    for number in 0..8 {
+        let site = number / 4 + 1;
+        let op = Op::Ins {
+            at: 0,
+            ch: 'a',
+            site,
+        };
+        if !is_made(session, site, op, Ok(number)) {
+            return false;
+        }
+    }
+    true
 }
 
 // The first site takes the operation, and so many forms are counted then.
@@ -15,6 +44,11 @@ fn is_taken(session: &mut Session, number: u32, forms: u64) -> bool {
     session.is_open()
         && matches!(session.take(1, number), Ok(Took::Done(_)))
         && session.forms() == forms
+}
+
+// Of each operation that is taken as many forms as the site made, and from the second on of those as many again.
+fn are_taken(session: &mut Session) -> bool {
+    is_taken(session, 4, 4) && is_taken(session, 5, 12) && is_taken(session, 6, 20)
 }
 
 // What the first site has, which took three operations behind its four.
@@ -38,31 +72,16 @@ fn are_ends(ends: &[SiteEnd]) -> bool {
     }
 }
 
+fn is_played(rt: &impl Abort, alloc: Global) -> Result<bool, NoMemory> {
+    let mut session = begun(rt, alloc)?;
+    let played = is_made(&mut session, 1, Op::Nop, Err(Make::WrongSite))
+        && are_made(&mut session)
+        && are_taken(&mut session)
+        && is_first_site(&session);
+    Ok(played && are_ends(session.into_ends()?.as_slice()))
+}
+
 #[test]
-fn each_form_is_counted_once(rt: HostRuntime) -> Result<(), Fail> {
-    let alloc = rt.alloc();
-    let insertions = Head {
-        ins: true,
-        del: false,
-        ..MARKS
-    };
-    let rules = staying(&rt, alloc, insertions)?;
-    let mut session = Session::new(alloc, &rules, &Doc::new(alloc), 2)?;
-    assert!(rt; is_made(&mut session, 1, Op::Nop, Err(Make::WrongSite)));
-    for number in 0..8 {
-        let site = number / 4 + 1;
-        let op = Op::Ins {
-            at: 0,
-            ch: 'a',
-            site,
-        };
-        assert!(rt; is_made(&mut session, site, op, Ok(number)));
-    }
-    // Of each operation that is taken as many forms as the site made, and from the second on of those as many again.
-    for (number, forms) in [(4, 4), (5, 12), (6, 20)] {
-        assert!(rt; is_taken(&mut session, number, forms));
-    }
-    assert!(rt; is_first_site(&session));
-    assert!(rt; are_ends(session.into_ends()?.as_slice()));
-    Ok(())
+fn each_form_is_counted_once(rt: HostRuntime) {
+    assert!(rt; is_played(&rt, rt.alloc()) == Ok(true));
 }

@@ -1,81 +1,96 @@
 //! Where the transformations of a pair begin.
-ghost use Rattle.std.specs.Prelude.{IfOk};
+ghost use Rattle.std.specs.Prelude.{IfOk, IfSome};
 
 use crate::functions::asking;
 use ask_core::{NoMemory, Turn};
 use bumpalo::Bump;
-use diff_graph::Lit;
 use fn_rules::ObName;
 use ot_model::Kind;
 use ot_starts::StartAsker;
-use plain_list::List;
 use proof_trees::Starter;
 use std::alloc::Global;
 use std::process::Abort;
-use std::test::Fail;
 
-// The node after an answer to the question at a node.
-fn answered<A: Starter>(
-    rt: &impl Abort,
-    asker: &mut A,
-    node: A::Node,
-    says_yes: bool,
-) -> Result<A::Node, NoMemory>
-    requires { A.is_own asker.old node }
-    ensures own { IfOk result (λ n. A.is_own asker.new n) }
+// The node after answers, a `y` for each yes, or none where the plan ends before.
+fn node_after<A: Starter>(asker: &mut A, answers: &str) -> Result<Option<A::Node>, NoMemory>
+    ensures own { IfOk result (λ found. IfSome found (λ n. A.is_own asker.new n)) }
     ensures kept { (n : A.Node) → A.is_own asker.old n → A.is_own asker.new n }
 {
-    match asker.follow(node)? {
-        Turn::Ask { yes, no, .. } => { if says_yes { Ok(yes) } else { Ok(no) } }
-        _ => rt.abort(),
+    let mut node = asker.first()?;
+    for answer in answers.as_bytes() {
+        match asker.follow(node)? {
+            Turn::Ask { yes, no, .. } => {
+                node = if *answer == b'y' { yes } else { no };
+            }
+            _ => return Ok(None),
+        }
+    }
+    Ok(Some(node))
+}
+
+fn begins_after<A: Starter>(asker: &mut A, answers: &str) -> Result<Option<bool>, NoMemory> {
+    match node_after(asker, answers)? {
+        Some(node) => Ok(Some(asker.begins(node))),
+        None => Ok(None),
     }
 }
 
-// Past the length and the places of both deletions the first transformation begins. Whatever it is answered, its result
-// is the same one, so both places behind it are one start.
-fn transformations_begin<A: Starter>(
-    rt: &impl Abort,
+// How many conditions there are for a lemma of what follows some answers to serve after other ones.
+fn conditions_after<A: Starter>(
     alloc: Global,
     asker: &mut A,
-) -> Result<bool, NoMemory> {
-    let root = asker.first()?;
-    let early = asker.begins(root);
-    let long = answered(rt, asker, root, true)?;
-    let a_low = answered(rt, asker, long, true)?;
-    let a_high = answered(rt, asker, a_low, true)?;
-    let b_low = answered(rt, asker, a_high, true)?;
-    let still_early = asker.begins(b_low);
-    let first = answered(rt, asker, b_low, true)?;
-    let on_yes = answered(rt, asker, first, true)?;
-    let on_no = answered(rt, asker, first, false)?;
-    let begun = asker.begins(first) && asker.begins(on_yes) && asker.begins(on_no);
-    let same = asker.compare(alloc, on_yes, on_no)?;
-    let other = asker.compare(alloc, first, on_yes)?;
-    let last = answered(rt, asker, on_yes, true)?;
+    lemma: &str,
+    here: &str,
+) -> Result<Option<usize>, NoMemory> {
+    let Some(lemma) = node_after(asker, lemma)? else {
+        return Ok(None);
+    };
+    let Some(here) = node_after(asker, here)? else {
+        return Ok(None);
+    };
     Ok(
-        !early
-            && !still_early
-            && begun
-            && has_no_conditions(&same)
-            && other.is_none()
-            && !asker.begins(last),
+        asker
+            .compare(alloc, lemma, here)?
+            .map(|conditions| conditions.len()),
     )
 }
 
-fn has_no_conditions(found: &Option<List<Lit>>) -> bool {
-    match found {
-        Some(conditions) => conditions.is_empty(),
-        None => false,
+// Past the length and the places of both deletions the first transformation begins, and the second one behind both of
+// its answers.
+const BEGINNINGS: &[(&str, bool)] = &[
+    ("", false),
+    ("yyyy", false),
+    ("yyyyy", true),
+    ("yyyyyy", true),
+    ("yyyyyn", true),
+    ("yyyyyyy", false),
+];
+
+fn begins_as_told<A: Starter>(asker: &mut A) -> Result<bool, NoMemory> {
+    for (answers, want) in BEGINNINGS {
+        if begins_after(asker, answers)? != Some(*want) {
+            return Ok(false);
+        }
     }
+    Ok(true)
+}
+
+// Whatever the first transformation is answered, its result is the same one, so both places behind it are one start.
+fn compares_as_told<A: Starter>(alloc: Global, asker: &mut A) -> Result<bool, NoMemory> {
+    let same = conditions_after(alloc, asker, "yyyyyy", "yyyyyn")?;
+    let other = conditions_after(alloc, asker, "yyyyy", "yyyyyy")?;
+    Ok(same == Some(0) && other.is_none())
+}
+
+fn starts_as_told(rt: &impl Abort, alloc: Global) -> Result<bool, NoMemory> {
+    let rules = asking(rt, alloc)?;
+    assert!(rt; rules.head().declares_pair(Kind::Del, Kind::Del));
+    let bump = Bump::new(alloc);
+    let mut asker = StartAsker::new(&bump, &rules, ObName::Pair(Kind::Del, Kind::Del));
+    Ok(begins_as_told(&mut asker)? && compares_as_told(alloc, &mut asker)?)
 }
 
 #[test]
-fn both_transformations_of_a_pair_begin_at_starts(rt: HostRuntime) -> Result<(), Fail> {
-    let rules = asking(&rt, rt.alloc())?;
-    let head = rules.head();
-    assert!(rt; head.declares_pair(Kind::Del, Kind::Del));
-    let bump = Bump::new(rt.alloc());
-    let mut asker = StartAsker::new(&bump, &rules, ObName::Pair(Kind::Del, Kind::Del));
-    assert!(rt; transformations_begin(&rt, rt.alloc(), &mut asker)?);
-    Ok(())
+fn both_transformations_of_a_pair_begin_at_starts(rt: HostRuntime) {
+    assert!(rt; starts_as_told(&rt, rt.alloc()) == Ok(true));
 }
