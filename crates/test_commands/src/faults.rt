@@ -1,9 +1,8 @@
 //! Faults of the outside.
-ghost use Rattle.std.specs.Prelude.{◌<◌};
-
 use crate::samples::{MARKS_CERT, MARKS_OT, SITES_OT, TTF_OT};
-use crate::setting::{Files, sink_of, status_of, tells_faults};
-use std::alloc::{AllocError, Global};
+use crate::setting::{Files, answers, shelf_of, status_of, tells_faults};
+use ot_outside::MemSink;
+use std::test::Fail;
 
 const FILES: Files<'static> = &[
     ("marks.ot", MARKS_OT),
@@ -54,47 +53,45 @@ const COMMANDS: &[(&str, u32, u8, &str)] = &[
 ];
 
 #[test]
-fn faults_of_the_outside_are_told(rt: HostRuntime) {
+fn faults_of_the_outside_are_told(rt: HostRuntime) -> Result<(), Fail> {
     for (line, calls, status, text) in COMMANDS {
-        let told = tells_faults(rt.alloc(), FILES, line, *calls, *status, text.as_bytes());
-        assert!(rt; told == Ok(true), "{line}");
+        assert!(rt;
+            tells_faults(rt.alloc(), FILES, line, *calls, *status, text.as_bytes())?,
+            "{line}"
+        );
     }
+    Ok(())
 }
 
-// Whether `CHECK` ends with the status and has written the text, over a sink of some room that takes so many bytes at a
-// call.
-fn is_written(
-    alloc: Global,
-    room: usize,
-    per_call: usize,
-    status: u8,
-    text: &[u8],
-) -> Result<bool, AllocError>
-    requires { 0 < per_call }
-{
-    let mut sink = sink_of(alloc, room, per_call, 0)?;
-    let found = status_of(alloc, FILES, 0, CHECK, &mut sink)?;
-    Ok(found == status && sink.written() == text)
-}
+// The room of a sink, how many bytes it takes at a call, the status of `CHECK` and what it writes.
+const SINKS: &[(usize, usize, u8, &str)] = &[
+    (13, 1, 0, "accepted tp1\n"),
+    (13, 5, 0, "accepted tp1\n"),
+    (4, 3, 7, "acce"),
+    (0, 1, 7, ""),
+];
 
 #[test]
-fn a_reply_is_written_in_any_pieces(rt: HostRuntime) {
+fn a_reply_is_written_in_any_pieces(rt: HostRuntime) -> Result<(), Fail> {
     let alloc = rt.alloc();
-    assert!(rt; is_written(alloc, 13, 1, 0, b"accepted tp1\n") == Ok(true));
-    assert!(rt; is_written(alloc, 13, 5, 0, b"accepted tp1\n") == Ok(true));
-    assert!(rt; is_written(alloc, 4, 3, 7, b"acce") == Ok(true));
-    assert!(rt; is_written(alloc, 0, 1, 7, b"") == Ok(true));
-}
-
-// Whether a certificate is written whole, or a front of it where a byte is not taken, or nothing where a call of the
-// shelf fails. The calls of the shelf: open, read, read at the end.
-fn is_certificate_told(alloc: Global, line: &str) -> Result<bool, AllocError> {
-    let mut sink = sink_of(alloc, 1_024, 1_024, 0)?;
-    let status = status_of(alloc, FILES, 0, line, &mut sink)?;
-    Ok(status == 0 && tells_faults(alloc, FILES, line, 3, 0, sink.written())?)
+    for (room, per_call, status, text) in SINKS {
+        let sink = MemSink::new(alloc, *room, *per_call, Vec::new(alloc))?;
+        let shelf = shelf_of(alloc, FILES, 0)?;
+        assert!(rt;
+            answers(alloc, CHECK, shelf, sink, *status, text.as_bytes())?,
+            "{room} bytes"
+        );
+    }
+    Ok(())
 }
 
 #[test]
-fn a_fault_leaves_nothing_or_a_front_of_a_certificate(rt: HostRuntime) {
-    assert!(rt; is_certificate_told(rt.alloc(), "prove --tp1 marks.ot") == Ok(true));
+fn a_fault_leaves_nothing_or_a_front_of_a_certificate(rt: HostRuntime) -> Result<(), Fail> {
+    let alloc = rt.alloc();
+    let mut sink = MemSink::new(alloc, 65_536, 65_536, Vec::new(alloc))?;
+    let line = "prove --tp1 marks.ot";
+    assert!(rt; status_of(alloc, line, shelf_of(alloc, FILES, 0)?, &mut sink)? == 0);
+    // The calls of the shelf: open, read, read at the end.
+    assert!(rt; tells_faults(alloc, FILES, line, 3, 0, sink.written())?);
+    Ok(())
 }

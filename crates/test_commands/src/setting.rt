@@ -1,6 +1,4 @@
 //! A command over files in memory.
-ghost use Rattle.std.specs.Prelude.{◌<◌};
-
 use ot_outside::{MemShelf, MemSink};
 use ot_top::run;
 use std::alloc::{AllocError, Global};
@@ -17,55 +15,43 @@ fn words_of(alloc: Global, line: &str) -> Result<Vec<String>, AllocError> {
     Ok(words)
 }
 
-// A shelf with these files, whose call of this number fails.
-fn shelf_of(alloc: Global, files: Files<'_>, failing: u32) -> Result<MemShelf, AllocError> {
+/// A shelf with these files, whose call of this number fails.
+pub fn shelf_of(alloc: Global, files: Files<'_>, failing: u32) -> Result<MemShelf, AllocError> {
     let mut held = Vec::new(alloc);
     for (name, text) in files {
         let name = String::from_str(alloc, name)?;
         let bytes = Vec::from_slice(alloc, text.as_bytes())?;
         held.push((name, bytes))?;
     }
-    Ok(MemShelf::new(held, Vec::from_slice(alloc, &[failing])?))
+    Ok(MemShelf::new(held, vec![in alloc; failing]?))
 }
 
-/// A sink of so much room that takes so many bytes at a call, of which the one of this number fails.
-pub fn sink_of(
-    alloc: Global,
-    room: usize,
-    per_call: usize,
-    failing: u32,
-) -> Result<MemSink, AllocError>
-    requires { 0 < per_call }
-{
-    Ok(MemSink::new(alloc, room, per_call, Vec::from_slice(alloc, &[failing])?)?)
+/// A sink that takes a byte at a call, of which the one of this number fails.
+fn sink_of_bytes(alloc: Global, failing: u32) -> Result<MemSink, AllocError> {
+    Ok(MemSink::new(alloc, 1_024, 1, vec![in alloc; failing]?)?)
 }
 
-/// The status of a command over these files, where a call of the shelf fails, which writes to the sink.
+/// The status of a command over a shelf, which writes to the sink.
 pub fn status_of(
     alloc: Global,
-    files: Files<'_>,
-    failing: u32,
     line: &str,
+    mut shelf: MemShelf,
     sink: &mut MemSink,
 ) -> Result<u8, AllocError> {
-    let mut shelf = shelf_of(alloc, files, failing)?;
     let words = words_of(alloc, line)?;
     Ok(run(alloc, words.as_slice(), &mut shelf, sink))
 }
 
-/// Whether a command over these files ends with the status and has written the text, where this call of the shelf fails,
-/// and this one of a sink that takes a byte at a call. No call has the number 0.
+/// Whether a command over this shelf ends with the status and has written the text.
 pub fn answers(
     alloc: Global,
-    files: Files<'_>,
     line: &str,
-    failing: u32,
-    byte: u32,
+    shelf: MemShelf,
+    mut sink: MemSink,
     status: u8,
     text: &[u8],
 ) -> Result<bool, AllocError> {
-    let mut sink = sink_of(alloc, 1_024, 1, byte)?;
-    let found = status_of(alloc, files, failing, line, &mut sink)?;
+    let found = status_of(alloc, line, shelf, &mut sink)?;
     Ok(found == status && sink.written() == text)
 }
 
@@ -77,7 +63,8 @@ fn tells_failed_calls(
     calls: u32,
 ) -> Result<bool, AllocError> {
     for call in 1..=calls {
-        if !answers(alloc, files, line, call, 0, 6, b"")? {
+        let shelf = shelf_of(alloc, files, call)?;
+        if !answers(alloc, line, shelf, sink_of_bytes(alloc, 0)?, 6, b"")? {
             return Ok(false);
         }
     }
@@ -91,13 +78,20 @@ fn tells_failed_bytes(
     line: &str,
     text: &[u8],
 ) -> Result<bool, AllocError> {
-    for place in 0..text.len() {
-        let Ok(call) = u32::try_from(place + 1) else {
-            return Ok(false);
-        };
-        if !answers(alloc, files, line, 0, call, 7, &text[..place])? {
+    let mut front = Vec::new(alloc);
+    for (byte, call) in text.iter().zip(1..1_000) {
+        let shelf = shelf_of(alloc, files, 0)?;
+        if !answers(
+            alloc,
+            line,
+            shelf,
+            sink_of_bytes(alloc, call)?,
+            7,
+            front.as_slice(),
+        )? {
             return Ok(false);
         }
+        front.push(*byte)?;
     }
     Ok(true)
 }
@@ -112,8 +106,9 @@ pub fn tells_faults(
     status: u8,
     text: &[u8],
 ) -> Result<bool, AllocError> {
+    let shelf = shelf_of(alloc, files, calls.saturating_add(1))?;
     Ok(
-        answers(alloc, files, line, calls.saturating_add(1), 0, status, text)?
+        answers(alloc, line, shelf, sink_of_bytes(alloc, 0)?, status, text)?
             && tells_failed_calls(alloc, files, line, calls)?
             && tells_failed_bytes(alloc, files, line, text)?,
     )
