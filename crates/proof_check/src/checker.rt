@@ -15,7 +15,7 @@ ghost use Rattle.proof_check.specs.Steps.{IsTaken};
 ghost use Rattle.proof_check.specs.Judging.{IsProofStep, BeginsNothingWanted, IsProofCauseOf, IsWantOfMemory};
 ghost use Rattle.proof_check.specs.Judging.{standing_at};
 
-use crate::token::{question_at, take_end, take_token};
+use crate::token::{question_at, take_token};
 use crate::verdict::ProofError;
 use ask_core::NoMemory;
 use cert_check::{Progress, Question};
@@ -198,28 +198,6 @@ impl<A: Starter> ProofChecker<A> {
         ensures fresh { self.new.refusal ≡ None }
     {
         match self.places.close() {
-            Ok(()) if self.places.is_open() => Some(Progress::More),
-            Ok(()) => Some(Progress::Done),
-            Err(_) => None,
-        }
-    }
-
-    /// Takes `.` at the first open place, where a tree is wanted there whose plan holds, and there is memory. Otherwise
-    /// all is as it was.
-    #[inline(always)]
-    pub fn end(&mut self) -> Option<Progress>
-        requires fresh { self.old.refusal ≡ None }
-        requires open { 0 < length self.old.places.wanted }
-        ensures taken { (p : Progress) → result ≡ Some p → IsTaken (A.starts self.old.asker).compare token.Holds
-            (standing_at A.starts self.old) (standing_at A.starts self.new) }
-        ensures open { result ≡ Some progress.More → 0 < length self.new.places.wanted }
-        ensures closed { result ≡ Some progress.Done → self.new.places.wanted ≡ [] }
-        ensures not_taken { result ≡ None → standing_at A.starts self.new ≡ standing_at A.starts self.old }
-        ensures still { result ≡ None → 0 < length self.new.places.wanted }
-        ensures fresh { self.new.refusal ≡ None }
-        ensures compare { (A.starts self.new.asker).compare ≡ (A.starts self.old.asker).compare }
-    {
-        match take_end(&mut self.asker, &mut self.places) {
             Ok(()) if self.places.is_open() => Some(Progress::More),
             Ok(()) => Some(Progress::Done),
             Err(_) => None,

@@ -39,11 +39,8 @@ fn take_cycle<N: Copy>(places: &mut Places<N>, picks: &Picks) -> Result<(), Proo
     Ok(())
 }
 
-/// Takes `.`: it closes the first place where the plan holds there.
-pub(crate) fn take_end<A: Starter>(
-    asker: &mut A,
-    places: &mut Places<A::Node>,
-) -> Result<(), ProofError>
+// Takes `.`: it closes the first place where the plan holds there.
+fn take_end<A: Starter>(asker: &mut A, places: &mut Places<A::Node>) -> Result<(), ProofError>
     requires open { 0 < length places.old.wanted }
     requires own { AreOwnPlaces (A.is_own asker.old) places.old }
     ensures ok { OnOk result (IsTaken (A.starts asker.old).compare token.Holds

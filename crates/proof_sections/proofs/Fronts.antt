@@ -56,9 +56,6 @@ module _ (exact : AreFound) where
   question_found : (rest : List ℕ) → token_front (63 ∷ rest) ≡ Found token.Ask rest
   question_found rest = (exact.found token.Ask (63 ∷ rest) rest).1 (tt, refl)
 
-  end_found : (rest : List ℕ) → token_front (46 ∷ rest) ≡ Found token.Holds rest
-  end_found rest = (exact.found token.Holds (46 ∷ rest) rest).1 (tt, refl)
-
   -- the cycle behind an `x`
   cycle_found :
       AreAlike → (lits : List Lit) (bytes : List ℕ) (len : ℕ) (front : IsCycleFront lits bytes len)
@@ -79,17 +76,6 @@ module _ (exact : AreFound) where
       omega arith,
       λ total.
           front_leads exact compare total More token.Ask (63 ∷ rest) rest old starts q (question_found rest) taken (λ e. some) (λ e. absurd (cc)),
-    )
-
-    -- an end does, or to the end of the tree
-    pub end_leads :
-        (p : Progress) (rest : List ℕ) → IsTaken compare token.Holds old (standing_over starts q)
-        → (p ≡ More → 0 < length q.wanted) → (p ≡ Done → q.wanted ≡ [])
-        → FrontLeadsTo compare (46 ∷ rest) p old (standing_over starts q) 1
-    end_leads p rest taken some none = (
-      omega arith,
-      omega arith,
-      λ total. front_leads exact compare total p token.Holds (46 ∷ rest) rest old starts q (end_found rest) taken some none,
     )
 
     -- a cycle does, or to the end

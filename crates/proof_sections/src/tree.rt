@@ -1,5 +1,5 @@
 //! The tree of an obligation, judged token by token.
-ghost use Rattle.std.specs.Prelude.{◌≡◌, ℕ, ◌<◌, ◌≤◌, List, ◌∷◌, length, drop, None, IfOk, IfErr, IfSome, IfNone};
+ghost use Rattle.std.specs.Prelude.{◌≡◌, ◌<◌, ◌≤◌, ◌∷◌, length, drop, None, IfOk, IfErr, IfSome, IfNone};
 ghost use Rattle.cert_check.specs.declared.verdict.Progress.TheVariants as progress;
 ghost use Rattle.proof_check.specs.Judging.{standing_at};
 ghost use Rattle.proof_sections.specs.declared.refusal.ConfirmError.TheVariants as confirm;
@@ -135,23 +135,6 @@ fn take_cycle<A: Starter>(checker: &mut ProofChecker<A>, rest: &[u8]) -> Option<
     Some((checker.close()?, len + 1))
 }
 
-// Takes the `.` before some bytes: whether the tree goes on, and how many bytes that is.
-#[inline(always)]
-fn take_end<A: Starter>(checker: &mut ProofChecker<A>) -> Option<(Progress, usize)>
-    requires open { 0 < length checker.old.places.wanted }
-    requires fresh { checker.old.refusal ≡ None }
-    ensures leads { (rest : List ℕ) → IfSome result (λ r. FrontLeadsTo (A.starts checker.old.asker).compare (46 ∷ rest)
-        r.0 (standing_at A.starts checker.old) (standing_at A.starts checker.new) r.1) }
-    ensures none { IfNone result (standing_at A.starts checker.new ≡ standing_at A.starts checker.old) }
-    ensures open { IfSome result (λ r. r.0 ≡ progress.More → 0 < length checker.new.places.wanted) }
-    ensures still { IfNone result (0 < length checker.new.places.wanted) }
-    ensures fresh { checker.new.refusal ≡ None }
-    ensures compare { (A.starts checker.new.asker).compare ≡ (A.starts checker.old.asker).compare }
-{
-    tokens_are_found_exactly();
-    Some((checker.end()?, 1))
-}
-
 // Takes the token at the front of some bytes where it stands there whole and may be taken, and may be a second one with
 // it: whether the tree goes on, and how many bytes they have.
 #[inline(always)]
@@ -170,7 +153,6 @@ fn take_front<A: Starter>(checker: &mut ProofChecker<A>, bytes: &[u8]) -> Option
     match *first {
         b'?' => Some((Progress::More, take_question(checker, rest)?)),
         b'x' => take_cycle(checker, rest),
-        b'.' => take_end(checker),
         _ => None,
     }
 }
