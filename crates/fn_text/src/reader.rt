@@ -1,6 +1,6 @@
 //! What the reader has read, and what each token that can go on makes of it.
 
-ghost use Rattle.std.specs.Prelude.{◌≡◌, IfOk, OnOk, map, option_map, Ok, None, [], ◌<◌};
+ghost use Rattle.std.specs.Prelude.{◌≡◌, IfOk, OnOk, map, option_map, Ok, None, [], ◌<◌, ◌≤◌, length};
 ghost use Rattle.fn_rules.specs.Formulas.{formula_of};
 ghost use Rattle.fn_rules.specs.Building.{block_of};
 ghost use Rattle.fn_moves.specs.Meaning.{res_of, signed, to_formulas};
@@ -15,8 +15,8 @@ use crate::NoMemory;
 use crate::behind::go_behind;
 use crate::stop::TextError;
 use fn_moves::{Control, FaultKind, TextFault, TokenMove, Want, Written};
-use fn_rules::{Atom, Block, Case, Cmp, Guard, Head, Res, Side, Sort};
-use fn_tokens::{Lexer, Placed, Sign};
+use fn_rules::{Atom, Block, Case, Cmp, Guard, Head, MAX_ATOMS, Res, Side, Sort};
+use fn_tokens::{FrontComparison, FrontOffset, Lexer, Placed, Sign};
 use ot_model::Kind;
 use std::alloc::Global;
 use std::mem;
@@ -351,6 +351,42 @@ impl FunctionReader {
         }
     }
 
+    /// Reads an offset that comes next, where one may come and it is told at once.
+    #[inline(always)]
+    fn shift_next(&mut self, tokens: &mut Lexer<'_>)
+        ensures same { read_from to_formulas (state_of self.new) tokens.new
+            ≡ read_from to_formulas (state_of self.old) tokens.old }
+        ensures shorter { length tokens.new ≤ length tokens.old }
+    {
+        match self.control.want {
+            Want::Offset(left, cmp) => {
+                if let Some(FrontOffset { sign, number }) = tokens.offset() {
+                    self.shift(left, cmp, sign, number);
+                }
+            }
+            _ => {}
+        }
+    }
+
+    /// Reads a comparison that comes next, with its offset, where an operand may come and it is told at once.
+    #[inline(always)]
+    fn compare_next(&mut self, tokens: &mut Lexer<'_>)
+        ensures same { read_from to_formulas (state_of self.new) tokens.new
+            ≡ read_from to_formulas (state_of self.old) tokens.old }
+        ensures shorter { length tokens.new ≤ length tokens.old }
+    {
+        match self.control.want {
+            Want::Operand if self.control.atoms < MAX_ATOMS => {
+                if let Some(FrontComparison { sort, left, cmp }) = tokens.comparison() {
+                    self.control.atoms += 1;
+                    self.compare(sort, left, cmp);
+                    self.shift_next(tokens);
+                }
+            }
+            _ => {}
+        }
+    }
+
     /// The head and the blocks, once the file has ended.
     fn ended(self) -> Result<(Head, Vec<Block>), TextError>
         ensures { GivesView (λ x. (x.0, map block_of x.1.items)) result (ended (state_of self) self.control.want) }
@@ -376,6 +412,7 @@ pub(crate) fn read_tokens(alloc: Global, tokens: Lexer<'_>) -> Result<(Head, Vec
     let mut reader = FunctionReader::new(alloc);
     while let Some(at) = tokens.next() {
         reader.turn(alloc, &at)?;
+        reader.compare_next(&mut tokens);
     }
     reader.ended()
 }

@@ -50,14 +50,14 @@ Lexes token text =
     seen (spot line column after 0) (text ++ sep ∷ rest) ≡ token ∷ seen (spot line (further (length text) column) true 0) (sep ∷ rest)
 
 -- a letter is nothing else
-record IsLetter (byte : ℕ) : Type 0 where
-  line_end : is_line_end byte ≡ false
-  blank : is_blank byte ≡ false
-  comment : (byte == 35) ≡ false
-  letter : is_letter byte ≡ true
+pub record IsLetter (byte : ℕ) : Type 0 where
+  pub line_end : is_line_end byte ≡ false
+  pub blank : is_blank byte ≡ false
+  pub comment : (byte == 35) ≡ false
+  pub letter : is_letter byte ≡ true
 
 -- by the test
-IsLetter-from_test : (byte : ℕ) → is_letter byte ≡ true → IsLetter byte
+pub IsLetter-from_test : (byte : ℕ) → is_letter byte ≡ true → IsLetter byte
 IsLetter-from_test byte h = record {
   line_end = grind (arith, nat_tests);
   blank = grind (arith, nat_tests);
@@ -165,15 +165,15 @@ word_lexes words.Nop = run_lexes _ 110 (codes "op") (IsLetter-from_test 110 refl
 word_lexes words.End = run_lexes _ 101 (codes "nd") (IsLetter-from_test 101 refl) refl (word_token-spelling words.End)
 
 -- a byte of a digit is nothing else
-record IsDigit (byte : ℕ) : Type 0 where
-  line_end : is_line_end byte ≡ false
-  blank : is_blank byte ≡ false
-  comment : (byte == 35) ≡ false
-  letter : is_letter byte ≡ false
-  digit : is_digit byte ≡ true
+pub record IsDigit (byte : ℕ) : Type 0 where
+  pub line_end : is_line_end byte ≡ false
+  pub blank : is_blank byte ≡ false
+  pub comment : (byte == 35) ≡ false
+  pub letter : is_letter byte ≡ false
+  pub digit : is_digit byte ≡ true
 
 -- by the digit
-IsDigit-below : (d : ℕ) → d < 10 → IsDigit (48 + d)
+pub IsDigit-below : (d : ℕ) → d < 10 → IsDigit (48 + d)
 IsDigit-below d below = record {
   line_end = grind (arith, nat_tests);
   blank = grind (arith, nat_tests);

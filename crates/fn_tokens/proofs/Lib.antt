@@ -3,3 +3,4 @@ pub mod LexesBack
 pub mod Ends
 pub mod Size
 pub mod Passing
+pub mod Ahead

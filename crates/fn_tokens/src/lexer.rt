@@ -1,13 +1,15 @@
 //! From bytes to tokens, in one pass.
 
 ghost use Rattle.std.specs.Prelude.{◌≡◌, ◌+◌, ◌^◌, ◌<◌, ◌≤◌, ◌++◌, [], drop, length, slice_index, option_to_list};
-ghost use Rattle.std.specs.Prelude.{IfOk, IfNone};
+ghost use Rattle.std.specs.Prelude.{IfOk, IfNone, IfSome};
 ghost use Rattle.std.specs.List.{prefix_len};
 ghost use Rattle.fn_tokens.specs.Tokens.{tokens_in, TokensEndFiles, is_letter, is_digit, is_blank, is_in, number_from};
 ghost use Rattle.fn_tokens.specs.Tokens.{sign_token, front_less, front_word, front_number, front_of, tokens_at};
+ghost use Rattle.fn_tokens.specs.Comparisons.{BeginsWith, BeginsWithOffset};
 ghost use Rattle.fn_tokens.specs.Tokens.{cursor_after, placed_at, line_end_at, stepped, below, tokens_from, IsPlaceIn};
 
 use crate::NoMemory;
+use crate::comparison::{FrontComparison, FrontOffset, comparison_front, offset_front};
 use crate::token::{Placed, Sign, Token, word_of};
 use fn_rules::Cmp;
 use std::alloc::Global;
@@ -371,6 +373,39 @@ impl<'a> Lexer<'a> {
         }
         self.ended = true;
         Some(self.place.with(Token::FileEnd))
+    }
+
+    /// The comparison of two positions or of two sites whose three tokens come next, where these are spelled as most
+    /// are: with a space between two of them, and by a sign of one byte. They are passed then.
+    #[inline(always)]
+    pub fn comparison(&mut self) -> Option<FrontComparison>
+        ensures some { IfSome result (λ c. BeginsWith c self.old self.new) }
+        ensures none { IfNone result (self.new ≡ self.old) }
+    {
+        if self.ended {
+            return None;
+        }
+        let (comparison, len) = comparison_front(&self.bytes[self.passed..])?;
+        self.place.column += len as u32;
+        self.place.after = true;
+        self.passed += len;
+        Some(comparison)
+    }
+
+    /// The offset behind a token, whose sign and number come next, where these are spelled as most are: with a space
+    /// before each, and with one or two digits. They are passed then.
+    #[inline(always)]
+    pub fn offset(&mut self) -> Option<FrontOffset>
+        ensures some { IfSome result (λ offset. BeginsWithOffset offset self.old self.new) }
+        ensures none { IfNone result (self.new ≡ self.old) }
+    {
+        if self.ended || !self.place.after {
+            return None;
+        }
+        let (offset, len) = offset_front(&self.bytes[self.passed..])?;
+        self.place.column += len as u32;
+        self.passed += len;
+        Some(offset)
     }
 }
 

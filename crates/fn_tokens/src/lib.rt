@@ -4,10 +4,12 @@
 //! tokens in lines.
 #![tactic(auto)]
 
+mod comparison;
 mod lexer;
 mod spelling;
 mod token;
 
+pub use comparison::{FrontComparison, FrontOffset};
 pub use lexer::{Lexer, lex, tokens_end_files};
 pub use spelling::{lines_lex_back, spell};
 pub use std::alloc::AllocError as NoMemory;

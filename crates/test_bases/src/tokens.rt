@@ -1,5 +1,6 @@
 //! The tokens of a text with their places, and the bytes of tokens. Rows of more of them are `proofs/TokenRows.antt`.
-use fn_tokens::{Lexer, Placed, Token, Word, lex, spell};
+use fn_rules::{Cmp, Side, Sort};
+use fn_tokens::{FrontComparison, FrontOffset, Lexer, Placed, Sign, Token, Word, lex, spell};
 use std::test::Fail;
 
 fn placed(token: Token, line: u32, column: u32) -> Placed {
@@ -37,6 +38,36 @@ fn a_lexer_finds_one_token_after_another(rt: HostRuntime) -> Result<(), Fail> {
         }
     }
     assert!(rt; are_those_of_or(found.as_slice()));
+    Ok(())
+}
+
+fn is_less(found: Option<FrontComparison>) -> bool {
+    match found {
+        Some(FrontComparison { sort, left, cmp }) => {
+            sort == Sort::Pos && left == Side::First && cmp == Cmp::Lt
+        }
+        None => false,
+    }
+}
+
+fn is_less_by(number: u8, found: Option<FrontOffset>) -> bool {
+    match found {
+        Some(offset) => offset.sign == Sign::Minus && offset.number == number,
+        None => false,
+    }
+}
+
+#[test]
+fn a_comparison_and_its_offset_are_passed_at_once(rt: HostRuntime) -> Result<(), Fail> {
+    let mut lexer = Lexer::new(b" p1 < p2 - 59 or");
+    assert!(rt; lexer.offset().is_none());
+    assert!(rt; is_less(lexer.comparison()));
+    assert!(rt; is_less_by(59, lexer.offset()));
+    match lexer.next() {
+        Some(next) => assert!(rt; next == placed(Token::Known(Word::Or), 1, 15)),
+        None => assert!(rt; false),
+    }
+    assert!(rt; Lexer::new(b"p1<p2 ").comparison().is_none());
     Ok(())
 }
 
