@@ -79,12 +79,20 @@ impl Hub {
         self.server.log.len() as u32
     }
 
+    // A client.
+    fn at(&self, client: u32) -> &Client
+        requires { IsClient (length (hub_view_of self.now).clients) client }
+        ensures { result.now ≡ client_of (hub_view_of self.now) client }
+    {
+        &self.clients[client as usize - 1]
+    }
+
     /// A client's document.
     pub fn client(&self, client: u32) -> &Doc
         requires { IsClient (length (hub_view_of self.now).clients) client }
         ensures { result.now ≡ (client_of (hub_view_of self.now) client).doc }
     {
-        &self.clients[client as usize - 1].doc
+        &self.at(client).doc
     }
 
     /// How many entries of the log a client received.
@@ -92,7 +100,7 @@ impl Hub {
         requires { IsClient (length (hub_view_of self.now).clients) client }
         ensures { result ≡ (client_of (hub_view_of self.now) client).received }
     {
-        self.clients[client as usize - 1].received
+        self.at(client).received
     }
 
     /// How many operations of a client did not come back to it yet.
@@ -100,7 +108,7 @@ impl Hub {
         requires { IsClient (length (hub_view_of self.now).clients) client }
         ensures { result ≡ length (client_of (hub_view_of self.now) client).pending }
     {
-        self.clients[client as usize - 1].pending.len() as u32
+        self.at(client).pending.len() as u32
     }
 
     /// A client makes an operation, which it executes at once; it is pending and on its way to the server.

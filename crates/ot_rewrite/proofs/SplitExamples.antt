@@ -69,12 +69,3 @@ is_place x n name small = record { name = name; near = record { low = omega (ari
 pub less_has_places : HasPlaces 9 (Lt a (place 6 (pos 2)))
 less_has_places =
     (is_place 3 0 (omega arith) (omega arith), record { name = omega arith; low = omega (arith, ints); high = omega (arith, ints) })
-
-pub equal_has_places : HasPlaces 9 (Eq a a)
-equal_has_places = (is_place 3 0 (omega arith) (omega arith), is_place 3 0 (omega arith) (omega arith))
-
-pub either_has_places : HasPlaces 9 (Or (Eq a (place 6 (pos 2))) (Lt (place 6 (pos 2)) a))
-either_has_places = (
-  (is_place 3 0 (omega arith) (omega arith), is_place 6 2 (omega arith) (omega arith)),
-  (is_place 6 2 (omega arith) (omega arith), record { name = omega arith; low = omega (arith, ints); high = omega (arith, ints) }),
-)
