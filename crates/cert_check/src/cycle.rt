@@ -36,9 +36,6 @@ pub(crate) fn is_plain_cycle(lits: &[Lit], picks: &[u32]) -> bool
     name == start && sum < 0
 }
 
-/// Where a sum is further from 0, a walk is not gone on. Offsets of literals that are asked are far smaller.
-const MOST_SUM: i64 = 1_000_000_000;
-
 /// A walk along literals, of which picks named some: it needs no list of them.
 #[derive(Clone, Copy, Debug, PartialEq, Eq)]
 pub struct Walk {
@@ -62,7 +59,8 @@ impl Walk {
         Walk { start, name, sum }
     }
 
-    /// The walk with one more literal, if that begins where the walk ends.
+    /// The walk with one more literal, if that begins where the walk ends and the sum of their offsets can be told. Those
+    /// of literals that are asked are small.
     #[inline(always)]
     pub fn further(self, lit: Lit) -> Option<Walk>
         ensures { (lits : List Lit) (picks : List ℕ) (pick : ℕ) → IsWalkOf lits picks self
@@ -72,10 +70,7 @@ impl Walk {
         if x != self.name {
             return None;
         }
-        if self.sum < -MOST_SUM || MOST_SUM < self.sum {
-            return None;
-        }
-        let sum = self.sum + i64::from(k);
+        let sum = self.sum.checked_add(i64::from(k))?;
         let start = self.start;
         Some(Walk { start, name, sum })
     }

@@ -3,5 +3,4 @@ pub mod Alike
 pub mod After
 pub mod Conditions
 pub mod Nears
-pub mod Joined
 mod Examples

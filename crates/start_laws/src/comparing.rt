@@ -1,9 +1,7 @@
 //! The conditions under which two starts have one value.
-ghost use Rattle.std.specs.Prelude.{◌≡◌, ◌≤◌, ◌-ℤ◌, IfOk, Some, ◌&&◌, nat_eq, length};
+ghost use Rattle.std.specs.Prelude.{◌≡◌, ◌≤◌, ◌-ℤ◌, IfOk, IsTrue, Some, None, false, ◌&&◌, nat_eq, length};
 ghost use Rattle.std.specs.List.{AllByRecursion};
-ghost use Rattle.std.specs.Option.{option_eq};
 ghost use Rattle.std.specs.Cmp.Lexicographic.{pointwise};
-ghost use Rattle.ot_model.specs.Kinds.{is_same_kind};
 ghost use Rattle.ot_questions.specs.Nears.{IsNear, IsNearOp};
 ghost use Rattle.start_laws.specs.Begun.{IsBegunProgress, start_after};
 ghost use Rattle.start_laws.specs.Starts as starts;
@@ -12,7 +10,6 @@ use crate::start::StartAt;
 use ask_core::NoMemory;
 use diff_graph::Lit;
 use fn_rules::ObName;
-use ot_model::Kind;
 use ot_terms::{Place, SymOp};
 use plain_list::List;
 use std::alloc::Global;
@@ -27,22 +24,35 @@ fn is_same_ob(left: ObName, right: ObName) -> bool
     }
 }
 
-fn are_same_kinds(left: Option<Kind>, right: Option<Kind>) -> bool
-    ensures { result ≡ option_eq is_same_kind left right }
-{
-    match (left, right) {
-        (Some(k), Some(l)) => k.same(l),
-        (None, None) => true,
-        _ => false,
-    }
-}
-
 fn is_same_but_position(left: SymOp, right: SymOp) -> bool
     ensures { result ≡ starts.is_same_but_position left right }
 {
-    are_same_kinds(left.kind(), right.kind())
-        && left.site() == right.site()
-        && left.ch() == right.ch()
+    match left {
+        SymOp::Ins { ch, site, .. } => match right {
+            SymOp::Ins {
+                ch: other,
+                site: there,
+                ..
+            } => site == there && ch == other,
+            _ => false,
+        },
+        SymOp::Del { site, .. } => match right {
+            SymOp::Del { site: there, .. } => site == there,
+            _ => false,
+        },
+        SymOp::Upd { ch, site, .. } => match right {
+            SymOp::Upd {
+                ch: other,
+                site: there,
+                ..
+            } => site == there && ch == other,
+            _ => false,
+        },
+        SymOp::Nop => match right {
+            SymOp::Nop => true,
+            _ => false,
+        },
+    }
 }
 
 fn is_same_op(left: SymOp, right: SymOp) -> bool
@@ -88,58 +98,53 @@ fn at_most(x: Place, y: Place) -> Lit
     }
 }
 
-fn with_places(found: List<Lit>, there: Place, here: Place) -> Result<Option<List<Lit>>, NoMemory>
+// Puts the conditions under which the two places are one behind those so far: whether they can be.
+fn with_places(found: &mut List<Lit>, there: Place, here: Place) -> Result<bool, NoMemory>
     requires there_near { IsNear 1000 there.off }
     requires here_near { IsNear 1000 here.off }
-    ensures { IfOk result (λ r. r ≡ starts.all_conditions (Some found) (starts.conditions_at there here)) }
+    ensures yes { IfOk result (λ can. IsTrue can
+        → Some found.new ≡ starts.all_conditions (Some found.old) (starts.conditions_at there here)) }
+    ensures no { IfOk result (λ can. can ≡ false → starts.conditions_at there here ≡ None) }
 {
     if there.var == here.var {
-        if there.off == here.off {
-            return Ok(Some(found));
-        }
-        return Ok(None);
+        return Ok(there.off == here.off);
     }
-    let mut both = found;
-    both.push(at_most(here, there))?;
-    both.push(at_most(there, here))?;
-    Ok(Some(both))
+    found.push(at_most(here, there))?;
+    found.push(at_most(there, here))?;
+    Ok(true)
 }
 
-fn with_results(found: List<Lit>, there: SymOp, here: SymOp) -> Result<Option<List<Lit>>, NoMemory>
+// The same of two results.
+fn with_results(found: &mut List<Lit>, there: SymOp, here: SymOp) -> Result<bool, NoMemory>
     requires there_near { IsNearOp 1000 there }
     requires here_near { IsNearOp 1000 here }
-    ensures { IfOk result (λ r. r ≡ starts.all_conditions (Some found) (starts.conditions_of there here)) }
+    ensures yes { IfOk result (λ can. IsTrue can
+        → Some found.new ≡ starts.all_conditions (Some found.old) (starts.conditions_of there here)) }
+    ensures no { IfOk result (λ can. can ≡ false → starts.conditions_of there here ≡ None) }
 {
     if is_same_but_position(there, here) {
         return with_places(found, there.at(), here.at());
     }
-    Ok(None)
+    Ok(false)
 }
 
-// The conditions so far, and then those between each result and the one beside it.
-fn with_each(
-    found: List<Lit>,
-    there: &[SymOp],
-    here: &[SymOp],
-) -> Result<Option<List<Lit>>, NoMemory>
+// The same of each result and the one beside it.
+fn with_each(found: &mut List<Lit>, there: &[SymOp], here: &[SymOp]) -> Result<bool, NoMemory>
     requires there_near { AllByRecursion (IsNearOp 1000) there.now }
     requires here_near { AllByRecursion (IsNearOp 1000) here.now }
-    ensures { IfOk result (λ r. r ≡ starts.all_conditions (Some found) (starts.conditions_of_each there.now here.now)) }
+    ensures yes { IfOk result (λ can. IsTrue can
+        → Some found.new ≡ starts.all_conditions (Some found.old) (starts.conditions_of_each there.now here.now)) }
+    ensures no { IfOk result (λ can. can ≡ false → starts.conditions_of_each there.now here.now ≡ None) }
 {
     match there {
-        [] => {
-            if here.is_empty() {
-                return Ok(Some(found));
-            }
-            Ok(None)
-        }
+        [] => Ok(here.is_empty()),
         [first, others @ ..] => match here {
-            [] => Ok(None),
+            [] => Ok(false),
             [other, rest @ ..] => {
-                let Some(more) = with_results(found, *first, *other)? else {
-                    return Ok(None);
-                };
-                Ok(with_each(more, others, rest)?)
+                if !with_results(found, *first, *other)? {
+                    return Ok(false);
+                }
+                with_each(found, others, rest)
             }
         },
     }
@@ -162,8 +167,11 @@ fn conditions(
         && is_same_ob(lemma.progress.ob, here.progress.ob)
         && are_same_ops(&lemma.progress.ops, &here.progress.ops)
     {
+        let mut found = List::new(alloc);
         let read = still_read(lemma.progress.ob, there);
-        return with_each(List::new(alloc), read, still_read(here.progress.ob, got));
+        if with_each(&mut found, read, still_read(here.progress.ob, got))? {
+            return Ok(Some(found));
+        }
     }
     Ok(None)
 }
