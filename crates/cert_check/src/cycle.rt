@@ -36,6 +36,9 @@ pub(crate) fn is_plain_cycle(lits: &[Lit], picks: &[u32]) -> bool
     name == start && sum < 0
 }
 
+/// Where a sum is further from 0, a walk is not gone on. Offsets of literals that are asked are far smaller.
+const MOST_SUM: i64 = 1_000_000_000;
+
 /// A walk along literals, of which picks named some: it needs no list of them.
 #[derive(Clone, Copy, Debug, PartialEq, Eq)]
 pub struct Walk {
@@ -59,8 +62,7 @@ impl Walk {
         Walk { start, name, sum }
     }
 
-    /// The walk with one more literal, if that begins where the walk ends and the sum of their offsets can be told. Those
-    /// of literals that are asked are small.
+    /// The walk with one more literal, if that begins where the walk ends and its sum is not too far from 0.
     #[inline(always)]
     pub fn further(self, lit: Lit) -> Option<Walk>
         ensures { (lits : List Lit) (picks : List ℕ) (pick : ℕ) → IsWalkOf lits picks self
@@ -70,7 +72,10 @@ impl Walk {
         if x != self.name {
             return None;
         }
-        let sum = self.sum.checked_add(i64::from(k))?;
+        if self.sum < -MOST_SUM || MOST_SUM < self.sum {
+            return None;
+        }
+        let sum = self.sum + i64::from(k);
         let start = self.start;
         Some(Walk { start, name, sum })
     }

@@ -10,7 +10,8 @@ use fn_rules::{Head, ObName, Rules};
 use ot_model::Kind;
 use ot_questions::Who;
 use ot_terms::{
-    Form, Goal, GoalProgress, Place, SymOp, enabled_form, first_goals_stand_for_obligations,
+    Form, Goal, GoalProgress, Operands, Place, SymOp, enabled_form,
+    first_goals_stand_for_obligations,
 };
 
 // The goal, where the two names stand for different integers.
@@ -111,7 +112,8 @@ fn first_choice<'a>(
         got: [SymOp::Nop; 6],
         count: 0,
     };
-    Goal::choose(bump, 0, b, a, progress.placed(bump)?)
+    let ops = Operands { a: b, b: a };
+    Goal::choose(bump, 0, ops.placed(bump)?, progress.placed(bump)?)
 }
 
 fn start_pair<'a>(bump: &'a Bump, head: &Head, k: Kind, l: Kind) -> Result<&'a Goal<'a>, NoMemory>

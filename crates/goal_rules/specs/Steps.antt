@@ -23,7 +23,7 @@ abbrev pub front_tree : Front → GoalTree
 front_tree rust.Holds = goals.Holds
 front_tree (rust.Fails why) = goals.Fails why
 front_tree (rust.If g on_yes on_no) = goals.If (form_tree g) (goal_tree on_yes.now) (goal_tree on_no.now)
-front_tree (rust.Choose case a b progress) = goals.Choose case a b progress.now
+front_tree (rust.Choose case o progress) = goals.Choose case o.now.a o.now.b progress.now
 front_tree (rust.Deliver o progress) = goals.Deliver o progress.now
 front_tree (rust.Same left right) = goals.Same (cell_tree left) (cell_tree right)
 

@@ -1,14 +1,11 @@
 -- The rules by which a goal is rewritten at its front.
-use Rattle.std.specs.Prelude.{ℕ, suc, pos, negsuc, if◌then◌else◌, nat_eq, nat_lt, int_le, List, [], ◌∷◌, drop, Option}
+use Rattle.std.specs.Prelude.{ℕ, suc, pos, negsuc, if◌then◌else◌, nat_eq, int_le, List, [], ◌∷◌, drop, Option}
 use Rattle.std.specs.Prelude.{Some, None, slice_set}
 use Rattle.ot_model.specs.declared.op.Kind.{Kind}
-use Rattle.ot_model.specs.declared.op.Mode.{Mode}
-use Rattle.fn_rules.specs.declared.function.ObName.{ObName}
 use Rattle.fn_rules.specs.Functions.{Function, GuardedCase}
 use Rattle.ot_questions.specs.declared.cell.Finished.{Finished}
 use Rattle.ot_questions.specs.declared.cell.Source.{Source}
 use Rattle.ot_questions.specs.declared.cell.Source.TheVariants as sources
-use Rattle.ot_questions.specs.declared.place.Place.{Place}
 use Rattle.ot_questions.specs.declared.place.SymOp.{SymOp}
 use Rattle.ot_questions.specs.declared.place.SymOp.TheVariants as ops
 use Rattle.ot_questions.specs.declared.why.Why.{Why}
@@ -23,7 +20,6 @@ use Rattle.ot_terms.specs.Cells.{CellTree}
 use Rattle.ot_terms.specs.Goals.{GoalTree, Holds, Fails, If, Choose, Deliver, Same}
 use Rattle.ot_terms.specs.Placing.{guard_form}
 use Rattle.ot_terms.specs.Standing.{results_of}
-use Rattle.ot_terms.specs.Weights.{transforms_of}
 use Rattle.ot_terms.specs.Belonging.{next_operands}
 use Rattle.cell_rules.specs.Cells.{read_step, finished_cell}
 use Rattle.goal_rules.specs.Ends.{end_goal}

@@ -12,7 +12,7 @@ use crate::front::Front;
 use ask_core::NoMemory;
 use bumpalo::Bump;
 use fn_rules::{Case, Guard, Rules};
-use ot_terms::{Goal, GoalProgress, SymOp, Why, place_form};
+use ot_terms::{Goal, GoalProgress, Operands, SymOp, Why, place_form};
 
 /// A case that is tried: its guard, and what is left where this is true and where it is not.
 #[derive(Clone, Copy)]
@@ -27,15 +27,15 @@ pub struct Trial<'r, 'a> {
 fn first_case<'r, 'a>(
     cases: &'r [Case],
     case: u32,
-    a: SymOp,
-    b: SymOp,
+    ops: &'a Operands,
     progress: &'a GoalProgress,
 ) -> Option<Trial<'r, 'a>>
-    requires a_near { IsNearOp 99 a }
-    requires b_near { IsNearOp 99 b }
+    requires a_near { IsNearOp 99 ops.now.a }
+    requires b_near { IsNearOp 99 ops.now.b }
     requires cases_near { AllByRecursion IsNearCase (map case_of cases.now) }
     requires few { case ≤ 64 }
-    ensures tries { trial_tree a b result ≡ table.choose_case (map case_of cases.now) case a b progress.now }
+    ensures tries { trial_tree ops.now.a ops.now.b result
+        ≡ table.choose_case (map case_of cases.now) case ops.now.a ops.now.b progress.now }
     ensures near { IfSome result (λ t. HasNearAtoms (formula_of t.guard.now)) }
 {
     match cases {
@@ -43,13 +43,12 @@ fn first_case<'r, 'a>(
         [first, ..] => Some(Trial {
             guard: &first.guard,
             yes: Goal::Deliver {
-                op: a.result(first.res, b),
+                op: ops.a.result(first.res, ops.b),
                 plan: progress,
             },
             no: Goal::Choose {
                 case: case + 1,
-                a,
-                b,
+                ops,
                 plan: progress,
             },
         }),
@@ -61,25 +60,24 @@ fn first_case<'r, 'a>(
 pub fn next_case<'r, 'a>(
     rules: &'r Rules,
     case: u32,
-    a: SymOp,
-    b: SymOp,
+    ops: &'a Operands,
     progress: &'a GoalProgress,
 ) -> Option<Trial<'r, 'a>>
-    requires { IsChoosable (function_of rules.now) case a b }
-    ensures tries { IfSome result (λ t. trial_tree a b (Some t)
-        ≡ table.rewrite_choose (function_of rules.now) case a b progress.now) }
+    requires { IsChoosable (function_of rules.now) case ops.now.a ops.now.b }
+    ensures tries { IfSome result (λ t. trial_tree ops.now.a ops.now.b (Some t)
+        ≡ table.rewrite_choose (function_of rules.now) case ops.now.a ops.now.b progress.now) }
     ensures none { IfNone result
-        (is_tried (table.rewrite_choose (function_of rules.now) case a b progress.now) ≡ false) }
+        (is_tried (table.rewrite_choose (function_of rules.now) case ops.now.a ops.now.b progress.now) ≡ false) }
     ensures near { IfSome result (λ t. HasNearAtoms (formula_of t.guard.now)) }
 {
-    let Some(first) = a.kind() else {
+    let Some(first) = ops.a.kind() else {
         return None;
     };
-    let Some(second) = b.kind() else {
+    let Some(second) = ops.b.kind() else {
         return None;
     };
     let cases = rules.cases(first, second);
-    first_case(&cases[case as usize..], case, a, b, progress)
+    first_case(&cases[case as usize..], case, ops, progress)
 }
 
 // The first of the cases that are left, of the case number on, with its form.
@@ -88,20 +86,20 @@ fn choose_case<'a>(
     bump: &'a Bump,
     cases: &[Case],
     case: u32,
-    a: SymOp,
-    b: SymOp,
+    ops: &'a Operands,
     progress: &'a GoalProgress,
 ) -> Result<Front<'a>, NoMemory>
-    requires a_near { IsNearOp 99 a }
-    requires b_near { IsNearOp 99 b }
+    requires a_near { IsNearOp 99 ops.now.a }
+    requires b_near { IsNearOp 99 ops.now.b }
     requires cases_near { AllByRecursion IsNearCase (map case_of cases.now) }
     requires few { case ≤ 64 }
-    ensures { IfOk result (λ r. front_tree r ≡ table.choose_case (map case_of cases.now) case a b progress.now) }
+    ensures { IfOk result (λ r. front_tree r ≡ table.choose_case (map case_of cases.now) case ops.now.a ops.now.b
+        progress.now) }
 {
-    match first_case(cases, case, a, b, progress) {
+    match first_case(cases, case, ops, progress) {
         None => Ok(Front::Fails(Why::Undefined)),
         Some(Trial { guard, yes, no }) => Ok(Front::If {
-            form: *place_form(bump, guard, a, b)?,
+            form: *place_form(bump, guard, ops.a, ops.b)?,
             yes: bump.try_alloc(yes)?,
             no: bump.try_alloc(no)?,
         }),
@@ -114,22 +112,25 @@ pub(crate) fn choose<'a>(
     bump: &'a Bump,
     rules: &Rules,
     case: u32,
-    a: SymOp,
-    b: SymOp,
+    ops: &'a Operands,
     progress: &'a GoalProgress,
 ) -> Result<Front<'a>, NoMemory>
-    requires { IsChoosable (function_of rules.now) case a b }
-    ensures { IfOk result (λ r. front_tree r ≡ table.rewrite_choose (function_of rules.now) case a b progress.now) }
+    requires { IsChoosable (function_of rules.now) case ops.now.a ops.now.b }
+    ensures { IfOk result (λ r. front_tree r
+        ≡ table.rewrite_choose (function_of rules.now) case ops.now.a ops.now.b progress.now) }
 {
-    let Some(first) = a.kind() else {
+    let Some(first) = ops.a.kind() else {
         return Ok(Front::Deliver {
             op: SymOp::Nop,
             progress,
         });
     };
-    let Some(second) = b.kind() else {
-        return Ok(Front::Deliver { op: a, progress });
+    let Some(second) = ops.b.kind() else {
+        return Ok(Front::Deliver {
+            op: ops.a,
+            progress,
+        });
     };
     let cases = rules.cases(first, second);
-    Ok(choose_case(bump, &cases[case as usize..], case, a, b, progress)?)
+    Ok(choose_case(bump, &cases[case as usize..], case, ops, progress)?)
 }

@@ -13,7 +13,7 @@ use ask_core::NoMemory;
 use bumpalo::Bump;
 use fn_rules::{ObName, Rules};
 use ot_model::Mode;
-use ot_terms::{GoalProgress, SymOp};
+use ot_terms::{GoalProgress, Operands, SymOp};
 
 #[inline]
 fn next_of_pair(a: SymOp, b: SymOp, got: &[SymOp]) -> Option<(SymOp, SymOp)>
@@ -111,8 +111,7 @@ pub(crate) fn deliver<'a>(
     match next_operands(next.ob, &next.ops, got) {
         Some((a, b)) => Ok(Front::Choose {
             case: 0,
-            a,
-            b,
+            ops: Operands { a, b }.placed(bump)?,
             progress: next.placed(bump)?,
         }),
         None => end_goal(bump, rules.head().mode, next.ob, &next.ops, got),

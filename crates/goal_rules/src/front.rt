@@ -5,7 +5,7 @@ ghost use Rattle.goal_rules.specs.Steps.{front_tree};
 
 use ask_core::NoMemory;
 use bumpalo::Bump;
-use ot_terms::{CellT, Form, Goal, GoalProgress, SymOp, Why};
+use ot_terms::{CellT, Form, Goal, GoalProgress, Operands, SymOp, Why};
 
 /// A goal whose first parts are values: what is rewritten next is not in an arena.
 #[derive(Clone, Copy)]
@@ -20,11 +20,10 @@ pub enum Front<'a> {
         no: &'a Goal<'a>,
     },
 
-    /// What `a` becomes behind `b`, by the cases from `case` on, is the next result.
+    /// What the first operation becomes behind the second, by the cases from `case` on, is the next result.
     Choose {
         case: u32,
-        a: SymOp,
-        b: SymOp,
+        ops: &'a Operands,
         progress: &'a GoalProgress,
     },
 
@@ -50,22 +49,29 @@ fn placed_cell<'a>(bump: &'a Bump, cell: CellT<'a>) -> Result<&'a CellT<'a>, NoM
 impl<'a> Front<'a> {
     /// The goal, held at its front.
     #[inline(always)]
-    pub fn of(goal: &'a Goal<'a>) -> Front<'a>
+    pub fn of(goal: &Goal<'a>) -> Front<'a>
         ensures { front_tree result ≡ goal_tree goal.now }
     {
         match *goal {
             Goal::Holds => Front::Holds,
             Goal::Fails(why) => Front::Fails(why),
-            Goal::If { form, yes, no } => Front::If { form, yes, no },
+            Goal::Ask { order, yes, no } => Front::If {
+                form: order.form(),
+                yes,
+                no,
+            },
+            Goal::If { form, yes, no } => Front::If {
+                form: *form,
+                yes,
+                no,
+            },
             Goal::Choose {
                 case,
-                a,
-                b,
+                ops,
                 plan: progress,
             } => Front::Choose {
                 case,
-                a,
-                b,
+                ops,
                 progress,
             },
             Goal::Deliver { op, plan: progress } => Front::Deliver { op, progress },
@@ -76,7 +82,7 @@ impl<'a> Front<'a> {
         }
     }
 
-    /// The goal, with the cells of a comparison in the arena.
+    /// The goal, with the cells of a comparison in the arena, and a form that is not the order of two places.
     #[inline]
     pub fn goal(self, bump: &'a Bump) -> Result<Goal<'a>, NoMemory>
         ensures { IfOk result (λ r. goal_tree r ≡ front_tree self.entry) }
@@ -84,16 +90,14 @@ impl<'a> Front<'a> {
         match self {
             Front::Holds => Ok(Goal::Holds),
             Front::Fails(why) => Ok(Goal::Fails(why)),
-            Front::If { form, yes, no } => Ok(Goal::If { form, yes, no }),
+            Front::If { form, yes, no } => Goal::branch(bump, form, yes, no),
             Front::Choose {
                 case,
-                a,
-                b,
+                ops,
                 progress,
             } => Ok(Goal::Choose {
                 case,
-                a,
-                b,
+                ops,
                 plan: progress,
             }),
             Front::Deliver { op, progress } => Ok(Goal::Deliver { op, plan: progress }),

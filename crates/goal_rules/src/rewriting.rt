@@ -34,10 +34,9 @@ pub fn rewrite<'a>(
         Front::If { form, yes, no } => by_form(bump, form, yes, no),
         Front::Choose {
             case,
-            a,
-            b,
+            ops,
             progress,
-        } => Ok(Some(choose(bump, rules, case, a, b, progress)?)),
+        } => Ok(Some(choose(bump, rules, case, ops, progress)?)),
         Front::Deliver { op, progress } => Ok(Some(deliver(bump, rules, op, progress)?)),
         Front::Same { left, right } => compare(bump, left, right),
     }

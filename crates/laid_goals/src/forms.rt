@@ -25,7 +25,7 @@ fn by_order<'a>(
     ensures { IfOk result (λ r. goal_tree r.now ≡ laid_order x y (goal_tree yes.now) (goal_tree no.now)) }
 {
     match x.is_at_most(y) {
-        None => Goal::either(bump, Form::Le(x, y), yes, no),
+        None => Goal::ask(bump, x, y, yes, no),
         Some(true) => Ok(yes),
         Some(false) => Ok(no),
     }
@@ -59,11 +59,12 @@ fn by_places<'a>(
     requires { IsNear 999 y.off }
     ensures { IfOk result (λ r. goal_tree r.now ≡ laid_form (compared cmp x y) (goal_tree yes.now) (goal_tree no.now)) }
 {
-    match cmp {
-        Cmp::Lt => by_order(bump, x, y.plus(-1), yes, no),
-        Cmp::Le => by_order(bump, x, y, yes, no),
-        Cmp::Eq => by_equality(bump, x, y, yes, no),
-    }
+    let most = match cmp {
+        Cmp::Lt => y.plus(-1),
+        Cmp::Le => y,
+        Cmp::Eq => return by_equality(bump, x, y, yes, no),
+    };
+    by_order(bump, x, most, yes, no)
 }
 
 /// One of two goals, by a form. All questions of the form share the two goals.

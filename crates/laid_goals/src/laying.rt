@@ -19,7 +19,7 @@ use bumpalo::Bump;
 use fn_rules::{Rules, rules_are_valid};
 use goal_rules::{Front, Trial, next_case};
 use ot_rewrite::step_front;
-use ot_terms::{Goal, GoalProgress, SymOp};
+use ot_terms::{Goal, GoalProgress, Operands, SymOp};
 
 /// How many bytes an arena may have where more is laid out.
 const ROOM: usize = 2_097_152;
@@ -29,14 +29,14 @@ const ROOM: usize = 2_097_152;
 pub fn trial<'r, 'a>(
     rules: &'r Rules,
     case: u32,
-    a: SymOp,
-    b: SymOp,
+    ops: &'a Operands,
     progress: &'a GoalProgress,
 ) -> Option<Trial<'r, 'a>>
-    requires { (ob : ObName) × IsGoalOf (function_of rules.now) ob (Choose case a b progress.now) }
-    ensures { IfSome result (IsTrialOf (function_of rules.now) (Choose case a b progress.now) a b) }
+    requires { (ob : ObName) × IsGoalOf (function_of rules.now) ob (Choose case ops.now.a ops.now.b progress.now) }
+    ensures { IfSome result (IsTrialOf (function_of rules.now) (Choose case ops.now.a ops.now.b progress.now)
+        ops.now.a ops.now.b) }
 {
-    next_case(rules, case, a, b, progress)
+    next_case(rules, case, ops, progress)
 }
 
 // The goal after one rule.
@@ -99,10 +99,10 @@ pub fn laid_out<'a>(
     ensures known { IfOk result (λ _. All (IsKeptGoal (function_of rules.now)) known.new.items) }
 {
     rules_are_valid(rules);
-    match goal {
-        Goal::Holds => Ok(bump.try_alloc(goal)?),
-        Goal::Fails(_) => Ok(bump.try_alloc(goal)?),
-        Goal::If { form, yes, no } => {
+    match Front::of(&goal) {
+        Front::Holds => Ok(bump.try_alloc(goal)?),
+        Front::Fails(_) => Ok(bump.try_alloc(goal)?),
+        Front::If { form, yes, no } => {
             if are_ends(yes, no) {
                 return Ok(by_form(bump, &form, yes, no)?);
             }
@@ -110,13 +110,16 @@ pub fn laid_out<'a>(
             let on_yes = laid_out(bump, rules, known, *yes)?;
             Ok(by_form(bump, &form, on_yes, on_no)?)
         }
-        Goal::Choose { case, a, b, plan } => {
-            let Some(Trial { guard, yes, no }) = trial(rules, case, a, b, plan) else {
+        Front::Choose {
+            case,
+            ops,
+            progress,
+        } => {
+            let Some(Trial { guard, yes, no }) = trial(rules, case, ops, progress) else {
                 let front = Front::Choose {
                     case,
-                    a,
-                    b,
-                    progress: plan,
+                    ops,
+                    progress,
                 };
                 let Some(next) = next_of(bump, rules, front)? else {
                     return Ok(bump.try_alloc(goal)?);
@@ -125,24 +128,24 @@ pub fn laid_out<'a>(
             };
             let on_no = laid_out(bump, rules, known, no)?;
             let on_yes = laid_out(bump, rules, known, yes)?;
-            Ok(by_guard(bump, guard, &a, &b, on_yes, on_no)?)
+            Ok(by_guard(bump, guard, &ops.a, &ops.b, on_yes, on_no)?)
         }
-        Goal::Deliver { op, plan } => {
-            if let Some(built) = found(known, op, plan) {
+        Front::Deliver { op, progress } => {
+            if let Some(built) = found(known, op, progress) {
                 return Ok(built);
             }
-            let Some(next) = behind(bump, rules, op, plan)? else {
-                return Ok(Goal::deliver(bump, op, plan)?);
+            let Some(next) = behind(bump, rules, op, progress)? else {
+                return Ok(bump.try_alloc(goal)?);
             };
             let mut inner = Vec::new(bump);
             let built = laid_out(bump, rules, &mut inner, next)?;
             known.push(Behind {
                 op,
-                progress: plan,
+                progress,
                 goal: built,
             })?;
             Ok(built)
         }
-        Goal::Same { left, right } => Ok(by_cells(bump, rules, *left, *right)?),
+        Front::Same { left, right } => Ok(by_cells(bump, rules, left, right)?),
     }
 }

@@ -33,7 +33,7 @@ fn is_settled(goal: &Goal<'_>) -> bool
     match *goal {
         Goal::Holds => true,
         Goal::Fails(_) => true,
-        Goal::If { form, .. } => is_asked(form),
+        Goal::Ask { order, .. } => is_asked(order.form()),
         _ => false,
     }
 }
@@ -224,9 +224,9 @@ impl<'a> Asker for PathAsker<'a> {
 
     #[inline(always)]
     fn turn(&mut self, node: &'a Goal<'a>) -> Result<Turn<&'a Goal<'a>, Why>, NoMemory> {
-        if let Goal::If { form, yes, no } = *node {
-            if is_asked(form) {
-                return Ok(self.asked(form, yes, no));
+        if let Goal::Ask { order, yes, no } = *node {
+            if is_asked(order.form()) {
+                return Ok(self.asked(order.form(), yes, no));
             }
         }
         self.turn_of(node)
@@ -234,9 +234,9 @@ impl<'a> Asker for PathAsker<'a> {
 
     #[inline(always)]
     fn look(&self, node: &'a Goal<'a>) -> Option<(Lit, &'a Goal<'a>)> {
-        if let Goal::If { form, yes, no } = *node {
-            if is_asked(form) {
-                if let Turn::Ask { lit, no, .. } = self.asked(form, yes, no) {
+        if let Goal::Ask { order, yes, no } = *node {
+            if is_asked(order.form()) {
+                if let Turn::Ask { lit, no, .. } = self.asked(order.form(), yes, no) {
                     return Some((lit, no));
                 }
             }

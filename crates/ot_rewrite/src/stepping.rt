@@ -22,7 +22,7 @@ fn part_of<'a>(goal: &'a Goal<'a>) -> Option<&'a Goal<'a>>
     ensures { (f : Function) → MatchOption result (Unit {0})
         (λ r. rewritten f (goal_tree goal.now) ≡ Some (goal_tree r.now)) }
 {
-    let Goal::If { form, yes, no } = *goal else {
+    let Front::If { form, yes, no } = Front::of(goal) else {
         return None;
     };
     match form {

@@ -57,10 +57,8 @@ pub(crate) fn is_at_front(goal: &Goal<'_>) -> bool
     match *goal {
         Goal::Holds => true,
         Goal::Fails(_) => true,
-        Goal::If { form, .. } => match form {
-            Form::Le(x, y) => x.var != y.var,
-            _ => false,
-        },
+        Goal::Ask { order, .. } => question(order.form()).is_some(),
+        Goal::If { form, .. } => question(*form).is_some(),
         _ => false,
     }
 }

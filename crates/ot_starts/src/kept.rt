@@ -39,17 +39,16 @@ fn is_same_goal(left: &Goal<'_>, right: &Goal<'_>) -> bool
             } => op == other && is_same_progress(plan, there),
             _ => false,
         },
-        Goal::Choose { case, a, b, plan } => match *right {
+        Goal::Choose { case, ops, plan } => match *right {
             Goal::Choose {
                 case: other,
-                a: c,
-                b: d,
+                ops: others,
                 plan: there,
             } => {
                 if case != other {
                     return false;
                 }
-                if !are_same_two(a, b, c, d) {
+                if !are_same_two(ops.a, ops.b, others.a, others.b) {
                     return false;
                 }
                 is_same_progress(plan, there)

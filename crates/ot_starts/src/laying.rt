@@ -15,7 +15,7 @@ use crate::trying::trial;
 use ask_core::NoMemory;
 use bumpalo::Bump;
 use fn_rules::Rules;
-use goal_rules::Trial;
+use goal_rules::{Front, Trial};
 use laid_goals::{by_form, by_guard};
 use marked_goals::rules_keep_starts;
 use ot_terms::Goal;
@@ -37,15 +37,15 @@ pub(crate) fn laid<'a>(
     if is_begun(&goal) {
         return Ok(bump.try_alloc(goal)?);
     }
-    match goal {
-        Goal::Holds => Ok(bump.try_alloc(goal)?),
-        Goal::Fails(_) => Ok(bump.try_alloc(goal)?),
-        Goal::If { form, yes, no } => {
+    match Front::of(&goal) {
+        Front::Holds => Ok(bump.try_alloc(goal)?),
+        Front::Fails(_) => Ok(bump.try_alloc(goal)?),
+        Front::If { form, yes, no } => {
             let on_no = laid(bump, rules, ends, *no)?;
             let on_yes = laid(bump, rules, ends, *yes)?;
             Ok(by_form(bump, &form, on_yes, on_no)?)
         }
-        Goal::Deliver { .. } => {
+        Front::Deliver { .. } => {
             if let Some(known) = found(ends, &goal) {
                 return Ok(known);
             }
@@ -55,17 +55,21 @@ pub(crate) fn laid<'a>(
             ends.push(Kept { at, goal: built })?;
             Ok(built)
         }
-        Goal::Choose { case, a, b, plan } => {
-            let Some(Trial { guard, yes, no }) = trial(rules, case, a, b, plan) else {
+        Front::Choose {
+            case,
+            ops,
+            progress,
+        } => {
+            let Some(Trial { guard, yes, no }) = trial(rules, case, ops, progress) else {
                 let at = bump.try_alloc(goal)?;
                 let next = next_of(bump, rules, at)?;
                 return Ok(laid(bump, rules, ends, *next)?);
             };
             let on_no = laid(bump, rules, ends, no)?;
             let on_yes = laid(bump, rules, ends, yes)?;
-            Ok(by_guard(bump, guard, &a, &b, on_yes, on_no)?)
+            Ok(by_guard(bump, guard, &ops.a, &ops.b, on_yes, on_no)?)
         }
-        Goal::Same { .. } => {
+        Front::Same { .. } => {
             let at = bump.try_alloc(goal)?;
             let next = next_of(bump, rules, at)?;
             Ok(laid(bump, rules, ends, *next)?)

@@ -12,23 +12,23 @@ use goal_rules::Trial;
 use laid_goals::trial as tried;
 use marked_goals::rules_keep_starts;
 use ot_rewrite::rules_keep_what_is_asked;
-use ot_terms::{GoalProgress, SymOp};
+use ot_terms::{GoalProgress, Operands};
 
 /// The case that is tried next, not as the first one of a transformation; none where none is left or an operation is
 /// nop.
 pub(crate) fn trial<'r, 'a>(
     rules: &'r Rules,
     case: u32,
-    a: SymOp,
-    b: SymOp,
+    ops: &'a Operands,
     plan: &'a GoalProgress,
 ) -> Option<Trial<'r, 'a>>
-    requires goal { (ob : ObName) × IsGoalOf (function_of rules.now) ob (Choose case a b plan.now) }
-    requires later { is_begun (Choose case a b plan.now) ≡ false }
-    ensures { IfSome result (IsTrialOf (function_of rules.now) (Choose case a b plan.now) a b) }
+    requires goal { (ob : ObName) × IsGoalOf (function_of rules.now) ob (Choose case ops.now.a ops.now.b plan.now) }
+    requires later { is_begun (Choose case ops.now.a ops.now.b plan.now) ≡ false }
+    ensures { IfSome result (IsTrialOf (function_of rules.now) (Choose case ops.now.a ops.now.b plan.now)
+        ops.now.a ops.now.b) }
 {
     rules_keep_starts();
     rules_keep_what_is_asked();
     rules_are_valid(rules);
-    tried(rules, case, a, b, plan)
+    tried(rules, case, ops, plan)
 }

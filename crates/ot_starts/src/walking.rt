@@ -139,9 +139,9 @@ pub(crate) fn turn_of<'a>(
     ensures starts { All (IsKeptStart (function_of rules.now)) starts.new.items }
     ensures ends { All (IsKeptEnd (function_of rules.now)) ends.new.items }
 {
-    if let Goal::If { form, yes, no } = *goal {
-        if question(form).is_some() {
-            return asked(bump, rules, form, yes, no);
+    if let Goal::Ask { order, yes, no } = *goal {
+        if question(order.form()).is_some() {
+            return asked(bump, rules, order.form(), yes, no);
         }
     }
     turn_on(bump, rules, starts, ends, goal)

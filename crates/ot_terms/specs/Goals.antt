@@ -7,6 +7,7 @@ use Rattle.ot_questions.specs.Places.{by_order}
 use Rattle.ot_terms.specs.declared.goal.GoalProgress.{GoalProgress}
 use Rattle.ot_terms.specs.declared.goal.Goal.{Goal}
 use Rattle.ot_terms.specs.declared.goal.Goal.TheVariants as rust
+use Rattle.ot_terms.specs.declared.goal.Order.{Order}
 use Rattle.ot_terms.specs.Forms.{FormTree, Le, form_tree, by_form}
 use Rattle.ot_terms.specs.Cells.{CellTree, cell_tree}
 
@@ -19,12 +20,17 @@ pub data GoalTree : Type 0 where
   Deliver : SymOp → GoalProgress → GoalTree
   Same : CellTree → CellTree → GoalTree
 
+-- what is asked of two places
+abbrev pub asked_form : Order → FormTree
+asked_form o = Le (record { var = o.x; off = o.x_off }) (record { var = o.y; off = o.y_off })
+
 -- the plain tree that a goal stands for
 abbrev pub goal_tree : Goal → GoalTree
 goal_tree rust.Holds = Holds
 goal_tree (rust.Fails why) = Fails why
-goal_tree (rust.If' g p on_yes q on_no) = If (form_tree g) (goal_tree on_yes) (goal_tree on_no)
-goal_tree (rust.Choose case a b progress) = Choose case a b progress.now
+goal_tree (rust.Ask' o p on_yes q on_no) = If (asked_form o) (goal_tree on_yes) (goal_tree on_no)
+goal_tree (rust.If' g p on_yes q on_no) = If (form_tree g.now) (goal_tree on_yes) (goal_tree on_no)
+goal_tree (rust.Choose case o progress) = Choose case o.now.a o.now.b progress.now
 goal_tree (rust.Deliver o progress) = Deliver o progress.now
 goal_tree (rust.Same left right) = Same (cell_tree left.now) (cell_tree right.now)
 

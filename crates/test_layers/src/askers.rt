@@ -106,7 +106,7 @@ fn is_laid_out(bump: &Bump) -> Result<bool, NoMemory> {
     let on_yes = Goal::holds(bump)?;
     let on_no = Goal::fails(bump, Why::Undefined)?;
     let goal = by_guard(bump, &Guard::Atom(BEFORE), &a, &b, on_yes, on_no)?;
-    let is_question = matches!(goal, Goal::If { .. });
+    let is_question = matches!(goal, Goal::Ask { .. });
     Ok(is_question && first == Place { var: 3, off: 0 } && second == Place { var: 6, off: 0 })
 }
 

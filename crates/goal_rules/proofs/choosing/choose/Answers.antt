@@ -1,4 +1,3 @@
-use Rattle.std.proofs.Common.{rules, refl}
 use Rattle.fn_rules.specs.Validity.{compares_chars}
 use Rattle.goal_rules.proofs.CasesLeft.{left_near, left_cases}
 use Rattle.goal_rules.proofs.choosing.choose.Goals as goal

@@ -12,7 +12,7 @@ returns-clause-tries c =
     let first = c.in-Some.ensures in
     let second = c.in-Some-kind.ensures in
     let given = c.first_case.ensures.tries in
-    tried c.args.a c.args.b c.first_case.result _ (rw (← first, ← second, ← left) given)
+    tried c.args.ops.now.a c.args.ops.now.b c.first_case.result _ (rw (← first, ← second, ← left) given)
 
 pub returns-clause-none : goal.returns-clause-none
 returns-clause-none c =
@@ -20,4 +20,4 @@ returns-clause-none c =
     let first = c.in-Some.ensures in
     let second = c.in-Some-kind.ensures in
     let given = c.first_case.ensures.tries in
-    untried c.args.a c.args.b c.first_case.result _ (rw (← first, ← second, ← left) given)
+    untried c.args.ops.now.a c.args.ops.now.b c.first_case.result _ (rw (← first, ← second, ← left) given)

@@ -5,7 +5,7 @@ use Rattle.fn_rules.specs.Rules.{function_of}
 use Rattle.ot_terms.specs.Forms.{form_tree}
 use Rattle.ot_terms.specs.Goals.{goal_tree, Choose, Deliver}
 use Rattle.ot_terms.specs.Weights.{goal_weight}
-use Rattle.goal_rules.specs.Steps.{trial_tree}
+use Rattle.goal_rules.specs.Steps.{front_tree, trial_tree}
 use Rattle.goal_rules.specs.Table.{rewritten}
 use Rattle.laid_goals.specs.Sharing.{StandsAlike, IsKeptGoal}
 use Rattle.laid_goals.proofs.LaidGoals.{alike_same, form_low, laid_alike, leads_by_rule, leads_same, on_no_belongs, on_no_lighter}
@@ -17,13 +17,13 @@ pub by_form-requires : goal.by_form-requires
 by_form-requires t c =
     let f = function_of c.args.rules.now in
     form_low f c.requires.goal.0 (goal_tree c.args.goal) c.requires.goal.1 (form_tree c.in-If.form) (goal_tree c.in-If.yes.now)
-    (goal_tree c.in-If.no.now) (leads_same f (goal_tree c.args.goal) _ (sym (ap goal_tree c.in-If.is)))
+    (goal_tree c.in-If.no.now) (leads_same f (goal_tree c.args.goal) _ (sym (sym c.of.ensures ∙ ap front_tree c.in-If.is)))
 
 pub by_form-requires-in-If : goal.by_form-requires-in-If
 by_form-requires-in-If t c =
     let f = function_of c.args.rules.now in
     form_low f c.requires.goal.0 (goal_tree c.args.goal) c.requires.goal.1 (form_tree c.in-If.form) (goal_tree c.in-If.yes.now)
-    (goal_tree c.in-If.no.now) (leads_same f (goal_tree c.args.goal) _ (sym (ap goal_tree c.in-If.is)))
+    (goal_tree c.in-If.no.now) (leads_same f (goal_tree c.args.goal) _ (sym (sym c.of.ensures ∙ ap front_tree c.in-If.is)))
 
 pub returns-then-are_ends-clause-alike : goal.returns-then-are_ends-clause-alike
 returns-then-are_ends-clause-alike t c =
@@ -31,7 +31,7 @@ returns-then-are_ends-clause-alike t c =
     let yes = goal_tree c.in-If.yes.now in
     let no = goal_tree c.in-If.no.now in
     laid_alike f c.requires.goal.0 (goal_tree c.args.goal) c.requires.goal.1 (form_tree c.in-If.form) yes no
-    (leads_same f (goal_tree c.args.goal) _ (sym (ap goal_tree c.in-If.is))) yes no
+    (leads_same f (goal_tree c.args.goal) _ (sym (sym c.of.ensures ∙ ap front_tree c.in-If.is))) yes no
     (goal_tree c.in_ok-by_form-in-If.field-0.now) (alike_same f yes yes refl) (alike_same f no no refl)
     c.in_ok-by_form-in-If.ensures
 
@@ -39,7 +39,7 @@ pub returns-in_ok-by_form-in-If-2-clause-alike : goal.returns-in_ok-by_form-in-I
 returns-in_ok-by_form-in-If-2-clause-alike t c =
     let f = function_of c.args.rules.now in
     laid_alike f c.requires.goal.0 (goal_tree c.args.goal) c.requires.goal.1 (form_tree c.in-If.form) (goal_tree c.in-If.yes.now)
-    (goal_tree c.in-If.no.now) (leads_same f (goal_tree c.args.goal) _ (sym (ap goal_tree c.in-If.is)))
+    (goal_tree c.in-If.no.now) (leads_same f (goal_tree c.args.goal) _ (sym (sym c.of.ensures ∙ ap front_tree c.in-If.is)))
     (goal_tree c.in_ok-on_yes-in-If.on_yes.now) (goal_tree c.in_ok-on_no-in-If.on_no.now)
     (goal_tree c.in_ok-by_form-in-If-2.field-0.now) c.in_ok-on_yes-in-If.ensures.alike c.in_ok-on_no-in-If.ensures.alike
     c.in_ok-by_form-in-If-2.ensures
@@ -51,7 +51,8 @@ laid_out-requires-in_default t c =
     let old = goal_tree c.args.goal in
     let next = goal_tree c.in-Some-2.next in
     let step =
-    step_from f old (Choose c.in-Choose.case c.in-Choose.a c.in-Choose.b c.in-Choose.plan.now) next (ap goal_tree c.in-Choose.is)
+    step_from f old (Choose c.in-Choose.case c.in-Choose.ops.now.a c.in-Choose.ops.now.b c.in-Choose.progress.now) next
+    (sym c.of.ensures ∙ ap front_tree c.in-Choose.is)
     (rw c.in-Some-2.is at c.in_ok-next-in-Choose.ensures) in
     let falls : goal_weight f next < goal_weight f old = step.lighter in
     (search (rules, falls), ((c.requires.goal.0, step.belongs c.requires.goal.0 c.requires.goal.1), c.requires.known))
@@ -62,7 +63,8 @@ returns-in_default-clause-alike t c =
     let old = goal_tree c.args.goal in
     let next = goal_tree c.in-Some-2.next in
     step_alike f old next (goal_tree c.in_ok-laid_out-in-Choose.field-0.now)
-    (step_from f old (Choose c.in-Choose.case c.in-Choose.a c.in-Choose.b c.in-Choose.plan.now) next (ap goal_tree c.in-Choose.is)
+    (step_from f old (Choose c.in-Choose.case c.in-Choose.ops.now.a c.in-Choose.ops.now.b c.in-Choose.progress.now) next
+    (sym c.of.ensures ∙ ap front_tree c.in-Choose.is)
     (rw c.in-Some-2.is at c.in_ok-next-in-Choose.ensures))
     c.in_ok-laid_out-in-Choose.ensures.alike
 
@@ -75,8 +77,8 @@ laid_out-requires-in-Choose t c =
     let yes = goal_tree c.in-Some.field-0.yes in
     let no = goal_tree c.in-Some.field-0.no in
     let leads =
-    leads_by_rule f c.requires.goal.0 old (trial_tree c.in-Choose.a c.in-Choose.b (Some c.in-Some.field-0))
-    c.rules_are_valid.ensures c.requires.goal.1 (ap (λ g. rewritten f (goal_tree g)) c.in-Choose.is ∙ tried.rule) in
+    leads_by_rule f c.requires.goal.0 old (trial_tree c.in-Choose.ops.now.a c.in-Choose.ops.now.b (Some c.in-Some.field-0))
+    c.rules_are_valid.ensures c.requires.goal.1 (ap (rewritten f) (sym c.of.ensures ∙ ap front_tree c.in-Choose.is) ∙ tried.rule) in
     let falls : goal_weight f no < goal_weight f old = on_no_lighter f c.requires.goal.0 old c.requires.goal.1 _ yes no leads in (
       search (rules, falls),
       ((c.requires.goal.0, on_no_belongs f c.requires.goal.0 old c.requires.goal.1 _ yes no leads), c.requires.known),
@@ -90,8 +92,8 @@ laid_out-requires-in-Choose-2 t c =
     let yes = goal_tree c.in-Some.field-0.yes in
     let no = goal_tree c.in-Some.field-0.no in
     let leads =
-    leads_by_rule f c.requires.goal.0 old (trial_tree c.in-Choose.a c.in-Choose.b (Some c.in-Some.field-0))
-    c.rules_are_valid.ensures c.requires.goal.1 (ap (λ g. rewritten f (goal_tree g)) c.in-Choose.is ∙ tried.rule) in
+    leads_by_rule f c.requires.goal.0 old (trial_tree c.in-Choose.ops.now.a c.in-Choose.ops.now.b (Some c.in-Some.field-0))
+    c.rules_are_valid.ensures c.requires.goal.1 (ap (rewritten f) (sym c.of.ensures ∙ ap front_tree c.in-Choose.is) ∙ tried.rule) in
     let falls : goal_weight f yes < goal_weight f old = on_yes_lighter f c.requires.goal.0 old c.requires.goal.1 _ yes no leads in (
       search (rules, falls),
       (
@@ -106,8 +108,8 @@ returns-in_ok-by_guard-in-Choose-clause-alike t c =
     let tried = rw c.in-Some.is at c.trial.ensures in
     let old = goal_tree c.args.goal in
     laid_alike f c.requires.goal.0 old c.requires.goal.1 _ (goal_tree c.in-Some.field-0.yes) (goal_tree c.in-Some.field-0.no)
-    (leads_by_rule f c.requires.goal.0 old (trial_tree c.in-Choose.a c.in-Choose.b (Some c.in-Some.field-0))
-    c.rules_are_valid.ensures c.requires.goal.1 (ap (λ g. rewritten f (goal_tree g)) c.in-Choose.is ∙ tried.rule))
+    (leads_by_rule f c.requires.goal.0 old (trial_tree c.in-Choose.ops.now.a c.in-Choose.ops.now.b (Some c.in-Some.field-0))
+    c.rules_are_valid.ensures c.requires.goal.1 (ap (rewritten f) (sym c.of.ensures ∙ ap front_tree c.in-Choose.is) ∙ tried.rule))
     (goal_tree c.in_ok-on_yes-in-Choose.on_yes.now) (goal_tree c.in_ok-on_no-in-Choose.on_no.now)
     (goal_tree c.in_ok-by_guard-in-Choose.field-0.now) c.in_ok-on_yes-in-Choose.ensures.alike
     c.in_ok-on_no-in-Choose.ensures.alike c.in_ok-by_guard-in-Choose.ensures
@@ -116,7 +118,7 @@ returns-in_ok-by_guard-in-Choose-clause-alike t c =
 pub returns-in-Some-found-clause-alike : goal.returns-in-Some-found-clause-alike
 returns-in-Some-found-clause-alike t c =
     let f = function_of c.args.rules.now in
-    subst (λ g. StandsAlike f g (goal_tree c.in-Some-found.built.now)) (sym (ap goal_tree c.in-Deliver.is))
+    subst (λ g. StandsAlike f g (goal_tree c.in-Some-found.built.now)) (sym (sym c.of.ensures ∙ ap front_tree c.in-Deliver.is))
     (c.in-Some-found.ensures f (subst (λ items. All (IsKeptGoal f) items) (sym c.deref.ensures.value) c.requires.known))
 
 -- the goal behind the result is lighter, and of the obligation; nothing is known within it
@@ -126,7 +128,7 @@ laid_out-requires-in-Deliver t c =
     let old = goal_tree c.args.goal in
     let next = goal_tree c.in-Some-3.next in
     let step =
-    step_from f old (Deliver c.in-Deliver.op c.in-Deliver.plan.now) next (ap goal_tree c.in-Deliver.is)
+    step_from f old (Deliver c.in-Deliver.op c.in-Deliver.progress.now) next (sym c.of.ensures ∙ ap front_tree c.in-Deliver.is)
     (rw c.in-Some-3.is at c.in_ok-next-in-Deliver.ensures) in
     let falls : goal_weight f next < goal_weight f old = step.lighter in (
       search (rules, falls),
@@ -142,7 +144,7 @@ returns-in_ok-push-in-Deliver-clause-alike t c =
     let old = goal_tree c.args.goal in
     let next = goal_tree c.in-Some-3.next in
     step_alike f old next (goal_tree c.in_ok-built-in-Deliver.built.now)
-    (step_from f old (Deliver c.in-Deliver.op c.in-Deliver.plan.now) next (ap goal_tree c.in-Deliver.is)
+    (step_from f old (Deliver c.in-Deliver.op c.in-Deliver.progress.now) next (sym c.of.ensures ∙ ap front_tree c.in-Deliver.is)
     (rw c.in-Some-3.is at c.in_ok-next-in-Deliver.ensures))
     c.in_ok-built-in-Deliver.ensures.alike
 
@@ -152,6 +154,6 @@ returns-in_ok-push-in-Deliver-clause-known t c =
     let f = function_of c.args.rules.now in
     All-same (IsKeptGoal f) c.push.new.self.items _ c.in_ok-push-in-Deliver.ensures.items
     (All-push (IsKeptGoal f) c.args.known.now.items _ c.requires.known
-    (step_alike f (Deliver c.in-Deliver.op c.in-Deliver.plan.now) (goal_tree c.in-Some-3.next)
+    (step_alike f (Deliver c.in-Deliver.op c.in-Deliver.progress.now) (goal_tree c.in-Some-3.next)
     (goal_tree c.in_ok-built-in-Deliver.built.now) (rw c.in-Some-3.is at c.in_ok-next-in-Deliver.ensures)
     c.in_ok-built-in-Deliver.ensures.alike))

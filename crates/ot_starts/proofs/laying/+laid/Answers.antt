@@ -1,4 +1,4 @@
-use Rattle.std.proofs.Common.{rules, ap, sym, subst, ◌≡◌, ◌<◌, List}
+use Rattle.std.proofs.Common.{rules, ap, sym, subst, ◌≡◌, ◌∙◌, ◌<◌, List}
 use Rattle.std.specs.List.{All}
 use Rattle.std.proofs.lemmas.List.Elements.{All-push}
 use Rattle.fn_rules.specs.Rules.{function_of}
@@ -7,6 +7,7 @@ use Rattle.ot_terms.specs.Forms.{form_tree}
 use Rattle.ot_terms.specs.declared.goal.Goal.{Goal}
 use Rattle.ot_terms.specs.Goals.{goal_tree, Choose}
 use Rattle.ot_terms.specs.Weights.{goal_weight}
+use Rattle.goal_rules.specs.Steps.{front_tree}
 use Rattle.marked_goals.specs.Settled.{StandsMarked}
 use Rattle.ot_starts.specs.declared.kept.Kept.{Kept}
 use Rattle.ot_starts.specs.Kept.{IsKeptEnd}
@@ -21,13 +22,13 @@ laid-requires t c =
     let f = function_of c.args.rules.now in
     let falls : goal_weight f (goal_tree c.in-If.no.now) < goal_weight f (goal_tree c.args.goal)
     = no_falls f (goal_tree c.args.goal) (form_tree c.in-If.form) (goal_tree c.in-If.yes.now) (goal_tree c.in-If.no.now)
-    (ap goal_tree c.in-If.is) in (
+    (sym c.of.ensures ∙ ap front_tree c.in-If.is) in (
       search (rules, falls),
       (
         (
           c.requires.goal.0,
           no_belongs f (goal_tree c.args.goal) (form_tree c.in-If.form) (goal_tree c.in-If.yes.now)
-              (goal_tree c.in-If.no.now) (ap goal_tree c.in-If.is) c.requires.goal.0 c.requires.goal.1,
+              (goal_tree c.in-If.no.now) (sym c.of.ensures ∙ ap front_tree c.in-If.is) c.requires.goal.0 c.requires.goal.1,
         ),
         c.requires.kept,
       ),
@@ -39,13 +40,13 @@ laid-requires-in-If t c =
     let f = function_of c.args.rules.now in
     let falls : goal_weight f (goal_tree c.in-If.yes.now) < goal_weight f (goal_tree c.args.goal)
     = yes_falls f (goal_tree c.args.goal) (form_tree c.in-If.form) (goal_tree c.in-If.yes.now) (goal_tree c.in-If.no.now)
-    (ap goal_tree c.in-If.is) in (
+    (sym c.of.ensures ∙ ap front_tree c.in-If.is) in (
       search (rules, falls),
       (
         (
           c.requires.goal.0,
           yes_belongs f (goal_tree c.args.goal) (form_tree c.in-If.form) (goal_tree c.in-If.yes.now)
-              (goal_tree c.in-If.no.now) (ap goal_tree c.in-If.is) c.requires.goal.0 c.requires.goal.1,
+              (goal_tree c.in-If.no.now) (sym c.of.ensures ∙ ap front_tree c.in-If.is) c.requires.goal.0 c.requires.goal.1,
         ),
         c.laid.ensures.kept,
       ),
@@ -54,24 +55,25 @@ laid-requires-in-If t c =
 pub by_form-requires : goal.by_form-requires
 by_form-requires t c =
     form_low (function_of c.args.rules.now) (goal_tree c.args.goal) (form_tree c.in-If.form) (goal_tree c.in-If.yes.now)
-    (goal_tree c.in-If.no.now) (ap goal_tree c.in-If.is) c.requires.goal.0 c.requires.goal.1
+    (goal_tree c.in-If.no.now) (sym c.of.ensures ∙ ap front_tree c.in-If.is) c.requires.goal.0 c.requires.goal.1
 
 pub returns-in_ok-by_form-in-If-clause-stands : goal.returns-in_ok-by_form-in-If-clause-stands
 returns-in_ok-by_form-in-If-clause-stands t c =
     if_laid (function_of c.args.rules.now) (goal_tree c.args.goal) (form_tree c.in-If.form) (goal_tree c.in-If.yes.now)
-    (goal_tree c.in-If.no.now) (ap goal_tree c.in-If.is) (goal_tree c.in_ok-on_yes-in-If.on_yes.now)
+    (goal_tree c.in-If.no.now) (sym c.of.ensures ∙ ap front_tree c.in-If.is) (goal_tree c.in_ok-on_yes-in-If.on_yes.now)
     (goal_tree c.in_ok-on_no-in-If.on_no.now) (goal_tree c.in_ok-by_form-in-If.field-0.now)
     c.in_ok-on_yes-in-If.ensures.stands c.in_ok-on_no-in-If.ensures.stands c.in_ok-by_form-in-If.ensures
 
 -- a case that is tried, and the goals behind it, which are lighter and of the obligation
 pub trial-requires-clause-goal : goal.trial-requires-clause-goal
 trial-requires-clause-goal t c =
-    (c.requires.goal.0, subst (IsGoalOf (function_of c.args.rules.now) c.requires.goal.0) (ap goal_tree c.in-Choose.is) c.requires.goal.1)
+    (c.requires.goal.0, subst (IsGoalOf (function_of c.args.rules.now) c.requires.goal.0) (sym c.of.ensures ∙ ap front_tree c.in-Choose.is) c.requires.goal.1)
 
 pub trial-requires-clause-later : goal.trial-requires-clause-later
 trial-requires-clause-later t c =
     not_begun_there c.is_begun.result (goal_tree c.args.goal)
-    (Choose c.in-Choose.case c.in-Choose.a c.in-Choose.b c.in-Choose.plan.now) (ap goal_tree c.in-Choose.is) c.is_begun.ensures
+    (Choose c.in-Choose.case c.in-Choose.ops.now.a c.in-Choose.ops.now.b c.in-Choose.progress.now)
+    (sym c.of.ensures ∙ ap front_tree c.in-Choose.is) c.is_begun.ensures
     c.if-is_begun.false c.rules_keep_starts.ensures.begun
 
 pub laid-requires-in-Choose : goal.laid-requires-in-Choose
@@ -79,14 +81,14 @@ laid-requires-in-Choose t c =
     let f = function_of c.args.rules.now in
     let trial = rw c.in-Some-trial.is at c.trial.ensures in
     let old = goal_tree c.args.goal in
-    let was = Choose c.in-Choose.case c.in-Choose.a c.in-Choose.b c.in-Choose.plan.now in
+    let was = Choose c.in-Choose.case c.in-Choose.ops.now.a c.in-Choose.ops.now.b c.in-Choose.progress.now in
     let falls : goal_weight f (goal_tree c.in-Some-trial.field-0.no) < goal_weight f old
-    = tried_no_falls f old was c.in-Choose.a c.in-Choose.b c.in-Some-trial.field-0 (ap goal_tree c.in-Choose.is) trial in (
+    = tried_no_falls f old was c.in-Choose.ops.now.a c.in-Choose.ops.now.b c.in-Some-trial.field-0 (sym c.of.ensures ∙ ap front_tree c.in-Choose.is) trial in (
       search (rules, falls),
       (
         (
           c.requires.goal.0,
-          tried_no_belongs f old was c.in-Choose.a c.in-Choose.b c.in-Some-trial.field-0 (ap goal_tree c.in-Choose.is) trial
+          tried_no_belongs f old was c.in-Choose.ops.now.a c.in-Choose.ops.now.b c.in-Some-trial.field-0 (sym c.of.ensures ∙ ap front_tree c.in-Choose.is) trial
               c.requires.goal.0 c.requires.goal.1,
         ),
         c.requires.kept,
@@ -98,14 +100,14 @@ laid-requires-in-Choose-2 t c =
     let f = function_of c.args.rules.now in
     let trial = rw c.in-Some-trial.is at c.trial.ensures in
     let old = goal_tree c.args.goal in
-    let was = Choose c.in-Choose.case c.in-Choose.a c.in-Choose.b c.in-Choose.plan.now in
+    let was = Choose c.in-Choose.case c.in-Choose.ops.now.a c.in-Choose.ops.now.b c.in-Choose.progress.now in
     let falls : goal_weight f (goal_tree c.in-Some-trial.field-0.yes) < goal_weight f old
-    = tried_yes_falls f old was c.in-Choose.a c.in-Choose.b c.in-Some-trial.field-0 (ap goal_tree c.in-Choose.is) trial in (
+    = tried_yes_falls f old was c.in-Choose.ops.now.a c.in-Choose.ops.now.b c.in-Some-trial.field-0 (sym c.of.ensures ∙ ap front_tree c.in-Choose.is) trial in (
       search (rules, falls),
       (
         (
           c.requires.goal.0,
-          tried_yes_belongs f old was c.in-Choose.a c.in-Choose.b c.in-Some-trial.field-0 (ap goal_tree c.in-Choose.is) trial
+          tried_yes_belongs f old was c.in-Choose.ops.now.a c.in-Choose.ops.now.b c.in-Some-trial.field-0 (sym c.of.ensures ∙ ap front_tree c.in-Choose.is) trial
               c.requires.goal.0 c.requires.goal.1,
         ),
         c.laid-in-Choose.ensures.kept,
@@ -128,8 +130,8 @@ pub returns-in_ok-by_guard-in-Choose-clause-stands : goal.returns-in_ok-by_guard
 returns-in_ok-by_guard-in-Choose-clause-stands t c =
     let f = function_of c.args.rules.now in
     let trial = rw c.in-Some-trial.is at c.trial.ensures in
-    tried_laid f (goal_tree c.args.goal) (Choose c.in-Choose.case c.in-Choose.a c.in-Choose.b c.in-Choose.plan.now)
-    c.in-Choose.a c.in-Choose.b c.in-Some-trial.field-0 (ap goal_tree c.in-Choose.is) trial
+    tried_laid f (goal_tree c.args.goal) (Choose c.in-Choose.case c.in-Choose.ops.now.a c.in-Choose.ops.now.b c.in-Choose.progress.now)
+    c.in-Choose.ops.now.a c.in-Choose.ops.now.b c.in-Some-trial.field-0 (sym c.of.ensures ∙ ap front_tree c.in-Choose.is) trial
     (goal_tree c.in_ok-on_yes-in-Choose.on_yes.now) (goal_tree c.in_ok-on_no-in-Choose.on_no.now)
     (goal_tree c.in_ok-by_guard-in-Choose.field-0.now)
     c.in_ok-on_yes-in-Choose.ensures.stands c.in_ok-on_no-in-Choose.ensures.stands
