@@ -12,7 +12,8 @@ the obligations in their own words (bench/smt.py), and LIMIT seconds for a funct
 processes. Behind all functions it is said what is wanted, and of which functions it does not hold.
 
 What a process takes to start, the same for both commands, is more than the smallest functions leave to `confirm`; so its
-part of `settle` is told of the clock without the start, and of the instructions with it.
+part of `settle` is told of the clock without the start, and of the instructions with it. The last line tells what both
+commands take for all proofs of the run together, as whole processes.
 """
 import glob
 import os
@@ -106,7 +107,7 @@ def beats_solvers(row):
 def wanted(rows, solvers):
     """What is wanted, of which functions, and the test of it."""
     made = [row for row in rows if row.cases]
-    proofs = [row for row in made if row.confirmed]
+    proofs = [row for row in rows if row.confirmed]
     yield f"decided within {MOST_SECONDS} s and {MOST_BYTES / 1e9:.0f} GB", rows, lambda row: (
         row.settled.status in (0, 1) and row.settled.seconds <= MOST_SECONDS and 1024 * row.settled.peak <= MOST_BYTES)
     if solvers:
@@ -147,6 +148,9 @@ def main():
     for what, of, holds in wanted(rows, solvers):
         missed = ", ".join(row.name for row in of if not holds(row))
         print(f"wanted: {what}: {f'not so of {missed}' if missed else f'so of all {len(of)}'}")
+    if proofs := [row for row in rows if row.confirmed]:
+        settled, confirmed = sum(row.settled.seconds for row in proofs), sum(row.confirmed.seconds for row in proofs)
+        print(f"all proofs, whole processes: settle {settled:.3f} s, confirm {confirmed:.3f} s, {confirmed / settled:.3f} of it")
 
 
 if __name__ == "__main__":

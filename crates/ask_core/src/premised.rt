@@ -12,7 +12,7 @@ use crate::turn::Turn;
 use diff_graph::Lit;
 
 /// A place in the plan of a premised asker.
-#[derive(Clone, Copy, Debug, PartialEq, Eq)]
+#[derive(Clone, Copy, PartialEq, Eq)]
 pub enum PremisedNode<N> {
     /// The premise is asked here.
     Premise,

@@ -3,7 +3,7 @@ use ot_model::{Kind, Op};
 use plain_list::List;
 
 /// What the guards of a block reach.
-#[derive(Debug, Drop)]
+#[derive(Drop)]
 pub struct BlockAudit {
     /// The kind of the operation that is transformed.
     pub first: Kind,
@@ -19,7 +19,7 @@ pub struct BlockAudit {
 }
 
 /// What the guards of a function reach.
-#[derive(Debug, Drop)]
+#[derive(Drop)]
 pub enum Audit {
     /// What those of each block reach, in canonical order.
     Blocks(List<BlockAudit>),
@@ -29,7 +29,7 @@ pub enum Audit {
 }
 
 /// Whether two functions are the same.
-#[derive(Clone, Copy, Debug, PartialEq, Eq)]
+#[derive(Clone, Copy, PartialEq, Eq)]
 pub enum Same {
     /// Their heads differ.
     Heads,

@@ -2,7 +2,7 @@
 use ot_model::{Doc, Op};
 
 /// Whether a function is reversed by another one.
-#[derive(Debug, Drop)]
+#[derive(Drop)]
 pub enum Back {
     /// It is: on every document, of all operations.
     Yes,

@@ -7,4 +7,5 @@ pub mod Reading
 pub mod Readings
 pub mod ScriptExamples
 pub mod Scripts
+mod Tested
 pub mod Writing

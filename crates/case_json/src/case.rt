@@ -27,8 +27,8 @@ pub fn trial_read(alloc: Global, rules: &Rules, bytes: &[u8]) -> Result<Trial, C
     ensures reading { CaseReads result (trial_in (function_of rules.now) bytes.now) }
     ensures ready { IfOk result (λ trial. IsReadyTrial (function_of rules.now) trial) }
 {
-    read_trials_are_ready();
     let trial = case_read(alloc, bytes)?;
+    read_trials_are_ready();
     match fault_of(rules, &trial) {
         Some(fault) => Err(CaseError::Fault(fault)),
         None => Ok(trial),

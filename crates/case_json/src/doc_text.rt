@@ -58,8 +58,7 @@ fn write_cell(cell: Cell, out: &mut Vec<u8>) -> Result<(), NoMemory>
         return char_write(cell.ch, out);
     }
     out.push(b'~')?;
-    char_write(cell.ch, out)?;
-    Ok(())
+    char_write(cell.ch, out)
 }
 
 /// The cell that a text begins with, and the text behind it.

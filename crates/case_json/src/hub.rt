@@ -17,7 +17,7 @@ use serde_json::Value;
 use std::alloc::{AllocError, Global};
 
 /// What happens at a client of a hub.
-#[derive(Clone, Copy, Debug, PartialEq, Eq)]
+#[derive(Clone, Copy, PartialEq, Eq)]
 pub enum HubEvent {
     /// The client makes the operation.
     Edit { client: u32, op: Op },
@@ -30,7 +30,7 @@ pub enum HubEvent {
 }
 
 /// A document, a number of clients, and what happens at them.
-#[derive(Debug, Drop)]
+#[derive(Drop)]
 pub struct HubScript {
     /// The document with which the server and each client begin.
     pub doc: Doc,

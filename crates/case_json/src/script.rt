@@ -3,7 +3,7 @@ use ot_model::{Doc, Op};
 use plain_list::List;
 
 /// What happens at a site of a session.
-#[derive(Clone, Copy, Debug, PartialEq, Eq)]
+#[derive(Clone, Copy, PartialEq, Eq)]
 pub enum Event {
     /// The site makes the operation.
     Make { site: u32, op: Op },
@@ -13,7 +13,7 @@ pub enum Event {
 }
 
 /// A document, a number of sites, and what happens at them.
-#[derive(Debug, Drop)]
+#[derive(Drop)]
 pub struct Script {
     /// The document with which each site begins.
     pub doc: Doc,

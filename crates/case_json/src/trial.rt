@@ -3,7 +3,7 @@ use ot_model::{Doc, Op};
 use plain_list::List;
 
 /// A document, operations that were made on it, and orders in which to integrate them.
-#[derive(Debug, Drop)]
+#[derive(Drop)]
 pub struct Trial {
     /// The document on which all operations were made.
     pub doc: Doc,

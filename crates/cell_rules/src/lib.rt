@@ -6,4 +6,4 @@
 
 mod reading;
 
-pub use reading::{finished, placed, read_step};
+pub use reading::{finished, read_step};

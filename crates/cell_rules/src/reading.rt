@@ -1,9 +1,11 @@
 //! One step in reading a cell.
-ghost use Rattle.std.specs.Prelude.{◌≡◌, IfOk, option_map};
+ghost use Rattle.std.specs.Prelude.{◌≡◌, Some, IfOk, option_map};
 ghost use Rattle.ot_questions.specs.Nears.{IsNear};
 ghost use Rattle.ot_terms.specs.Cells as trees;
 ghost use Rattle.ot_terms.specs.Cells.{cell_tree};
 ghost use Rattle.ot_terms.specs.Forms as forms;
+ghost use Rattle.ot_terms.specs.Forms.{form_tree};
+ghost use Rattle.ot_terms.specs.Documents as documents;
 ghost use Rattle.ot_terms.specs.Documents.{doc_tree};
 ghost use Rattle.cell_rules.specs.Cells as cells;
 ghost use Rattle.cell_rules.specs.Cells.{IsReadable};
@@ -11,10 +13,26 @@ ghost use Rattle.cell_rules.specs.Cells.{IsReadable};
 use ask_core::NoMemory;
 use bumpalo::Bump;
 use ot_questions::Finished;
-use ot_terms::{CellT, DocT, Form, Place};
+use ot_terms::{CellT, DocT, Form, Place, placed};
+
+// One of two cells, by a form.
+fn either<'a>(
+    bump: &'a Bump,
+    form: &'a Form<'a>,
+    yes: CellT<'a>,
+    no: CellT<'a>,
+) -> Result<Option<CellT<'a>>, NoMemory>
+    ensures { IfOk result (λ r. option_map cell_tree r
+        ≡ Some (trees.If (form_tree form.now) (cell_tree yes.entry) (cell_tree no.entry))) }
+{
+    Ok(Some(CellT::If {
+        form,
+        yes: placed(bump, yes)?,
+        no: placed(bump, no)?,
+    }))
+}
 
 // Before the change, at it, and behind it.
-#[inline]
 fn by_place<'a>(
     bump: &'a Bump,
     j: Place,
@@ -22,21 +40,36 @@ fn by_place<'a>(
     before: &'a CellT<'a>,
     there: CellT<'a>,
     behind: &'a CellT<'a>,
-) -> Result<CellT<'a>, NoMemory>
-    ensures { IfOk result (λ r. cell_tree r ≡ trees.If (forms.Lt j at) (cell_tree before.now)
-        (trees.If (forms.Le j at) (cell_tree there.entry) (cell_tree behind.now))) }
+) -> Result<Option<CellT<'a>>, NoMemory>
+    ensures { IfOk result (λ r. option_map cell_tree r ≡ Some (trees.If (forms.Lt j at) (cell_tree before.now)
+        (trees.If (forms.Le j at) (cell_tree there.entry) (cell_tree behind.now)))) }
 {
     let there = placed(bump, there)?;
     let here = Form::le(bump, j, at)?;
-    Ok(CellT::If {
+    Ok(Some(CellT::If {
         form: Form::lt(bump, j, at)?,
         yes: before,
         no: CellT::either(bump, here, there, behind)?,
-    })
+    }))
+}
+
+// The cell behind an insertion.
+fn read_put<'a>(
+    bump: &'a Bump,
+    doc: &'a DocT<'a>,
+    at: Place,
+    ch: u8,
+    j: Place,
+) -> Result<Option<CellT<'a>>, NoMemory>
+    requires { IsNear 999 j.off }
+    ensures { IfOk result (λ r. option_map cell_tree r ≡ cells.read_change (documents.Put (doc_tree doc.now) at ch) j) }
+{
+    let before = CellT::at(bump, doc, j)?;
+    let behind = CellT::at(bump, doc, j.plus(-1))?;
+    by_place(bump, j, at, before, CellT::Char(ch), behind)
 }
 
 // The cell of a document at a place, by its last change; the base document has no change.
-#[inline]
 fn read_change<'a>(
     bump: &'a Bump,
     doc: &'a DocT<'a>,
@@ -47,25 +80,33 @@ fn read_change<'a>(
 {
     match *doc {
         DocT::Base => Ok(None),
-        DocT::Put { doc, at, ch } => {
-            let before = CellT::at(bump, doc, j)?;
-            let behind = CellT::at(bump, doc, j.plus(-1))?;
-            Ok(Some(by_place(bump, j, at, before, CellT::Char(ch), behind)?))
+        DocT::Put { doc, at, ch } => read_put(bump, doc, at, ch, j),
+        DocT::Cut { doc, at } => {
+            let behind = j.plus(1);
+            let form = Form::lt(bump, j, at)?;
+            either(
+                bump,
+                form,
+                CellT::At { doc, at: j },
+                CellT::At { doc, at: behind },
+            )
         }
-        DocT::Cut { doc, at } => Ok(Some(CellT::If {
-            form: Form::lt(bump, j, at)?,
-            yes: CellT::at(bump, doc, j)?,
-            no: CellT::at(bump, doc, j.plus(1))?,
-        })),
         DocT::Mark { doc, at } => {
             let cell = CellT::at(bump, doc, j)?;
-            Ok(Some(by_place(bump, j, at, cell, CellT::Dead(cell), cell)?))
+            by_place(bump, j, at, cell, CellT::Dead(cell), cell)
         }
         DocT::Over { doc, at, ch } => {
             let cell = CellT::at(bump, doc, j)?;
-            Ok(Some(by_place(bump, j, at, cell, CellT::Over { ch, cell }, cell)?))
+            by_place(bump, j, at, cell, CellT::Over { ch, cell }, cell)
         }
     }
+}
+
+// A dead cell with the character of this name.
+fn dead_char<'a>(bump: &'a Bump, ch: u8) -> Result<Option<CellT<'a>>, NoMemory>
+    ensures { IfOk result (λ r. option_map cell_tree r ≡ Some (trees.Dead (trees.Char ch))) }
+{
+    Ok(Some(CellT::Dead(CellT::of_char(bump, ch)?)))
 }
 
 // A dead cell, by the cell that it was.
@@ -76,12 +117,8 @@ fn bury<'a>(bump: &'a Bump, cell: CellT<'a>) -> Result<Option<CellT<'a>>, NoMemo
         CellT::At { .. } => Ok(None),
         CellT::Char(_) => Ok(None),
         CellT::Dead(cell) => Ok(Some(CellT::Dead(cell))),
-        CellT::Over { ch, .. } => Ok(Some(CellT::Dead(CellT::of_char(bump, ch)?))),
-        CellT::If { form, yes, no } => Ok(Some(CellT::If {
-            form,
-            yes: CellT::dead(bump, yes)?,
-            no: CellT::dead(bump, no)?,
-        })),
+        CellT::Over { ch, .. } => dead_char(bump, ch),
+        CellT::If { form, yes, no } => either(bump, form, CellT::Dead(yes), CellT::Dead(no)),
     }
 }
 
@@ -92,13 +129,16 @@ fn replace<'a>(bump: &'a Bump, ch: u8, cell: CellT<'a>) -> Result<Option<CellT<'
     match cell {
         CellT::At { .. } => Ok(None),
         CellT::Char(_) => Ok(Some(CellT::Char(ch))),
-        CellT::Dead(_) => Ok(Some(CellT::Dead(CellT::of_char(bump, ch)?))),
+        CellT::Dead(_) => dead_char(bump, ch),
         CellT::Over { cell, .. } => Ok(Some(CellT::Over { ch, cell })),
-        CellT::If { form, yes, no } => Ok(Some(CellT::If {
-            form,
-            yes: CellT::over(bump, ch, yes)?,
-            no: CellT::over(bump, ch, no)?,
-        })),
+        CellT::If { form, yes, no } => {
+            either(
+                bump,
+                form,
+                CellT::Over { ch, cell: yes },
+                CellT::Over { ch, cell: no },
+            )
+        }
     }
 }
 
@@ -149,11 +189,4 @@ pub fn finished(cell: CellT<'_>) -> Option<Finished>
         },
         CellT::If { .. } => None,
     }
-}
-
-/// The cell, in the arena.
-pub fn placed<'a>(bump: &'a Bump, cell: CellT<'a>) -> Result<&'a CellT<'a>, NoMemory>
-    ensures { IfOk result (λ r. r.now ≡ cell.entry) }
-{
-    Ok(bump.try_alloc(cell)?)
 }

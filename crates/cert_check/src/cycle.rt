@@ -40,7 +40,7 @@ pub(crate) fn is_plain_cycle(lits: &[Lit], picks: &[u32]) -> bool
 const MOST_SUM: i64 = 1_000_000_000;
 
 /// A walk along literals, of which picks named some: it needs no list of them.
-#[derive(Clone, Copy, Debug, PartialEq, Eq)]
+#[derive(Clone, Copy, PartialEq, Eq)]
 pub struct Walk {
     start: u8,
     name: u8,

@@ -6,7 +6,7 @@ use ask_core::NoMemory;
 use diff_graph::PickError;
 
 /// What an accepted token leaves.
-#[derive(Clone, Copy, Debug, PartialEq, Eq)]
+#[derive(Clone, Copy, PartialEq, Eq)]
 pub enum Progress {
     /// Places are still open.
     More,
@@ -16,7 +16,7 @@ pub enum Progress {
 }
 
 /// Why a token is refused.
-#[derive(Clone, Copy, Debug, PartialEq, Eq)]
+#[derive(Clone, Copy, PartialEq, Eq)]
 pub enum CheckError {
     /// `?` where nothing is asked.
     NotAQuestion,

@@ -25,7 +25,7 @@ pub trait CycleNumbers: Drop {
 /// The tokens of a tree in preorder: a question, then its tree for yes, then its tree for no. A list of
 /// tokens may also be none, or more than one tree. They are kept as their text, behind the bytes that stand
 /// before it, so that nothing is written a second time.
-#[derive(Debug, Drop)]
+#[derive(Drop)]
 pub struct Tree {
     text: Vec<u8>,
     start: usize,

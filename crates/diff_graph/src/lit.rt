@@ -5,7 +5,7 @@
 pub const MAX_LITERAL_OFFSET: i32 = 1_000;
 
 /// The difference constraint `x <= y + k` over integers that are named by `x` and `y`.
-#[derive(Clone, Copy, Debug, PartialEq, Eq)]
+#[derive(Clone, Copy, PartialEq, Eq)]
 pub struct Lit {
     pub x: u8,
     pub y: u8,
@@ -13,7 +13,7 @@ pub struct Lit {
 }
 
 /// Why picks name no negative cycle, in the order of the tests.
-#[derive(Clone, Copy, Debug, PartialEq, Eq)]
+#[derive(Clone, Copy, PartialEq, Eq)]
 pub enum PickError {
     /// A pick is not below the number of literals.
     BadPick,

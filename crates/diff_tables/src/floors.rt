@@ -77,8 +77,7 @@ fn least_of_named(alloc: Global, lits: &[Lit], floors: &[i32]) -> Result<Option<
     let mut rows = new_rows(alloc, n)?;
     let mut ways = new_ways(alloc, n)?;
     let bounds = floor_literals(alloc, floors)?;
-    let found = least_in(alloc, &mut rows, &mut ways, lits, &bounds)?;
-    Ok(found)
+    least_in(alloc, &mut rows, &mut ways, lits, &bounds)
 }
 
 /// The floors as literals.

@@ -2,7 +2,7 @@
 
 /// What is kept for an ordered pair of names `x`, `y`: that `x <= y + k` follows from the literals
 /// added so far, and where a chain of them that shows it begins.
-#[derive(Clone, Copy, Debug, PartialEq, Eq)]
+#[derive(Clone, Copy, PartialEq, Eq)]
 pub struct Hop {
     /// The offset.
     pub k: i32,

@@ -2,7 +2,7 @@
 use plain_list::List;
 
 /// Values that meet all literals, or a negative cycle of them.
-#[derive(Debug, Drop)]
+#[derive(Drop)]
 pub enum Solved {
     /// A value for each name. The value of name 0 is 0.
     Values(List<i32>),

@@ -12,7 +12,7 @@ use ot_prove::Answer;
 use std::alloc::Global;
 
 /// Answers that lead from an asker's own plan to an end that fails, and the cause.
-#[derive(Debug, Drop)]
+#[derive(Drop)]
 pub struct FailingEnd<W> {
     pub answers: Vec<Answer>,
     pub why: W,

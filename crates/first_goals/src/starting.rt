@@ -11,7 +11,7 @@ use ot_model::Kind;
 use ot_questions::Who;
 use ot_terms::{
     Form, Goal, GoalProgress, Operands, Place, SymOp, enabled_form,
-    first_goals_stand_for_obligations,
+    first_goals_stand_for_obligations, placed,
 };
 
 // The goal, where the two names stand for different integers.
@@ -113,7 +113,7 @@ fn first_choice<'a>(
         count: 0,
     };
     let ops = Operands { a: b, b: a };
-    Goal::choose(bump, 0, ops.placed(bump)?, progress.placed(bump)?)
+    Goal::choose(bump, 0, placed(bump, ops)?, placed(bump, progress)?)
 }
 
 fn start_pair<'a>(bump: &'a Bump, head: &Head, k: Kind, l: Kind) -> Result<&'a Goal<'a>, NoMemory>

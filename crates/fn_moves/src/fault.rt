@@ -1,7 +1,7 @@
 //! Why a text is refused.
 
 /// The cause of the first token that cannot go on, in the order in which causes are tried.
-#[derive(Clone, Copy, Debug, PartialEq, Eq)]
+#[derive(Clone, Copy, PartialEq, Eq)]
 pub enum FaultKind {
     /// A byte outside comments that begins no token.
     Byte,
@@ -46,7 +46,7 @@ pub enum FaultKind {
 }
 
 /// The first token that cannot go on, with its place and its cause.
-#[derive(Clone, Copy, Debug, PartialEq, Eq)]
+#[derive(Clone, Copy, PartialEq, Eq)]
 pub struct TextFault {
     /// The line, counted from 1.
     pub line: u32,

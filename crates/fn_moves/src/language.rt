@@ -7,7 +7,7 @@ use fn_rules::Head;
 use ot_model::{KINDS, Kind};
 
 /// The language that a file is written in, which its first line tells.
-#[derive(Clone, Copy, Debug, PartialEq, Eq)]
+#[derive(Clone, Copy, PartialEq, Eq)]
 pub enum Language {
     /// Insertions and deletions.
     One,

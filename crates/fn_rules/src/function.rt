@@ -7,7 +7,7 @@ use crate::guard::{Guard, Side};
 use ot_model::{Kind, Mode, Op};
 
 /// What the transformed operation becomes.
-#[derive(Clone, Copy, Debug, PartialEq, Eq)]
+#[derive(Clone, Copy, PartialEq, Eq)]
 pub enum Res {
     /// It keeps its kind, character and site, at the position of `base` plus `k`.
     Keep { base: Side, k: i32 },
@@ -17,14 +17,14 @@ pub enum Res {
 }
 
 /// A guarded case.
-#[derive(Drop, Debug)]
+#[derive(Drop)]
 pub struct Case {
     pub guard: Guard,
     pub res: Res,
 }
 
 /// The cases for one ordered pair of kinds.
-#[derive(Drop, Debug)]
+#[derive(Drop)]
 pub struct Block {
     pub first: Kind,
     pub second: Kind,
@@ -32,7 +32,7 @@ pub struct Block {
 }
 
 /// What a function says before its cases.
-#[derive(Clone, Copy, Debug, PartialEq, Eq)]
+#[derive(Clone, Copy, PartialEq, Eq)]
 pub struct Head {
     pub mode: Mode,
 
@@ -93,7 +93,7 @@ pub enum Level {
 }
 
 /// The kinds of the operations that an obligation speaks of.
-#[derive(Clone, Copy, Debug, PartialEq, Eq)]
+#[derive(Clone, Copy, PartialEq, Eq)]
 pub enum ObName {
     /// Two operations: an instance of TP1.
     Pair(Kind, Kind),

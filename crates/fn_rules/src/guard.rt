@@ -1,7 +1,7 @@
 //! Guards: what a case asks of two operations.
 
 /// One of the two operations that a case speaks of.
-#[derive(Clone, Copy, Debug, PartialEq, Eq)]
+#[derive(Clone, Copy, PartialEq, Eq)]
 pub enum Side {
     /// The operation that is transformed.
     First,
@@ -11,7 +11,7 @@ pub enum Side {
 }
 
 /// What an atom compares.
-#[derive(Clone, Copy, Debug, PartialEq, Eq)]
+#[derive(Clone, Copy, PartialEq, Eq)]
 pub enum Sort {
     /// Positions, with an offset.
     Pos,
@@ -24,7 +24,7 @@ pub enum Sort {
 }
 
 /// How an atom compares.
-#[derive(Clone, Copy, Debug, PartialEq, Eq)]
+#[derive(Clone, Copy, PartialEq, Eq)]
 pub enum Cmp {
     Lt,
     Le,
@@ -32,7 +32,7 @@ pub enum Cmp {
 }
 
 /// A comparison of the thing of the `left` operation with the thing of the other operation plus `k`.
-#[derive(Clone, Copy, Debug, PartialEq, Eq)]
+#[derive(Clone, Copy, PartialEq, Eq)]
 pub struct Atom {
     pub sort: Sort,
     pub left: Side,
@@ -43,7 +43,7 @@ pub struct Atom {
 }
 
 /// A condition on two operations.
-#[derive(Drop, Debug)]
+#[derive(Drop)]
 pub enum Guard {
     True,
     Atom(Atom),
@@ -56,7 +56,7 @@ pub enum Guard {
 ///
 /// `or` binds loosest, then `and`, then `not`, and both `or` and `and` group from the left. So an `or`
 /// stands without parentheses only where the place is `Loose`, and an `and` wherever it is not `Tight`.
-#[derive(Clone, Copy, Debug, PartialEq, Eq)]
+#[derive(Clone, Copy, PartialEq, Eq)]
 pub enum Tightness {
     /// A whole guard, a guard in parentheses, or the left operand of an `or`.
     Loose,

@@ -16,7 +16,7 @@ use ot_model::{KINDS, Kind};
 use std::alloc::Global;
 
 /// A function that keeps all limits: what is transformed by it can rely on them.
-#[derive(Drop, Debug)]
+#[derive(Drop)]
 pub struct Rules {
     head: Head,
     blocks: Vec<Block>,

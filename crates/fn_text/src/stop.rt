@@ -7,7 +7,7 @@ use fn_moves::TextFault;
 use std::alloc::{AllocError, AllocFailed};
 
 /// Why reading stopped.
-#[derive(Clone, Copy, Debug)]
+#[derive(Clone, Copy)]
 pub enum TextError {
     /// A token cannot go on.
     Fault(TextFault),

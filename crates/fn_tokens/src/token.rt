@@ -7,7 +7,7 @@ use fn_rules::{Cmp, Side, Sort};
 use ot_model::{Kind, Mode};
 
 /// A word of one of the languages.
-#[derive(Clone, Copy, Debug, PartialEq, Eq)]
+#[derive(Clone, Copy, PartialEq, Eq)]
 pub enum Word {
     Otfn,
     Text,
@@ -134,14 +134,14 @@ pub(crate) fn word_of(letters: &[u8]) -> Token
 }
 
 /// The sign of an offset.
-#[derive(Clone, Copy, Debug, PartialEq, Eq)]
+#[derive(Clone, Copy, PartialEq, Eq)]
 pub enum Sign {
     Plus,
     Minus,
 }
 
 /// A token: the longest that begins at its place.
-#[derive(Clone, Copy, Debug, PartialEq, Eq)]
+#[derive(Clone, Copy, PartialEq, Eq)]
 pub enum Token {
     /// A byte that begins no token.
     Byte,
@@ -173,7 +173,7 @@ pub enum Token {
 }
 
 /// A token with the place of its first byte. The two ends stand just after the last byte of their line.
-#[derive(Clone, Copy, Debug, PartialEq, Eq)]
+#[derive(Clone, Copy, PartialEq, Eq)]
 pub struct Placed {
     pub token: Token,
 

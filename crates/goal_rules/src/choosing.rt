@@ -98,11 +98,9 @@ fn choose_case<'a>(
 {
     match first_case(cases, case, ops, progress) {
         None => Ok(Front::Fails(Why::Undefined)),
-        Some(Trial { guard, yes, no }) => Ok(Front::If {
-            form: *place_form(bump, guard, ops.a, ops.b)?,
-            yes: bump.try_alloc(yes)?,
-            no: bump.try_alloc(no)?,
-        }),
+        Some(Trial { guard, yes, no }) => {
+            Front::either(bump, place_form(bump, guard, ops.a, ops.b)?, yes, no)
+        }
     }
 }
 
@@ -132,5 +130,5 @@ pub(crate) fn choose<'a>(
         });
     };
     let cases = rules.cases(first, second);
-    Ok(choose_case(bump, &cases[case as usize..], case, ops, progress)?)
+    choose_case(bump, &cases[case as usize..], case, ops, progress)
 }

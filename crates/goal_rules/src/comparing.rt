@@ -1,6 +1,9 @@
 //! The rules for the comparison of two cells.
-ghost use Rattle.std.specs.Prelude.{◌≡◌, IfOk, option_map};
+ghost use Rattle.std.specs.Prelude.{◌≡◌, Some, IfOk, option_map};
 ghost use Rattle.ot_terms.specs.Cells.{cell_tree};
+ghost use Rattle.ot_terms.specs.Forms.{form_tree};
+ghost use Rattle.ot_terms.specs.Goals as trees;
+ghost use Rattle.ot_terms.specs.Goals.{goal_tree};
 ghost use Rattle.cell_rules.specs.Cells as cells;
 ghost use Rattle.cell_rules.specs.Cells.{IsReadable};
 ghost use Rattle.goal_rules.specs.Steps.{front_tree};
@@ -10,9 +13,20 @@ use crate::front::Front;
 use crate::known::holds;
 use ask_core::NoMemory;
 use bumpalo::Bump;
-use cell_rules::{finished, placed, read_step};
+use cell_rules::{finished, read_step};
 use ot_questions::{Finished, Source};
-use ot_terms::{CellT, Form, Goal, Place, Why};
+use ot_terms::{CellT, Form, Goal, Place, Why, placed};
+
+// Two names stand for one character.
+fn same_names<'a>(bump: &'a Bump, c: u8, d: u8, why: Why) -> Result<Front<'a>, NoMemory>
+    ensures { IfOk result (λ r. front_tree r ≡ table.same_source (Source.Named c) (Source.Named d) why) }
+{
+    Ok(Front::If {
+        form: Form::Eq(Place::named(c), Place::named(d)),
+        yes: holds(),
+        no: Goal::fails(bump, why)?,
+    })
+}
 
 // Two characters are the same: one base cell's, or those of two names.
 fn same_source<'a>(
@@ -35,11 +49,7 @@ fn same_source<'a>(
         },
         Source::Named(c) => match right {
             Source::Base(_) => Ok(Front::Fails(why)),
-            Source::Named(d) => Ok(Front::If {
-                form: Form::Eq(Place::named(c), Place::named(d)),
-                yes: holds(),
-                no: Goal::fails(bump, why)?,
-            }),
+            Source::Named(d) => same_names(bump, c, d, why),
         },
     }
 }
@@ -76,6 +86,19 @@ fn both_finished<'a>(
     }
 }
 
+// One of two comparisons, by a form.
+fn either<'a>(
+    bump: &'a Bump,
+    form: &'a Form<'a>,
+    yes: Goal<'a>,
+    no: Goal<'a>,
+) -> Result<Option<Front<'a>>, NoMemory>
+    ensures { IfOk result (λ r. option_map front_tree r
+        ≡ Some (trees.If (form_tree form.now) (goal_tree yes.entry) (goal_tree no.entry))) }
+{
+    Ok(Some(Front::either(bump, form, yes, no)?))
+}
+
 // The comparison where the left cell is finished and the right one needs no step.
 fn compare_read<'a>(
     bump: &'a Bump,
@@ -89,11 +112,12 @@ fn compare_read<'a>(
         return both_finished(bump, finished(left), finished(right));
     };
     let left = placed(bump, left)?;
-    Ok(Some(Front::If {
-        form: *form,
-        yes: Goal::same(bump, left, yes)?,
-        no: Goal::same(bump, left, no)?,
-    }))
+    either(
+        bump,
+        form,
+        Goal::Same { left, right: yes },
+        Goal::Same { left, right: no },
+    )
 }
 
 // The comparison where the left cell needs no step: the right one is read.
@@ -131,11 +155,12 @@ pub(crate) fn compare<'a>(
                 return compare_right(bump, left, right);
             };
             let right = placed(bump, right)?;
-            Ok(Some(Front::If {
-                form: *form,
-                yes: Goal::same(bump, yes, right)?,
-                no: Goal::same(bump, no, right)?,
-            }))
+            either(
+                bump,
+                form,
+                Goal::Same { left: yes, right },
+                Goal::Same { left: no, right },
+            )
         }
     }
 }

@@ -2,6 +2,7 @@
 ghost use Rattle.std.specs.Prelude.{◌≡◌, ◌<◌, IfOk, Some};
 ghost use Rattle.fn_rules.specs.Rules.{function_of};
 ghost use Rattle.ot_terms.specs.Belonging as plans;
+ghost use Rattle.ot_terms.specs.Goals as trees;
 ghost use Rattle.ot_terms.specs.Standing.{results_of};
 ghost use Rattle.goal_rules.specs.Ends as ends;
 ghost use Rattle.goal_rules.specs.Steps.{front_tree};
@@ -13,7 +14,7 @@ use ask_core::NoMemory;
 use bumpalo::Bump;
 use fn_rules::{ObName, Rules};
 use ot_model::Mode;
-use ot_terms::{GoalProgress, Operands, SymOp};
+use ot_terms::{GoalProgress, Operands, SymOp, placed};
 
 #[inline]
 fn next_of_pair(a: SymOp, b: SymOp, got: &[SymOp]) -> Option<(SymOp, SymOp)>
@@ -95,6 +96,21 @@ fn with_result(progress: &GoalProgress, op: SymOp) -> GoalProgress
     next
 }
 
+// The transformation begins with its first case.
+fn first_choice<'a>(
+    bump: &'a Bump,
+    ops: Operands,
+    progress: GoalProgress,
+) -> Result<Front<'a>, NoMemory>
+    ensures { IfOk result (λ r. front_tree r ≡ trees.Choose 0 ops.a ops.b progress) }
+{
+    Ok(Front::Choose {
+        case: 0,
+        ops: placed(bump, ops)?,
+        progress: placed(bump, progress)?,
+    })
+}
+
 /// The next transformation begins with its first case, or the obligation comes to its end.
 #[inline]
 pub(crate) fn deliver<'a>(
@@ -109,11 +125,7 @@ pub(crate) fn deliver<'a>(
     let next = with_result(progress, op);
     let got = &next.got[..next.count as usize];
     match next_operands(next.ob, &next.ops, got) {
-        Some((a, b)) => Ok(Front::Choose {
-            case: 0,
-            ops: Operands { a, b }.placed(bump)?,
-            progress: next.placed(bump)?,
-        }),
+        Some((a, b)) => first_choice(bump, Operands { a, b }, next),
         None => end_goal(bump, rules.head().mode, next.ob, &next.ops, got),
     }
 }

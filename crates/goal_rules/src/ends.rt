@@ -3,7 +3,10 @@ ghost use Rattle.std.specs.Prelude.{◌≡◌, ◌+ℤ◌, IfOk};
 ghost use Rattle.ot_questions.specs.Places.{growth};
 ghost use Rattle.ot_terms.specs.Changes as changes;
 ghost use Rattle.ot_terms.specs.Documents.{doc_tree};
+ghost use Rattle.ot_terms.specs.Goals as trees;
 ghost use Rattle.ot_terms.specs.Goals.{goal_tree};
+ghost use Rattle.ot_terms.specs.Cells as cells;
+ghost use Rattle.ot_terms.specs.Starting.{enabled_form};
 ghost use Rattle.goal_rules.specs.Ends as ends;
 ghost use Rattle.goal_rules.specs.Steps.{front_tree};
 
@@ -47,6 +50,21 @@ fn doc_of<'a>(bump: &'a Bump, mode: Mode, ops: &[SymOp]) -> Result<&'a DocT<'a>,
     }
 }
 
+// The two documents have the same cell at the place.
+fn same_cells<'a>(
+    bump: &'a Bump,
+    left: &'a DocT<'a>,
+    right: &'a DocT<'a>,
+    at: Place,
+) -> Result<&'a Goal<'a>, NoMemory>
+    ensures { IfOk result (λ r. goal_tree r.now
+        ≡ trees.Same (cells.At (doc_tree left.now) at) (cells.At (doc_tree right.now) at)) }
+{
+    let left = CellT::at(bump, left, at)?;
+    let right = CellT::at(bump, right, at)?;
+    Goal::same(bump, left, right)
+}
+
 // The two documents have the same cell at the index, where it is within them.
 fn same_documents<'a>(
     bump: &'a Bump,
@@ -57,11 +75,7 @@ fn same_documents<'a>(
     ensures { IfOk result (λ r. goal_tree r.now ≡ ends.same_documents (doc_tree left.now) (doc_tree right.now) off) }
 {
     let index = Place::index_and(0);
-    let same = Goal::same(
-        bump,
-        CellT::at(bump, left, index)?,
-        CellT::at(bump, right, index)?,
-    )?;
+    let same = same_cells(bump, left, right, index)?;
     let below = Form::Lt(index, Place::length_and(off));
     let within = Goal::either(bump, below, same, holds())?;
     Goal::either(bump, Form::Le(Place::zero(), index), within, holds())
@@ -94,6 +108,20 @@ fn same_lengths<'a>(
     same_documents(bump, left, right, grown)
 }
 
+// The goal, where the operation is enabled.
+fn if_enabled<'a>(
+    bump: &'a Bump,
+    op: SymOp,
+    off: i32,
+    goal: &'a Goal<'a>,
+) -> Result<&'a Goal<'a>, NoMemory>
+    ensures { IfOk result (λ r. goal_tree r.now
+        ≡ trees.If (enabled_form op off) (goal_tree goal.now) (trees.Fails Why.OutOfRange)) }
+{
+    let form = enabled_form(bump, op, off)?;
+    Goal::either(bump, *form, goal, out_of_range())
+}
+
 // Both forms are enabled behind the other operation, and then both ways give one document.
 fn both_ways<'a>(
     bump: &'a Bump,
@@ -106,10 +134,10 @@ fn both_ways<'a>(
     ensures { IfOk result (λ r. front_tree r ≡ ends.both_ways mode a b_after_a b a_after_b) }
 {
     let same = same_lengths(bump, mode, a, b_after_a, b, a_after_b)?;
-    let second = enabled_form(bump, a_after_b, b.growth(mode))?;
+    let second = if_enabled(bump, a_after_b, b.growth(mode), same)?;
     Ok(Front::If {
         form: *enabled_form(bump, b_after_a, a.growth(mode))?,
-        yes: Goal::either(bump, *second, same, out_of_range())?,
+        yes: second,
         no: out_of_range(),
     })
 }

@@ -43,15 +43,15 @@ fn by_eq<'a>(
     y: Place,
     yes: &'a Goal<'a>,
     no: &'a Goal<'a>,
-) -> Result<Front<'a>, NoMemory>
-    ensures { IfOk result (λ r. Some (front_tree r) ≡ rewrite_if (trees.Eq x y) (goal_tree yes.now)
+) -> Result<Option<Front<'a>>, NoMemory>
+    ensures { IfOk result (λ r. option_map front_tree r ≡ rewrite_if (trees.Eq x y) (goal_tree yes.now)
         (goal_tree no.now)) }
 {
-    Ok(Front::If {
+    Ok(Some(Front::If {
         form: Form::Le(x, y),
         yes: Goal::either(bump, Form::Le(y, x), yes, no)?,
         no,
-    })
+    }))
 }
 
 // The second form is asked where the first is true.
@@ -62,15 +62,15 @@ fn by_and<'a>(
     second: &'a Form<'a>,
     yes: &'a Goal<'a>,
     no: &'a Goal<'a>,
-) -> Result<Front<'a>, NoMemory>
-    ensures { IfOk result (λ r. Some (front_tree r)
+) -> Result<Option<Front<'a>>, NoMemory>
+    ensures { IfOk result (λ r. option_map front_tree r
         ≡ rewrite_if (trees.And (form_tree first.now) (form_tree second.now)) (goal_tree yes.now) (goal_tree no.now)) }
 {
-    Ok(Front::If {
+    Ok(Some(Front::If {
         form: *first,
         yes: Goal::either(bump, *second, yes, no)?,
         no,
-    })
+    }))
 }
 
 // The second form is asked where the first is not true.
@@ -81,15 +81,15 @@ fn by_or<'a>(
     second: &'a Form<'a>,
     yes: &'a Goal<'a>,
     no: &'a Goal<'a>,
-) -> Result<Front<'a>, NoMemory>
-    ensures { IfOk result (λ r. Some (front_tree r)
+) -> Result<Option<Front<'a>>, NoMemory>
+    ensures { IfOk result (λ r. option_map front_tree r
         ≡ rewrite_if (trees.Or (form_tree first.now) (form_tree second.now)) (goal_tree yes.now) (goal_tree no.now)) }
 {
-    Ok(Front::If {
+    Ok(Some(Front::If {
         form: *first,
         yes,
         no: Goal::either(bump, *second, yes, no)?,
-    })
+    }))
 }
 
 #[inline]
@@ -120,9 +120,9 @@ pub(crate) fn by_form<'a>(
         Form::True => Ok(Some(Front::of(yes))),
         Form::Le(x, y) => Ok(by_le(x, y, yes, no)),
         Form::Lt(x, y) => Ok(Some(by_lt(x, y, yes, no))),
-        Form::Eq(x, y) => Ok(Some(by_eq(bump, x, y, yes, no)?)),
-        Form::And(first, second) => Ok(Some(by_and(bump, first, second, yes, no)?)),
-        Form::Or(first, second) => Ok(Some(by_or(bump, first, second, yes, no)?)),
+        Form::Eq(x, y) => by_eq(bump, x, y, yes, no),
+        Form::And(first, second) => by_and(bump, first, second, yes, no),
+        Form::Or(first, second) => by_or(bump, first, second, yes, no),
         Form::Not(form) => Ok(Some(by_not(form, yes, no))),
     }
 }

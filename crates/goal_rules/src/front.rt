@@ -1,11 +1,14 @@
 //! Goals that are held by value at their front.
 ghost use Rattle.std.specs.Prelude.{◌≡◌, IfOk};
+ghost use Rattle.ot_terms.specs.Cells.{cell_tree};
+ghost use Rattle.ot_terms.specs.Forms.{form_tree};
+ghost use Rattle.ot_terms.specs.Goals as trees;
 ghost use Rattle.ot_terms.specs.Goals.{goal_tree};
 ghost use Rattle.goal_rules.specs.Steps.{front_tree};
 
 use ask_core::NoMemory;
 use bumpalo::Bump;
-use ot_terms::{CellT, Form, Goal, GoalProgress, Operands, SymOp, Why};
+use ot_terms::{CellT, Form, Goal, GoalProgress, Operands, SymOp, Why, placed};
 
 /// A goal whose first parts are values: what is rewritten next is not in an arena.
 #[derive(Clone, Copy)]
@@ -40,10 +43,15 @@ pub enum Front<'a> {
     },
 }
 
-fn placed_cell<'a>(bump: &'a Bump, cell: CellT<'a>) -> Result<&'a CellT<'a>, NoMemory>
-    ensures { IfOk result (λ r. r.now ≡ cell.entry) }
+// The comparison, with both cells in the arena.
+#[inline]
+fn same<'a>(bump: &'a Bump, left: CellT<'a>, right: CellT<'a>) -> Result<Goal<'a>, NoMemory>
+    ensures { IfOk result (λ r. goal_tree r ≡ trees.Same (cell_tree left.entry) (cell_tree right.entry)) }
 {
-    Ok(bump.try_alloc(cell)?)
+    Ok(Goal::Same {
+        left: placed(bump, left)?,
+        right: placed(bump, right)?,
+    })
 }
 
 impl<'a> Front<'a> {
@@ -101,17 +109,31 @@ impl<'a> Front<'a> {
                 plan: progress,
             }),
             Front::Deliver { op, progress } => Ok(Goal::Deliver { op, plan: progress }),
-            Front::Same { left, right } => Ok(Goal::Same {
-                left: placed_cell(bump, left)?,
-                right: placed_cell(bump, right)?,
-            }),
+            Front::Same { left, right } => same(bump, left, right),
         }
+    }
+
+    /// One of two goals, by a form.
+    pub(crate) fn either(
+        bump: &'a Bump,
+        form: &'a Form<'a>,
+        yes: Goal<'a>,
+        no: Goal<'a>,
+    ) -> Result<Front<'a>, NoMemory>
+        ensures { IfOk result (λ r. front_tree r
+            ≡ trees.If (form_tree form.now) (goal_tree yes.entry) (goal_tree no.entry)) }
+    {
+        Ok(Front::If {
+            form: *form,
+            yes: placed(bump, yes)?,
+            no: placed(bump, no)?,
+        })
     }
 
     /// The goal, in the arena.
     pub fn placed(self, bump: &'a Bump) -> Result<&'a Goal<'a>, NoMemory>
         ensures { IfOk result (λ r. goal_tree r.now ≡ front_tree self.entry) }
     {
-        Ok(bump.try_alloc(self.goal(bump)?)?)
+        placed(bump, self.goal(bump)?)
     }
 }

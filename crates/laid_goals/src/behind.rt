@@ -1,5 +1,5 @@
 //! What is left behind results, and of comparisons whose left cell is read.
-ghost use Rattle.std.specs.Prelude.{◌≡◌, IsTrue, IfSome};
+ghost use Rattle.std.specs.Prelude.{◌≡◌, IsTrue, IfOk, IfSome};
 ghost use Rattle.std.specs.List.{All};
 ghost use Rattle.fn_rules.specs.Functions.{Function};
 ghost use Rattle.ot_terms.specs.Cells.{CellTree, cell_tree};
@@ -8,6 +8,8 @@ ghost use Rattle.ot_terms.specs.Goals.{goal_tree, Deliver, Same};
 ghost use Rattle.laid_goals.specs.Sharing.{StandsAlike, IsKeptGoal, IsKeptRead};
 
 use crate::kept::{Behind, Compared};
+use ask_core::NoMemory;
+use bumpalo::Bump;
 use ot_terms::{CellT, DocT, Goal, GoalProgress, SymOp};
 
 fn are_same(left: &[SymOp], right: &[SymOp]) -> bool
@@ -69,6 +71,21 @@ pub(crate) fn found<'a>(
         }
     }
     None
+}
+
+/// The goal, which is known from now on as what is left behind the result.
+pub(crate) fn learnt<'a>(
+    known: &mut Vec<Behind<'a>, &'a Bump>,
+    op: SymOp,
+    progress: &'a GoalProgress,
+    goal: &'a Goal<'a>,
+) -> Result<&'a Goal<'a>, NoMemory>
+    ensures same { IfOk result (λ r. r.now ≡ goal.now) }
+    ensures known { IfOk result (λ _. (f : Function) → All (IsKeptGoal f) known.old.items
+        → StandsAlike f (Deliver op progress.now) (goal_tree goal.now) → All (IsKeptGoal f) known.new.items) }
+{
+    known.push(Behind { op, progress, goal })?;
+    Ok(goal)
 }
 
 // Whether two cells that are read are one.

@@ -48,14 +48,14 @@ fn by_ends<'a>(
 {
     rules_are_valid(rules);
     let Some(first) = finished(left) else {
-        return Ok(Front::Same { left, right }.placed(bump)?);
+        return Front::Same { left, right }.placed(bump);
     };
     let Some(second) = finished(right) else {
-        return Ok(Front::Same { left, right }.placed(bump)?);
+        return Front::Same { left, right }.placed(bump);
     };
     match same_finished(bump, first, second)? {
-        Front::If { form, yes, no } => Ok(by_form(bump, &form, yes, no)?),
-        front => Ok(front.placed(bump)?),
+        Front::If { form, yes, no } => by_form(bump, &form, yes, no),
+        front => front.placed(bump),
     }
 }
 
@@ -73,14 +73,14 @@ fn by_right<'a>(
 {
     rules_are_valid(rules);
     if let Some(read) = read_step(bump, right)? {
-        return Ok(by_right(bump, rules, left, read)?);
+        return by_right(bump, rules, left, read);
     }
     let Some((form, yes, no)) = parts(right) else {
-        return Ok(by_ends(bump, rules, left, right)?);
+        return by_ends(bump, rules, left, right);
     };
     let on_no = by_right(bump, rules, left, *no)?;
     let on_yes = by_right(bump, rules, left, *yes)?;
-    Ok(by_form(bump, form, on_yes, on_no)?)
+    by_form(bump, form, on_yes, on_no)
 }
 
 // The comparison where the left cell is read, which is laid out once for each cell that comes of reading.
@@ -124,14 +124,14 @@ fn by_left<'a>(
 {
     rules_are_valid(rules);
     if let Some(read) = read_step(bump, left)? {
-        return Ok(by_left(bump, rules, known, read, right)?);
+        return by_left(bump, rules, known, read, right);
     }
     let Some((form, yes, no)) = parts(left) else {
-        return Ok(by_known(bump, rules, known, left, right)?);
+        return by_known(bump, rules, known, left, right);
     };
     let on_no = by_left(bump, rules, known, *no, right)?;
     let on_yes = by_left(bump, rules, known, *yes, right)?;
-    Ok(by_form(bump, form, on_yes, on_no)?)
+    by_form(bump, form, on_yes, on_no)
 }
 
 /// The comparison of two cells. What is left of it where the left cell is read is laid out once for each cell that
@@ -147,5 +147,5 @@ pub(crate) fn by_cells<'a>(
         (Same (cell_tree left.entry) (cell_tree right.entry)) (goal_tree r.now)) }
 {
     let mut known = Vec::new(bump);
-    Ok(by_left(bump, rules, &mut known, left, right)?)
+    by_left(bump, rules, &mut known, left, right)
 }

@@ -10,7 +10,7 @@ ghost use Rattle.goal_rules.specs.Steps.{front_tree};
 ghost use Rattle.laid_goals.specs.Sharing.{StandsAlike, IsKeptGoal};
 ghost use Rattle.laid_goals.specs.Trials.{IsTrialOf};
 
-use crate::behind::found;
+use crate::behind::{found, learnt};
 use crate::cells::by_cells;
 use crate::forms::{by_form, by_guard};
 use crate::kept::Behind;
@@ -19,7 +19,7 @@ use bumpalo::Bump;
 use fn_rules::{Rules, rules_are_valid};
 use goal_rules::{Front, Trial, next_case};
 use ot_rewrite::step_front;
-use ot_terms::{Goal, GoalProgress, Operands, SymOp};
+use ot_terms::{Goal, GoalProgress, Operands, SymOp, placed};
 
 /// How many bytes an arena may have where more is laid out.
 const ROOM: usize = 2_097_152;
@@ -54,6 +54,27 @@ fn next_of<'a>(
         Some(next) => Ok(Some(next.goal(bump)?)),
         None => Ok(None),
     }
+}
+
+// What is left where no case is tried, after one rule.
+#[inline]
+fn untried<'a>(
+    bump: &'a Bump,
+    rules: &Rules,
+    case: u32,
+    ops: &'a Operands,
+    progress: &'a GoalProgress,
+) -> Result<Option<Goal<'a>>, NoMemory>
+    requires { (ob : ObName) × IsGoalOf (function_of rules.now) ob (Choose case ops.now.a ops.now.b progress.now) }
+    ensures { IfOk result (λ r. IfSome r (λ next. IsStep (function_of rules.now)
+        (Choose case ops.now.a ops.now.b progress.now) (goal_tree next))) }
+{
+    let front = Front::Choose {
+        case,
+        ops,
+        progress,
+    };
+    next_of(bump, rules, front)
 }
 
 // What is left where a result is delivered, after one rule; none where the arena has no room for more.
@@ -100,15 +121,14 @@ pub fn laid_out<'a>(
 {
     rules_are_valid(rules);
     match Front::of(&goal) {
-        Front::Holds => Ok(bump.try_alloc(goal)?),
-        Front::Fails(_) => Ok(bump.try_alloc(goal)?),
+        Front::Holds | Front::Fails(_) => placed(bump, goal),
         Front::If { form, yes, no } => {
             if are_ends(yes, no) {
-                return Ok(by_form(bump, &form, yes, no)?);
+                return by_form(bump, &form, yes, no);
             }
             let on_no = laid_out(bump, rules, known, *no)?;
             let on_yes = laid_out(bump, rules, known, *yes)?;
-            Ok(by_form(bump, &form, on_yes, on_no)?)
+            by_form(bump, &form, on_yes, on_no)
         }
         Front::Choose {
             case,
@@ -116,36 +136,26 @@ pub fn laid_out<'a>(
             progress,
         } => {
             let Some(Trial { guard, yes, no }) = trial(rules, case, ops, progress) else {
-                let front = Front::Choose {
-                    case,
-                    ops,
-                    progress,
+                let Some(next) = untried(bump, rules, case, ops, progress)? else {
+                    return placed(bump, goal);
                 };
-                let Some(next) = next_of(bump, rules, front)? else {
-                    return Ok(bump.try_alloc(goal)?);
-                };
-                return Ok(laid_out(bump, rules, known, next)?);
+                return laid_out(bump, rules, known, next);
             };
             let on_no = laid_out(bump, rules, known, no)?;
             let on_yes = laid_out(bump, rules, known, yes)?;
-            Ok(by_guard(bump, guard, &ops.a, &ops.b, on_yes, on_no)?)
+            by_guard(bump, guard, &ops.a, &ops.b, on_yes, on_no)
         }
         Front::Deliver { op, progress } => {
             if let Some(built) = found(known, op, progress) {
                 return Ok(built);
             }
             let Some(next) = behind(bump, rules, op, progress)? else {
-                return Ok(bump.try_alloc(goal)?);
+                return placed(bump, goal);
             };
             let mut inner = Vec::new(bump);
             let built = laid_out(bump, rules, &mut inner, next)?;
-            known.push(Behind {
-                op,
-                progress,
-                goal: built,
-            })?;
-            Ok(built)
+            learnt(known, op, progress, built)
         }
-        Front::Same { left, right } => Ok(by_cells(bump, rules, left, right)?),
+        Front::Same { left, right } => by_cells(bump, rules, left, right),
     }
 }

@@ -113,8 +113,8 @@ fn check(alloc: Global, tree: &Tree) -> Result<Result<Progress, CheckError>, NoM
 fn search(rt: &HostRuntime, budget: u64) -> io::Result<()> {
     match prove(rt.alloc(), &mut Deep {}, budget)? {
         Outcome::Yes { tree, asked } => {
-            let answer = check(rt.alloc(), &tree)?;
-            println!(rt; "{asked} questions: {answer:?}")
+            let is_accepted = matches!(check(rt.alloc(), &tree)?, Ok(Progress::Done));
+            println!(rt; "{asked} questions, accepted: {is_accepted}")
         }
         Outcome::No {
             answers: _answers,

@@ -34,6 +34,6 @@ pub fn report(rt: &HostRuntime, name: &str) -> io::Result<()> {
     let bytes = file_named(rt, name)?;
     match printed_size(rt.alloc(), &bytes) {
         Ok(size) => println!(rt; "{name}: {} bytes, printed in {size}", bytes.len()),
-        Err(error) => println!(rt; "{name}: {error:?}"),
+        Err(_) => println!(rt; "{name}: not read"),
     }
 }

@@ -214,6 +214,20 @@ module _ {N : Type 0} where
       (λ k below. take-append-le k list (answered_of l false ∷ []) below) path.nested in
       rw (longer, ← shown, here, others, first_list-place_at) refl
 
+  -- where nothing waits, nothing is wanted any more
+  pub closed_last :
+      (known : List (Known N)) (current : Option (At N)) (base : ℕ) (list : List Lit) (parts : List (WaitingPlace N)) (p : OpenProof N)
+      → open_proof known current base list parts ≡ p → parts ≡ [] → record { known = known; wanted = [] } ≡ closed p
+  closed_last known None base list parts p shown none = rw (← shown) refl
+  closed_last known (Some place) base list parts p shown none = rw (← shown, none) refl
+
+  -- the literals of a lemma are in the list
+  pub lemma_inside :
+      (base : ℕ) (list : List Lit) (parts rest : List (WaitingPlace N)) (n : N) (below count : ℕ)
+      → IsOpenPath base list parts → parts ≡ rest ++ waiting.Lemma n below count ∷ [] → base + count ≤ length list
+  lemma_inside base list parts rest n below count path same =
+      let nested = rw (same, reverse-push) at path.nested in nested.1
+
   -- the innermost part that waits is next
   pub closed_places :
       (known : List (Known N)) (current : Option (At N)) (base : ℕ) (list u : List Lit) (parts rest : List (WaitingPlace N))

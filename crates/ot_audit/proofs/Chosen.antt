@@ -1,16 +1,18 @@
 -- Cases of a slice, and the plain cases that they stand for.
-use Rattle.std.proofs.Common.{◌≡◌, ℕ, zero, suc, ◌<◌, Some, List, [], ◌∷◌, length, get_or, map, take, refl, ap, sym, subst, ◌∙◌, arith}
+use Rattle.std.proofs.Common.{◌≡◌, ℕ, zero, suc, ◌<◌, ◌≤◌, ◌-◌, Option, Some, List, [], ◌∷◌, length, get_or, map, take, drop, refl, ap, sym, subst, ◌∙◌, arith}
 use Rattle.std.specs.Prelude.{slice_get}
 use Rattle.std.specs.List.{AllByRecursion}
-use Rattle.std.proofs.lemmas.List.{length-map}
+use Rattle.std.proofs.lemmas.List.{length-map, take_rest}
 use Rattle.fn_rules.specs.declared.function.Case.{Case}
 use Rattle.fn_rules.specs.Functions.{GuardedCase, case_of}
 use Rattle.ot_questions.specs.Nears.{IsNearCase}
 use Rattle.ot_questions.specs.declared.place.SymOp.{SymOp}
-use Rattle.ot_terms.specs.Goals.{GoalTree}
+use Rattle.ot_questions.specs.Places.{sym_result}
+use Rattle.ot_terms.specs.Goals.{GoalTree, If}
+use Rattle.ot_terms.specs.Placing.{guard_form}
 use Rattle.ot_audit.specs.declared.target.Target.{Target}
 use Rattle.ot_audit.specs.declared.target.Target.TheVariants as targets
-use Rattle.ot_audit.specs.Goals.{IsTargetOf, unless_true, at_own, at_target}
+use Rattle.ot_audit.specs.Goals.{IsTargetOf, unless_true, at_own, at_target, with_first_result}
 
 pub near_at :
     (xs : List Case) (i : ℕ) (d : Case) → AllByRecursion IsNearCase (map case_of xs) → i < length xs → IsNearCase (case_of (get_or xs i d))
@@ -50,3 +52,25 @@ pub target_there : (xs : List Case) (cs : List GuardedCase) (target : Target) �
 target_there xs cs target e h =
     let same : length xs ≡ length cs = sym (length-map xs case_of) ∙ ap length e in
     subst (λ n. IsTargetOf n target) (sym same) h
+
+-- those behind the first case
+pub near_behind :
+    (xs : List Case) → AllByRecursion IsNearCase (map case_of xs) → 1 ≤ length xs
+    → AllByRecursion IsNearCase (map case_of (take (length xs - 1) (drop 1 xs)))
+near_behind [] near some = absurd (omega arith)
+near_behind (x ∷ xs) near some =
+    subst (λ (l : List Case). AllByRecursion IsNearCase (map case_of l)) (sym (take_rest (x ∷ xs) 1)) near.1
+
+-- by the guard of the first case: its result, or what those behind it come to
+pub first_result :
+    (xs : List Case) (x : Case) (a b : SymOp) (go : Option SymOp → GoalTree) (here behind g : GoalTree) → 1 ≤ length xs
+    → x ≡ get_or xs 0 x → here ≡ go (Some (sym_result (case_of x).res a b))
+    → behind ≡ with_first_result (map case_of (take (length xs - 1) (drop 1 xs))) a b go
+    → g ≡ If (guard_form (case_of x).guard a b) here behind → g ≡ with_first_result (map case_of xs) a b go
+first_result [] x a b go here behind g some is first rest made = absurd (omega arith)
+first_result (y ∷ ys) x a b go here behind g some is first rest made =
+    made ∙ ap (λ (h : GoalTree). If (guard_form (case_of x).guard a b) h behind) first
+    ∙ ap (λ (h : GoalTree). If (guard_form (case_of x).guard a b) (go (Some (sym_result (case_of x).res a b))) h)
+    (rest ∙ ap (λ (l : List Case). with_first_result (map case_of l) a b go) (take_rest (y ∷ ys) 1))
+    ∙ ap (λ (z : Case). If (guard_form (case_of z).guard a b) (go (Some (sym_result (case_of z).res a b)))
+    (with_first_result (map case_of ys) a b go)) is

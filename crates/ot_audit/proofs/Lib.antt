@@ -8,6 +8,7 @@ pub mod Chosen
 pub mod Searchable
 pub mod Telling
 pub mod CasesSoFar
+pub mod Behind
 pub mod Near
 pub mod Wanted
 pub mod One

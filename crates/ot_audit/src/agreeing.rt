@@ -39,6 +39,25 @@ fn differ_in<'a>(
     find(alloc, bump, rules, first, second, goal, budget)
 }
 
+// The same with an arena of its own.
+fn differ(
+    alloc: Global,
+    rules: &Rules,
+    others: &Rules,
+    first: Kind,
+    second: Kind,
+    budget: u64,
+) -> Result<Found, NoMemory>
+    requires declared { IsTrue (is_declared_pair (function_of rules.now).head first second) }
+    requires heads { (function_of others.now).head ≡ (function_of rules.now).head }
+    ensures found { IfOk result (IsFoundIn (function_of rules.now) first second
+        (goals.difference_goal (function_of rules.now) (function_of others.now) first second) budget) }
+    ensures near { IfOk result IsNearFound }
+{
+    let bump = Bump::new(alloc);
+    differ_in(alloc, &bump, rules, others, first, second, budget)
+}
+
 /// Whether two functions of one head agree on the block of two kinds, decided by at most `budget` questions.
 ///
 /// `Same` comes exactly where they agree at all operations that are meant, `Pair` exactly where they do not, and then
@@ -57,8 +76,7 @@ pub fn agree(
     ensures { IfOk result (IsAgreedAs (function_of rules.now) (function_of others.now) first second budget) }
 {
     findings_tell_of_all_operations();
-    let bump = Bump::new(alloc);
-    match differ_in(alloc, &bump, rules, others, first, second, budget)? {
+    match differ(alloc, rules, others, first, second, budget)? {
         Found::Never => Ok(Agree::Same),
         Found::Pair(a, b) => Ok(Agree::Pair {
             a,

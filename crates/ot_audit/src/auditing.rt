@@ -20,7 +20,7 @@ use plain_list::List;
 use std::alloc::Global;
 
 // Why an audit stops.
-#[derive(Clone, Copy, Debug)]
+#[derive(Clone, Copy)]
 enum AuditStop {
     /// A target has more questions than the budget allows.
     Spent,

@@ -57,7 +57,7 @@ fn same_headed(alloc: Global, rules: &Rules, others: &Rules, budget: u64) -> Res
     ensures { IfOk result (IsComparedAs (function_of rules.now) (function_of others.now) budget) }
 {
     let names = blocks(alloc, &rules.head())?;
-    Ok(same_blocks(alloc, rules, others, &names, budget)?)
+    same_blocks(alloc, rules, others, &names, budget)
 }
 
 /// Whether two functions are the same: of one head, and on each block of the same results at all operations that are

@@ -2,7 +2,7 @@
 use ot_model::Op;
 
 /// What the search of a goal of two operations comes to.
-#[derive(Clone, Copy, Debug, PartialEq, Eq)]
+#[derive(Clone, Copy, PartialEq, Eq)]
 pub enum Sought {
     /// No end of the goal's plan fails.
     Nowhere,
@@ -20,7 +20,7 @@ pub enum Sought {
 }
 
 /// What a search for two operations comes to.
-#[derive(Clone, Copy, Debug, PartialEq, Eq)]
+#[derive(Clone, Copy, PartialEq, Eq)]
 pub enum Found {
     /// There are no such operations.
     Never,
@@ -33,7 +33,7 @@ pub enum Found {
 }
 
 /// Whether two functions agree on a block.
-#[derive(Clone, Copy, Debug, PartialEq, Eq)]
+#[derive(Clone, Copy, PartialEq, Eq)]
 pub enum Agree {
     /// They do: at all operations that are meant both give the same operation, or neither gives one.
     Same,

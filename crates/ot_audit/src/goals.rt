@@ -5,7 +5,8 @@ ghost use Rattle.fn_rules.specs.Functions.{case_of, cases_of, is_declared_pair};
 ghost use Rattle.fn_rules.specs.Rules.{function_of};
 ghost use Rattle.ot_questions.specs.Nears.{IsNearCase, IsNearOp};
 ghost use Rattle.ot_questions.specs.Places.{sym_at, sym_kind};
-ghost use Rattle.ot_terms.specs.Goals.{goal_tree};
+ghost use Rattle.ot_terms.specs.Goals.{goal_tree, If};
+ghost use Rattle.ot_terms.specs.Placing.{guard_form};
 ghost use Rattle.ot_terms.specs.Starting as starting;
 ghost use Rattle.ot_audit.specs.declared.target.Target.TheVariants as targets;
 ghost use Rattle.ot_audit.specs.Goals as goals;
@@ -97,6 +98,25 @@ fn if_meant<'a>(
     if_there(bump, Who::A, second)
 }
 
+// By the guard of a case: the first goal where it is true, and the second where it is not.
+fn by_case<'a>(
+    bump: &'a Bump,
+    case: &Case,
+    a: SymOp,
+    b: SymOp,
+    yes: &'a Goal<'a>,
+    no: &'a Goal<'a>,
+) -> Result<&'a Goal<'a>, NoMemory>
+    requires a_near { IsNearOp 200 a }
+    requires b_near { IsNearOp 200 b }
+    requires near { IsNearCase (case_of case.now) }
+    ensures { IfOk result (λ r. goal_tree r.now ≡ If (guard_form (case_of case.now).guard a b) (goal_tree yes.now)
+        (goal_tree no.now)) }
+{
+    let guard = place_form(bump, &case.guard, a, b)?;
+    Goal::either(bump, *guard, yes, no)
+}
+
 // The guards in their order, and behind them the goal.
 fn unless_true<'a>(
     bump: &'a Bump,
@@ -114,8 +134,7 @@ fn unless_true<'a>(
         [] => Ok(next),
         [case, others @ ..] => {
             let behind = unless_true(bump, others, a, b, next)?;
-            let guard = place_form(bump, &case.guard, a, b)?;
-            Goal::either(bump, *guard, Goal::holds(bump)?, behind)
+            by_case(bump, case, a, b, Goal::holds(bump)?, behind)
         }
     }
 }
@@ -127,8 +146,7 @@ fn at_own<'a>(bump: &'a Bump, case: &Case, a: SymOp, b: SymOp) -> Result<&'a Goa
     requires near { IsNearCase (case_of case.now) }
     ensures { IfOk result (λ r. goal_tree r.now ≡ goals.at_own (Some (case_of case.now)) a b) }
 {
-    let guard = place_form(bump, &case.guard, a, b)?;
-    Goal::either(bump, *guard, found(bump)?, Goal::holds(bump)?)
+    by_case(bump, case, a, b, found(bump)?, Goal::holds(bump)?)
 }
 
 // Where a case is taken: its guard behind all earlier ones.
@@ -148,7 +166,7 @@ fn at_case<'a>(
     let at = number as usize;
     let own = at_own(bump, &cases[at], a, b)?;
     let earlier = &cases[..at];
-    Ok(unless_true(bump, earlier, a, b, own)?)
+    unless_true(bump, earlier, a, b, own)
 }
 
 // Where the target is reached.
@@ -234,9 +252,8 @@ fn with_right<'a>(
         [] => unless_same(bump, left, None),
         [case, others @ ..] => {
             let behind = with_right(bump, others, a, b, left)?;
-            let guard = place_form(bump, &case.guard, a, b)?;
             let here = unless_same(bump, left, Some(a.result(case.res, b)))?;
-            Goal::either(bump, *guard, here, behind)
+            by_case(bump, case, a, b, here, behind)
         }
     }
 }
@@ -260,9 +277,8 @@ fn unless_agreed<'a>(
         [] => with_right(bump, others, a, b, None),
         [case, rest @ ..] => {
             let behind = unless_agreed(bump, rest, others, a, b)?;
-            let guard = place_form(bump, &case.guard, a, b)?;
             let here = with_right(bump, others, a, b, Some(a.result(case.res, b)))?;
-            Goal::either(bump, *guard, here, behind)
+            by_case(bump, case, a, b, here, behind)
         }
     }
 }
@@ -283,7 +299,7 @@ pub fn target_goal<'a>(
     let b = SymOp::named(second, Who::B);
     let cases = rules.cases(first, second);
     let reached = at_target(bump, cases, target, a, b)?;
-    Ok(if_meant(bump, &rules.head(), a, b, reached)?)
+    if_meant(bump, &rules.head(), a, b, reached)
 }
 
 /// The goal of where two functions of one head do not agree on the block of two kinds. The error is want of memory.
@@ -304,5 +320,5 @@ pub fn difference_goal<'a>(
     let cases = rules.cases(first, second);
     let other_cases = others.cases(first, second);
     let agreed = unless_agreed(bump, cases, other_cases, a, b)?;
-    Ok(if_meant(bump, &rules.head(), a, b, agreed)?)
+    if_meant(bump, &rules.head(), a, b, agreed)
 }

@@ -1,7 +1,7 @@
 //! What is sought in a block.
 
 /// What the guards of a block may reach.
-#[derive(Clone, Copy, Debug, PartialEq, Eq)]
+#[derive(Clone, Copy, PartialEq, Eq)]
 pub enum Target {
     /// The case of this number, counted from 0: its guard is true, and all earlier ones are false.
     Case(u32),

@@ -1,5 +1,5 @@
 mod Agreeing
-mod Behind
+mod Called
 mod Confirming
 mod Drilling
 mod Ends
@@ -9,6 +9,7 @@ mod HubEnding
 mod HubRunning
 pub mod HubStatus
 mod Judged
+mod PassedOn
 mod ReadCertificate
 mod Refusing
 mod Running

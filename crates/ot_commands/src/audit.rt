@@ -8,7 +8,7 @@ ghost use Rattle.ot_commands.specs.Audit.{IsReplyToAudit};
 ghost use Rattle.ot_commands.specs.Given.{IsReplyOfGiven};
 ghost use Rattle.ot_commands.specs.Replies.{IsReplyTo};
 
-use crate::load::{Stop, load_function};
+use crate::load::{Stop, load_function, reply_or_stop};
 use fn_rules::Rules;
 use ot_audit::audit_all;
 use ot_model::NoMemory;
@@ -35,7 +35,7 @@ pub fn audit<H: Shelf>(alloc: Global, shelf: &mut H, function: &str) -> Result<R
     ensures unchanged { Unchanged H.holds H.offered H.faults shelf.old shelf.new }
 {
     match load_function(alloc, shelf, Subject::First, function)? {
-        Ok(rules) => Ok(reply_to_function(alloc, &rules)?),
+        Ok(rules) => reply_or_stop(reply_to_function(alloc, &rules)),
         Err(reply) => Ok(reply),
     }
 }

@@ -194,7 +194,7 @@ pub(crate) fn reply_to_both<T: Finding, H: Shelf>(
     ensures unchanged { Unchanged H.holds H.offered H.faults shelf.old shelf.new }
 {
     match load_function(alloc, shelf, Subject::First, function)? {
-        Ok(rules) => Ok(reply_to_certificate::<T, H>(alloc, shelf, &rules, certificate)?),
+        Ok(rules) => reply_to_certificate::<T, H>(alloc, shelf, &rules, certificate),
         Err(reply) => Ok(reply),
     }
 }

@@ -30,6 +30,5 @@ pub fn check<H: Shelf>(
     ensures shelf { IsErrOf result Stop.Shelf → Rose (H.faults shelf.old) (H.faults shelf.new) }
     ensures unchanged { Unchanged H.holds H.offered H.faults shelf.old shelf.new }
 {
-    let reply = reply_to_both::<Level, H>(alloc, shelf, function, certificate)?;
-    Ok(reply)
+    reply_to_both::<Level, H>(alloc, shelf, function, certificate)
 }

@@ -91,8 +91,7 @@ fn reply_to_proof<H: Shelf>(
     let mut bytes = Vec::new(alloc);
     let read = read_all(shelf, name, limit(FileKind::Proof), &mut bytes);
     let judgement = judge_proof(alloc, rules, &bytes);
-    let reply = reply_by(read, judgement)?;
-    Ok(reply)
+    reply_by(read, judgement)
 }
 
 /// The reply to the command.
@@ -112,7 +111,7 @@ pub fn confirm<H: Shelf>(
     ensures unchanged { Unchanged H.holds H.offered H.faults shelf.old shelf.new }
 {
     match load_function(alloc, shelf, Subject::First, function)? {
-        Ok(rules) => Ok(reply_to_proof(alloc, shelf, &rules, proof)?),
+        Ok(rules) => reply_to_proof(alloc, shelf, &rules, proof),
         Err(reply) => Ok(reply),
     }
 }

@@ -25,8 +25,7 @@ fn function_read(alloc: Global, number: u32) -> Result<Rules, NoMemory>
     ensures { IfOk result (λ read. function_of read ≡ drill_function number) }
 {
     let made = rules(alloc, number)?;
-    let read = read_back(alloc, &made)?;
-    Ok(read)
+    read_back(alloc, &made)
 }
 
 // The level at which a certificate is accepted.
@@ -57,12 +56,12 @@ fn gone_through(
     ensures drilled { IfOk result (IsDrilled number) }
     ensures agree { IfOk result (λ drilled. drilled.differ ≡ None) }
 {
-    drill_functions_have_both_properties();
     let level = accepted(alloc, rules, certificate)?;
     let played = play(alloc, rules, number)?;
     played.session.sites_agree();
     let cells = played.session.doc(1).len();
     let ends = played.session.into_ends()?;
+    drill_functions_have_both_properties();
     Ok(Drilled {
         number,
         cases: count_cases(rules),
@@ -79,14 +78,16 @@ pub fn drill(alloc: Global, number: u32) -> Result<Reply, NoMemory>
     ensures reply { IfOk result (IsReplyToDrill number) }
     ensures steady { IfOk result (λ reply. status_of reply ≢ 1) }
 {
-    drill_functions_have_both_properties();
-    failing_ends_have_counterexamples();
     let rules = function_read(alloc, number)?;
     match reply_to_function(alloc, &rules, Level::Tp2, MOST_QUESTIONS)? {
         Reply::Proved(certificate) => {
             let drilled = gone_through(alloc, &rules, number, certificate.as_slice())?;
             Ok(Reply::Drilled(drilled))
         }
-        other => Ok(other),
+        other => {
+            drill_functions_have_both_properties();
+            failing_ends_have_counterexamples();
+            Ok(other)
+        }
     }
 }

@@ -2,7 +2,7 @@
 use ot_replies::Reply;
 
 /// Why the events of a session or of a hub are run no further.
-#[derive(Debug, Drop)]
+#[derive(Drop)]
 pub(crate) enum Halt {
     /// An event is refused, and the session or the hub gets this reply.
     Refused(Reply),

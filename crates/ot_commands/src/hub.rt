@@ -21,7 +21,7 @@ ghost use Rattle.ot_commands.specs.Steady.{IsSteadyReply};
 ghost use Rattle.ot_commands.specs.declared.halt.Halt.TheVariants as halts;
 
 use crate::halt::Halt;
-use crate::load::{Stop, load_function, read_file};
+use crate::load::{Stop, load_function, read_file, reply_or_stop};
 use case_json::{CaseError, CaseFault, HubEvent, HubScript, Name, hub_read};
 use fn_rules::Rules;
 use ot_hub::{Edit, Hub, Move};
@@ -185,10 +185,10 @@ fn ended(alloc: Global, hub: &Hub, clients: u32) -> Result<Reply, NoMemory>
     ensures tells { IfOk result (TellsHub (hub_view_of hub.now)) }
     ensures steady { MakesClientsAgree (hub_view_of hub.now).function → IfOk result (λ r. status_of r ≢ 1) }
 {
-    hub.clients_follow_the_log();
     let logged = hub.logged();
     let doc = hub.server().try_clone()?;
     let ends = ends_of(alloc, hub, clients)?;
+    hub.clients_follow_the_log();
     let differ = first_apart(logged, &doc, ends.as_slice());
     Ok(Reply::Served(HubEnd {
         logged,
@@ -243,7 +243,7 @@ fn reply_to_hub_file<H: Shelf>(
     ensures unchanged { Unchanged H.holds H.offered H.faults shelf.old shelf.new }
 {
     match read_file(alloc, shelf, name, FileKind::Case)? {
-        Ok(bytes) => Ok(reply_to_hub(alloc, rules, &bytes)?),
+        Ok(bytes) => reply_or_stop(reply_to_hub(alloc, rules, &bytes)),
         Err(reply) => Ok(reply),
     }
 }
@@ -262,7 +262,7 @@ pub fn hub<H: Shelf>(alloc: Global, shelf: &mut H, function: &str, hub: &str) ->
     ensures unchanged { Unchanged H.holds H.offered H.faults shelf.old shelf.new }
 {
     match load_function(alloc, shelf, Subject::First, function)? {
-        Ok(rules) => Ok(reply_to_hub_file(alloc, shelf, &rules, hub)?),
+        Ok(rules) => reply_to_hub_file(alloc, shelf, &rules, hub),
         Err(reply) => Ok(reply),
     }
 }

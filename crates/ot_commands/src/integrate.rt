@@ -15,7 +15,7 @@ ghost use Rattle.ot_commands.specs.Load.{GoesOnBehind};
 ghost use Rattle.ot_commands.specs.Replies.{IsReplyTo};
 ghost use Rattle.ot_replies.specs.declared.reply.FileKind.TheVariants as files;
 
-use crate::load::{Stop, load_function, read_file};
+use crate::load::{Stop, load_function, read_file, reply_or_stop};
 use case_json::{CaseError, Trial, trial_read};
 use fn_rules::Rules;
 use ot_integrate::End;
@@ -60,8 +60,7 @@ fn end_of(alloc: Global, rules: &Rules, trial: &Trial, order: &[u32]) -> Result<
     ensures { IfOk result (λ end. outcome_of end ≡ integrated (function_of rules.now) trial.now.doc trial.now.ops
         order.now) }
 {
-    let end = ot_integrate::integrate(alloc, rules, &trial.doc, trial.ops.as_slice(), order)?;
-    Ok(end)
+    ot_integrate::integrate(alloc, rules, &trial.doc, trial.ops.as_slice(), order)
 }
 
 // How each order of a case ends.
@@ -116,7 +115,7 @@ fn reply_to_case_file<H: Shelf>(
     ensures unchanged { Unchanged H.holds H.offered H.faults shelf.old shelf.new }
 {
     match read_file(alloc, shelf, name, FileKind::Case)? {
-        Ok(bytes) => Ok(reply_to_case(alloc, rules, &bytes)?),
+        Ok(bytes) => reply_or_stop(reply_to_case(alloc, rules, &bytes)),
         Err(reply) => Ok(reply),
     }
 }
@@ -138,7 +137,7 @@ pub fn integrate<H: Shelf>(
     ensures unchanged { Unchanged H.holds H.offered H.faults shelf.old shelf.new }
 {
     match load_function(alloc, shelf, Subject::First, function)? {
-        Ok(rules) => Ok(reply_to_case_file(alloc, shelf, &rules, case)?),
+        Ok(rules) => reply_to_case_file(alloc, shelf, &rules, case),
         Err(reply) => Ok(reply),
     }
 }

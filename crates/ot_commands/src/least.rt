@@ -8,7 +8,7 @@ ghost use Rattle.ot_commands.specs.Given.{IsReplyOfGiven};
 ghost use Rattle.ot_commands.specs.Least.{IsReplyToLeast};
 ghost use Rattle.ot_commands.specs.Replies.{IsReplyTo};
 
-use crate::load::{Stop, load_function};
+use crate::load::{Stop, load_function, reply_or_stop};
 use crate::prove::counter_of;
 use fn_rules::Rules;
 use ot_least::{Short, shortest};
@@ -58,7 +58,7 @@ pub fn least<H: Shelf>(
     ensures unchanged { Unchanged H.holds H.offered H.faults shelf.old shelf.new }
 {
     match load_function(alloc, shelf, Subject::First, function)? {
-        Ok(rules) => Ok(reply_to_function(alloc, &rules, cert)?),
+        Ok(rules) => reply_or_stop(reply_to_function(alloc, &rules, cert)),
         Err(reply) => Ok(reply),
     }
 }

@@ -1,10 +1,11 @@
 //! Files as they are read, and why a command gets no reply.
-ghost use Rattle.std.specs.Prelude.{◌≡◌, Some, Ok, IfErr, IfOk, IsErrOf};
+ghost use Rattle.std.specs.Prelude.{◌≡◌, ◌≤◌, length, Some, Ok, IfErr, IfOk, IsErrOf};
 ghost use Rattle.fn_rules.specs.Rules.{function_of};
 ghost use Rattle.ot_outside.specs.Faults.{Rose};
 ghost use Rattle.ot_outside.specs.Reads.{after_reading};
 ghost use Rattle.ot_outside.specs.Unchanged.{Unchanged};
 ghost use Rattle.ot_replies.specs.Limits.{limit_of, IsTooLong};
+ghost use Rattle.ot_replies.specs.declared.reply.FileKind.TheVariants as files;
 ghost use Rattle.ot_commands.specs.Load.{Holds, IsFunctionRefusal, IsReadAs};
 
 use fn_rules::Rules;
@@ -15,7 +16,7 @@ use ot_replies::{FileKind, Reply, Subject};
 use std::alloc::Global;
 
 /// Why a command gets no reply.
-#[derive(Clone, Copy, Debug)]
+#[derive(Clone, Copy)]
 pub enum Stop {
     /// The shelf failed; its count of faults rose.
     Shelf,
@@ -42,6 +43,14 @@ impl From<Failed> for Stop {
     fn from(_: Failed) -> Stop {
         Stop::Shelf
     }
+}
+
+/// A reply, unless memory was refused.
+pub(crate) fn reply_or_stop(reply: Result<Reply, NoMemory>) -> Result<Reply, Stop>
+    ensures ok { IfOk result (λ r. reply ≡ Ok r) }
+    ensures no_shelf { IsErrOf result Stop.Shelf → ⊥ }
+{
+    Ok(reply?)
 }
 
 /// The most bytes of a file.
@@ -86,6 +95,20 @@ pub(crate) fn read_file<H: Shelf>(
     }
 }
 
+// The function of a file's bytes, or the reply to bytes that are refused.
+fn function_in(alloc: Global, subject: Subject, bytes: &[u8]) -> Result<Result<Rules, Reply>, Stop>
+    requires { length bytes.now ≤ limit_of files.Function }
+    ensures ok { IfOk result (λ answer. IfOk answer (λ rules. IsReadAs (Ok (function_of rules)) (Some bytes.now))) }
+    ensures replied { IfOk result (λ answer. IfErr answer (IsFunctionRefusal subject (Some bytes.now))) }
+    ensures no_shelf { IsErrOf result Stop.Shelf → ⊥ }
+{
+    match read(alloc, bytes) {
+        Ok(rules) => Ok(Ok(rules)),
+        Err(TextError::Fault(fault)) => Ok(Err(Reply::FunctionRefused(subject, fault))),
+        Err(TextError::NoMemory) => Err(Stop::NoMemory),
+    }
+}
+
 /// The function of a file, or the reply to a file that is refused, which says which of the functions is meant.
 pub(crate) fn load_function<H: Shelf>(
     alloc: Global,
@@ -109,13 +132,8 @@ pub(crate) fn load_function<H: Shelf>(
     ensures shelf { IsErrOf result Stop.Shelf → Rose (H.faults shelf.old) (H.faults shelf.new) }
     ensures unchanged { Unchanged H.holds H.offered H.faults shelf.old shelf.new }
 {
-    let bytes = match read_file(alloc, shelf, name, FileKind::Function)? {
-        Ok(bytes) => bytes,
-        Err(reply) => return Ok(Err(reply)),
-    };
-    match read(alloc, &bytes) {
-        Ok(rules) => Ok(Ok(rules)),
-        Err(TextError::Fault(fault)) => Ok(Err(Reply::FunctionRefused(subject, fault))),
-        Err(TextError::NoMemory) => Err(Stop::NoMemory),
+    match read_file(alloc, shelf, name, FileKind::Function)? {
+        Ok(bytes) => function_in(alloc, subject, &bytes),
+        Err(reply) => Ok(Err(reply)),
     }
 }

@@ -11,10 +11,10 @@ ghost use Rattle.ot_prove.specs.Outcomes.{AreAnswersTo, answered_by};
 ghost use Rattle.ot_questions.specs.Obligation.{plan_of};
 ghost use Rattle.ot_words.specs.Commands.{Prove};
 ghost use Rattle.ot_commands.specs.Given.{IsReplyOfGiven};
-ghost use Rattle.ot_commands.specs.Prove.{IsReplyToProof};
+ghost use Rattle.ot_commands.specs.Prove.{IsReplyToProof, TellsCounter};
 ghost use Rattle.ot_commands.specs.Replies.{IsReplyTo};
 
-use crate::load::{Stop, load_function};
+use crate::load::{Stop, load_function, reply_or_stop};
 use fn_rules::{Level, ObName, Rules};
 use ot_counter::{Counter, build};
 use ot_decide::{Verdict, prove_all};
@@ -40,8 +40,24 @@ pub(crate) fn counter_of(
     ensures { IfOk result (λ counter. IsCounter (function_of rules.now) ob (answered_by answers.now) why counter) }
 {
     let literals = literals_of(alloc, answers)?;
-    let counter = build(alloc, rules, ob, &literals, why)?;
-    Ok(counter)
+    build(alloc, rules, ob, &literals, why)
+}
+
+/// The reply that shows such a counterexample.
+pub(crate) fn broken_by(
+    alloc: Global,
+    rules: &Rules,
+    ob: ObName,
+    answers: &[Answer],
+    why: Why,
+) -> Result<Reply, NoMemory>
+    requires declared { IsTrue (is_obligation (function_of rules.now).head ob) }
+    requires leads { AreAnswersTo (plan_of (function_of rules.now) ob) answers.now (Fails why) }
+    requires possible { IsPossible (answered_by answers.now) }
+    ensures { IfOk result (TellsCounter (function_of rules.now) ob answers.now why) }
+{
+    let counter = counter_of(alloc, rules, ob, answers, why)?;
+    Ok(Reply::Broken(counter))
 }
 
 /// The reply to a function.
@@ -55,10 +71,7 @@ pub(crate) fn reply_to_function(
 {
     match prove_all(alloc, rules, level, budget)? {
         Verdict::Yes(bytes) => Ok(Reply::Proved(List::from_vec(bytes))),
-        Verdict::No { ob, answers, why } => {
-            let counter = counter_of(alloc, rules, ob, &answers, why)?;
-            Ok(Reply::Broken(counter))
-        }
+        Verdict::No { ob, answers, why } => broken_by(alloc, rules, ob, &answers, why),
         Verdict::Spent => Ok(Reply::Spent),
     }
 }
@@ -80,7 +93,7 @@ pub fn prove<H: Shelf>(
     ensures unchanged { Unchanged H.holds H.offered H.faults shelf.old shelf.new }
 {
     match load_function(alloc, shelf, Subject::First, function)? {
-        Ok(rules) => Ok(reply_to_function(alloc, &rules, level, budget)?),
+        Ok(rules) => reply_or_stop(reply_to_function(alloc, &rules, level, budget)),
         Err(reply) => Ok(reply),
     }
 }

@@ -23,7 +23,7 @@ ghost use Rattle.ot_replies.specs.Texts.{status_of};
 ghost use Rattle.ot_commands.specs.declared.halt.Halt.TheVariants as halts;
 
 use crate::halt::Halt;
-use crate::load::{Stop, load_function, read_file};
+use crate::load::{Stop, load_function, read_file, reply_or_stop};
 use case_json::{CaseError, CaseFault, Event, Name, Script, script_read};
 use fn_rules::Rules;
 use ot_causal::closed_lists_are_told_by_their_counts;
@@ -236,7 +236,7 @@ fn reply_to_session_file<H: Shelf>(
     ensures unchanged { Unchanged H.holds H.offered H.faults shelf.old shelf.new }
 {
     match read_file(alloc, shelf, name, FileKind::Case)? {
-        Ok(bytes) => Ok(reply_to_session(alloc, rules, &bytes)?),
+        Ok(bytes) => reply_or_stop(reply_to_session(alloc, rules, &bytes)),
         Err(reply) => Ok(reply),
     }
 }
@@ -259,7 +259,7 @@ pub fn replay<H: Shelf>(
     ensures unchanged { Unchanged H.holds H.offered H.faults shelf.old shelf.new }
 {
     match load_function(alloc, shelf, Subject::First, function)? {
-        Ok(rules) => Ok(reply_to_session_file(alloc, shelf, &rules, session)?),
+        Ok(rules) => reply_to_session_file(alloc, shelf, &rules, session),
         Err(reply) => Ok(reply),
     }
 }

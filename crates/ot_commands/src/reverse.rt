@@ -10,7 +10,7 @@ ghost use Rattle.ot_commands.specs.Load.{GoesOnBehind};
 ghost use Rattle.ot_commands.specs.Replies.{IsReplyTo};
 ghost use Rattle.ot_commands.specs.Reverse.{IsReplyToReversal, IsReplyToReverser};
 
-use crate::load::{Stop, load_function};
+use crate::load::{Stop, load_function, reply_or_stop};
 use fn_rules::Rules;
 use ot_model::NoMemory;
 use ot_outside::Shelf;
@@ -47,7 +47,7 @@ fn reply_to_reverser<H: Shelf>(
     ensures unchanged { Unchanged H.holds H.offered H.faults shelf.old shelf.new }
 {
     match load_function(alloc, shelf, Subject::Second, name)? {
-        Ok(others) => Ok(reply_to_reversal(alloc, rules, &others)?),
+        Ok(others) => reply_or_stop(reply_to_reversal(alloc, rules, &others)),
         Err(reply) => Ok(reply),
     }
 }
@@ -69,7 +69,7 @@ pub fn reverse<H: Shelf>(
     ensures unchanged { Unchanged H.holds H.offered H.faults shelf.old shelf.new }
 {
     match load_function(alloc, shelf, Subject::First, function)? {
-        Ok(rules) => Ok(reply_to_reverser(alloc, shelf, &rules, other)?),
+        Ok(rules) => reply_to_reverser(alloc, shelf, &rules, other),
         Err(reply) => Ok(reply),
     }
 }

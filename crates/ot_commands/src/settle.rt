@@ -8,8 +8,8 @@ ghost use Rattle.ot_commands.specs.Given.{IsReplyOfGiven};
 ghost use Rattle.ot_commands.specs.Replies.{IsReplyTo};
 ghost use Rattle.ot_commands.specs.Settle.{IsReplyToSettle};
 
-use crate::load::{Stop, load_function};
-use crate::prove::counter_of;
+use crate::load::{Stop, load_function, reply_or_stop};
+use crate::prove::broken_by;
 use fn_rules::{Level, Rules};
 use ot_model::NoMemory;
 use ot_outside::Shelf;
@@ -29,10 +29,7 @@ fn reply_to_function(
 {
     match settle_all(alloc, rules, level, budget)? {
         Settled::Yes(bytes) => Ok(Reply::Proved(List::from_vec(bytes))),
-        Settled::No { ob, answers, why } => {
-            let counter = counter_of(alloc, rules, ob, &answers, why)?;
-            Ok(Reply::Broken(counter))
-        }
+        Settled::No { ob, answers, why } => broken_by(alloc, rules, ob, &answers, why),
         Settled::Spent => Ok(Reply::Spent),
     }
 }
@@ -54,7 +51,7 @@ pub fn settle<H: Shelf>(
     ensures unchanged { Unchanged H.holds H.offered H.faults shelf.old shelf.new }
 {
     match load_function(alloc, shelf, Subject::First, function)? {
-        Ok(rules) => Ok(reply_to_function(alloc, &rules, level, budget)?),
+        Ok(rules) => reply_or_stop(reply_to_function(alloc, &rules, level, budget)),
         Err(reply) => Ok(reply),
     }
 }

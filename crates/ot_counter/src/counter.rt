@@ -6,7 +6,7 @@ use plain_list::List;
 
 /// What the interpreter gives on one of the two ways: the first thing that goes wrong there, or what is
 /// compared at the end.
-#[derive(Debug, Drop)]
+#[derive(Drop)]
 pub enum WayResult {
     /// The final document, of two operations.
     Doc(Doc),
@@ -22,7 +22,7 @@ pub enum WayResult {
 }
 
 /// Operations that break a property on a document.
-#[derive(Debug, Drop)]
+#[derive(Drop)]
 pub struct Counter {
     /// The property: TP1, or TP2 where there are three operations.
     pub level: Level,

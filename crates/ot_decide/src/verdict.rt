@@ -4,7 +4,7 @@ use ot_prove::Answer;
 use ot_questions::Why;
 
 /// What the search of a list of obligations comes to.
-#[derive(Debug, Drop)]
+#[derive(Drop)]
 pub enum SearchVerdict {
     /// All hold.
     AllHold,
@@ -26,7 +26,7 @@ pub enum SearchVerdict {
 }
 
 /// What the obligations of a function at a level come to.
-#[derive(Debug, Drop)]
+#[derive(Drop)]
 pub enum Verdict {
     /// All hold: the bytes of a certificate.
     Yes(Vec<u8>),

@@ -5,7 +5,7 @@ ghost use Rattle.ot_drill.specs.Playing.{nothing_done, tally_with_answer, with_m
 use ot_session::Took;
 
 /// How many operations were made, and how many of those that were taken were not integrated at once.
-#[derive(Clone, Copy, Debug, PartialEq, Eq)]
+#[derive(Clone, Copy, PartialEq, Eq)]
 pub struct Tally {
     /// Operations that were made.
     pub made: usize,

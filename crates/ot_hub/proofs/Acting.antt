@@ -16,6 +16,11 @@ pub client_read : (all : List Client) (c : ℕ) (found : Client) → IsClient (l
 client_read all c found there is =
     ap (λ x. unwrap_or x nobody) (slice_get_read all (length all) (c - 1) found refl (inside_of all c there) is)
 
+-- the same of a client that is read at a place to be changed there
+pub client_at-read : (all : List Client) (i : ℕ) (found : Client) → i < length all → found ≡ get_or all i found
+    → client_at all i ≡ get_or all i found
+client_at-read all i found inside is = ap (λ x. unwrap_or x nobody) (slice_get_read all (length all) i found refl inside is) ∙ is
+
 -- where one became another, and where none did
 pub items_set : (all : Vec Client Global) (i : ℕ) (x : Client) (new : List Client) → new ≡ slice_set all.items i x
     → (with_items all new).items ≡ slice_set all.items i x

@@ -86,6 +86,10 @@ pub up_with-first : (hub : HubData) (c : ℕ) (list : List PlacedOp) (message : 
 up_with-first hub c [] message is = cc
 up_with-first hub c (first ∷ others) message is = let same : message ≡ first = cc in rw same refl
 
+pub up_with-none : (hub : HubData) (c : ℕ) (list : List PlacedOp) → slice_get list 0 ≡ None → up_with hub c list ≡ Nothing
+up_with-none hub c [] is = refl
+up_with-none hub c (first ∷ others) is = cc
+
 pub some_first : (list : List PlacedOp) (message : PlacedOp) → Some message ≡ slice_get list 0 → 0 < length list
 some_first [] message is = cc
 some_first (first ∷ others) message is = omega arith

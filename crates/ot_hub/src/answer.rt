@@ -6,7 +6,7 @@ ghost use Rattle.ot_hub.specs.declared.answer.Move.TheVariants as moves;
 use std::alloc::AllocError;
 
 /// Why no operation was made, in the order of the tests. The hub is unchanged, but for `NoMemory`.
-#[derive(Clone, Copy, Debug, PartialEq, Eq)]
+#[derive(Clone, Copy, PartialEq, Eq)]
 pub enum Edit {
     /// There is no such client.
     NoSite,
@@ -36,7 +36,7 @@ impl From<AllocError> for Edit {
 }
 
 /// Whether an operation was moved, from a client to the server or from the log to a client.
-#[derive(Clone, Copy, Debug, PartialEq, Eq)]
+#[derive(Clone, Copy, PartialEq, Eq)]
 pub enum Moved {
     /// It was moved.
     Done,
@@ -46,7 +46,7 @@ pub enum Moved {
 }
 
 /// Why no operation was moved, in the order of the tests.
-#[derive(Clone, Copy, Debug, PartialEq, Eq)]
+#[derive(Clone, Copy, PartialEq, Eq)]
 pub enum Move {
     /// There is no such client. The hub is unchanged.
     NoSite,

@@ -132,6 +132,20 @@ pub(crate) fn sent_at(clients: &mut [Client], place: usize)
     drop_first(&mut client.messages);
 }
 
+// A client that holds the document, and made nothing.
+fn fresh_client(alloc: Global, doc: &Doc) -> Result<Client, NoMemory>
+    ensures { IfOk result (λ client.
+        client ≡ record { edits = 0; received = 0; pending = []; messages = []; doc = doc.now }) }
+{
+    Ok(Client {
+        edits: 0,
+        received: 0,
+        pending: List::new(alloc),
+        messages: List::new(alloc),
+        doc: doc.try_clone()?,
+    })
+}
+
 /// So many clients that hold the document, and made nothing.
 pub(crate) fn fresh_clients(alloc: Global, doc: &Doc, count: u32) -> Result<Vec<Client>, NoMemory>
     ensures { IfOk result (λ clients. clients.items ≡ replicate count
@@ -139,13 +153,7 @@ pub(crate) fn fresh_clients(alloc: Global, doc: &Doc, count: u32) -> Result<Vec<
 {
     let mut clients = Vec::new(alloc);
     while clients.len() < count as usize {
-        clients.push(Client {
-            edits: 0,
-            received: 0,
-            pending: List::new(alloc),
-            messages: List::new(alloc),
-            doc: doc.try_clone()?,
-        })?;
+        clients.push(fresh_client(alloc, doc)?)?;
     }
     Ok(clients)
 }

@@ -117,11 +117,6 @@ impl Hub {
         ensures edited { HasEdited (hub_view_of self.old) (hub_view_of self.new) client op result }
         ensures server { (hub_view_of self.new).server ≡ (hub_view_of self.old).server }
     {
-        enabled_operations_are_near();
-        functions_keep_forms();
-        tp1_holds_of_forms();
-        transform_keeps_all_but_the_position();
-        documents_grow_by_one_cell_at_most();
         if !self.has_client(client) {
             return Err(Edit::NoSite);
         }
@@ -137,6 +132,11 @@ impl Hub {
         if self.made as usize == MAX_EDITS {
             return Err(Edit::Full);
         }
+        enabled_operations_are_near();
+        functions_keep_forms();
+        tp1_holds_of_forms();
+        transform_keeps_all_but_the_position();
+        documents_grow_by_one_cell_at_most();
         let place = client as usize - 1;
         match edit_at(&self.rules, &mut self.clients, place, op) {
             Ok(()) => {
@@ -161,13 +161,6 @@ impl Hub {
         ensures never_stuck { HasTp1 (hub_view_of self.old).function
             → (hub_view_of self.old).function.head.chars_differ ≡ false → result ≢ Err moves.Stuck }
     {
-        rules_are_valid(&self.rules);
-        tp1_holds_of_forms();
-        transform_keeps_all_but_the_position();
-        transform_stays_near();
-        functions_keep_forms();
-        enabled_operations_are_near();
-        documents_grow_by_one_cell_at_most();
         if !self.has_client(client) {
             return Err(Move::NoSite);
         }
@@ -176,6 +169,13 @@ impl Hub {
         let Some(message) = first_of(&self.clients[place].messages) else {
             return Ok(Moved::Nothing);
         };
+        rules_are_valid(&self.rules);
+        tp1_holds_of_forms();
+        transform_keeps_all_but_the_position();
+        transform_stays_near();
+        functions_keep_forms();
+        enabled_operations_are_near();
+        documents_grow_by_one_cell_at_most();
         match self.server.take(alloc, &self.rules, client, &message) {
             Ok(()) => {
                 sent_at(&mut self.clients, place);
@@ -200,13 +200,6 @@ impl Hub {
         ensures never_stuck { HasTp1 (hub_view_of self.old).function
             → (hub_view_of self.old).function.head.chars_differ ≡ false → result ≢ Err moves.Stuck }
     {
-        rules_are_valid(&self.rules);
-        tp1_holds_of_forms();
-        transform_keeps_all_but_the_position();
-        transform_stays_near();
-        functions_keep_forms();
-        enabled_operations_are_near();
-        documents_grow_by_one_cell_at_most();
         if !self.has_client(client) {
             return Err(Move::NoSite);
         }
@@ -215,6 +208,13 @@ impl Hub {
         let Some(entry) = entry_at(&self.server.log, self.clients[place].received) else {
             return Ok(Moved::Nothing);
         };
+        rules_are_valid(&self.rules);
+        tp1_holds_of_forms();
+        transform_keeps_all_but_the_position();
+        transform_stays_near();
+        functions_keep_forms();
+        enabled_operations_are_near();
+        documents_grow_by_one_cell_at_most();
         match take_at(alloc, &self.rules, &mut self.clients, place, &entry) {
             Ok(()) => Ok(Moved::Done),
             Err(refusal) => {

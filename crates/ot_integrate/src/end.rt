@@ -2,7 +2,7 @@
 use ot_model::Doc;
 
 /// How integrating in an order ends.
-#[derive(Debug, Drop)]
+#[derive(Drop)]
 pub enum End {
     /// All operations were executed; this is the document behind them.
     Doc(Doc),

@@ -5,6 +5,7 @@ mod FirstBytes
 mod FirstEnds
 mod Fronts
 mod HeaderFits
+mod KeptFeeds
 mod Listed
 mod LowRun
 mod LowShows

@@ -4,7 +4,7 @@ use ot_prove::Answer;
 use ot_questions::Why;
 
 /// What a function comes to whose shortest document is sought on which it breaks a property.
-#[derive(Debug, Drop)]
+#[derive(Drop)]
 pub enum Short {
     /// It has both properties.
     Fine,

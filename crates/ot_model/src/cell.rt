@@ -1,7 +1,7 @@
 //! Cells, of which documents are made.
 
 /// One character of a document, live or deleted.
-#[derive(Clone, Copy, Debug, PartialEq, Eq)]
+#[derive(Clone, Copy, PartialEq, Eq)]
 pub struct Cell {
     /// The character. A deleted cell keeps its own.
     pub ch: char,

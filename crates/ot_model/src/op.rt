@@ -7,7 +7,7 @@ ghost use Rattle.ot_model.specs.Operations.{kind_of, at_of, site_of, char_of, pl
 use std::alloc::AllocError;
 
 /// What a deletion leaves.
-#[derive(Clone, Copy, Debug, PartialEq, Eq)]
+#[derive(Clone, Copy, PartialEq, Eq)]
 pub enum Mode {
     /// The cell is taken out of the document.
     Plain,
@@ -17,7 +17,7 @@ pub enum Mode {
 }
 
 /// The kinds of operations that change a document.
-#[derive(Clone, Copy, Debug, PartialEq, Eq)]
+#[derive(Clone, Copy, PartialEq, Eq)]
 pub enum Kind {
     /// An insertion of one character.
     Ins,
@@ -63,7 +63,7 @@ impl Kind {
 }
 
 /// An operation that some site made.
-#[derive(Clone, Copy, Debug, PartialEq, Eq)]
+#[derive(Clone, Copy, PartialEq, Eq)]
 pub enum Op {
     /// Puts a live cell with `ch` at position `at`; cells from `at` on move up by one.
     Ins { at: i64, ch: char, site: u32 },
@@ -135,7 +135,7 @@ impl Op {
 }
 
 /// Why an operation wasn't applied, in the order of the tests.
-#[derive(Clone, Copy, Debug, PartialEq, Eq)]
+#[derive(Clone, Copy, PartialEq, Eq)]
 pub enum Apply {
     /// The document has no such position for the operation.
     NotEnabled,

@@ -4,7 +4,7 @@ ghost use Rattle.ot_outside.specs.Faults.{Rose, next_count};
 ghost use Rattle.ot_outside.specs.Reads.{Reads, after_reading, gone_on};
 
 /// The outside failed, and its count of faults rose.
-#[derive(Clone, Copy, Debug, PartialEq, Eq)]
+#[derive(Clone, Copy, PartialEq, Eq)]
 pub struct Failed;
 
 // How many bytes a shelf is asked for at a time.

@@ -15,7 +15,7 @@ use crate::{Failed, NoMemory, Shelf, Sink};
 const ROOM: usize = 1_048_576;
 
 /// Why a file was not read to its end.
-#[derive(Clone, Copy, Debug, PartialEq, Eq)]
+#[derive(Clone, Copy, PartialEq, Eq)]
 pub enum ReadError {
     /// The shelf failed; its count of faults rose.
     Failed,

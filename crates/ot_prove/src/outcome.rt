@@ -3,7 +3,7 @@ use cert_text::Tree;
 use diff_graph::Lit;
 
 /// An answer to a question.
-#[derive(Clone, Copy, Debug, PartialEq, Eq)]
+#[derive(Clone, Copy, PartialEq, Eq)]
 pub struct Answer {
     /// The literal that was asked.
     pub lit: Lit,
@@ -13,7 +13,7 @@ pub struct Answer {
 }
 
 /// What the search of a plan came to.
-#[derive(Debug, Drop)]
+#[derive(Drop)]
 pub enum Outcome<W> {
     /// The plan holds at every valuation: a tree that fits it, and how many questions the tree has.
     Yes { tree: Tree, asked: u64 },

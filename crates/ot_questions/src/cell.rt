@@ -5,7 +5,7 @@ ghost use Rattle.ot_questions.specs.Reading as readings;
 use crate::why::Why;
 
 /// Where the character of a cell comes from.
-#[derive(Clone, Copy, Debug, PartialEq, Eq)]
+#[derive(Clone, Copy, PartialEq, Eq)]
 pub enum Source {
     /// The document that both sides come from, at the index plus this offset.
     Base(i32),
@@ -15,7 +15,7 @@ pub enum Source {
 }
 
 /// Whether a cell is live.
-#[derive(Clone, Copy, Debug, PartialEq, Eq)]
+#[derive(Clone, Copy, PartialEq, Eq)]
 pub enum Flag {
     Live,
     Dead,
@@ -25,7 +25,7 @@ pub enum Flag {
 }
 
 /// A cell that has been read through all operations, down to what it is made of.
-#[derive(Clone, Copy, Debug, PartialEq, Eq)]
+#[derive(Clone, Copy, PartialEq, Eq)]
 pub struct Finished {
     pub source: Source,
     pub flag: Flag,

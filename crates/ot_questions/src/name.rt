@@ -12,7 +12,7 @@ pub const LENGTH: u8 = 1;
 pub const INDEX: u8 = 2;
 
 /// One of the operations of an obligation. A pair has the first two.
-#[derive(Clone, Copy, Debug, PartialEq, Eq)]
+#[derive(Clone, Copy, PartialEq, Eq)]
 pub enum Who {
     A,
     B,

@@ -3,7 +3,7 @@ use crate::why::Why;
 use diff_graph::Lit;
 
 /// What comes next after given answers.
-#[derive(Clone, Copy, Debug, PartialEq, Eq)]
+#[derive(Clone, Copy, PartialEq, Eq)]
 pub enum Next {
     /// The literal is asked.
     Asked(Lit),

@@ -10,14 +10,14 @@ use fn_rules::{Res, Side, Sort};
 use ot_model::{Kind, Mode};
 
 /// The integer that is named by `var`, plus `off`.
-#[derive(Clone, Copy, Debug, PartialEq, Eq)]
+#[derive(Clone, Copy, PartialEq, Eq)]
 pub struct Place {
     pub var: u8,
     pub off: i32,
 }
 
 /// An operation whose position is a place and whose character and site are names.
-#[derive(Clone, Copy, Debug, PartialEq, Eq)]
+#[derive(Clone, Copy, PartialEq, Eq)]
 pub enum SymOp {
     /// Puts the character named `ch` at the place.
     Ins { at: Place, ch: u8, site: u8 },

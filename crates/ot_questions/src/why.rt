@@ -1,7 +1,7 @@
 //! Why an obligation fails at some integers.
 
 /// The cause.
-#[derive(Clone, Copy, Debug, PartialEq, Eq)]
+#[derive(Clone, Copy, PartialEq, Eq)]
 pub enum Why {
     /// No case's guard is true at two of the operations.
     Undefined,

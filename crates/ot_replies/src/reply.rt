@@ -13,7 +13,7 @@ use proof_sections::ProofRefusal;
 use refusals::Refusal;
 
 /// What a file holds.
-#[derive(Clone, Copy, Debug, PartialEq, Eq)]
+#[derive(Clone, Copy, PartialEq, Eq)]
 pub enum FileKind {
     /// A function.
     Function,
@@ -29,7 +29,7 @@ pub enum FileKind {
 }
 
 /// Which of the functions' files of a command is meant.
-#[derive(Clone, Copy, Debug, PartialEq, Eq)]
+#[derive(Clone, Copy, PartialEq, Eq)]
 pub enum Subject {
     /// The first one, which most commands have alone.
     First,
@@ -40,7 +40,7 @@ pub enum Subject {
 
 /// How many entries of the log a client of a hub has received, how many of its operations are pending, and the document
 /// that it holds.
-#[derive(Debug, Drop)]
+#[derive(Drop)]
 pub struct ClientEnd {
     /// How many entries of the log it has received.
     pub received: u32,
@@ -53,7 +53,7 @@ pub struct ClientEnd {
 }
 
 /// What the server of a hub and its clients hold.
-#[derive(Debug, Drop)]
+#[derive(Drop)]
 pub struct HubEnd {
     /// How many entries the server's log has.
     pub logged: u32,
@@ -70,7 +70,7 @@ pub struct HubEnd {
 }
 
 /// Why an event of a session or of a hub is refused.
-#[derive(Clone, Copy, Debug, PartialEq, Eq)]
+#[derive(Clone, Copy, PartialEq, Eq)]
 pub enum EventFault {
     /// There is no such site, or no such client.
     Site,
@@ -89,7 +89,7 @@ pub enum EventFault {
 }
 
 /// What came of a workload.
-#[derive(Debug, Drop)]
+#[derive(Drop)]
 pub struct Drilled {
     /// The number that it was generated from.
     pub number: u32,
@@ -111,7 +111,7 @@ pub struct Drilled {
 }
 
 /// The reply to a command.
-#[derive(Debug, Drop)]
+#[derive(Drop)]
 pub enum Reply {
     /// The function has the properties of the level: the bytes of a certificate, or of a proof with lemmas.
     Proved(List<u8>),

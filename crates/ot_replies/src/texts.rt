@@ -4,6 +4,7 @@ ghost use Rattle.cert_text.specs.Spelling.{level_text};
 ghost use Rattle.ot_replies.specs.LevelTexts.{accepted_text, confirmed_text};
 ghost use Rattle.ot_replies.specs.Texts.{case_status, differ_status, status_of, text_of, limit_text, limit_word};
 
+mod appending;
 mod audits;
 mod bounds;
 mod counters;
@@ -16,6 +17,7 @@ mod reversals;
 mod sessions;
 
 use crate::reply::{FileKind, Reply};
+use appending::{append_bytes, append_text};
 use audits::{audit_status, same_status, write_audit, write_same, write_spent};
 use bounds::{write_at_least, write_shortest};
 use case_json::CaseFault;
@@ -101,9 +103,7 @@ fn write_limit(alloc: Global, kind: FileKind, out: &mut Vec<u8>) -> Result<(), N
     ensures { OnOk result (out.new.items ≡ limit_text kind) }
 {
     let word = limit_word(kind);
-    let text = format!(in alloc; "limit {word}\n")?;
-    out.extend_from_slice(text.as_bytes())?;
-    Ok(())
+    append_text(format!(in alloc; "limit {word}\n")?, out)
 }
 
 fn level_word(level: Level) -> &'static str
@@ -120,9 +120,7 @@ fn write_accepted(alloc: Global, level: Level, out: &mut Vec<u8>) -> Result<(), 
     ensures { OnOk result (out.new.items ≡ out.old.items ++ accepted_text level) }
 {
     let word = level_word(level);
-    let text = format!(in alloc; "accepted {word}\n")?;
-    out.extend_from_slice(text.as_bytes())?;
-    Ok(())
+    append_text(format!(in alloc; "accepted {word}\n")?, out)
 }
 
 // Writes that a proof is confirmed at a level.
@@ -130,9 +128,42 @@ fn write_confirmed(alloc: Global, level: Level, out: &mut Vec<u8>) -> Result<(),
     ensures { OnOk result (out.new.items ≡ out.old.items ++ confirmed_text level) }
 {
     let word = level_word(level);
-    let text = format!(in alloc; "confirmed {word}\n")?;
-    out.extend_from_slice(text.as_bytes())?;
-    Ok(())
+    append_text(format!(in alloc; "confirmed {word}\n")?, out)
+}
+
+// Writes the text of a reply.
+fn write_reply(alloc: Global, reply: &Reply, out: &mut Vec<u8>) -> Result<(), NoMemory>
+    requires { out.old.items ≡ [] }
+    ensures { OnOk result (out.new.items ≡ text_of reply.now) }
+{
+    match reply {
+        Reply::Proved(bytes) => append_bytes(bytes.as_slice(), out),
+        Reply::Broken(counter) => write_counter(alloc, counter, out),
+        Reply::Spent => write_spent(out),
+        Reply::Accepted(level) => write_accepted(alloc, *level, out),
+        Reply::Refused { offset, why } => write_refusal(alloc, *offset, *why, out),
+        Reply::FunctionRefused(subject, fault) => { write_text_fault(alloc, *subject, fault, out) }
+        Reply::CaseRefused(fault) => write_case_fault(alloc, fault, out),
+        Reply::Integrated(ends, same) => write_ends(alloc, ends.as_slice(), *same, out),
+        Reply::EventRefused(number, fault) => write_event_fault(alloc, *number, *fault, out),
+        Reply::StuckAt(number) => write_stuck(alloc, *number, out),
+        Reply::Replayed(ends, differ) => write_sites(alloc, ends.as_slice(), *differ, out),
+        Reply::Served(end) => write_hub(alloc, end, out),
+        Reply::Audited(audit) => write_audit(alloc, audit, out),
+        Reply::Compared(same) => write_same(alloc, same, out),
+        Reply::Reversed(back) => write_reversal(alloc, back, out),
+        Reply::Unlike => append_bytes(b"differ head\n", out),
+        Reply::Unbroken => append_bytes(b"none\n", out),
+        Reply::Shortest(counter, cells) => write_shortest(alloc, counter, *cells, out),
+        Reply::Certified(bytes) => append_bytes(bytes.as_slice(), out),
+        Reply::BoundTooLong => append_bytes(b"limit bound\n", out),
+        Reply::AtLeast(level, cells) => write_at_least(alloc, *level, *cells, out),
+        Reply::Confirmed(level) => write_confirmed(alloc, *level, out),
+        Reply::ProofRefused { offset, why } => { write_proof_refusal(alloc, *offset, *why, out) }
+        Reply::Drilled(drilled) => write_drilled(alloc, drilled, out),
+        Reply::Usage => append_bytes(b"usage: otp COMMAND ARGUMENTS\n", out),
+        Reply::TooLong(kind) => write_limit(alloc, *kind, out),
+    }
 }
 
 // The text of a reply, written anew.
@@ -140,38 +171,7 @@ fn written(alloc: Global, reply: &Reply) -> Result<Vec<u8>, NoMemory>
     ensures { IfOk result (λ text. text.items ≡ text_of reply.now) }
 {
     let mut text = Vec::new(alloc);
-    match reply {
-        Reply::Proved(bytes) => text.extend_from_slice(bytes.as_slice())?,
-        Reply::Broken(counter) => write_counter(alloc, counter, &mut text)?,
-        Reply::Spent => write_spent(&mut text)?,
-        Reply::Accepted(level) => write_accepted(alloc, *level, &mut text)?,
-        Reply::Refused { offset, why } => write_refusal(alloc, *offset, *why, &mut text)?,
-        Reply::FunctionRefused(subject, fault) => {
-            write_text_fault(alloc, *subject, fault, &mut text)?;
-        }
-        Reply::CaseRefused(fault) => write_case_fault(alloc, fault, &mut text)?,
-        Reply::Integrated(ends, same) => write_ends(alloc, ends.as_slice(), *same, &mut text)?,
-        Reply::EventRefused(number, fault) => write_event_fault(alloc, *number, *fault, &mut text)?,
-        Reply::StuckAt(number) => write_stuck(alloc, *number, &mut text)?,
-        Reply::Replayed(ends, differ) => write_sites(alloc, ends.as_slice(), *differ, &mut text)?,
-        Reply::Served(end) => write_hub(alloc, end, &mut text)?,
-        Reply::Audited(audit) => write_audit(alloc, audit, &mut text)?,
-        Reply::Compared(same) => write_same(alloc, same, &mut text)?,
-        Reply::Reversed(back) => write_reversal(alloc, back, &mut text)?,
-        Reply::Unlike => text.extend_from_slice(b"differ head\n")?,
-        Reply::Unbroken => text.extend_from_slice(b"none\n")?,
-        Reply::Shortest(counter, cells) => write_shortest(alloc, counter, *cells, &mut text)?,
-        Reply::Certified(bytes) => text.extend_from_slice(bytes.as_slice())?,
-        Reply::BoundTooLong => text.extend_from_slice(b"limit bound\n")?,
-        Reply::AtLeast(level, cells) => write_at_least(alloc, *level, *cells, &mut text)?,
-        Reply::Confirmed(level) => write_confirmed(alloc, *level, &mut text)?,
-        Reply::ProofRefused { offset, why } => {
-            write_proof_refusal(alloc, *offset, *why, &mut text)?;
-        }
-        Reply::Drilled(drilled) => write_drilled(alloc, drilled, &mut text)?,
-        Reply::Usage => text.extend_from_slice(b"usage: otp COMMAND ARGUMENTS\n")?,
-        Reply::TooLong(kind) => write_limit(alloc, *kind, &mut text)?,
-    }
+    write_reply(alloc, reply, &mut text)?;
     Ok(text)
 }
 

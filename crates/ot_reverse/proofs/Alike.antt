@@ -1,7 +1,6 @@
 -- Functions that are alike are for the same kinds, and forms can be transformed further.
-use Rattle.std.proofs.Common.{◌≡◌, true, Bool, Option, Some, None, IsTrue, refl, ap, sym, subst, inl, inr, ◌∙◌, ◌+◌, ◌≤◌, ◌&&◌, List, [], ◌∷◌, get_or, length}
+use Rattle.std.proofs.Common.{◌≡◌, true, Bool, Option, Some, None, IsTrue, refl, ap, sym, subst, inl, inr, ◌∙◌, ◌+◌, ◌&&◌}
 use Rattle.std.proofs.Common.{arith}
-use Rattle.std.specs.List.{AllByRecursion}
 use Rattle.std.proofs.lemmas.Int.{ints}
 use Rattle.ot_model.specs.declared.op.Kind.{Kind}
 use Rattle.ot_model.specs.declared.op.Kind.TheVariants as kinds
@@ -9,7 +8,7 @@ use Rattle.ot_model.specs.declared.op.Op.{Op}
 use Rattle.ot_model.specs.Operations.{kind_of}
 use Rattle.fn_rules.specs.declared.function.Head.{Head}
 use Rattle.fn_rules.specs.Conditions.{IsFormOf, IsInRange, IsWithin}
-use Rattle.fn_rules.specs.Functions.{HasDeclaredKind, IsForKind, is_declared, is_declared_of, is_declared_pair}
+use Rattle.fn_rules.specs.Functions.{HasDeclaredKind, IsForKind, is_declared, is_declared_pair}
 use Rattle.ot_values.specs.Values.{farthest}
 use Rattle.ot_reverse.specs.Reversal.{AreAlike}
 
@@ -49,10 +48,3 @@ form_in_range o h = let low = h.0 in let high = h.1 in (omega (arith, ints), ome
 pub declared_for : (head : Head) (k : Option Kind) → HasDeclaredKind head k → IsForKind head k
 declared_for head None h = absurd (cc)
 declared_for head (Some k) h = h
-
--- the first of pairs that are all declared is declared
-pub first_declared :
-    (head : Head) (pairs : List (Kind × Kind)) (d : Kind × Kind) → AllByRecursion (λ pair. is_declared_of head pair ≡ true) pairs
-    → 1 ≤ length pairs → is_declared_of head (get_or pairs 0 d) ≡ true
-first_declared head [] d declared few = absurd (omega arith)
-first_declared head (pair ∷ pairs) d declared few = declared.0

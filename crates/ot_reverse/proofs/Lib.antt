@@ -1,4 +1,5 @@
 pub mod Alike
+pub mod Behind
 pub mod Built
 pub mod Ends
 pub mod Named

@@ -161,7 +161,7 @@ both_pass true false first second = second
 both_pass false y first second = absurd (cc)
 
 -- what a filter keeps passes its test
-all_kept : {X : Type 0} (p : X → Bool) (xs : List X) → AllByRecursion (λ x. p x ≡ true) (filter p xs)
+pub all_kept : {X : Type 0} (p : X → Bool) (xs : List X) → AllByRecursion (λ x. p x ≡ true) (filter p xs)
 all_kept p [] = tt
 all_kept {X = X} p (x ∷ xs) = elim (cases_Bool (p x)) [
   | inl kept ↦

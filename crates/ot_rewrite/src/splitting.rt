@@ -4,7 +4,6 @@ ghost use Rattle.ask_core.specs.Plans.{Plan};
 ghost use Rattle.ot_questions.specs.declared.place.Place.{Place};
 ghost use Rattle.ot_questions.specs.declared.why.Why.{Why};
 ghost use Rattle.ot_terms.specs.Belonging.{HasPlaces};
-ghost use Rattle.ot_terms.specs.Forms as forms;
 ghost use Rattle.ot_terms.specs.Forms.{form_tree, form_holds};
 ghost use Rattle.ot_terms.specs.Standing.{ask_form};
 ghost use Rattle.ot_rewrite.specs.Splits as splits;
@@ -14,12 +13,24 @@ ghost use Rattle.ot_rewrite.specs.Splits.{split_holds, ask_split, HasFewer, HasS
 use crate::question::Split;
 use ask_core::NoMemory;
 use bumpalo::Bump;
-use ot_terms::{Form, Place};
+use ot_terms::{Form, Place, placed};
 
-fn always_false<'a>(bump: &'a Bump) -> Result<&'a Form<'a>, NoMemory>
-    ensures { IfOk result (λ r. form_tree r.now ≡ forms.Not forms.True) }
+// A question, and the forms that are left behind its answers.
+fn asks<'a>(
+    bump: &'a Bump,
+    x: Place,
+    y: Place,
+    yes: Form<'a>,
+    no: Form<'a>,
+) -> Result<Split<'a>, NoMemory>
+    ensures { IfOk result (λ r. split_tree r ≡ splits.Ask x y (form_tree yes.entry) (form_tree no.entry)) }
 {
-    Form::not(bump, Form::always(bump)?)
+    Ok(Split::Ask {
+        x,
+        y,
+        yes: placed(bump, yes)?,
+        no: placed(bump, no)?,
+    })
 }
 
 fn decided<'a>(holds: bool) -> Split<'a>
@@ -34,12 +45,7 @@ fn split_le<'a>(bump: &'a Bump, x: Place, y: Place) -> Result<Split<'a>, NoMemor
     if let Some(holds) = x.is_at_most(y) {
         return Ok(decided(holds));
     }
-    Ok(Split::Ask {
-        x,
-        y,
-        yes: Form::always(bump)?,
-        no: always_false(bump)?,
-    })
+    asks(bump, x, y, Form::True, Form::Not(Form::always(bump)?))
 }
 
 fn split_eq<'a>(bump: &'a Bump, x: Place, y: Place) -> Result<Split<'a>, NoMemory>
@@ -48,12 +54,7 @@ fn split_eq<'a>(bump: &'a Bump, x: Place, y: Place) -> Result<Split<'a>, NoMemor
     if x.var == y.var {
         return Ok(decided(x.off == y.off));
     }
-    Ok(Split::Ask {
-        x,
-        y,
-        yes: Form::le(bump, y, x)?,
-        no: always_false(bump)?,
-    })
+    asks(bump, x, y, Form::Le(y, x), Form::Not(Form::always(bump)?))
 }
 
 fn split_part<'a>(bump: &'a Bump, form: &'a Form<'a>) -> Result<Split<'a>, NoMemory>
@@ -68,32 +69,21 @@ fn split_part<'a>(bump: &'a Bump, form: &'a Form<'a>) -> Result<Split<'a>, NoMem
         Form::And(first, second) => match split_part(bump, first)? {
             Split::Yes => split_part(bump, second),
             Split::No => Ok(Split::No),
-            Split::Ask { x, y, yes, no } => Ok(Split::Ask {
-                x,
-                y,
-                yes: Form::and(bump, yes, second)?,
-                no: Form::and(bump, no, second)?,
-            }),
+            Split::Ask { x, y, yes, no } => {
+                asks(bump, x, y, Form::And(yes, second), Form::And(no, second))
+            }
         },
         Form::Or(first, second) => match split_part(bump, first)? {
             Split::Yes => Ok(Split::Yes),
             Split::No => split_part(bump, second),
-            Split::Ask { x, y, yes, no } => Ok(Split::Ask {
-                x,
-                y,
-                yes: Form::or(bump, yes, second)?,
-                no: Form::or(bump, no, second)?,
-            }),
+            Split::Ask { x, y, yes, no } => {
+                asks(bump, x, y, Form::Or(yes, second), Form::Or(no, second))
+            }
         },
         Form::Not(form) => match split_part(bump, form)? {
             Split::Yes => Ok(Split::No),
             Split::No => Ok(Split::Yes),
-            Split::Ask { x, y, yes, no } => Ok(Split::Ask {
-                x,
-                y,
-                yes: Form::not(bump, yes)?,
-                no: Form::not(bump, no)?,
-            }),
+            Split::Ask { x, y, yes, no } => asks(bump, x, y, Form::Not(yes), Form::Not(no)),
         },
     }
 }

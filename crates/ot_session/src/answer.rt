@@ -7,7 +7,7 @@ use plain_list::List;
 use std::alloc::AllocError;
 
 /// Why no operation was made, in the order of the tests. The session is unchanged, but for `NoMemory`.
-#[derive(Clone, Copy, Debug, PartialEq, Eq)]
+#[derive(Clone, Copy, PartialEq, Eq)]
 pub enum Make {
     /// There is no such site.
     NoSite,
@@ -37,7 +37,7 @@ impl From<AllocError> for Make {
 }
 
 /// What was done with an operation that was taken.
-#[derive(Debug, Drop)]
+#[derive(Drop)]
 pub enum Took {
     /// The operation was integrated, and then held ones; these are their numbers, in order.
     Done(List<u32>),
@@ -51,7 +51,7 @@ pub enum Took {
 
 /// Why nothing more was taken. The first two are tested first, in this order, and leave the session unchanged; the
 /// others close it, and what was integrated before stays integrated.
-#[derive(Clone, Copy, Debug, PartialEq, Eq)]
+#[derive(Clone, Copy, PartialEq, Eq)]
 pub enum Take {
     /// There is no such site.
     NoSite,

@@ -3,7 +3,7 @@ use ot_model::Doc;
 use plain_list::List;
 
 /// What a site of a session has integrated, and the document that it holds.
-#[derive(Debug, Drop)]
+#[derive(Drop)]
 pub struct SiteEnd {
     /// The numbers of the operations, in the order in which they were integrated.
     pub seen: List<u32>,

@@ -1,14 +1,19 @@
 //! The form of an operation behind a list of others, newest first.
 ghost use Rattle.std.specs.Prelude.{◌≡◌, ◌≤◌, ◌<◌, ◌+◌, ◌-◌, ℕ, List, Some, None, Err, IfOk, OnOk, IfErr, length};
 ghost use Rattle.std.specs.Prelude.{slice_index, slice_set, filter, not, nat_eq};
+ghost use Rattle.indexmap.specs.IndexMap.{insert_entry};
+ghost use Rattle.ot_model.specs.Operations.{kind_of};
+ghost use Rattle.fn_rules.specs.Conditions.{IsInRange};
+ghost use Rattle.fn_rules.specs.Functions.{IsForKind};
 ghost use Rattle.fn_rules.specs.Rules.{function_of};
+ghost use Rattle.fn_rules.specs.Transformation.{transform_of};
 ghost use Rattle.ot_causal.specs.Members.{without};
 ghost use Rattle.ot_causal.specs.Past.{maker, IsClosed};
 ghost use Rattle.ot_causal.specs.Forms.{form, newest_open};
 ghost use Rattle.ot_causal.specs.Counting.{FormName, from_site};
 ghost use Rattle.ot_session.specs.Past.{past_of};
 ghost use Rattle.ot_session.specs.Lists.{clock};
-ghost use Rattle.ot_session.specs.Entries.{HasForms, IsTable, MaySeek, HasSought};
+ghost use Rattle.ot_session.specs.Entries.{is_same_key, HasForms, IsTable, MaySeek, HasSought};
 ghost use Rattle.ot_session.specs.declared.form.FormError.TheVariants.{NoForm, Spent, NoMemory};
 
 use crate::limits::{MAX_FORMS, MAX_MADE, MAX_SITES};
@@ -89,27 +94,53 @@ pub(crate) fn form_behind(
     ensures spent { result ≡ Err Spent → counted.new ≡ MAX_FORMS }
 {
     forms_are_sought_before_they_are_made();
-    counted_forms_need_not_be_sought();
-    open_members_may_be_taken_out();
     forms_are_made_from_shorter_ones();
-    closed_lists_are_told_by_their_counts();
-    sublists_are_told_by_their_sets();
-    forms_keep_all_but_the_position();
-    members_were_made();
-    rules_are_valid(seeking.rules);
     let Some(other) = newest_open(seeking.made, number, list) else {
         return Ok(operation(seeking.made, number));
     };
+    counted_forms_need_not_be_sought();
+    closed_lists_are_told_by_their_counts();
+    sublists_are_told_by_their_sets();
     let key = Key { number, counts };
     if let Some(form) = table.find(&key) {
         return Ok(form);
     }
     let older = without(alloc, seeking.made, list, other)?;
+    open_members_may_be_taken_out();
+    forms_keep_all_but_the_position();
+    members_were_made();
+    rules_are_valid(seeking.rules);
     let fewer = with_one_less(counts, maker(seeking.made, other));
     let own = form_behind(alloc, seeking, table, counted, number, &older, fewer)?;
     let by = form_behind(alloc, seeking, table, counted, other, &older, fewer)?;
+    store_moved(seeking.rules, table, counted, key, &own, &by)
+}
+
+// Counts the form of an operation behind another one, and stores it where there is one.
+fn store_moved(
+    rules: &Rules,
+    table: &mut Table,
+    counted: &mut u64,
+    key: Key,
+    own: &Op,
+    by: &Op,
+) -> Result<Op, FormError>
+    requires own_declared { IsForKind (function_of rules.now).head (kind_of own.now) }
+    requires by_declared { IsForKind (function_of rules.now).head (kind_of by.now) }
+    requires own_in_range { IsInRange own.now }
+    requires by_in_range { IsInRange by.now }
+    requires counted { counted.old ≤ MAX_FORMS }
+    ensures ok { IfOk result (λ p. (transform_of (function_of rules.now) own.now by.now ≡ Some p)
+        × (counted.new ≡ counted.old + 1)
+        × (table.new ≡ insert_entry is_same_key table.old key p)) }
+    ensures no_form { result ≡ Err NoForm → (transform_of (function_of rules.now) own.now by.now ≡ None)
+        × (counted.new ≡ counted.old + 1) }
+    ensures spent { result ≡ Err Spent → (counted.old ≡ MAX_FORMS) × (counted.new ≡ counted.old) }
+    ensures within { counted.new ≤ MAX_FORMS }
+    ensures more { counted.old ≤ counted.new }
+{
     count_one(counted)?;
-    let Some(form) = transform(seeking.rules, &own, &by) else {
+    let Some(form) = transform(rules, own, by) else {
         return Err(FormError::NoForm);
     };
     table.store(key, form)?;

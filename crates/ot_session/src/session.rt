@@ -149,12 +149,6 @@ impl Session {
         ensures unchanged { IfErr result (λ e. e ≢ makes.NoMemory → view_of self.new ≡ view_of self.old) }
         ensures closed { result ≡ Err makes.NoMemory → view_of self.new ≡ closed_session (view_of self.old) }
     {
-        steps_keep_sessions_sound();
-        steps_count_what_they_seek();
-        making_more_changes_nothing();
-        counted_forms_need_not_be_sought();
-        open_members_may_be_taken_out();
-        members_were_made();
         if !self.has_site(site) {
             return Err(Make::NoSite);
         }
@@ -170,6 +164,12 @@ impl Session {
         if self.made.len() == MAX_MADE {
             return Err(Make::Full);
         }
+        steps_keep_sessions_sound();
+        steps_count_what_they_seek();
+        making_more_changes_nothing();
+        counted_forms_need_not_be_sought();
+        open_members_may_be_taken_out();
+        members_were_made();
         let mode = self.rules.head().mode;
         match execute_at(mode, &mut self.made, &mut self.sites, site as usize - 1, op) {
             Ok(number) => Ok(number),
@@ -199,6 +199,12 @@ impl Session {
         // Whatever the answer, what was counted stays counted.
         ensures more { (view_of self.old).counted ≤ (view_of self.new).counted }
     {
+        if !self.has_site(site) {
+            return Err(Take::NoSite);
+        }
+        if number as usize >= self.made.len() {
+            return Err(Take::NoOp);
+        }
         steps_keep_sessions_sound();
         steps_count_what_they_seek();
         open_members_may_be_taken_out();
@@ -207,12 +213,6 @@ impl Session {
         tests_decide_their_facts();
         documents_grow_by_one_cell_at_most();
         sites_count_no_more_than_the_bound();
-        if !self.has_site(site) {
-            return Err(Take::NoSite);
-        }
-        if number as usize >= self.made.len() {
-            return Err(Take::NoOp);
-        }
         let alloc = *self.made.allocator();
         let taken = take_at(
             alloc,

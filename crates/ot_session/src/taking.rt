@@ -174,11 +174,11 @@ fn integrate(
     ensures within { total.new ≤ MAX_FORMS }
     ensures more { total.old ≤ total.new }
 {
+    let seen = newest_first(alloc, &site.seen)?;
     forms_are_sought_before_they_are_made();
     counted_forms_need_not_be_sought();
     members_were_made();
     sublists_are_told_by_their_sets();
-    let seen = newest_first(alloc, &site.seen)?;
     let seeking = Seeking {
         rules,
         made,

@@ -4,7 +4,7 @@ use ot_prove::Answer;
 use ot_questions::Why;
 
 /// What the obligations of a function at a level come to.
-#[derive(Debug, Drop)]
+#[derive(Drop)]
 pub enum Settled {
     /// All hold: the bytes of a proof, which was judged.
     Yes(Vec<u8>),

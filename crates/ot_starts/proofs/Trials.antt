@@ -1,24 +1,22 @@
 -- What is known of a case that is tried, and of the two goals that are left.
-use Rattle.std.proofs.Common.{◌≡◌, ℕ, ◌<◌, ◌≤◌, Option, Some, None, IfSome, Bool, false, is_some, arith, ap, sym, subst, ◌∙◌}
-use Rattle.std.proofs.lemmas.Int.{ints}
+use Rattle.std.proofs.Common.{◌≡◌, ◌<◌, ◌≤◌, ◌||◌, Option, Some, None, IfSome, Bool, false, is_some, ap, arith, sym, subst, ◌∙◌}
 use Rattle.fn_rules.specs.declared.function.ObName.{ObName}
 use Rattle.fn_rules.specs.Formulas.{formula_of}
 use Rattle.fn_rules.specs.Functions.{Function}
 use Rattle.ot_questions.specs.declared.place.SymOp.{SymOp}
-use Rattle.ot_questions.specs.Nears.{IsNearOp, HasNearAtoms}
-use Rattle.ot_terms.specs.declared.goal.GoalProgress.{GoalProgress}
 use Rattle.ot_terms.specs.Belonging.{IsGoalOf}
 use Rattle.ot_terms.specs.Forms.{FormTree}
-use Rattle.ot_terms.specs.Goals.{GoalTree, Choose, goal_tree, laid_form}
+use Rattle.ot_terms.specs.Goals.{GoalTree, goal_tree, laid_form}
 use Rattle.ot_terms.specs.Placing.{guard_form}
 use Rattle.ot_terms.specs.Weights.{goal_weight}
 use Rattle.goal_rules.specs.declared.choosing.Trial.{Trial}
-use Rattle.goal_rules.specs.Steps.{trial_tree, IsChoosable}
-use Rattle.goal_rules.specs.Table.{rewrite_choose, rewritten}
+use Rattle.goal_rules.specs.Steps.{trial_tree}
+use Rattle.goal_rules.specs.Table.{rewritten}
 use Rattle.laid_goals.specs.Trials as laid
 use Rattle.laid_goals.proofs.LaidForms.{part_of_yes, part_of_no, yes_is_lighter, no_is_lighter}
+use Rattle.ot_rewrite.specs.Fronts.{is_at_front}
 use Rattle.marked_goals.specs.Marking.{marked_goal}
-use Rattle.marked_goals.specs.Settled.{front_start, is_begun, StandsMarked}
+use Rattle.marked_goals.specs.Settled.{front_start, is_begun, is_settled, StandsMarked}
 use Rattle.ot_starts.specs.Trials.{IsTrialOf}
 use Rattle.ot_starts.proofs.LaidMarks.{marked_laid}
 use Rattle.ot_starts.proofs.SettledGoals.{settled_on}
@@ -29,6 +27,14 @@ pub not_begun_there :
     → ((g : GoalTree) → is_begun g ≡ is_some (front_start g)) → is_begun was ≡ false
 not_begun_there test old was same tests denied law =
     subst (λ g. is_begun g ≡ false) same (law old ∙ sym tests ∙ denied)
+
+-- nor is it settled, where a rule fits
+pub open_there :
+    (test : Bool) (old was : GoalTree) → old ≡ was → is_at_front was ≡ false → test ≡ is_some (front_start old)
+    → test ≡ false → ((g : GoalTree) → is_begun g ≡ is_some (front_start g)) → is_settled old ≡ false
+open_there test old was same asks tests denied law =
+    ap (λ begun. begun || is_at_front old) (law old ∙ sym tests ∙ denied)
+    ∙ subst (λ g. is_at_front g ≡ false) (sym same) asks
 
 -- what is tried stands for the goal with its starts
 pub trials :

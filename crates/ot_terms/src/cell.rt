@@ -5,6 +5,7 @@ ghost use Rattle.ot_terms.specs.Cells.{cell_tree};
 ghost use Rattle.ot_terms.specs.Documents.{doc_tree};
 ghost use Rattle.ot_terms.specs.Forms.{form_tree};
 
+use crate::arena::placed;
 use crate::document::DocT;
 use crate::form::Form;
 use ask_core::NoMemory;
@@ -44,25 +45,25 @@ impl<'a> CellT<'a> {
     pub fn at(bump: &'a Bump, doc: &'a DocT<'a>, at: Place) -> Result<&'a CellT<'a>, NoMemory>
         ensures { IfOk result (λ r. cell_tree r.now ≡ trees.At (doc_tree doc.now) at) }
     {
-        Ok(bump.try_alloc(CellT::At { doc, at })?)
+        placed(bump, CellT::At { doc, at })
     }
 
     pub fn of_char(bump: &'a Bump, ch: u8) -> Result<&'a CellT<'a>, NoMemory>
         ensures { IfOk result (λ r. cell_tree r.now ≡ trees.Char ch) }
     {
-        Ok(bump.try_alloc(CellT::Char(ch))?)
+        placed(bump, CellT::Char(ch))
     }
 
     pub fn dead(bump: &'a Bump, cell: &'a CellT<'a>) -> Result<&'a CellT<'a>, NoMemory>
         ensures { IfOk result (λ r. cell_tree r.now ≡ trees.Dead (cell_tree cell.now)) }
     {
-        Ok(bump.try_alloc(CellT::Dead(cell))?)
+        placed(bump, CellT::Dead(cell))
     }
 
     pub fn over(bump: &'a Bump, ch: u8, cell: &'a CellT<'a>) -> Result<&'a CellT<'a>, NoMemory>
         ensures { IfOk result (λ r. cell_tree r.now ≡ trees.Over ch (cell_tree cell.now)) }
     {
-        Ok(bump.try_alloc(CellT::Over { ch, cell })?)
+        placed(bump, CellT::Over { ch, cell })
     }
 
     pub fn either(
@@ -74,6 +75,6 @@ impl<'a> CellT<'a> {
         ensures { IfOk result (λ r. cell_tree r.now ≡ trees.If (form_tree form.now) (cell_tree yes.now)
             (cell_tree no.now)) }
     {
-        Ok(bump.try_alloc(CellT::If { form, yes, no })?)
+        placed(bump, CellT::If { form, yes, no })
     }
 }

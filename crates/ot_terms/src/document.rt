@@ -3,6 +3,7 @@ ghost use Rattle.std.specs.Prelude.{◌≡◌, IfOk};
 ghost use Rattle.ot_terms.specs.Documents as trees;
 ghost use Rattle.ot_terms.specs.Documents.{doc_tree};
 
+use crate::arena::placed;
 use ask_core::NoMemory;
 use bumpalo::Bump;
 use ot_questions::Place;
@@ -44,7 +45,7 @@ impl<'a> DocT<'a> {
     pub fn base(bump: &'a Bump) -> Result<&'a DocT<'a>, NoMemory>
         ensures { IfOk result (λ r. doc_tree r.now ≡ trees.Base) }
     {
-        Ok(bump.try_alloc(DocT::Base)?)
+        placed(bump, DocT::Base)
     }
 
     pub fn put(
@@ -55,19 +56,19 @@ impl<'a> DocT<'a> {
     ) -> Result<&'a DocT<'a>, NoMemory>
         ensures { IfOk result (λ r. doc_tree r.now ≡ trees.Put (doc_tree doc.now) at ch) }
     {
-        Ok(bump.try_alloc(DocT::Put { doc, at, ch })?)
+        placed(bump, DocT::Put { doc, at, ch })
     }
 
     pub fn cut(bump: &'a Bump, doc: &'a DocT<'a>, at: Place) -> Result<&'a DocT<'a>, NoMemory>
         ensures { IfOk result (λ r. doc_tree r.now ≡ trees.Cut (doc_tree doc.now) at) }
     {
-        Ok(bump.try_alloc(DocT::Cut { doc, at })?)
+        placed(bump, DocT::Cut { doc, at })
     }
 
     pub fn mark(bump: &'a Bump, doc: &'a DocT<'a>, at: Place) -> Result<&'a DocT<'a>, NoMemory>
         ensures { IfOk result (λ r. doc_tree r.now ≡ trees.Mark (doc_tree doc.now) at) }
     {
-        Ok(bump.try_alloc(DocT::Mark { doc, at })?)
+        placed(bump, DocT::Mark { doc, at })
     }
 
     pub fn over(
@@ -78,6 +79,6 @@ impl<'a> DocT<'a> {
     ) -> Result<&'a DocT<'a>, NoMemory>
         ensures { IfOk result (λ r. doc_tree r.now ≡ trees.Over (doc_tree doc.now) at ch) }
     {
-        Ok(bump.try_alloc(DocT::Over { doc, at, ch })?)
+        placed(bump, DocT::Over { doc, at, ch })
     }
 }

@@ -3,6 +3,7 @@ ghost use Rattle.std.specs.Prelude.{◌≡◌, IfOk};
 ghost use Rattle.ot_terms.specs.Forms as trees;
 ghost use Rattle.ot_terms.specs.Forms.{form_tree};
 
+use crate::arena::placed;
 use ask_core::NoMemory;
 use bumpalo::Bump;
 use ot_questions::Place;
@@ -28,42 +29,42 @@ impl<'a> Form<'a> {
     pub fn always(bump: &'a Bump) -> Result<&'a Form<'a>, NoMemory>
         ensures { IfOk result (λ r. form_tree r.now ≡ trees.True) }
     {
-        Ok(bump.try_alloc(Form::True)?)
+        placed(bump, Form::True)
     }
 
     pub fn le(bump: &'a Bump, x: Place, y: Place) -> Result<&'a Form<'a>, NoMemory>
         ensures { IfOk result (λ r. form_tree r.now ≡ trees.Le x y) }
     {
-        Ok(bump.try_alloc(Form::Le(x, y))?)
+        placed(bump, Form::Le(x, y))
     }
 
     pub fn lt(bump: &'a Bump, x: Place, y: Place) -> Result<&'a Form<'a>, NoMemory>
         ensures { IfOk result (λ r. form_tree r.now ≡ trees.Lt x y) }
     {
-        Ok(bump.try_alloc(Form::Lt(x, y))?)
+        placed(bump, Form::Lt(x, y))
     }
 
     pub fn eq(bump: &'a Bump, x: Place, y: Place) -> Result<&'a Form<'a>, NoMemory>
         ensures { IfOk result (λ r. form_tree r.now ≡ trees.Eq x y) }
     {
-        Ok(bump.try_alloc(Form::Eq(x, y))?)
+        placed(bump, Form::Eq(x, y))
     }
 
     pub fn and(bump: &'a Bump, g: &'a Form<'a>, h: &'a Form<'a>) -> Result<&'a Form<'a>, NoMemory>
         ensures { IfOk result (λ r. form_tree r.now ≡ trees.And (form_tree g.now) (form_tree h.now)) }
     {
-        Ok(bump.try_alloc(Form::And(g, h))?)
+        placed(bump, Form::And(g, h))
     }
 
     pub fn or(bump: &'a Bump, g: &'a Form<'a>, h: &'a Form<'a>) -> Result<&'a Form<'a>, NoMemory>
         ensures { IfOk result (λ r. form_tree r.now ≡ trees.Or (form_tree g.now) (form_tree h.now)) }
     {
-        Ok(bump.try_alloc(Form::Or(g, h))?)
+        placed(bump, Form::Or(g, h))
     }
 
     pub fn not(bump: &'a Bump, g: &'a Form<'a>) -> Result<&'a Form<'a>, NoMemory>
         ensures { IfOk result (λ r. form_tree r.now ≡ trees.Not (form_tree g.now)) }
     {
-        Ok(bump.try_alloc(Form::Not(g))?)
+        placed(bump, Form::Not(g))
     }
 }

@@ -6,6 +6,7 @@ ghost use Rattle.ot_terms.specs.Forms.{form_tree};
 ghost use Rattle.ot_terms.specs.Goals as trees;
 ghost use Rattle.ot_terms.specs.Goals.{goal_tree, asked_form};
 
+use crate::arena::placed;
 use crate::cell::CellT;
 use crate::form::Form;
 use ask_core::NoMemory;
@@ -116,33 +117,17 @@ pub enum Goal<'a> {
     },
 }
 
-impl GoalProgress {
-    pub fn placed<'a>(self, bump: &'a Bump) -> Result<&'a GoalProgress, NoMemory>
-        ensures { IfOk result (λ r. r.now ≡ self) }
-    {
-        Ok(bump.try_alloc(self)?)
-    }
-}
-
-impl Operands {
-    pub fn placed<'a>(self, bump: &'a Bump) -> Result<&'a Operands, NoMemory>
-        ensures { IfOk result (λ r. r.now ≡ self) }
-    {
-        Ok(bump.try_alloc(self)?)
-    }
-}
-
 impl<'a> Goal<'a> {
     pub fn holds(bump: &'a Bump) -> Result<&'a Goal<'a>, NoMemory>
         ensures { IfOk result (λ r. goal_tree r.now ≡ trees.Holds) }
     {
-        Ok(bump.try_alloc(Goal::Holds)?)
+        placed(bump, Goal::Holds)
     }
 
     pub fn fails(bump: &'a Bump, why: Why) -> Result<&'a Goal<'a>, NoMemory>
         ensures { IfOk result (λ r. goal_tree r.now ≡ trees.Fails why) }
     {
-        Ok(bump.try_alloc(Goal::Fails(why))?)
+        placed(bump, Goal::Fails(why))
     }
 
     /// One of two goals, where the first place is at most the second.
@@ -158,7 +143,7 @@ impl<'a> Goal<'a> {
             (goal_tree no.now)) }
     {
         let order = Order::of(x, y);
-        Ok(bump.try_alloc(Goal::Ask { order, yes, no })?)
+        placed(bump, Goal::Ask { order, yes, no })
     }
 
     /// One of two goals, by a form, which is placed into the arena where it is not the order of two places.
@@ -175,7 +160,7 @@ impl<'a> Goal<'a> {
             let order = Order::of(x, y);
             return Ok(Goal::Ask { order, yes, no });
         }
-        let form = bump.try_alloc(form)?;
+        let form = placed(bump, form)?;
         Ok(Goal::If { form, yes, no })
     }
 
@@ -188,7 +173,7 @@ impl<'a> Goal<'a> {
         ensures { IfOk result (λ r. goal_tree r.now ≡ trees.If (form_tree form.entry) (goal_tree yes.now)
             (goal_tree no.now)) }
     {
-        Ok(bump.try_alloc(Goal::branch(bump, form, yes, no)?)?)
+        placed(bump, Goal::branch(bump, form, yes, no)?)
     }
 
     pub fn choose(
@@ -199,11 +184,14 @@ impl<'a> Goal<'a> {
     ) -> Result<&'a Goal<'a>, NoMemory>
         ensures { IfOk result (λ r. goal_tree r.now ≡ trees.Choose case ops.now.a ops.now.b progress.now) }
     {
-        Ok(bump.try_alloc(Goal::Choose {
-            case,
-            ops,
-            plan: progress,
-        })?)
+        placed(
+            bump,
+            Goal::Choose {
+                case,
+                ops,
+                plan: progress,
+            },
+        )
     }
 
     pub fn deliver(
@@ -213,7 +201,7 @@ impl<'a> Goal<'a> {
     ) -> Result<&'a Goal<'a>, NoMemory>
         ensures { IfOk result (λ r. goal_tree r.now ≡ trees.Deliver op progress.now) }
     {
-        Ok(bump.try_alloc(Goal::Deliver { op, plan: progress })?)
+        placed(bump, Goal::Deliver { op, plan: progress })
     }
 
     pub fn same(
@@ -223,6 +211,6 @@ impl<'a> Goal<'a> {
     ) -> Result<&'a Goal<'a>, NoMemory>
         ensures { IfOk result (λ r. goal_tree r.now ≡ trees.Same (cell_tree left.now) (cell_tree right.now)) }
     {
-        Ok(bump.try_alloc(Goal::Same { left, right })?)
+        placed(bump, Goal::Same { left, right })
     }
 }

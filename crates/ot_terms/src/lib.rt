@@ -8,6 +8,7 @@
 //! term means, how much it weighs and the plan that it stands for are said of plain trees alone.
 #![tactic(auto)]
 
+mod arena;
 mod cell;
 mod document;
 mod enabled;
@@ -16,6 +17,7 @@ mod goal;
 mod laws;
 mod placing;
 
+pub use arena::placed;
 pub use ask_core::NoMemory;
 pub use cell::CellT;
 pub use document::DocT;

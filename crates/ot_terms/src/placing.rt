@@ -14,6 +14,7 @@ ghost use Rattle.ot_terms.specs.Placing as placing;
 ghost use Rattle.ot_terms.specs.Placing.{atom_form, guard_form};
 ghost use Rattle.ot_terms.specs.Standing.{ask_form};
 
+use crate::arena::placed;
 use crate::form::Form;
 use ask_core::NoMemory;
 use bumpalo::Bump;
@@ -70,7 +71,7 @@ fn place_part<'a>(
 {
     match guard {
         Guard::True => Form::always(bump),
-        Guard::Atom(atom) => Ok(bump.try_alloc(place_atom(atom, a, b))?),
+        Guard::Atom(atom) => placed(bump, place_atom(atom, a, b)),
         Guard::And(g, h) => Form::and(bump, place_part(bump, g, a, b)?, place_part(bump, h, a, b)?),
         Guard::Or(g, h) => Form::or(bump, place_part(bump, g, a, b)?, place_part(bump, h, a, b)?),
         Guard::Not(g) => Form::not(bump, place_part(bump, g, a, b)?),

@@ -2,7 +2,7 @@
 use fn_rules::Level;
 
 /// A command, with the names of its files.
-#[derive(Clone, Copy, Debug)]
+#[derive(Clone, Copy)]
 pub enum Command<'a> {
     /// A function is proved, or refuted.
     Prove {

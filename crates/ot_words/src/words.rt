@@ -43,12 +43,12 @@ fn budget_option<'a>(alloc: Global, most: u64, otherwise: &'a str) -> Arg<'a>
         .default_value(otherwise)
 }
 
-// The name of the function's file.
-fn function_argument<'a>(alloc: Global) -> Arg<'a>
-    ensures rule { rule_of result ≡ required_rule (codes "function") }
+// An argument that has to be there, as the name of a file.
+fn required_argument(alloc: Global, name: &str) -> Arg<'_>
+    ensures rule { rule_of result ≡ required_rule name.entry.now }
     ensures local { result.global ≡ false }
 {
-    Arg::new(alloc, "function").required(true)
+    Arg::new(alloc, name).required(true)
 }
 
 // The clap command of a name, which has no options, not even for help, and no arguments.
@@ -71,8 +71,7 @@ fn deciding_app<'a>(
 {
     let with_level = bare_app(alloc, name).arg(flag_option(alloc, "tp1"))?;
     let with_options = with_level.arg(budget_option(alloc, most, otherwise))?;
-    let whole = with_options.arg(function_argument(alloc))?;
-    Ok(whole)
+    with_options.arg(required_argument(alloc, "function"))
 }
 
 // The clap command `least`: an option, and a file name.
@@ -80,8 +79,7 @@ fn least_app<'a>(alloc: Global) -> Result<clap::Command<'a>, NoMemory>
     ensures { IfOk result (λ c. app_of c ≡ least_app) }
 {
     let with_flag = bare_app(alloc, "least").arg(flag_option(alloc, "cert"))?;
-    let whole = with_flag.arg(function_argument(alloc))?;
-    Ok(whole)
+    with_flag.arg(required_argument(alloc, "function"))
 }
 
 // The number of `drill`, which is at most `MOST_ROUNDS`.
@@ -98,31 +96,22 @@ fn number_argument<'a>(alloc: Global) -> Arg<'a>
 fn drill_app<'a>(alloc: Global) -> Result<clap::Command<'a>, NoMemory>
     ensures { IfOk result (λ c. app_of c ≡ drill_app) }
 {
-    let whole = bare_app(alloc, "drill").arg(number_argument(alloc))?;
-    Ok(whole)
+    bare_app(alloc, "drill").arg(number_argument(alloc))
 }
 
 // The clap command of a name, which has no options and takes one file name.
 fn one_file(alloc: Global, name: &str) -> Result<clap::Command<'_>, NoMemory>
     ensures { IfOk result (λ c. app_of c ≡ one_file name.entry.now) }
 {
-    let bare = clap::Command::new(alloc, name)
-        .no_binary_name(true)
-        .disable_help_flag(true);
-    let function = Arg::new(alloc, "function").required(true);
-    bare.arg(function)
+    bare_app(alloc, name).arg(required_argument(alloc, "function"))
 }
 
 // The same, for two file names.
 fn two_files(alloc: Global, name: &str) -> Result<clap::Command<'_>, NoMemory>
     ensures { IfOk result (λ c. app_of c ≡ two_files name.entry.now) }
 {
-    let bare = clap::Command::new(alloc, name)
-        .no_binary_name(true)
-        .disable_help_flag(true);
-    let first = Arg::new(alloc, "first").required(true);
-    let second = Arg::new(alloc, "second").required(true);
-    bare.arg(first)?.arg(second)
+    let with_first = bare_app(alloc, name).arg(required_argument(alloc, "first"))?;
+    with_first.arg(required_argument(alloc, "second"))
 }
 
 // The value of an argument.

@@ -7,7 +7,7 @@ use std::marker::Model;
 use std::ops::Index;
 
 /// A list, which contracts see as the list of its items.
-#[derive(Debug, Drop)]
+#[derive(Drop)]
 pub struct List<T> {
     vec: Vec<T>,
 }

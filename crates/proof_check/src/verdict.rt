@@ -8,7 +8,7 @@ use cert_check::CheckError;
 use diff_graph::PickError;
 
 /// Why a token of a proof is refused, in the order in which the causes of a token are tested.
-#[derive(Clone, Copy, Debug, PartialEq, Eq)]
+#[derive(Clone, Copy, PartialEq, Eq)]
 pub enum ProofError {
     /// A token of certificates, refused as it is in one; or want of memory. Where a cycle is wanted, `?` is
     /// refused as where nothing is asked, and `.` as where the plan fails.

@@ -1,6 +1,10 @@
 -- The nodes of a search stay the asker's own.
-use Rattle.std.proofs.Common.{◌≡◌, ◌<◌, List, [], ◌∷◌, ◌++◌, Option, Some, None, length, sym, subst, ◌∙◌, ⊎_elim, arith}
+use Rattle.std.proofs.Common.{◌≡◌, ◌<◌, ℕ, List, [], ◌∷◌, ◌++◌, Option, Some, None, length, get_or, Vec, refl, ap, sym, subst, ◌∙◌, ⊎_elim, inl, inr, arith}
 use Rattle.std.specs.Prelude.{IfSome}
+use Rattle.std.proofs.Math.ListN.{set, length-set}
+use Rattle.std.proofs.lemmas.Bool.{cases_eq}
+use Rattle.std.proofs.lemmas.List.{get_or-set_same, get_or-set_other, get_or_default, with_items_is}
+use Rattle.std.specs.Vec.{with_items}
 use Rattle.std.specs.List.{All}
 use Rattle.std.proofs.lemmas.List.Elements.{All-weaker, All-push, All-pop}
 use Rattle.proof_trees.specs.Starters.{Starts, KeepsStarts}
@@ -24,23 +28,58 @@ nodes_kept node_of P old new keeps all = λ k d below.
     let within : k < length old = omega (arith, keeps.fewer, below) in
     subst P (sym (keeps.nodes k d below)) (all k d within)
 
+-- nothing changes of itself
+pub nodes_same : {X N : Type 0} {node_of : X → N} (xs : List X) → KeepsNodes node_of xs xs
+nodes_same xs = record { fewer = omega arith; nodes = λ k d below. refl }
+
 -- what is kept twice is kept
-nodes_kept_twice :
-    {X N : Type 0} (node_of : X → N) (first then last : List X) → KeepsNodes node_of first then → KeepsNodes node_of then last
+pub nodes_kept_twice :
+    {X N : Type 0} {node_of : X → N} {first then last : List X} → KeepsNodes node_of first then → KeepsNodes node_of then last
     → KeepsNodes node_of first last
-nodes_kept_twice node_of first then last one two =
+nodes_kept_twice {then = then} one two =
     record {
       fewer = omega (arith, one.fewer, two.fewer);
       nodes = λ k d below.
           let within : k < length then = omega (arith, two.fewer, below) in two.nodes k d below ∙ one.nodes k d within;
     }
 
+-- an item may stand where one with its node stood
+pub node_set :
+    {X N : Type 0} {node_of : X → N} (xs : List X) (place : ℕ) (item d : X) → place < length xs
+    → node_of item ≡ node_of (get_or xs place d) → KeepsNodes node_of xs (set xs place item)
+node_set {X = X} {node_of = node_of} xs place item d within same = record {
+  fewer = omega (arith, length-set {A = X});
+  nodes = λ k e below.
+      elim (cases_eq k place) [
+        | inl here ↦
+            rw here
+            (ap node_of (get_or-set_same xs place item e within) ∙ same ∙ ap node_of (get_or_default xs place d e within))
+        | inr other ↦ ap node_of (get_or-set_other xs place k item e other)
+      ];
+}
+
+-- as many items may be put in a vector
+pub items_kept :
+    {X Z N : Type 0} {node_of : X → N} (old : Vec X Z) (new : List X) → length new ≡ length old.items
+    → KeepsNodes node_of old.items new → KeepsNodes node_of old.items (with_items old new).items
+items_kept {X = X} {node_of = node_of} old new len kept =
+    subst (λ (xs : List X). KeepsNodes node_of old.items xs) (sym (with_items_is old new (len ∙ sym old.ok.0))) kept
+
+pub places_same : {N : Type 0} (s : Search N) → KeepsPlaces s s
+places_same s = record {
+  at = refl;
+  levels = nodes_same s.levels.items;
+  waiting = nodes_same s.waiting.items;
+  lemmas = refl;
+  asked = refl;
+}
+
 pub places_kept :
     {N : Type 0} {first then last : Search N} → KeepsPlaces first then → KeepsPlaces then last → KeepsPlaces first last
-places_kept {first = first} {then = then} {last = last} one two = record {
+places_kept one two = record {
   at = two.at ∙ one.at;
-  levels = nodes_kept_twice (λ l. l.node) first.levels.items then.levels.items last.levels.items one.levels two.levels;
-  waiting = nodes_kept_twice (λ w. w.node) first.waiting.items then.waiting.items last.waiting.items one.waiting two.waiting;
+  levels = nodes_kept_twice one.levels two.levels;
+  waiting = nodes_kept_twice one.waiting two.waiting;
   lemmas = two.lemmas ∙ one.lemmas;
   asked = two.asked ∙ one.asked;
 }

@@ -6,10 +6,10 @@ ghost use Rattle.proof_search.specs.Owning.{AreOwnLemmas, KeepsNodes, KeepsPlace
 use crate::NoMemory;
 use crate::blame::drop_from;
 use crate::finder::Finder;
-use crate::levels::{add_assumed_around, assume_at};
+use crate::levels::{assume_at, is_still_reached};
 use crate::service::{Any, Known, ServingLemma, serving_of};
 use diff_graph::Lit;
-use lemma_levels::{Added, LemmaLevel, Lemmas, Search};
+use lemma_levels::{Added, Facts, LemmaLevel, Lemmas, Search};
 use std::alloc::Global;
 
 impl<N: Copy> Known for Search<N> {
@@ -56,12 +56,29 @@ fn assume_from<N: Copy>(
     ensures within { IfOk result (λ found. IfSome found (λ number. number < length levels.old)) }
 {
     for number in first..levels.len() {
-        if number > first && !add_assumed_around(levels, number) {
+        if !is_still_reached(levels, first, number) {
             return Ok(Some(number));
         }
         assume_at(levels, number, lit)?;
     }
     Ok(None)
+}
+
+/// The same for the levels of a search.
+fn assume_within<N: Copy>(
+    search: &mut Search<N>,
+    first: usize,
+    lit: Lit,
+) -> Result<Option<usize>, NoMemory>
+    ensures places { KeepsPlaces search.old search.new }
+    ensures within { IfOk result (λ found. IfSome found (λ number. number < length search.new.levels.items)) }
+{
+    assume_from(&mut search.levels, first, lit)
+}
+
+/// Adds a literal to what follows, if some integers meet it with this.
+fn is_added(facts: &mut Facts, lit: Lit) -> bool {
+    matches!(facts.try_add(lit, 0), Added::Yes)
 }
 
 /// Has the levels assume a literal that follows from what is known around. False where no integers lead here then.
@@ -74,11 +91,11 @@ fn take<N: Copy>(search: &mut Search<N>, lit: Lit) -> Result<bool, NoMemory>
     let Some(first) = innermost_shown(&search.levels, lit) else {
         return Ok(false);
     };
-    if let Some(number) = assume_from(&mut search.levels, first, lit)? {
+    if let Some(number) = assume_within(search, first, lit)? {
         drop_from(search, number);
         return Ok(false);
     }
-    Ok(matches!(search.facts.try_add(lit, 0), Added::Yes))
+    Ok(is_added(&mut search.facts, lit))
 }
 
 /// Has the levels assume literals that follow from what is known around, up to one with which no integers lead
@@ -113,6 +130,18 @@ fn wanted<N: Copy>(
     Ok(wanted)
 }
 
+/// Has the levels assume what a lemma that serves wants.
+fn take_wanted<N: Copy>(
+    alloc: Global,
+    search: &mut Search<N>,
+    serving: ServingLemma,
+) -> Result<(), NoMemory>
+    ensures { OnOk result (KeepsPlaces search.old search.new) }
+{
+    let literals = wanted(alloc, &search.lemmas, &serving)?;
+    take_all(search, literals.as_slice())
+}
+
 /// Whether a lemma of the start at a node serves by what is known around. The levels assume then what it wants.
 #[tactic(auto, using(crate::proofs::Owning::keeping))]
 pub(crate) fn adopt<A: Finder>(
@@ -131,7 +160,6 @@ pub(crate) fn adopt<A: Finder>(
     let Some(found) = found else {
         return Ok(false);
     };
-    let literals = wanted(alloc, &search.lemmas, &found)?;
-    take_all(search, literals.as_slice())?;
+    take_wanted(alloc, search, found)?;
     Ok(true)
 }

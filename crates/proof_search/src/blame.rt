@@ -3,7 +3,7 @@ ghost use Rattle.std.specs.Prelude.{◌<◌, length, IfOk, IfSome, OnOk};
 ghost use Rattle.proof_search.specs.Owning.{KeepsNodes, KeepsPlaces, IsMendedWithin};
 
 use crate::NoMemory;
-use crate::levels::{add_around, add_assumed_around, assume_at};
+use crate::levels::{add_around, assume_at, is_still_reached};
 use diff_graph::Lit;
 use lemma_levels::{Facts, LemmaLevel, MAX_NAMES, Search};
 
@@ -95,7 +95,7 @@ fn mend<N: Copy>(
     ensures within { IfOk result (IsMendedWithin (length levels.old)) }
 {
     for number in first..levels.len() {
-        if number > first && !add_assumed_around(levels, number) {
+        if !is_still_reached(levels, first, number) {
             return Ok(Mended::Unreachable(number));
         }
         let Some(inner) = within.get(levels.len() - 1 - number) else {
@@ -121,6 +121,14 @@ pub(crate) fn drop_from<N: Copy>(search: &mut Search<N>, number: usize)
     search.answers.truncate(answers);
 }
 
+/// The same for the levels and answers of a search, whose levels within that one are kept.
+fn mend_from<N: Copy>(search: &mut Search<N>, first: usize) -> Result<Mended, NoMemory>
+    ensures places { KeepsPlaces search.old search.new }
+    ensures within { IfOk result (IsMendedWithin (length search.new.levels.items)) }
+{
+    mend(&mut search.levels, &search.answers, &search.within, first)
+}
+
 /// Shuts the end that the answers lead to out of the levels, from the innermost one on around which literals do so.
 pub(crate) fn blame<N: Copy>(search: &mut Search<N>) -> Result<Blamed, NoMemory>
     ensures { OnOk result (KeepsPlaces search.old search.new) }
@@ -134,7 +142,7 @@ pub(crate) fn blame<N: Copy>(search: &mut Search<N>) -> Result<Blamed, NoMemory>
     let Some(first) = first else {
         return Ok(Blamed::Real);
     };
-    match mend(&mut search.levels, &search.answers, &search.within, first)? {
+    match mend_from(search, first)? {
         Mended::All => Ok(Blamed::ShutOut),
         Mended::Unreachable(number) => {
             drop_from(search, number);

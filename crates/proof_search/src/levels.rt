@@ -35,13 +35,12 @@ pub(crate) fn assume_at<N: Copy>(
     requires { number < length levels.old }
     ensures { KeepsNodes (λ l. l.node) levels.old levels.new }
 {
-    assume(&mut levels[number].literals, lit)?;
-    Ok(())
+    assume(&mut levels[number].literals, lit)
 }
 
 /// Adds what the next level around one assumes by now to what followed where it was begun. False where no integers lead
 /// there any more.
-pub(crate) fn add_assumed_around<N: Copy>(levels: &mut [LemmaLevel<N>], number: usize) -> bool
+fn add_assumed_around<N: Copy>(levels: &mut [LemmaLevel<N>], number: usize) -> bool
     requires { number < length levels.old }
     ensures { KeepsNodes (λ l. l.node) levels.old levels.new }
 {
@@ -49,6 +48,18 @@ pub(crate) fn add_assumed_around<N: Copy>(levels: &mut [LemmaLevel<N>], number: 
     let excluded = outer.add_up_to_excluded(assumed(&levels[..number]), 0);
     levels[number].outer = outer;
     excluded.is_none()
+}
+
+/// Whether some integers still lead to a level, once those from one on that stand around it have assumed more.
+pub(crate) fn is_still_reached<N: Copy>(
+    levels: &mut [LemmaLevel<N>],
+    first: usize,
+    number: usize,
+) -> bool
+    requires { number < length levels.old }
+    ensures { KeepsNodes (λ l. l.node) levels.old levels.new }
+{
+    number <= first || add_assumed_around(levels, number)
 }
 
 /// Adds what is known around a level to what followed within it, up to a literal that no integers meet with this, which

@@ -17,7 +17,7 @@ fn add_to_last(followed: &mut [Facts], lit: Lit) {
 }
 
 /// Begins to show a lemma of the start at a node, if one begins there. It assumes nothing yet.
-pub(crate) fn begin_level<N: Copy>(
+fn begin_level<N: Copy>(
     search: &mut Search<N>,
     alloc: Global,
     node: N,
@@ -41,7 +41,7 @@ pub(crate) fn begin_level<N: Copy>(
 
 /// Asks a literal at the open place. A part that the facts exclude is left out.
 #[inline(always)]
-pub(crate) fn ask<N: Copy>(search: &mut Search<N>, lit: Lit, yes: N, no: N) -> Result<(), NoMemory>
+fn ask<N: Copy>(search: &mut Search<N>, lit: Lit, yes: N, no: N) -> Result<(), NoMemory>
     requires { search.old.asked + 1 < 2 ^ 64 }
     ensures { OnOk result (HasAskedInSearch yes no search.old search.new) }
 {
@@ -66,6 +66,24 @@ pub(crate) fn ask<N: Copy>(search: &mut Search<N>, lit: Lit, yes: N, no: N) -> R
     search.facts.try_add(lit, 0);
     search.at = Some(yes);
     Ok(())
+}
+
+/// Asks a literal at the node of the open place. Where a start is there, a level is begun first.
+pub(crate) fn ask_at<N: Copy>(
+    search: &mut Search<N>,
+    alloc: Global,
+    node: N,
+    begins: bool,
+    lit: Lit,
+    yes: N,
+    no: N,
+) -> Result<(), NoMemory>
+    requires { search.old.asked + 1 < 2 ^ 64 }
+    ensures { OnOk result ((begun : Search N) × BeginsLevel node search.old begun
+        × HasAskedInSearch yes no begun search.new) }
+{
+    begin_level(search, alloc, node, begins)?;
+    ask(search, lit, yes, no)
 }
 
 /// Takes the answers of the innermost part that waited, and what follows from them. What the innermost level

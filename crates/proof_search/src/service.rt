@@ -142,5 +142,5 @@ pub fn serving<A: Finder, C: Choice>(
     if alike == number {
         return Ok(None);
     }
-    Ok(serving_of(alloc, asker, lemmas, alike, here, facts, choice)?)
+    serving_of(alloc, asker, lemmas, alike, here, facts, choice)
 }

@@ -8,7 +8,7 @@ use crate::adopt::adopt;
 use crate::blame::{Blamed, blame};
 use crate::finder::Finder;
 use crate::levels::waiting_before;
-use crate::open::{answer, ask, begin_level};
+use crate::open::{answer, ask_at};
 use crate::service::{Any, serving};
 use ask_core::Turn;
 use lemma_levels::{Lemma, Search};
@@ -90,15 +90,14 @@ fn arrive<A: Finder>(
             if search.asked == budget {
                 return Ok(Some(SearchEnd::Spent));
             }
-            begin_level(search, alloc, node, begins)?;
-            ask(search, lit, yes, no)?;
+            ask_at(search, alloc, node, begins, lit, yes, no)?;
             Ok(None)
         }
         Turn::Holds => {
             search.at = None;
             Ok(None)
         }
-        Turn::Fails(_) => Ok(fail(search)?),
+        Turn::Fails(_) => fail(search),
     }
 }
 

@@ -5,7 +5,7 @@ ghost use Rattle.proof_sections.specs.declared.refusal.ConfirmError.TheVariants 
 use ask_core::NoMemory;
 
 /// Why bytes are no proof of a function.
-#[derive(Clone, Copy, Debug, PartialEq, Eq)]
+#[derive(Clone, Copy, PartialEq, Eq)]
 pub enum ProofRefusal {
     /// The bytes are no part that may stand here by its spelling.
     Token,
@@ -48,7 +48,7 @@ pub enum ProofRefusal {
 }
 
 /// What ends a judgement of bytes that are not accepted.
-#[derive(Clone, Copy, Debug, PartialEq, Eq)]
+#[derive(Clone, Copy, PartialEq, Eq)]
 pub enum ConfirmError {
     /// The bytes are no proof.
     Refused {

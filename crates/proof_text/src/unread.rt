@@ -1,7 +1,7 @@
 //! Why nothing is read.
 
 /// Why nothing is read at a place of some bytes.
-#[derive(Clone, Copy, Debug, PartialEq, Eq)]
+#[derive(Clone, Copy, PartialEq, Eq)]
 pub enum Unread {
     /// Nothing that is looked for has a spelling that begins so.
     Misspelt,

@@ -7,7 +7,7 @@ use diff_graph::Lit;
 use std::marker::Model;
 
 /// The literals of a lemma: at most `MAX_LITERALS`. They stand in place, so that no call takes memory.
-#[derive(Debug, Drop)]
+#[derive(Drop)]
 pub struct Literals {
     slots: [Lit; MAX_LITERALS],
     count: usize,
@@ -55,7 +55,7 @@ impl Literals {
 }
 
 /// A token of a proof tree.
-#[derive(Debug, Drop)]
+#[derive(Drop)]
 pub enum ProofTok {
     /// `?`: a question, before the tree for yes and the tree for no.
     Ask,

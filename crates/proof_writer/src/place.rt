@@ -24,7 +24,7 @@ pub enum WriterTask<N: Copy> {
 }
 
 /// What a step of the writer came to.
-#[derive(Clone, Copy, Debug, PartialEq, Eq)]
+#[derive(Clone, Copy, PartialEq, Eq)]
 pub enum WriterStep {
     /// More is to be written.
     More,

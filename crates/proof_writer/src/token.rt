@@ -48,6 +48,13 @@ pub fn cycle_of(alloc: Global, numbers: &[u32]) -> Picks {
     picks
 }
 
+/// Appends the cycle of these numbers.
+pub fn put_cycle(alloc: Global, numbers: &[u32], out: &mut Vec<u8>) -> Result<(), NoMemory>
+    ensures { ExtendsText out.old.items out.new.items }
+{
+    put(&ProofTok::Cycle(cycle_of(alloc, numbers)), out)
+}
+
 /// The literals of a lemma, if they are few enough.
 pub fn literals_of(literals: &[Lit]) -> Option<Literals> {
     let mut few = Literals::new();

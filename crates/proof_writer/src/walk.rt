@@ -5,7 +5,7 @@ ghost use Rattle.proof_writer.specs.Nodes.{HasNode, HasNoOthers, HasOneMore, Add
 ghost use Rattle.proof_writer.specs.Texts.{ExtendsText};
 
 use crate::place::{TreePlace, WriterStep, WriterTask};
-use crate::token::{cycle_of, literals_of, put};
+use crate::token::{cycle_of, literals_of, put, put_cycle};
 use crate::written::{LemmaNumbers, Unbegun};
 use ask_core::NoMemory;
 use diff_graph::{Lit, negate};
@@ -113,7 +113,7 @@ impl<N: Copy> PlanWalk<N> {
 
         // Where one answer is excluded, the other one follows and adds nothing to the facts.
         if self.facts.write_why_excluded(&mut self.cycle, lit, number)? {
-            put(&ProofTok::Cycle(cycle_of(alloc, &self.cycle)), out)?;
+            put_cycle(alloc, &self.cycle, out)?;
             self.present = Some(on_no);
             return Ok(WriterStep::More);
         }
@@ -223,7 +223,7 @@ impl<N: Copy> PlanWalk<N> {
             {
                 return Ok(false);
             }
-            put(&ProofTok::Cycle(cycle_of(alloc, &self.cycle)), out)?;
+            put_cycle(alloc, &self.cycle, out)?;
         }
         Ok(true)
     }

@@ -110,7 +110,7 @@ fn step<A: Finder>(
     ensures same { KeepsStarts (A.is_own asker.old) (A.is_own asker.new) (A.starts asker.old) (A.starts asker.new) }
 {
     let Some(place) = walk.present else {
-        return Ok(walk.next(out)?);
+        return walk.next(out);
     };
     if let Some(step) = use_lemma(alloc, asker, lemmas, walk, place, out)? {
         return Ok(step);
@@ -133,8 +133,8 @@ fn follow<A: Finder>(
     ensures same { KeepsStarts (A.is_own asker.old) (A.is_own asker.new) (A.starts asker.old) (A.starts asker.new) }
 {
     match asker.follow(place.node)? {
-        Turn::Ask { lit, yes, no } => Ok(walk.ask(alloc, place.length, lit, yes, no, out)?),
-        Turn::Holds => Ok(walk.hold(out)?),
+        Turn::Ask { lit, yes, no } => walk.ask(alloc, place.length, lit, yes, no, out),
+        Turn::Holds => walk.hold(out),
         Turn::Fails(_) => Ok(WriterStep::Stuck),
     }
 }

@@ -7,7 +7,7 @@ use cert_text::CertError;
 use ot_outside::Failed;
 
 /// Why bytes are no certificate of a function.
-#[derive(Clone, Copy, Debug, PartialEq, Eq)]
+#[derive(Clone, Copy, PartialEq, Eq)]
 pub enum Refusal {
     /// The bytes are no part that may stand here by its spelling.
     Token,
@@ -38,7 +38,7 @@ pub enum Refusal {
 }
 
 /// What ends a judgement of bytes that are not accepted.
-#[derive(Clone, Copy, Debug, PartialEq, Eq)]
+#[derive(Clone, Copy, PartialEq, Eq)]
 pub enum JudgeError {
     /// The bytes are no certificate.
     Refused {

@@ -22,7 +22,7 @@ use diff_tables::{tables_stand_for_what_is_added, tables_tell_what_is_possible};
 pub const MAX_NAMES: usize = 12;
 
 /// Which sides of a question there is room for.
-#[derive(Clone, Copy, Debug, PartialEq, Eq)]
+#[derive(Clone, Copy, PartialEq, Eq)]
 pub enum Room {
     /// Both sides.
     Both,

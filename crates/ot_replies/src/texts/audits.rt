@@ -1,12 +1,14 @@
 //! The lines of what is found of a function, and of two.
-ghost use Rattle.std.specs.Prelude.{◌≡◌, ◌++◌, [], is_some, OnOk};
+ghost use Rattle.std.specs.Prelude.{◌≡◌, ◌++◌, [], codes, is_some, OnOk};
 ghost use Rattle.std.specs.List.{flat_map, list_all};
 ghost use Rattle.cert_text.specs.Spelling.{kind_text};
 ghost use Rattle.ot_counter.specs.Ways.{operation_result};
 ghost use Rattle.ot_replies.specs.AuditTexts.{audit_status, audit_text, block_text, case_line, case_lines};
 ghost use Rattle.ot_replies.specs.AuditTexts.{difference_text, found_text, is_total, open_line};
 ghost use Rattle.ot_replies.specs.AuditTexts.{same_status, same_text, spent_text};
+ghost use Rattle.ot_replies.specs.CounterTexts.{op_text};
 
+use super::appending::{append_bytes, append_text};
 use super::counters::{write_op, write_ops, write_way_line};
 use audit_answers::{Audit, BlockAudit, Same};
 use ot_counter::WayResult;
@@ -58,8 +60,7 @@ pub(crate) fn write_spent(out: &mut Vec<u8>) -> Result<(), NoMemory>
     requires { out.old.items ≡ [] }
     ensures { OnOk result (out.new.items ≡ spent_text) }
 {
-    out.extend_from_slice(b"spent\n")?;
-    Ok(())
+    append_bytes(b"spent\n", out)
 }
 
 fn kind_word(kind: Kind) -> &'static str
@@ -70,6 +71,16 @@ fn kind_word(kind: Kind) -> &'static str
         Kind::Del => "del",
         Kind::Upd => "upd",
     }
+}
+
+// Writes two operations behind a word.
+fn write_pair(alloc: Global, word: &str, a: &Op, b: &Op, out: &mut Vec<u8>) -> Result<(), NoMemory>
+    ensures { OnOk result (out.new.items ≡ out.old.items ++ (word.now ++ op_text a.now ++ codes " against " ++ op_text b.now)) }
+{
+    append_bytes(word.as_bytes(), out)?;
+    write_op(alloc, a, out)?;
+    append_bytes(b" against ", out)?;
+    write_op(alloc, b, out)
 }
 
 // Writes two operations behind a word, or the word of what is found nowhere.
@@ -83,15 +94,9 @@ fn write_found(
     ensures { OnOk result (out.new.items ≡ out.old.items ++ found_text word.now nowhere.now found.now) }
 {
     match found {
-        None => out.extend_from_slice(nowhere.as_bytes())?,
-        Some((a, b)) => {
-            out.extend_from_slice(word.as_bytes())?;
-            write_op(alloc, a, out)?;
-            out.extend_from_slice(b" against ")?;
-            write_op(alloc, b, out)?;
-        }
+        None => append_bytes(nowhere.as_bytes(), out),
+        Some((a, b)) => write_pair(alloc, word, a, b, out),
     }
-    Ok(())
 }
 
 // Writes the line of a case.
@@ -107,11 +112,9 @@ fn write_case(
 {
     let one = kind_word(first);
     let other = kind_word(second);
-    let case = format!(in alloc; "case {one} {other} {number} ")?;
-    out.extend_from_slice(case.as_bytes())?;
+    append_text(format!(in alloc; "case {one} {other} {number} ")?, out)?;
     write_found(alloc, "taken ", "never", found, out)?;
-    out.push(b'\n')?;
-    Ok(())
+    append_bytes(b"\n", out)
 }
 
 // Writes a line for each case.
@@ -142,11 +145,9 @@ fn write_open(
 {
     let one = kind_word(first);
     let other = kind_word(second);
-    let block = format!(in alloc; "block {one} {other} ")?;
-    out.extend_from_slice(block.as_bytes())?;
+    append_text(format!(in alloc; "block {one} {other} ")?, out)?;
     write_found(alloc, "open ", "total", found, out)?;
-    out.push(b'\n')?;
-    Ok(())
+    append_bytes(b"\n", out)
 }
 
 // Writes the lines of a block.
@@ -210,12 +211,10 @@ fn write_difference(
 {
     let one = kind_word(first);
     let other = kind_word(second);
-    let block = format!(in alloc; "differ {one} {other}\n")?;
-    out.extend_from_slice(block.as_bytes())?;
+    append_text(format!(in alloc; "differ {one} {other}\n")?, out)?;
     write_ops(alloc, ops, out)?;
     write_way_line(alloc, "left ", &way_of(left), out)?;
-    write_way_line(alloc, "right ", &way_of(right), out)?;
-    Ok(())
+    write_way_line(alloc, "right ", &way_of(right), out)
 }
 
 /// Writes whether two functions agree, or where they do not.
@@ -224,8 +223,8 @@ pub(crate) fn write_same(alloc: Global, same: &Same, out: &mut Vec<u8>) -> Resul
     ensures { OnOk result (out.new.items ≡ same_text same.now) }
 {
     match *same {
-        Same::Everywhere => out.extend_from_slice(b"same\n")?,
-        Same::Heads => out.extend_from_slice(b"differ head\n")?,
+        Same::Everywhere => append_bytes(b"same\n", out),
+        Same::Heads => append_bytes(b"differ head\n", out),
         Same::Differ {
             first,
             second,
@@ -233,8 +232,7 @@ pub(crate) fn write_same(alloc: Global, same: &Same, out: &mut Vec<u8>) -> Resul
             b,
             left,
             right,
-        } => write_difference(alloc, first, second, &[a, b], left, right, out)?,
-        Same::Spent => write_spent(out)?,
+        } => write_difference(alloc, first, second, &[a, b], left, right, out),
+        Same::Spent => write_spent(out),
     }
-    Ok(())
 }

@@ -4,6 +4,7 @@ ghost use Rattle.std.specs.Fmt.{decimal};
 ghost use Rattle.ot_replies.specs.BoundTexts.{at_least_text, shortest_text};
 ghost use Rattle.ot_replies.specs.CounterTexts.{line_of};
 
+use super::appending::append_text;
 use super::counters::write_counter;
 use super::level_word;
 use fn_rules::Level;
@@ -15,9 +16,7 @@ use std::alloc::Global;
 fn write_cells(alloc: Global, cells: u32, out: &mut Vec<u8>) -> Result<(), NoMemory>
     ensures { OnOk result (out.new.items ≡ out.old.items ++ line_of (codes "least " ++ decimal cells)) }
 {
-    let text = format!(in alloc; "least {cells}\n")?;
-    out.extend_from_slice(text.as_bytes())?;
-    Ok(())
+    append_text(format!(in alloc; "least {cells}\n")?, out)
 }
 
 /// Writes the lines of a counterexample, and how many cells its document has.
@@ -31,8 +30,7 @@ pub(crate) fn write_shortest(
     ensures { OnOk result (out.new.items ≡ shortest_text counter.now cells) }
 {
     write_counter(alloc, counter, out)?;
-    write_cells(alloc, cells, out)?;
-    Ok(())
+    write_cells(alloc, cells, out)
 }
 
 /// Writes that no document of fewer cells breaks a property.
@@ -46,7 +44,5 @@ pub(crate) fn write_at_least(
     ensures { OnOk result (out.new.items ≡ at_least_text level cells) }
 {
     let property = level_word(level);
-    let text = format!(in alloc; "at least {cells} {property}\n")?;
-    out.extend_from_slice(text.as_bytes())?;
-    Ok(())
+    append_text(format!(in alloc; "at least {cells} {property}\n")?, out)
 }

@@ -6,6 +6,7 @@ ghost use Rattle.cert_text.specs.Spelling.{level_text};
 ghost use Rattle.ot_replies.specs.DocumentTexts.{document_text};
 ghost use Rattle.ot_replies.specs.CounterTexts.{counter_text, line_of, op_lines, op_text, way_text, why_word};
 
+use super::appending::{append_bytes, append_text};
 use super::documents::write_document;
 use super::level_word;
 use case_json::char_write;
@@ -31,26 +32,21 @@ fn why_word(why: Why) -> &'static str
 fn write_word(word: &str, out: &mut Vec<u8>) -> Result<(), NoMemory>
     ensures { OnOk result (out.new.items ≡ out.old.items ++ word.now) }
 {
-    out.extend_from_slice(word.as_bytes())?;
-    Ok(())
+    append_bytes(word.as_bytes(), out)
 }
 
 // The position in front of a character.
 fn write_position(alloc: Global, at: i64, out: &mut Vec<u8>) -> Result<(), NoMemory>
     ensures { OnOk result (out.new.items ≡ out.old.items ++ (codes " " ++ signed_decimal at ++ codes " ")) }
 {
-    let text = format!(in alloc; " {at} ")?;
-    out.extend_from_slice(text.as_bytes())?;
-    Ok(())
+    append_text(format!(in alloc; " {at} ")?, out)
 }
 
 // The site behind a character.
 fn write_site(alloc: Global, site: u32, out: &mut Vec<u8>) -> Result<(), NoMemory>
     ensures { OnOk result (out.new.items ≡ out.old.items ++ (codes " " ++ decimal site)) }
 {
-    let text = format!(in alloc; " {site}")?;
-    out.extend_from_slice(text.as_bytes())?;
-    Ok(())
+    append_text(format!(in alloc; " {site}")?, out)
 }
 
 // An operation with a character, behind the word of its kind.
@@ -69,8 +65,7 @@ fn write_with_char(
     write_word(word, out)?;
     write_position(alloc, at, out)?;
     char_write(ch, out)?;
-    write_site(alloc, site, out)?;
-    Ok(())
+    write_site(alloc, site, out)
 }
 
 // A deletion.
@@ -78,9 +73,7 @@ fn write_deletion(alloc: Global, at: i64, site: u32, out: &mut Vec<u8>) -> Resul
     ensures { OnOk result (out.new.items ≡ out.old.items
         ++ (codes "del " ++ signed_decimal at ++ codes " " ++ decimal site)) }
 {
-    let text = format!(in alloc; "del {at} {site}")?;
-    out.extend_from_slice(text.as_bytes())?;
-    Ok(())
+    append_text(format!(in alloc; "del {at} {site}")?, out)
 }
 
 /// Writes an operation.
@@ -88,24 +81,22 @@ pub(crate) fn write_op(alloc: Global, op: &Op, out: &mut Vec<u8>) -> Result<(), 
     ensures { OnOk result (out.new.items ≡ out.old.items ++ op_text op.now) }
 {
     match *op {
-        Op::Ins { at, ch, site } => write_with_char(alloc, "ins", at, ch, site, out)?,
-        Op::Upd { at, ch, site } => write_with_char(alloc, "upd", at, ch, site, out)?,
-        Op::Del { at, site } => write_deletion(alloc, at, site, out)?,
-        Op::Nop => out.extend_from_slice(b"nop")?,
+        Op::Ins { at, ch, site } => write_with_char(alloc, "ins", at, ch, site, out),
+        Op::Upd { at, ch, site } => write_with_char(alloc, "upd", at, ch, site, out),
+        Op::Del { at, site } => write_deletion(alloc, at, site, out),
+        Op::Nop => append_bytes(b"nop", out),
     }
-    Ok(())
 }
 
 fn write_way(alloc: Global, way: &WayResult, out: &mut Vec<u8>) -> Result<(), NoMemory>
     ensures { OnOk result (out.new.items ≡ out.old.items ++ way_text way.now) }
 {
     match way {
-        WayResult::Undefined => out.extend_from_slice(b"undefined")?,
-        WayResult::OutOfRange => out.extend_from_slice(b"range")?,
-        WayResult::Doc(doc) => write_document(doc, out)?,
-        WayResult::Op(op) => write_op(alloc, op, out)?,
+        WayResult::Undefined => append_bytes(b"undefined", out),
+        WayResult::OutOfRange => append_bytes(b"range", out),
+        WayResult::Doc(doc) => write_document(doc, out),
+        WayResult::Op(op) => write_op(alloc, op, out),
     }
-    Ok(())
 }
 
 // The line of the property that fails, and of the cause.
@@ -115,19 +106,16 @@ fn write_failure(alloc: Global, level: Level, why: Why, out: &mut Vec<u8>) -> Re
 {
     let property = level_word(level);
     let cause = why_word(why);
-    let text = format!(in alloc; "no {property} {cause}\n")?;
-    out.extend_from_slice(text.as_bytes())?;
-    Ok(())
+    append_text(format!(in alloc; "no {property} {cause}\n")?, out)
 }
 
 /// Writes the line of the document.
 pub(crate) fn write_doc_line(doc: &Doc, out: &mut Vec<u8>) -> Result<(), NoMemory>
     ensures { OnOk result (out.new.items ≡ out.old.items ++ line_of (codes "doc " ++ document_text doc.now)) }
 {
-    out.extend_from_slice(b"doc ")?;
+    append_bytes(b"doc ", out)?;
     write_document(doc, out)?;
-    out.push(b'\n')?;
-    Ok(())
+    append_bytes(b"\n", out)
 }
 
 // The line of an operation.
@@ -135,11 +123,9 @@ fn write_op_line(alloc: Global, number: usize, op: &Op, out: &mut Vec<u8>) -> Re
     ensures { OnOk result (out.new.items ≡ out.old.items
         ++ line_of (codes "op " ++ decimal number ++ codes " " ++ op_text op.now)) }
 {
-    let front = format!(in alloc; "op {number} ")?;
-    out.extend_from_slice(front.as_bytes())?;
+    append_text(format!(in alloc; "op {number} ")?, out)?;
     write_op(alloc, op, out)?;
-    out.push(b'\n')?;
-    Ok(())
+    append_bytes(b"\n", out)
 }
 
 /// Writes a line for each operation; they are counted from 1.
@@ -161,10 +147,9 @@ pub(crate) fn write_way_line(
 ) -> Result<(), NoMemory>
     ensures { OnOk result (out.new.items ≡ out.old.items ++ line_of (name.now ++ way_text way.now)) }
 {
-    out.extend_from_slice(name.as_bytes())?;
+    append_bytes(name.as_bytes(), out)?;
     write_way(alloc, way, out)?;
-    out.push(b'\n')?;
-    Ok(())
+    append_bytes(b"\n", out)
 }
 
 /// Writes the lines of a counterexample.
@@ -180,6 +165,5 @@ pub(crate) fn write_counter(
     write_doc_line(&counter.doc, out)?;
     write_ops(alloc, counter.ops.as_slice(), out)?;
     write_way_line(alloc, "left ", &counter.left, out)?;
-    write_way_line(alloc, "right ", &counter.right, out)?;
-    Ok(())
+    write_way_line(alloc, "right ", &counter.right, out)
 }

@@ -2,6 +2,7 @@
 ghost use Rattle.std.specs.Prelude.{◌≡◌, ◌++◌, OnOk};
 ghost use Rattle.ot_replies.specs.DocumentTexts.{document_text};
 
+use super::appending::append_bytes;
 use case_json::doc_write;
 use ot_model::{Doc, NoMemory};
 
@@ -9,8 +10,7 @@ use ot_model::{Doc, NoMemory};
 pub(crate) fn write_document(doc: &Doc, out: &mut Vec<u8>) -> Result<(), NoMemory>
     ensures { OnOk result (out.new.items ≡ out.old.items ++ document_text doc.now) }
 {
-    out.push(b'[')?;
+    append_bytes(b"[", out)?;
     doc_write(doc, out)?;
-    out.push(b']')?;
-    Ok(())
+    append_bytes(b"]", out)
 }

@@ -2,6 +2,7 @@
 ghost use Rattle.std.specs.Prelude.{◌≡◌, ◌++◌, [], OnOk};
 ghost use Rattle.ot_replies.specs.DrillTexts.{count_line, drill_text};
 
+use super::appending::append_text;
 use super::sessions::write_last;
 use super::write_accepted;
 use crate::reply::Drilled;
@@ -12,9 +13,7 @@ use std::alloc::Global;
 fn write_count(alloc: Global, word: &str, count: usize, out: &mut Vec<u8>) -> Result<(), NoMemory>
     ensures { OnOk result (out.new.items ≡ out.old.items ++ count_line word.now count) }
 {
-    let line = format!(in alloc; "{word} {count}\n")?;
-    out.extend_from_slice(line.as_bytes())?;
-    Ok(())
+    append_text(format!(in alloc; "{word} {count}\n")?, out)
 }
 
 /// Writes what came of a workload.

@@ -1,10 +1,13 @@
 //! The lines of faults.
-ghost use Rattle.std.specs.Prelude.{◌≡◌, [], string_bytes, IfOk, OnOk};
+ghost use Rattle.std.specs.Prelude.{◌≡◌, ◌++◌, [], codes, OnOk};
+ghost use Rattle.std.specs.Fmt.{decimal};
 ghost use Rattle.case_json.specs.declared.fault.CaseFault.TheVariants.{Pair};
-ghost use Rattle.ot_replies.specs.FaultTexts.{case_text, case_fault_text, kind_word, name_word, proof_refusal_text};
+ghost use Rattle.ot_replies.specs.CounterTexts.{line_of};
+ghost use Rattle.ot_replies.specs.FaultTexts.{case_fault_text, kind_word, name_word, proof_refusal_text};
 ghost use Rattle.ot_replies.specs.FaultTexts.{proof_refusal_word, refusal_text, refusal_word, subject_word};
 ghost use Rattle.ot_replies.specs.FaultTexts.{text_fault_text};
 
+use super::appending::{append_bytes, append_text};
 use crate::reply::Subject;
 use case_json::{CaseFault, Name};
 use fn_text::{FaultKind, TextFault};
@@ -72,11 +75,8 @@ pub(crate) fn write_refusal(
     requires { out.old.items ≡ [] }
     ensures { OnOk result (out.new.items ≡ refusal_text offset why) }
 {
-    let place = format!(in alloc; "certificate {offset} ")?;
-    out.extend_from_slice(place.as_bytes())?;
-    out.extend_from_slice(refusal_word(why).as_bytes())?;
-    out.push(b'\n')?;
-    Ok(())
+    let word = refusal_word(why);
+    append_text(format!(in alloc; "certificate {offset} {word}\n")?, out)
 }
 
 fn proof_refusal_word(why: ProofRefusal) -> &'static str
@@ -109,11 +109,8 @@ pub(crate) fn write_proof_refusal(
     requires { out.old.items ≡ [] }
     ensures { OnOk result (out.new.items ≡ proof_refusal_text offset why) }
 {
-    let place = format!(in alloc; "proof {offset} ")?;
-    out.extend_from_slice(place.as_bytes())?;
-    out.extend_from_slice(proof_refusal_word(why).as_bytes())?;
-    out.push(b'\n')?;
-    Ok(())
+    let word = proof_refusal_word(why);
+    append_text(format!(in alloc; "proof {offset} {word}\n")?, out)
 }
 
 fn subject_word(subject: Subject) -> &'static str
@@ -139,35 +136,41 @@ pub(crate) fn write_text_fault(
     let word = kind_word(fault.kind);
     let line = fault.line;
     let column = fault.column;
-    let text = format!(in alloc; "{file} {line}:{column} {word}\n")?;
-    out.extend_from_slice(text.as_bytes())?;
-    Ok(())
+    append_text(format!(in alloc; "{file} {line}:{column} {word}\n")?, out)
 }
 
-fn pair_text(alloc: Global, i: u32, j: u32) -> Result<String, NoMemory>
-    ensures { IfOk result (λ text. string_bytes text ≡ case_text (Pair i j)) }
+// Writes a line of some words and one word behind them.
+fn write_word_line(
+    alloc: Global,
+    front: &str,
+    word: &str,
+    out: &mut Vec<u8>,
+) -> Result<(), NoMemory>
+    requires { out.old.items ≡ [] }
+    ensures { OnOk result (out.new.items ≡ line_of (front.now ++ codes " " ++ word.now)) }
 {
-    Ok(format!(in alloc; "case pair {i} {j}")?)
+    append_text(format!(in alloc; "{front} {word}\n")?, out)
 }
 
-fn case_text(alloc: Global, fault: &CaseFault) -> Result<String, NoMemory>
-    ensures { IfOk result (λ text. string_bytes text ≡ case_text fault.now) }
+// Writes a line of some words and a number behind them.
+fn write_number_line(
+    alloc: Global,
+    front: &str,
+    number: u32,
+    out: &mut Vec<u8>,
+) -> Result<(), NoMemory>
+    requires { out.old.items ≡ [] }
+    ensures { OnOk result (out.new.items ≡ line_of (front.now ++ codes " " ++ decimal number)) }
 {
-    match fault {
-        CaseFault::Json => Ok(format!(in alloc; "case json")?),
-        CaseFault::Field(name) => {
-            let word = name_word(*name);
-            Ok(format!(in alloc; "case field {word}")?)
-        }
-        CaseFault::Kind(i) => Ok(format!(in alloc; "case kind {i}")?),
-        CaseFault::Enabled(i) => Ok(format!(in alloc; "case enabled {i}")?),
-        CaseFault::Pair(i, j) => pair_text(alloc, *i, *j),
-        CaseFault::Order(i) => Ok(format!(in alloc; "case order {i}")?),
-        CaseFault::Limit(name) => {
-            let word = name_word(*name);
-            Ok(format!(in alloc; "limit {word}")?)
-        }
-    }
+    append_text(format!(in alloc; "{front} {number}\n")?, out)
+}
+
+// Writes the line of two operations that are not allowed together.
+fn write_pair_line(alloc: Global, i: u32, j: u32, out: &mut Vec<u8>) -> Result<(), NoMemory>
+    requires { out.old.items ≡ [] }
+    ensures { OnOk result (out.new.items ≡ case_fault_text (Pair i j)) }
+{
+    append_text(format!(in alloc; "case pair {i} {j}\n")?, out)
 }
 
 /// Writes the line of a case that has a fault.
@@ -179,8 +182,13 @@ pub(crate) fn write_case_fault(
     requires { out.old.items ≡ [] }
     ensures { OnOk result (out.new.items ≡ case_fault_text fault.now) }
 {
-    let text = case_text(alloc, fault)?;
-    out.extend_from_slice(text.as_bytes())?;
-    out.push(b'\n')?;
-    Ok(())
+    match fault {
+        CaseFault::Json => append_bytes(b"case json\n", out),
+        CaseFault::Field(name) => write_word_line(alloc, "case field", name_word(*name), out),
+        CaseFault::Kind(i) => write_number_line(alloc, "case kind", *i, out),
+        CaseFault::Enabled(i) => write_number_line(alloc, "case enabled", *i, out),
+        CaseFault::Pair(i, j) => write_pair_line(alloc, *i, *j, out),
+        CaseFault::Order(i) => write_number_line(alloc, "case order", *i, out),
+        CaseFault::Limit(name) => write_word_line(alloc, "limit", name_word(*name), out),
+    }
 }

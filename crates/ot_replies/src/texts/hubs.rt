@@ -2,6 +2,7 @@
 ghost use Rattle.std.specs.Prelude.{◌≡◌, ◌++◌, [], OnOk};
 ghost use Rattle.ot_replies.specs.HubTexts.{client_line, client_lines, hub_text, server_line, verdict_line};
 
+use super::appending::{append_bytes, append_text};
 use super::documents::write_document;
 use crate::reply::{ClientEnd, HubEnd};
 use ot_model::NoMemory;
@@ -12,11 +13,9 @@ fn write_server(alloc: Global, end: &HubEnd, out: &mut Vec<u8>) -> Result<(), No
     ensures { OnOk result (out.new.items ≡ server_line end.now) }
 {
     let logged = end.logged;
-    let server = format!(in alloc; "server {logged} ")?;
-    out.extend_from_slice(server.as_bytes())?;
+    append_text(format!(in alloc; "server {logged} ")?, out)?;
     write_document(&end.doc, out)?;
-    out.push(b'\n')?;
-    Ok(())
+    append_bytes(b"\n", out)
 }
 
 fn write_client(
@@ -29,11 +28,12 @@ fn write_client(
 {
     let received = end.received;
     let pending = end.pending;
-    let client = format!(in alloc; "client {number} {received} {pending} ")?;
-    out.extend_from_slice(client.as_bytes())?;
+    append_text(
+        format!(in alloc; "client {number} {received} {pending} ")?,
+        out,
+    )?;
     write_document(&end.doc, out)?;
-    out.push(b'\n')?;
-    Ok(())
+    append_bytes(b"\n", out)
 }
 
 fn write_clients(alloc: Global, ends: &[ClientEnd], out: &mut Vec<u8>) -> Result<(), NoMemory>
@@ -49,13 +49,9 @@ fn write_verdict(alloc: Global, differ: Option<u32>, out: &mut Vec<u8>) -> Resul
     ensures { OnOk result (out.new.items ≡ out.old.items ++ verdict_line differ) }
 {
     match differ {
-        None => out.extend_from_slice(b"same\n")?,
-        Some(client) => {
-            let text = format!(in alloc; "differ {client}\n")?;
-            out.extend_from_slice(text.as_bytes())?;
-        }
+        None => append_bytes(b"same\n", out),
+        Some(client) => append_text(format!(in alloc; "differ {client}\n")?, out),
     }
-    Ok(())
 }
 
 /// Writes a line for the server, a line for each client, and whether a client differs from the server.

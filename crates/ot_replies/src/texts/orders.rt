@@ -3,6 +3,7 @@ ghost use Rattle.std.specs.Prelude.{◌≡◌, ◌++◌, [], map, OnOk};
 ghost use Rattle.ot_integrate.specs.Ends.{outcome_of};
 ghost use Rattle.ot_replies.specs.OrderTexts.{outcome_text, order_line, order_lines, orders_text};
 
+use super::appending::{append_bytes, append_text};
 use super::documents::write_document;
 use ot_integrate::End;
 use ot_model::NoMemory;
@@ -12,23 +13,17 @@ fn write_outcome(alloc: Global, end: &End, out: &mut Vec<u8>) -> Result<(), NoMe
     ensures { OnOk result (out.new.items ≡ out.old.items ++ outcome_text (outcome_of end.now)) }
 {
     match end {
-        End::Doc(doc) => write_document(doc, out)?,
-        End::Stuck(place) => {
-            let text = format!(in alloc; "stuck {place}")?;
-            out.extend_from_slice(text.as_bytes())?;
-        }
+        End::Doc(doc) => write_document(doc, out),
+        End::Stuck(place) => append_text(format!(in alloc; "stuck {place}")?, out),
     }
-    Ok(())
 }
 
 fn write_order(alloc: Global, number: usize, end: &End, out: &mut Vec<u8>) -> Result<(), NoMemory>
     ensures { OnOk result (out.new.items ≡ out.old.items ++ order_line number (outcome_of end.now)) }
 {
-    let order = format!(in alloc; "order {number} ")?;
-    out.extend_from_slice(order.as_bytes())?;
+    append_text(format!(in alloc; "order {number} ")?, out)?;
     write_outcome(alloc, end, out)?;
-    out.push(b'\n')?;
-    Ok(())
+    append_bytes(b"\n", out)
 }
 
 fn write_orders(alloc: Global, ends: &[End], out: &mut Vec<u8>) -> Result<(), NoMemory>
@@ -53,6 +48,5 @@ pub(crate) fn write_ends(
 {
     write_orders(alloc, ends, out)?;
     let last = if same { "same\n" } else { "differ\n" };
-    out.extend_from_slice(last.as_bytes())?;
-    Ok(())
+    append_bytes(last.as_bytes(), out)
 }

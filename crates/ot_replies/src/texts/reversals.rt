@@ -3,6 +3,7 @@ ghost use Rattle.std.specs.Prelude.{◌≡◌, ◌++◌, [], codes, OnOk};
 ghost use Rattle.ot_replies.specs.CounterTexts.{line_of};
 ghost use Rattle.ot_replies.specs.ReversalTexts.{loss_text, loss_word, reversal_status, reversal_text};
 
+use super::appending::{append_bytes, append_text};
 use super::audits::{way_of, write_spent};
 use super::counters::{write_doc_line, write_ops, write_way_line};
 use audit_answers::Back;
@@ -43,9 +44,7 @@ fn write_loss(
     ensures { OnOk result (out.new.items ≡ out.old.items ++ line_of (codes "no reverse " ++ loss_word there back)) }
 {
     let cause = loss_word(there, back);
-    let text = format!(in alloc; "no reverse {cause}\n")?;
-    out.extend_from_slice(text.as_bytes())?;
-    Ok(())
+    append_text(format!(in alloc; "no reverse {cause}\n")?, out)
 }
 
 // Writes where an operation is not taken back.
@@ -64,8 +63,7 @@ fn write_instance(
     write_doc_line(doc, out)?;
     write_ops(alloc, ops, out)?;
     write_way_line(alloc, "there ", &way_of(there), out)?;
-    write_way_line(alloc, "back ", &way_of(back), out)?;
-    Ok(())
+    write_way_line(alloc, "back ", &way_of(back), out)
 }
 
 /// Writes whether one function takes back what another one makes, or where it does not.
@@ -78,15 +76,14 @@ pub(crate) fn write_reversal(
     ensures { OnOk result (out.new.items ≡ reversal_text answer.now) }
 {
     match answer {
-        Back::Yes => out.extend_from_slice(b"reversed\n")?,
+        Back::Yes => append_bytes(b"reversed\n", out),
         Back::No {
             doc,
             a,
             b,
             there,
             back,
-        } => write_instance(alloc, doc, &[*a, *b], *there, *back, out)?,
-        Back::Spent => write_spent(out)?,
+        } => write_instance(alloc, doc, &[*a, *b], *there, *back, out),
+        Back::Spent => write_spent(out),
     }
-    Ok(())
 }

@@ -3,6 +3,7 @@ ghost use Rattle.std.specs.Prelude.{◌≡◌, ◌++◌, [], OnOk};
 ghost use Rattle.ot_replies.specs.SessionTexts.{event_fault_text, event_fault_word, last_line, site_line, site_lines};
 ghost use Rattle.ot_replies.specs.SessionTexts.{sites_text, stuck_text};
 
+use super::appending::{append_bytes, append_text};
 use super::documents::write_document;
 use crate::reply::EventFault;
 use ot_model::NoMemory;
@@ -31,11 +32,8 @@ pub(crate) fn write_event_fault(
     requires { out.old.items ≡ [] }
     ensures { OnOk result (out.new.items ≡ event_fault_text number fault) }
 {
-    let event = format!(in alloc; "case event {number} ")?;
-    out.extend_from_slice(event.as_bytes())?;
-    out.extend_from_slice(event_fault_word(fault).as_bytes())?;
-    out.push(b'\n')?;
-    Ok(())
+    let word = event_fault_word(fault);
+    append_text(format!(in alloc; "case event {number} {word}\n")?, out)
 }
 
 /// Writes the line of an event at which a site is stuck.
@@ -43,9 +41,7 @@ pub(crate) fn write_stuck(alloc: Global, number: u32, out: &mut Vec<u8>) -> Resu
     requires { out.old.items ≡ [] }
     ensures { OnOk result (out.new.items ≡ stuck_text number) }
 {
-    let text = format!(in alloc; "stuck event {number}\n")?;
-    out.extend_from_slice(text.as_bytes())?;
-    Ok(())
+    append_text(format!(in alloc; "stuck event {number}\n")?, out)
 }
 
 fn write_site(
@@ -57,11 +53,9 @@ fn write_site(
     ensures { OnOk result (out.new.items ≡ out.old.items ++ site_line number end.now) }
 {
     let count = end.seen.len();
-    let site = format!(in alloc; "site {number} {count} ")?;
-    out.extend_from_slice(site.as_bytes())?;
+    append_text(format!(in alloc; "site {number} {count} ")?, out)?;
     write_document(&end.doc, out)?;
-    out.push(b'\n')?;
-    Ok(())
+    append_bytes(b"\n", out)
 }
 
 fn write_ends(alloc: Global, ends: &[SiteEnd], out: &mut Vec<u8>) -> Result<(), NoMemory>
@@ -83,13 +77,9 @@ pub(crate) fn write_last(
     ensures { OnOk result (out.new.items ≡ out.old.items ++ last_line differ) }
 {
     match differ {
-        None => out.extend_from_slice(b"same\n")?,
-        Some((one, other)) => {
-            let text = format!(in alloc; "differ {one} {other}\n")?;
-            out.extend_from_slice(text.as_bytes())?;
-        }
+        None => append_bytes(b"same\n", out),
+        Some((one, other)) => append_text(format!(in alloc; "differ {one} {other}\n")?, out),
     }
-    Ok(())
 }
 
 /// Writes a line for each site, and whether two that have integrated the same differ.

@@ -1,3 +1,4 @@
+use Rattle.std.proofs.lemmas.Result.{IfOk-weaker}
 use Rattle.fn_rules.specs.Validity.{compares_chars}
 use Rattle.goal_rules.proofs.CasesLeft.{left_near, left_cases}
 use Rattle.goal_rules.proofs.choosing.choose.Goals as goal
@@ -11,5 +12,4 @@ returns c =
     let left = left_cases c.cases-cases.result.now c.args.case _ c.cases-cases.ensures.cases in
     let first = c.in-Some.ensures in
     let second = c.in-Some-kind.ensures in
-    let given = c.in_ok-choose_case.ensures in
-    rw (← first, ← second, ← left) given
+    IfOk-weaker c.choose_case.result _ _ (λ r given. rw (← first, ← second, ← left) given) c.choose_case.ensures

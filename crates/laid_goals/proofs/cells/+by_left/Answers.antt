@@ -1,10 +1,12 @@
-use Rattle.std.proofs.Common.{◌<◌, rules, sym}
+use Rattle.std.proofs.Common.{◌≡◌, ◌<◌, rules, sym}
+use Rattle.std.proofs.lemmas.Result.{IfOk-weaker}
 use Rattle.fn_rules.specs.Rules.{function_of}
 use Rattle.ot_terms.specs.Cells.{cell_tree}
 use Rattle.ot_terms.specs.Forms.{form_tree}
-use Rattle.ot_terms.specs.Goals.{goal_tree, Same}
+use Rattle.ot_terms.specs.Goals.{goal_tree, laid_form, Same}
 use Rattle.ot_terms.specs.Weights.{goal_weight}
 use Rattle.ot_rewrite.proofs.Stepped.{rule_steps}
+use Rattle.laid_goals.specs.Sharing.{StandsAlike}
 use Rattle.laid_goals.proofs.LaidCells.{readable, rule_left, rule_left_parted}
 use Rattle.laid_goals.proofs.LaidGoals.{form_low, laid_alike, leads_by_rule, step_alike}
 use Rattle.laid_goals.proofs.cells.+by_left.Goals as goal
@@ -31,11 +33,12 @@ returns-in-Some-clause-alike t c =
     let f = function_of c.args.rules.now in
     let old = Same (cell_tree c.args.left) (cell_tree c.args.right) in
     let next = Same (cell_tree c.in-Some.read) (cell_tree c.args.right) in
-    step_alike f old next (goal_tree c.in_ok-by_left.field-0.now)
+    IfOk-weaker c.by_left.result (λ r. StandsAlike f next (goal_tree r.now)) (λ r. StandsAlike f old (goal_tree r.now))
+    (λ r. step_alike f old next (goal_tree r.now)
     (rule_steps f c.requires.goal.0 c.rules_are_valid.ensures old c.requires.goal.1 next
     (rule_left f (cell_tree c.args.left) (cell_tree c.args.right) (cell_tree c.in-Some.read)
-    (sym (rw c.in-Some.is at c.in_ok-read.ensures))))
-    c.in_ok-by_left.ensures.alike
+    (sym (rw c.in-Some.is at c.in_ok-read.ensures)))))
+    c.by_left.ensures.alike
 
 pub by_form-requires : goal.by_form-requires
 by_form-requires t c =
@@ -52,10 +55,13 @@ pub returns-clause-alike : goal.returns-clause-alike
 returns-clause-alike t c =
     let f = function_of c.args.rules.now in
     let right = cell_tree c.args.right in
-    laid_alike f c.requires.goal.0 (Same (cell_tree c.args.left) right) c.requires.goal.1 (form_tree c.in-Some-parts.form.now)
+    let on_yes = goal_tree c.in_ok-on_yes.on_yes.now in
+    let on_no = goal_tree c.in_ok-on_no.on_no.now in
+    IfOk-weaker c.by_form.result (λ r. goal_tree r.now ≡ laid_form (form_tree c.in-Some-parts.form.now) on_yes on_no)
+    (λ r. StandsAlike f (Same (cell_tree c.args.left) right) (goal_tree r.now))
+    (λ r. laid_alike f c.requires.goal.0 (Same (cell_tree c.args.left) right) c.requires.goal.1 (form_tree c.in-Some-parts.form.now)
     (Same (cell_tree c.in-Some-parts.yes.now) right) (Same (cell_tree c.in-Some-parts.no.now) right)
     (leads_by_rule f c.requires.goal.0 (Same (cell_tree c.args.left) right) _ c.rules_are_valid.ensures c.requires.goal.1
     (rule_left_parted f (cell_tree c.args.left) right (form_tree c.in-Some-parts.form.now)
     (cell_tree c.in-Some-parts.yes.now) (cell_tree c.in-Some-parts.no.now) c.in-Some-parts.ensures))
-    (goal_tree c.in_ok-on_yes.on_yes.now) (goal_tree c.in_ok-on_no.on_no.now) (goal_tree c.in_ok-by_form.field-0.now)
-    c.in_ok-on_yes.ensures.alike c.in_ok-on_no.ensures.alike c.in_ok-by_form.ensures
+    on_yes on_no (goal_tree r.now) c.in_ok-on_yes.ensures.alike c.in_ok-on_no.ensures.alike) c.by_form.ensures

@@ -11,11 +11,11 @@ use Rattle.ot_audit.proofs.agreeing.agree.Goals as goal
 
 pub transform-requires-clause-a_in_range : goal.transform-requires-clause-a_in_range
 transform-requires-clause-a_in_range c =
-    in_range c.in-Pair.a (subst (λ (x : Found). IsNearFound x) c.in-Pair.is c.in_ok-differ_in.ensures.near).0
+    in_range c.in-Pair.a (subst (λ (x : Found). IsNearFound x) c.in-Pair.is c.in_ok-differ.ensures.near).0
 
 pub transform-requires-clause-b_in_range : goal.transform-requires-clause-b_in_range
 transform-requires-clause-b_in_range c =
-    in_range c.in-Pair.b (subst (λ (x : Found). IsNearFound x) c.in-Pair.is c.in_ok-differ_in.ensures.near).1
+    in_range c.in-Pair.b (subst (λ (x : Found). IsNearFound x) c.in-Pair.is c.in_ok-differ.ensures.near).1
 
 -- the first operation is of a kind that the other function declares too
 pub transform-requires-in-Pair-clause-a_declared : goal.transform-requires-in-Pair-clause-a_declared
@@ -24,7 +24,7 @@ transform-requires-in-Pair-clause-a_declared c =
     let g = function_of c.args.others.now in
     let found =
     subst (λ (x : Found). IsFoundIn f c.args.first c.args.second (difference_goal f g c.args.first c.args.second) c.args.budget x)
-    c.in-Pair.is c.in_ok-differ_in.ensures.found in
+    c.in-Pair.is c.in_ok-differ.ensures.found in
     let differs =
     c.findings_tell_of_all_operations.ensures.differ f g c.args.first c.args.second c.args.budget c.in-Pair.a c.in-Pair.b
     c.requires.declared found in
@@ -33,11 +33,11 @@ transform-requires-in-Pair-clause-a_declared c =
 
 pub transform-requires-in-Pair-clause-a_in_range : goal.transform-requires-in-Pair-clause-a_in_range
 transform-requires-in-Pair-clause-a_in_range c =
-    in_range c.in-Pair.a (subst (λ (x : Found). IsNearFound x) c.in-Pair.is c.in_ok-differ_in.ensures.near).0
+    in_range c.in-Pair.a (subst (λ (x : Found). IsNearFound x) c.in-Pair.is c.in_ok-differ.ensures.near).0
 
 pub transform-requires-in-Pair-clause-b_in_range : goal.transform-requires-in-Pair-clause-b_in_range
 transform-requires-in-Pair-clause-b_in_range c =
-    in_range c.in-Pair.b (subst (λ (x : Found). IsNearFound x) c.in-Pair.is c.in_ok-differ_in.ensures.near).1
+    in_range c.in-Pair.b (subst (λ (x : Found). IsNearFound x) c.in-Pair.is c.in_ok-differ.ensures.near).1
 
 pub returns-in-Pair : goal.returns-in-Pair
 returns-in-Pair c =
@@ -45,7 +45,7 @@ returns-in-Pair c =
     let g = function_of c.args.others.now in
     let found =
     subst (λ (x : Found). IsFoundIn f c.args.first c.args.second (difference_goal f g c.args.first c.args.second) c.args.budget x)
-    c.in-Pair.is c.in_ok-differ_in.ensures.found in
+    c.in-Pair.is c.in_ok-differ.ensures.found in
     let differs =
     c.findings_tell_of_all_operations.ensures.differ f g c.args.first c.args.second c.args.budget c.in-Pair.a c.in-Pair.b
     c.requires.declared found in

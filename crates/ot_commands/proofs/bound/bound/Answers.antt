@@ -1,9 +1,12 @@
 -- What both files get is the reply to the command.
+use Rattle.ot_commands.specs.Bound.{IsReplyToBound}
+use Rattle.ot_commands.proofs.Called.{nothing_more}
 use Rattle.ot_commands.proofs.bound.bound.Goals as goal
+
+pub returns-clause-ok : goal.returns-clause-ok
+returns-clause-ok g c = c.reply_to_both.ensures.ok
 
 pub returns-clause-given : goal.returns-clause-given
 returns-clause-given g c =
-    let both = c.in_ok-reply.ensures.given in (both.0, λ holds tells. (both.1 holds tells, tt))
-
-pub returns-clause-ok : goal.returns-clause-ok
-returns-clause-ok g c = c.in_ok-reply.ensures.ok
+    nothing_more (g.H.Shelf.reads c.args.shelf.now) (g.H.Shelf.reads c.reply_to_both.new.shelf) c.args.function.now c.args.certificate.now
+    (λ told f r. IsReplyToBound f told r) c.reply_to_both.result c.reply_to_both.ensures.given

@@ -1,10 +1,35 @@
-use Rattle.std.proofs.Common.{◌∙◌}
-use Rattle.std.proofs.lemmas.List.{drop_more}
+use Rattle.std.proofs.Common.{refl, ◌∙◌, List, sym, subst}
+use Rattle.std.proofs.lemmas.List.{drop_all, drop_more}
+use Rattle.case_json.specs.declared.hub.HubEvent.{HubEvent}
+use Rattle.fn_rules.specs.Functions.{Function}
 use Rattle.ot_hub.specs.Views.{hub_view_of}
-use Rattle.ot_commands.specs.Hub.{IsDone, IsRefusedHubEvent, TellsHub}
+use Rattle.ot_commands.specs.Hub.{IsDone, IsRefusedHubEvent, MakesClientsAgree, Runs, TellsHub}
+use Rattle.ot_commands.specs.declared.halt.Halt.TheVariants.{Refused}
 use Rattle.ot_commands.proofs.HubRunning.{done_keeps}
-use Rattle.ot_commands.proofs.RunsBy.{goes_on}
+use Rattle.ot_commands.proofs.PassedOn.{passed_on}
+use Rattle.ot_commands.proofs.RunsBy.{goes_on, stops}
 use Rattle.ot_commands.proofs.hub.run_events.Goals as goal
+
+pub loop-number-init : goal.loop-number-init
+loop-number-init c = record { is_open = c.requires.is_open; rest = λ r runs. runs; clients = refl; function = refl }
+
+pub run_event-requires : goal.run_event-requires
+run_event-requires c = c.loop-number.invariant.is_open
+
+-- an event was refused behind those that were done
+pub returns-in_err-run_event-clause-refused : goal.returns-in_err-run_event-clause-refused
+returns-in_err-run_event-clause-refused c r is =
+    c.loop-number.invariant.rest r
+    (stops TellsHub IsRefusedHubEvent IsDone (hub_view_of c.loop-number.hub) c.loop-number.number c.args.events.now _ r
+    (drop_more c.args.events.now c.loop-number.number _ c.loop-number-test.true)
+    (c.in_err-run_event.ensures.refused r
+    (passed_on c.from_residual.result c.in_err-run_event.field-0.0 (Refused r) c.from_residual.ensures.1 is)))
+
+pub returns-in_err-run_event-clause-steady : goal.returns-in_err-run_event-clause-steady
+returns-in_err-run_event-clause-steady c agree r is =
+    c.in_err-run_event.ensures.steady
+    (subst (λ (f : Function). MakesClientsAgree f) (sym c.loop-number.invariant.function) agree) r
+    (passed_on c.from_residual.result c.in_err-run_event.field-0.0 (Refused r) c.from_residual.ensures.1 is)
 
 -- one event more was done
 pub loop-number-preserved : goal.loop-number-preserved
@@ -20,3 +45,17 @@ loop-number-preserved c =
       clients = kept.clients ∙ c.loop-number.invariant.clients;
       function = kept.function ∙ c.loop-number.invariant.function;
     }
+
+-- no event is left
+pub returns-clause-ok : goal.returns-clause-ok
+returns-clause-ok c r tells =
+    let hub = hub_view_of c.loop-number.hub in
+    let i = c.loop-number.number in
+    c.loop-number.invariant.rest r
+    (subst (λ (l : List HubEvent). Runs hub i l r) (sym (drop_all i c.args.events.now c.loop-number-test.false)) tells)
+
+pub returns-clause-clients : goal.returns-clause-clients
+returns-clause-clients c = c.loop-number.invariant.clients
+
+pub returns-clause-function : goal.returns-clause-function
+returns-clause-function c = c.loop-number.invariant.function

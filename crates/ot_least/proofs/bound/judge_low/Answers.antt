@@ -2,6 +2,7 @@
 use Rattle.std.proofs.Common.{inr, Ok}
 use Rattle.std.proofs.lemmas.Result.{err_from_is_err_and}
 use Rattle.fn_rules.specs.Rules.{function_of}
+use Rattle.ot_least.proofs.KeptFeeds.{kept_on}
 use Rattle.ot_least.proofs.LowRun.{answered, header_refused, judged_behind, point_is, refused_behind}
 use Rattle.ot_least.proofs.bound.judge_low.Goals as goal
 
@@ -44,3 +45,23 @@ returns-clause-judged g c =
       made.1,
       c.low_certificates_are_sections.ensures.certificate f c.in_ok-level.level c.in_ok-level.bound made.0 made.2,
     ))
+
+-- the feed is kept, whatever is returned
+pub returns-in_err-level-clause-kept : goal.returns-in_err-level-clause-kept
+returns-in_err-level-clause-kept g c = c.read_low_header.ensures.kept
+
+pub returns-in_err-names-clause-kept : goal.returns-in_err-names-clause-kept
+returns-in_err-names-clause-kept g c = c.read_low_header.ensures.kept
+
+pub returns-in_err-parts-clause-kept : goal.returns-in_err-parts-clause-kept
+returns-in_err-parts-clause-kept g c = c.read_low_header.ensures.kept
+
+pub returns-in_err-judge_sections-clause-kept : goal.returns-in_err-judge_sections-clause-kept
+returns-in_err-judge_sections-clause-kept g c =
+    kept_on g.F.Feed.faults g.F.Feed.bound g.F.Feed.held g.F.Feed.keeps c.args.feed.now c.read_low_header.new.feed
+    c.judge_sections.new.feed c.read_low_header.ensures.kept c.judge_sections.ensures.leaves.kept
+
+pub returns-clause-kept : goal.returns-clause-kept
+returns-clause-kept g c =
+    kept_on g.F.Feed.faults g.F.Feed.bound g.F.Feed.held g.F.Feed.keeps c.args.feed.now c.read_low_header.new.feed
+    c.judge_sections.new.feed c.read_low_header.ensures.kept c.judge_sections.ensures.leaves.kept

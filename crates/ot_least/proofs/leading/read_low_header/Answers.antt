@@ -1,4 +1,4 @@
-use Rattle.std.proofs.Common.{◌≡◌, ℕ, List, [], ◌∷◌, ◌++◌, length, refl, sym, ap, subst, ◌∙◌, arith, append_assoc}
+use Rattle.std.proofs.Common.{◌≡◌, ℕ, List, [], ◌∷◌, ◌++◌, length, length-append, refl, sym, ap, subst, ◌∙◌, arith, append_assoc}
 use Rattle.std.proofs.lemmas.List.{append-nil}
 use Rattle.ot_sections.specs.Feeding.{Yields}
 use Rattle.ot_least.specs.declared.header.HeaderFit.{HeaderFit}
@@ -6,6 +6,7 @@ use Rattle.ot_least.specs.declared.header.HeaderFit.TheVariants as fits_other
 use Rattle.ot_least.specs.Headers.{FitsLowHeader, IsFrontOfHeader}
 use Rattle.ot_least.specs.Lows.{low_header_text}
 use Rattle.ot_least.proofs.Fronts.{no_header_there, none_is_front}
+use Rattle.ot_least.proofs.KeptFeeds.{kept_on}
 use Rattle.ot_least.proofs.leading.read_low_header.Goals as goal
 
 pub loop-line-init : goal.loop-line-init
@@ -59,3 +60,56 @@ returns-clause-refused g c =
           (c.loop-line.invariant.bytes all [] (over all have)),
       (c.len-2.ensures ∙ c.loop-line.line.ok.0, c.loop-line.invariant.front),
     )
+
+-- one byte more came, and the line goes on
+pub loop-line-preserved : goal.loop-line-preserved
+loop-line-preserved g c =
+    let line = c.loop-line.line.items in
+    let byte = c.in-Some.byte in
+    let came : c.extend_from_slice.new.self.items ≡ line ++ byte ∷ [] = c.in_ok-extend_from_slice.ensures.items in
+    let fits = subst (λ (f : HeaderFit). FitsLowHeader c.deref.result.now f) c.in-Front.is c.in_ok-level.ensures in
+    let next = rw c.in-Some.is at c.in_ok-byte.ensures.byte in
+    let less = rw c.in-Some.is at c.in_ok-byte.ensures.fewer in
+    let count = ap (λ (l : List ℕ). length l) came ∙ length-append line (byte ∷ []) in
+    record {
+      front = subst IsFrontOfHeader c.deref.ensures.value fits;
+      bytes = λ all rest may.
+          subst (λ (l : List ℕ). Yields g.F.Feed c.args.feed.now all l)
+          (sym (append_assoc line (byte ∷ []) rest) ∙ ap (λ (l : List ℕ). l ++ rest) (sym came))
+          (c.loop-line.invariant.bytes all (byte ∷ rest) (next all rest may));
+      fewer = omega (arith, c.loop-line.invariant.fewer, less, count);
+      kept =
+          kept_on g.F.Feed.faults g.F.Feed.bound g.F.Feed.held g.F.Feed.keeps c.args.feed.now c.loop-line.feed c.next_byte.new.feed
+          c.loop-line.invariant.kept c.next_byte.ensures.kept;
+    }
+
+-- the feed is kept, whatever is returned
+pub returns-in_err-byte-clause-kept : goal.returns-in_err-byte-clause-kept
+returns-in_err-byte-clause-kept g c =
+    kept_on g.F.Feed.faults g.F.Feed.bound g.F.Feed.held g.F.Feed.keeps c.args.feed.now c.loop-line.feed c.next_byte.new.feed
+    c.loop-line.invariant.kept c.next_byte.ensures.kept
+
+pub returns-in_err-extend_from_slice-clause-kept : goal.returns-in_err-extend_from_slice-clause-kept
+returns-in_err-extend_from_slice-clause-kept g c =
+    kept_on g.F.Feed.faults g.F.Feed.bound g.F.Feed.held g.F.Feed.keeps c.args.feed.now c.loop-line.feed c.next_byte.new.feed
+    c.loop-line.invariant.kept c.next_byte.ensures.kept
+
+pub returns-in_err-level-clause-kept : goal.returns-in_err-level-clause-kept
+returns-in_err-level-clause-kept g c =
+    kept_on g.F.Feed.faults g.F.Feed.bound g.F.Feed.held g.F.Feed.keeps c.args.feed.now c.loop-line.feed c.next_byte.new.feed
+    c.loop-line.invariant.kept c.next_byte.ensures.kept
+
+pub returns-in-Whole-clause-kept : goal.returns-in-Whole-clause-kept
+returns-in-Whole-clause-kept g c =
+    kept_on g.F.Feed.faults g.F.Feed.bound g.F.Feed.held g.F.Feed.keeps c.args.feed.now c.loop-line.feed c.next_byte.new.feed
+    c.loop-line.invariant.kept c.next_byte.ensures.kept
+
+pub returns-in-Other-clause-kept : goal.returns-in-Other-clause-kept
+returns-in-Other-clause-kept g c =
+    kept_on g.F.Feed.faults g.F.Feed.bound g.F.Feed.held g.F.Feed.keeps c.args.feed.now c.loop-line.feed c.next_byte.new.feed
+    c.loop-line.invariant.kept c.next_byte.ensures.kept
+
+pub returns-clause-kept : goal.returns-clause-kept
+returns-clause-kept g c =
+    kept_on g.F.Feed.faults g.F.Feed.bound g.F.Feed.held g.F.Feed.keeps c.args.feed.now c.loop-line.feed c.next_byte.new.feed
+    c.loop-line.invariant.kept c.next_byte.ensures.kept

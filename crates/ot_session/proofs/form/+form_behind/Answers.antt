@@ -1,15 +1,20 @@
-use Rattle.std.proofs.Common.{rules, ◌≡◌, ◌<◌, ◌≤◌, ◌+◌, ◌-◌, ◌++◌, ◌∷◌, [], ℕ, List, length, Some, Err, Result, refl, sym, ap, ◌∙◌, subst, get_or, arith}
+use Rattle.std.proofs.Common.{rules, ◌≡◌, ◌<◌, ◌≤◌, ◌+◌, ◌-◌, ◌++◌, ◌∷◌, [], ℕ, List, length, Some, Ok, Err, IfOk, Result, refl, sym, ap, ◌∙◌, subst, get_or, arith}
 use Rattle.std.specs.Coded.{Coded-set, coded_list, coded_ℕ, le_prop}
 use Rattle.std.proofs.Math.Logic.{∥∥₁_elim, ∥∥₁_map, ∥∥₁_map₂, ∥∥₁_prop}
 use Rattle.std.proofs.Props.{props}
+use Rattle.std.proofs.lemmas.Result.{IfOk-weaker}
 use Rattle.ot_model.specs.declared.op.Op.{Op}
 use Rattle.fn_rules.specs.Rules.{function_of}
 use Rattle.fn_rules.specs.Functions.{Function}
+use Rattle.fn_rules.specs.Transformation.{transform_of}
 use Rattle.ot_causal.specs.Members.{without}
 use Rattle.ot_causal.specs.Past.{Past, maker, IsOpening}
-use Rattle.ot_causal.specs.Forms.{form}
+use Rattle.ot_causal.specs.Forms.{form, transformed}
 use Rattle.ot_causal.specs.Counting.{FormName, name_of, sought, count_sought, from_site}
 use Rattle.ot_session.specs.declared.form.FormError.{FormError}
+use Rattle.ot_session.specs.declared.form.FormError.TheVariants.{NoForm, Spent, NoMemory}
+use Rattle.ot_session.specs.declared.table.Key.{Key}
+use Rattle.ot_session.specs.Seeking.{Missing, Exhausted, first_obstacle}
 use Rattle.ot_session.specs.Past.{past_of, most_session_cells}
 use Rattle.ot_session.specs.Lists.{clock}
 use Rattle.ot_session.specs.Entries.{HasForms, IsTable, MaySeek, Seeks, HasSought}
@@ -20,6 +25,29 @@ use Rattle.ot_session.proofs.Tables.{form_under-form}
 use Rattle.ot_session.proofs.Reaches.{form-usable}
 use Rattle.ot_session.proofs.Sought.{form_code, MaySeek-own, MaySeek-member, HasSought-own, HasSought-by}
 use Rattle.ot_session.proofs.form.+form_behind.Goals as goal
+
+-- a form by those of its two parts
+by_parts :
+    (f : Function) (past : Past) (o x : ℕ) (l : List ℕ) (own by : Op)
+    → form f past o l ≡ transformed f (form f past o (without x l)) (form f past x (without x l))
+    → (older again : List ℕ) → older ≡ without x l → again ≡ without x l → form f past o older ≡ Some own → form f past x again ≡ Some by
+    → form f past o l ≡ transform_of f own by
+by_parts f past o x l own by moved older again is_older is_again own_is by_is =
+    let first : form f past o (without x l) ≡ Some own = subst (λ (m : List ℕ). form f past o m ≡ Some own) is_older own_is in
+    let second : form f past x (without x l) ≡ Some by = subst (λ (m : List ℕ). form f past x m ≡ Some by) is_again by_is in
+    moved ∙ rw (first, second) refl
+
+-- what seeking comes to, by the answer
+last_sought :
+    (f : Function) (past : Past) (seen : List ℕ) (names : List FormName) (others o : ℕ) (l : List ℕ) (entries : List (Key × Op)) (total : ℕ)
+    (r : Result Op FormError) → IfOk r (λ _. Seeks f past seen names others o l entries total)
+    → (r ≡ Err NoForm → first_obstacle f past (others + length names) names (sought past o l) ≡ Some (Missing total))
+    → (r ≡ Err Spent → first_obstacle f past (others + length names) names (sought past o l) ≡ Some Exhausted)
+    → HasSought f past seen names others o l entries total r
+last_sought f past seen names others o l entries total (Ok p) ok none spent = ok
+last_sought f past seen names others o l entries total (Err NoForm) ok none spent = none refl
+last_sought f past seen names others o l entries total (Err Spent) ok none spent = spent refl
+last_sought f past seen names others o l entries total (Err NoMemory) ok none spent = tt
 
 -- a form that is found in the table is the one that is sought
 pub returns-in-Some-find-clause-ok : goal.returns-in-Some-find-clause-ok
@@ -174,8 +202,8 @@ form_behind-requires-2 t c =
     (search (rules, shorter), (may, (fewer, (omega (arith, shorter, c.requires.few), (table, c.in_ok-own.ensures.counted)))))
 
 -- the operation's own form is of a declared kind
-pub transform-requires-clause-a_declared : goal.transform-requires-clause-a_declared
-transform-requires-clause-a_declared t c =
+pub store_moved-requires-clause-own_declared : goal.store_moved-requires-clause-own_declared
+store_moved-requires-clause-own_declared t c =
     let f : Function = function_of c.args.seeking.rules.now in
     let past : Past = past_of c.args.seeking.made.now in
     let o : ℕ = c.args.number in
@@ -192,8 +220,8 @@ transform-requires-clause-a_declared t c =
     (λ y _. m.usable.near y) opening.next.made (c.members_were_made.ensures.made past (without x l) opening.closed) is)).0)
 
 -- the operation's own form is in range
-pub transform-requires-clause-a_in_range : goal.transform-requires-clause-a_in_range
-transform-requires-clause-a_in_range t c =
+pub store_moved-requires-clause-own_in_range : goal.store_moved-requires-clause-own_in_range
+store_moved-requires-clause-own_in_range t c =
     let f : Function = function_of c.args.seeking.rules.now in
     let past : Past = past_of c.args.seeking.made.now in
     let o : ℕ = c.args.number in
@@ -210,8 +238,8 @@ transform-requires-clause-a_in_range t c =
     (λ y _. m.usable.near y) opening.next.made (c.members_were_made.ensures.made past (without x l) opening.closed) is)).1)
 
 -- the form of the member that is taken out is of a declared kind
-pub transform-requires-clause-b_declared : goal.transform-requires-clause-b_declared
-transform-requires-clause-b_declared t c =
+pub store_moved-requires-clause-by_declared : goal.store_moved-requires-clause-by_declared
+store_moved-requires-clause-by_declared t c =
     let f : Function = function_of c.args.seeking.rules.now in
     let past : Past = past_of c.args.seeking.made.now in
     let l : List ℕ = c.args.list.now in
@@ -227,8 +255,8 @@ transform-requires-clause-b_declared t c =
     (λ y _. m.usable.near y) opening.made (c.members_were_made.ensures.made past (without x l) opening.closed) is)).0)
 
 -- the form of the member that is taken out is in range
-pub transform-requires-clause-b_in_range : goal.transform-requires-clause-b_in_range
-transform-requires-clause-b_in_range t c =
+pub store_moved-requires-clause-by_in_range : goal.store_moved-requires-clause-by_in_range
+store_moved-requires-clause-by_in_range t c =
     let f : Function = function_of c.args.seeking.rules.now in
     let past : Past = past_of c.args.seeking.made.now in
     let l : List ℕ = c.args.list.now in
@@ -267,58 +295,32 @@ returns-in_err-by-clause-sought t c = λ names others has total.
     (HasSought-by f past seen o x l split names others own.free c.form_behind-2.new.table c.form_behind-2.new.table
     c.form_behind-2.new.counted e stopped)
 
--- both forms are there, and no more forms may be counted
-pub returns-in_err-count_one-clause-sought : goal.returns-in_err-count_one-clause-sought
-returns-in_err-count_one-clause-sought t c = λ names others has total.
+-- both forms are there, and the form that they make is the one that is sought
+pub returns-clause-ok : goal.returns-clause-ok
+returns-clause-ok t c =
     let f : Function = function_of c.args.seeking.rules.now in
     let past : Past = past_of c.args.seeking.made.now in
-    let seen : List ℕ = c.args.seeking.seen.now in
     let o : ℕ = c.args.number in
     let l : List ℕ = c.args.list.now in
     let x : ℕ = c.in-Some.other in
-    let joined = c.counted_forms_need_not_be_sought.ensures.joined names in
-    let new = new-unstored f past seen o x l names others joined (c.closed_lists_are_told_by_their_counts.ensures.counts past)
-    c.closed_lists_are_told_by_their_counts.ensures.tested
-    (λ orderly ready. c.counted_forms_need_not_be_sought.ensures.last past names o l x orderly ready (sym c.in-Some.ensures))
-    c.args.counts c.args.table.now c.requires.counts (sym c.find.ensures ∙ c.in_default-find.is) c.requires.may has in
-    let full = c.in_err-count_one.ensures.err in
-    let same : c.from_residual-in_err-count_one.result ≡ Err c.in_err-count_one.field-0.0 = search rules in
-    subst (λ (r : Result Op FormError). HasSought f past seen names others o l c.form_behind-2.new.table c.count_one.new.counted r)
-    (ap (λ (e : FormError). Err e) (sym full.0) ∙ sym same)
-    (exhausted f past seen o x l names others joined
-    (c.forms_are_sought_before_they_are_made.ensures.some past o l x (sym c.in-Some.ensures))
+    let made = by_parts f past o x l c.in_ok-own.own c.in_ok-by.by (c.forms_are_made_from_shorter_ones.ensures.moved f past o l x (sym c.in-Some.ensures))
     c.deref.result.now c.deref-2.result.now (c.deref.ensures.value ∙ c.in_ok-older.ensures) (c.deref-2.ensures.value ∙ c.in_ok-older.ensures)
-    c.form_behind.new.table c.form_behind-2.new.table c.form_behind.new.counted c.form_behind-2.new.counted
-    (c.in_ok-own.ensures.sought names others has total) c.in_ok-by.ensures.sought new full.1)
+    c.in_ok-own.ensures.ok c.in_ok-by.ensures.ok in
+    IfOk-weaker c.store_moved.result _ (λ p. form f past o l ≡ Some p) (λ p is. made ∙ is.0) c.store_moved.ensures.ok
 
--- both forms are there, and the one has no form behind the other
-pub returns-in_default-transform-clause-sought : goal.returns-in_default-transform-clause-sought
-returns-in_default-transform-clause-sought t c = λ names others has total.
+pub returns-clause-no_form : goal.returns-clause-no_form
+returns-clause-no_form t c = λ none.
     let f : Function = function_of c.args.seeking.rules.now in
     let past : Past = past_of c.args.seeking.made.now in
-    let seen : List ℕ = c.args.seeking.seen.now in
     let o : ℕ = c.args.number in
     let l : List ℕ = c.args.list.now in
     let x : ℕ = c.in-Some.other in
-    let joined = c.counted_forms_need_not_be_sought.ensures.joined names in
-    let new = new-unstored f past seen o x l names others joined (c.closed_lists_are_told_by_their_counts.ensures.counts past)
-    c.closed_lists_are_told_by_their_counts.ensures.tested
-    (λ orderly ready. c.counted_forms_need_not_be_sought.ensures.last past names o l x orderly ready (sym c.in-Some.ensures))
-    c.args.counts c.args.table.now c.requires.counts (sym c.find.ensures ∙ c.in_default-find.is) c.requires.may has in
-    let own_is : form f past o (without x l) ≡ Some c.in_ok-own.own =
-    subst (λ (m : List ℕ). form f past o m ≡ Some c.in_ok-own.own) (c.deref.ensures.value ∙ c.in_ok-older.ensures) c.in_ok-own.ensures.ok in
-    let by_is : form f past x (without x l) ≡ Some c.in_ok-by.by =
-    subst (λ (m : List ℕ). form f past x m ≡ Some c.in_ok-by.by) (c.deref-2.ensures.value ∙ c.in_ok-older.ensures) c.in_ok-by.ensures.ok in
-    missing f past seen o x l names others joined
-    (c.forms_are_sought_before_they_are_made.ensures.some past o l x (sym c.in-Some.ensures))
+    by_parts f past o x l c.in_ok-own.own c.in_ok-by.by (c.forms_are_made_from_shorter_ones.ensures.moved f past o l x (sym c.in-Some.ensures))
     c.deref.result.now c.deref-2.result.now (c.deref.ensures.value ∙ c.in_ok-older.ensures) (c.deref-2.ensures.value ∙ c.in_ok-older.ensures)
-    c.form_behind.new.table c.form_behind-2.new.table c.form_behind.new.counted c.form_behind-2.new.counted
-    (c.in_ok-own.ensures.sought names others has total) c.in_ok-by.ensures.sought new
-    c.count_one.new.counted c.in_ok-count_one.ensures.ok c.count_one.ensures.within
-    (c.forms_are_made_from_shorter_ones.ensures.moved f past o l x (sym c.in-Some.ensures)
-    ∙ rw (own_is, by_is) (sym c.transform.ensures ∙ c.in_default-transform.is))
+    c.in_ok-own.ensures.ok c.in_ok-by.ensures.ok
+    ∙ (c.store_moved.ensures.no_form none).0
 
--- both forms are there, and the form that they make is counted and stored
+-- the form that they make is counted and stored, or does not exist, or no more forms may be counted
 pub returns-clause-sought : goal.returns-clause-sought
 returns-clause-sought t c = λ names others has total.
     let f : Function = function_of c.args.seeking.rules.now in
@@ -332,19 +334,25 @@ returns-clause-sought t c = λ names others has total.
     c.closed_lists_are_told_by_their_counts.ensures.tested
     (λ orderly ready. c.counted_forms_need_not_be_sought.ensures.last past names o l x orderly ready (sym c.in-Some.ensures))
     c.args.counts c.args.table.now c.requires.counts (sym c.find.ensures ∙ c.in_default-find.is) c.requires.may has in
-    let own_is : form f past o (without x l) ≡ Some c.in_ok-own.own =
-    subst (λ (m : List ℕ). form f past o m ≡ Some c.in_ok-own.own) (c.deref.ensures.value ∙ c.in_ok-older.ensures) c.in_ok-own.ensures.ok in
-    let by_is : form f past x (without x l) ≡ Some c.in_ok-by.by =
-    subst (λ (m : List ℕ). form f past x m ≡ Some c.in_ok-by.by) (c.deref-2.ensures.value ∙ c.in_ok-older.ensures) c.in_ok-by.ensures.ok in
-    stored f past seen o x l names others joined
-    (c.forms_are_sought_before_they_are_made.ensures.some past o l x (sym c.in-Some.ensures))
-    c.deref.result.now c.deref-2.result.now (c.deref.ensures.value ∙ c.in_ok-older.ensures) (c.deref-2.ensures.value ∙ c.in_ok-older.ensures)
-    c.form_behind.new.table c.form_behind-2.new.table c.form_behind.new.counted c.form_behind-2.new.counted
-    (c.in_ok-own.ensures.sought names others has total) c.in_ok-by.ensures.sought new
-    c.count_one.new.counted c.in_ok-count_one.ensures.ok c.count_one.ensures.within
-    c.closed_lists_are_told_by_their_counts.ensures.tested
+    let split = c.forms_are_sought_before_they_are_made.ensures.some past o l x (sym c.in-Some.ensures) in
+    let older = c.deref.ensures.value ∙ c.in_ok-older.ensures in
+    let again = c.deref-2.ensures.value ∙ c.in_ok-older.ensures in
+    let own = c.in_ok-own.ensures.sought names others has total in
+    let made = by_parts f past o x l c.in_ok-own.own c.in_ok-by.by (c.forms_are_made_from_shorter_ones.ensures.moved f past o l x (sym c.in-Some.ensures))
+    c.deref.result.now c.deref-2.result.now older again c.in_ok-own.ensures.ok c.in_ok-by.ensures.ok in
+    last_sought f past seen names others o l c.store_moved.new.table c.store_moved.new.counted c.store_moved.result
+    (IfOk-weaker c.store_moved.result _ (λ p. Seeks f past seen names others o l c.store_moved.new.table c.store_moved.new.counted)
+    (λ p is. stored f past seen o x l names others joined split c.deref.result.now c.deref-2.result.now older again
+    c.form_behind.new.table c.form_behind-2.new.table c.form_behind.new.counted c.form_behind-2.new.counted own c.in_ok-by.ensures.sought new
+    c.store_moved.new.counted is.1 c.store_moved.ensures.within c.closed_lists_are_told_by_their_counts.ensures.tested
     (λ m. c.counted_forms_need_not_be_sought.ensures.kept past seen names o l m.orderly m.sought.ready m.sought.sublist)
-    c.in-Some-transform.form c.args.counts c.args.table.now c.store.new.self
-    (c.forms_are_made_from_shorter_ones.ensures.moved f past o l x (sym c.in-Some.ensures)
-    ∙ rw (own_is, by_is) (sym c.in-Some-transform.ensures))
-    c.requires.counts c.in_ok-store.ensures.ok c.requires.may has
+    p c.args.counts c.args.table.now c.store_moved.new.table (made ∙ is.0) c.requires.counts is.2 c.requires.may has) c.store_moved.ensures.ok)
+    (λ none.
+    let is = c.store_moved.ensures.no_form none in
+    missing f past seen o x l names others joined split c.deref.result.now c.deref-2.result.now older again
+    c.form_behind.new.table c.form_behind-2.new.table c.form_behind.new.counted c.form_behind-2.new.counted own c.in_ok-by.ensures.sought new
+    c.store_moved.new.counted is.1 c.store_moved.ensures.within (made ∙ is.0))
+    (λ spent.
+    exhausted f past seen o x l names others joined split c.deref.result.now c.deref-2.result.now older again
+    c.form_behind.new.table c.form_behind-2.new.table c.form_behind.new.counted c.form_behind-2.new.counted own c.in_ok-by.ensures.sought new
+    (c.store_moved.ensures.spent spent).0)

@@ -1,11 +1,15 @@
-use Rattle.std.proofs.Common.{rules, ap, sym, subst, ◌≡◌, ◌∙◌, ◌<◌, List}
+use Rattle.std.proofs.Common.{rules, ap, refl, sym, subst, ◌≡◌, ◌∙◌, ◌<◌, List}
 use Rattle.std.specs.List.{All}
 use Rattle.std.proofs.lemmas.List.Elements.{All-push}
+use Rattle.std.proofs.lemmas.Result.{IfOk-weaker}
+use Rattle.fn_rules.specs.Formulas.{formula_of}
 use Rattle.fn_rules.specs.Rules.{function_of}
 use Rattle.ot_terms.specs.Belonging.{IsGoalOf}
+use Rattle.ot_terms.specs.Cells.{cell_tree}
 use Rattle.ot_terms.specs.Forms.{form_tree}
 use Rattle.ot_terms.specs.declared.goal.Goal.{Goal}
-use Rattle.ot_terms.specs.Goals.{goal_tree, Choose}
+use Rattle.ot_terms.specs.Goals.{goal_tree, laid_form, Choose, Same}
+use Rattle.ot_terms.specs.Placing.{guard_form}
 use Rattle.ot_terms.specs.Weights.{goal_weight}
 use Rattle.goal_rules.specs.Steps.{front_tree}
 use Rattle.marked_goals.specs.Settled.{StandsMarked}
@@ -13,7 +17,7 @@ use Rattle.ot_starts.specs.declared.kept.Kept.{Kept}
 use Rattle.ot_starts.specs.Kept.{IsKeptEnd}
 use Rattle.ot_starts.proofs.LaidMarks.{yes_falls, no_falls, yes_belongs, no_belongs, form_low, if_laid}
 use Rattle.ot_starts.proofs.SettledGoals.{settled_on}
-use Rattle.ot_starts.proofs.Trials.{not_begun_there, tried_laid, tried_no_belongs, tried_no_falls, tried_yes_belongs, tried_yes_falls}
+use Rattle.ot_starts.proofs.Trials.{not_begun_there, open_there, tried_laid, tried_no_belongs, tried_no_falls, tried_yes_belongs, tried_yes_falls}
 use Rattle.ot_starts.proofs.laying.+laid.Goals as goal
 
 -- the goal behind no is lighter, and of the obligation
@@ -57,12 +61,16 @@ by_form-requires t c =
     form_low (function_of c.args.rules.now) (goal_tree c.args.goal) (form_tree c.in-If.form) (goal_tree c.in-If.yes.now)
     (goal_tree c.in-If.no.now) (sym c.of.ensures ∙ ap front_tree c.in-If.is) c.requires.goal.0 c.requires.goal.1
 
-pub returns-in_ok-by_form-in-If-clause-stands : goal.returns-in_ok-by_form-in-If-clause-stands
-returns-in_ok-by_form-in-If-clause-stands t c =
-    if_laid (function_of c.args.rules.now) (goal_tree c.args.goal) (form_tree c.in-If.form) (goal_tree c.in-If.yes.now)
-    (goal_tree c.in-If.no.now) (sym c.of.ensures ∙ ap front_tree c.in-If.is) (goal_tree c.in_ok-on_yes-in-If.on_yes.now)
-    (goal_tree c.in_ok-on_no-in-If.on_no.now) (goal_tree c.in_ok-by_form-in-If.field-0.now)
-    c.in_ok-on_yes-in-If.ensures.stands c.in_ok-on_no-in-If.ensures.stands c.in_ok-by_form-in-If.ensures
+pub returns-in_ok-on_yes-in-If-clause-stands : goal.returns-in_ok-on_yes-in-If-clause-stands
+returns-in_ok-on_yes-in-If-clause-stands t c =
+    let f = function_of c.args.rules.now in
+    let on_yes = goal_tree c.in_ok-on_yes-in-If.on_yes.now in
+    let on_no = goal_tree c.in_ok-on_no-in-If.on_no.now in
+    IfOk-weaker c.by_form.result (λ r. goal_tree r.now ≡ laid_form (form_tree c.in-If.form) on_yes on_no)
+    (λ r. StandsMarked f (goal_tree c.args.goal) (goal_tree r.now))
+    (λ r. if_laid f (goal_tree c.args.goal) (form_tree c.in-If.form) (goal_tree c.in-If.yes.now) (goal_tree c.in-If.no.now)
+    (sym c.of.ensures ∙ ap front_tree c.in-If.is) on_yes on_no (goal_tree r.now) c.in_ok-on_yes-in-If.ensures.stands
+    c.in_ok-on_no-in-If.ensures.stands) c.by_form.ensures
 
 -- a case that is tried, and the goals behind it, which are lighter and of the obligation
 pub trial-requires-clause-goal : goal.trial-requires-clause-goal
@@ -126,42 +134,75 @@ pub by_guard-requires-clause-atoms_near : goal.by_guard-requires-clause-atoms_ne
 by_guard-requires-clause-atoms_near t c =
     let trial = rw c.in-Some-trial.is at c.trial.ensures in trial.atoms_near
 
-pub returns-in_ok-by_guard-in-Choose-clause-stands : goal.returns-in_ok-by_guard-in-Choose-clause-stands
-returns-in_ok-by_guard-in-Choose-clause-stands t c =
+pub returns-in_ok-on_yes-in-Choose-clause-stands : goal.returns-in_ok-on_yes-in-Choose-clause-stands
+returns-in_ok-on_yes-in-Choose-clause-stands t c =
     let f = function_of c.args.rules.now in
     let trial = rw c.in-Some-trial.is at c.trial.ensures in
-    tried_laid f (goal_tree c.args.goal) (Choose c.in-Choose.case c.in-Choose.ops.now.a c.in-Choose.ops.now.b c.in-Choose.progress.now)
-    c.in-Choose.ops.now.a c.in-Choose.ops.now.b c.in-Some-trial.field-0 (sym c.of.ensures ∙ ap front_tree c.in-Choose.is) trial
-    (goal_tree c.in_ok-on_yes-in-Choose.on_yes.now) (goal_tree c.in_ok-on_no-in-Choose.on_no.now)
-    (goal_tree c.in_ok-by_guard-in-Choose.field-0.now)
-    c.in_ok-on_yes-in-Choose.ensures.stands c.in_ok-on_no-in-Choose.ensures.stands
-    c.in_ok-by_guard-in-Choose.ensures
+    let a = c.in-Choose.ops.now.a in
+    let b = c.in-Choose.ops.now.b in
+    let on_yes = goal_tree c.in_ok-on_yes-in-Choose.on_yes.now in
+    let on_no = goal_tree c.in_ok-on_no-in-Choose.on_no.now in
+    IfOk-weaker c.by_guard.result
+    (λ r. goal_tree r.now ≡ laid_form (guard_form (formula_of c.in-Some-trial.field-0.guard.now) a b) on_yes on_no)
+    (λ r. StandsMarked f (goal_tree c.args.goal) (goal_tree r.now))
+    (λ r. tried_laid f (goal_tree c.args.goal) (Choose c.in-Choose.case a b c.in-Choose.progress.now) a b
+    c.in-Some-trial.field-0 (sym c.of.ensures ∙ ap front_tree c.in-Choose.is) trial on_yes on_no (goal_tree r.now)
+    c.in_ok-on_yes-in-Choose.ensures.stands c.in_ok-on_no-in-Choose.ensures.stands) c.by_guard.ensures
 
-pub laid-requires-in-Same : goal.laid-requires-in-Same
-laid-requires-in-Same t c =
+-- no case is tried: the goal after one rule
+pub goes_on-requires-clause-open : goal.goes_on-requires-clause-open
+goes_on-requires-clause-open t c =
+    open_there c.is_begun.result (goal_tree c.args.goal)
+    (Choose c.in-Choose.case c.in-Choose.ops.now.a c.in-Choose.ops.now.b c.in-Choose.progress.now)
+    (sym c.of.ensures ∙ ap front_tree c.in-Choose.is) refl c.is_begun.ensures c.if-is_begun.false c.rules_keep_starts.ensures.begun
+
+pub laid-requires-in_default-trial : goal.laid-requires-in_default-trial
+laid-requires-in_default-trial t c =
     let f = function_of c.args.rules.now in
-    let same : c.in_ok-at-in-Same.at.now ≡ c.args.goal = c.in_ok-at-in-Same.ensures in
-    let falls : goal_weight f (goal_tree c.in_ok-next-in-Same.next.now) < goal_weight f (goal_tree c.args.goal)
-    = subst (λ (g : Goal). goal_weight f (goal_tree c.in_ok-next-in-Same.next.now) < goal_weight f (goal_tree g)) same
-    c.in_ok-next-in-Same.ensures.lighter in (
+    let falls : goal_weight f (goal_tree c.in_ok-next-in-Choose.next.now) < goal_weight f (goal_tree c.args.goal)
+    = c.in_ok-next-in-Choose.ensures.lighter in (
       search (rules, falls),
       (
-        (
-          c.requires.goal.0,
-          c.in_ok-next-in-Same.ensures.alike.belongs c.requires.goal.0
-              (subst (λ (g : Goal). IsGoalOf f c.requires.goal.0 (goal_tree g)) (sym same) c.requires.goal.1),
-        ),
+        (c.requires.goal.0, c.in_ok-next-in-Choose.ensures.alike.belongs c.requires.goal.0 c.requires.goal.1),
         c.requires.kept,
       ),
     )
 
-pub returns-in_ok-laid-in-Same-clause-stands : goal.returns-in_ok-laid-in-Same-clause-stands
-returns-in_ok-laid-in-Same-clause-stands t c =
+pub returns-in_default-trial-clause-stands : goal.returns-in_default-trial-clause-stands
+returns-in_default-trial-clause-stands t c =
     let f = function_of c.args.rules.now in
-    settled_on f (goal_tree c.args.goal) (goal_tree c.in_ok-next-in-Same.next.now) (goal_tree c.in_ok-laid-in-Same.field-0.now)
-    (subst (λ (g : Goal). StandsMarked f (goal_tree g) (goal_tree c.in_ok-next-in-Same.next.now)) c.in_ok-at-in-Same.ensures
-    c.in_ok-next-in-Same.ensures.alike)
-    c.in_ok-laid-in-Same.ensures.stands
+    let next = goal_tree c.in_ok-next-in-Choose.next.now in
+    IfOk-weaker c.laid-in_default-trial.result (λ r. StandsMarked f next (goal_tree r.now))
+    (λ r. StandsMarked f (goal_tree c.args.goal) (goal_tree r.now))
+    (λ r. settled_on f (goal_tree c.args.goal) next (goal_tree r.now) c.in_ok-next-in-Choose.ensures.alike)
+    c.laid-in_default-trial.ensures.stands
+
+-- two cells are compared: the goal after one rule
+pub goes_on-requires-in-Same-clause-open : goal.goes_on-requires-in-Same-clause-open
+goes_on-requires-in-Same-clause-open t c =
+    open_there c.is_begun.result (goal_tree c.args.goal) (Same (cell_tree c.in-Same.left) (cell_tree c.in-Same.right))
+    (sym c.of.ensures ∙ ap front_tree c.in-Same.is) refl c.is_begun.ensures c.if-is_begun.false c.rules_keep_starts.ensures.begun
+
+pub laid-requires-in-Same : goal.laid-requires-in-Same
+laid-requires-in-Same t c =
+    let f = function_of c.args.rules.now in
+    let falls : goal_weight f (goal_tree c.in_ok-next-in-Same.next.now) < goal_weight f (goal_tree c.args.goal)
+    = c.in_ok-next-in-Same.ensures.lighter in (
+      search (rules, falls),
+      (
+        (c.requires.goal.0, c.in_ok-next-in-Same.ensures.alike.belongs c.requires.goal.0 c.requires.goal.1),
+        c.requires.kept,
+      ),
+    )
+
+pub returns-in_ok-next-in-Same-clause-stands : goal.returns-in_ok-next-in-Same-clause-stands
+returns-in_ok-next-in-Same-clause-stands t c =
+    let f = function_of c.args.rules.now in
+    let next = goal_tree c.in_ok-next-in-Same.next.now in
+    IfOk-weaker c.laid-in-Same.result (λ r. StandsMarked f next (goal_tree r.now))
+    (λ r. StandsMarked f (goal_tree c.args.goal) (goal_tree r.now))
+    (λ r. settled_on f (goal_tree c.args.goal) next (goal_tree r.now) c.in_ok-next-in-Same.ensures.alike)
+    c.laid-in-Same.ensures.stands
 
 -- what is kept of the same goal stands for it
 pub returns-in-Some-clause-stands : goal.returns-in-Some-clause-stands

@@ -2,7 +2,7 @@
 use Rattle.std.proofs.Common.{codes}
 use Rattle.clap.specs.Words.{with_rule}
 use Rattle.ot_words.specs.Words.{bare_app, flag_rule, required_rule}
-use Rattle.ot_words.proofs.Apps.{with_argument}
+use Rattle.ot_words.proofs.Apps.{with_argument, with_last_argument}
 use Rattle.ot_words.proofs.words.least_app.Goals as goal
 
 pub returns : goal.returns
@@ -11,5 +11,5 @@ returns c =
     let flag = flag_rule (codes "cert") in
     let flagged =
     with_argument _ _ _ bare flag c.in_ok-with_flag.ensures c.flag_option.ensures.local c.bare_app.ensures c.flag_option.ensures.rule in
-    with_argument _ _ _ (with_rule bare flag) (required_rule (codes "function")) c.in_ok-whole.ensures c.function_argument.ensures.local
-    flagged c.function_argument.ensures.rule
+    with_last_argument c.arg-2.result _ _ (with_rule bare flag) (required_rule (codes "function")) c.arg-2.ensures
+    c.required_argument.ensures.local flagged c.required_argument.ensures.rule

@@ -21,3 +21,29 @@ pub serving_of-requires-2-clause-here : goal.serving_of-requires-2-clause-here
 serving_of-requires-2-clause-here g c =
     ((KeepsStarts-trans (KeepsStarts-trans c.number.ensures c.serving_of.ensures.same) c.number_alike.ensures).own c.args.here).0
     c.requires.here
+
+-- every call keeps what the asker says of its starts
+pub returns-in_err-number-clause-same : goal.returns-in_err-number-clause-same
+returns-in_err-number-clause-same g c = c.number.ensures
+
+pub returns-in_err-found-clause-same : goal.returns-in_err-found-clause-same
+returns-in_err-found-clause-same g c = KeepsStarts-trans c.number.ensures c.serving_of.ensures.same
+
+pub returns-in-Some-clause-same : goal.returns-in-Some-clause-same
+returns-in-Some-clause-same g c = KeepsStarts-trans c.number.ensures c.serving_of.ensures.same
+
+pub returns-in_err-alike-clause-same : goal.returns-in_err-alike-clause-same
+returns-in_err-alike-clause-same g c =
+    KeepsStarts-trans (KeepsStarts-trans c.number.ensures c.serving_of.ensures.same) c.number_alike.ensures
+
+pub returns-then-alike-number-clause-same : goal.returns-then-alike-number-clause-same
+returns-then-alike-number-clause-same g c =
+    KeepsStarts-trans (KeepsStarts-trans c.number.ensures c.serving_of.ensures.same) c.number_alike.ensures
+
+pub returns-clause-serves : goal.returns-clause-serves
+returns-clause-serves g c = c.serving_of-2.ensures.serves
+
+pub returns-clause-same : goal.returns-clause-same
+returns-clause-same g c =
+    KeepsStarts-trans (KeepsStarts-trans (KeepsStarts-trans c.number.ensures c.serving_of.ensures.same) c.number_alike.ensures)
+    c.serving_of-2.ensures.same

@@ -1,17 +1,38 @@
+use Rattle.std.proofs.lemmas.Result.{on_ok_weaker}
 use Rattle.proof_writer.proofs.Walking.{nodes_kept, own_others, own_parts}
 use Rattle.proof_writer.proofs.writing.follow.Goals as goal
 
-pub returns-in_ok-ask-in-Ask-clause-nodes : goal.returns-in_ok-ask-in-Ask-clause-nodes
-returns-in_ok-ask-in-Ask-clause-nodes g c =
-    let begins = rw c.in-Ask.is at c.in_ok-lit.ensures.begins in
-    own_parts c.args.walk.now c.ask.new.self (g.A.Asker.is_own c.follow.new.self)
-    (nodes_kept c.follow.ensures.same c.args.walk.now c.requires.nodes) c.in-Ask.yes c.in-Ask.no begins.0 begins.1
-    c.in_ok-ask-in-Ask.ensures.nodes
+pub returns-in_err-lit-clause-same : goal.returns-in_err-lit-clause-same
+returns-in_err-lit-clause-same g c = c.follow.ensures.same
 
-pub returns-in_ok-hold-in-Holds-clause-nodes : goal.returns-in_ok-hold-in-Holds-clause-nodes
-returns-in_ok-hold-in-Holds-clause-nodes g c =
-    own_others c.args.walk.now c.hold.new.self (g.A.Asker.is_own c.follow.new.self)
-    (nodes_kept c.follow.ensures.same c.args.walk.now c.requires.nodes) c.in_ok-hold-in-Holds.ensures.nodes
+pub returns-in-Ask-clause-front : goal.returns-in-Ask-clause-front
+returns-in-Ask-clause-front g c = c.ask.ensures.front
+
+pub returns-in-Ask-clause-nodes : goal.returns-in-Ask-clause-nodes
+returns-in-Ask-clause-nodes g c =
+    let begins = rw c.in-Ask.is at c.in_ok-lit.ensures.begins in
+    on_ok_weaker c.ask.result
+    (own_parts c.args.walk.now c.ask.new.self (g.A.Asker.is_own c.follow.new.self)
+    (nodes_kept c.follow.ensures.same c.args.walk.now c.requires.nodes) c.in-Ask.yes c.in-Ask.no begins.0 begins.1)
+    c.ask.ensures.nodes
+
+pub returns-in-Ask-clause-same : goal.returns-in-Ask-clause-same
+returns-in-Ask-clause-same g c = c.follow.ensures.same
+
+pub returns-in-Holds-clause-front : goal.returns-in-Holds-clause-front
+returns-in-Holds-clause-front g c = c.hold.ensures.front
+
+pub returns-in-Holds-clause-nodes : goal.returns-in-Holds-clause-nodes
+returns-in-Holds-clause-nodes g c =
+    on_ok_weaker c.hold.result
+    (own_others c.args.walk.now c.hold.new.self (g.A.Asker.is_own c.follow.new.self)
+    (nodes_kept c.follow.ensures.same c.args.walk.now c.requires.nodes)) c.hold.ensures.nodes
+
+pub returns-in-Holds-clause-same : goal.returns-in-Holds-clause-same
+returns-in-Holds-clause-same g c = c.follow.ensures.same
 
 pub returns-in-Fails-clause-nodes : goal.returns-in-Fails-clause-nodes
 returns-in-Fails-clause-nodes g c = nodes_kept c.follow.ensures.same c.args.walk.now c.requires.nodes
+
+pub returns-in-Fails-clause-same : goal.returns-in-Fails-clause-same
+returns-in-Fails-clause-same g c = c.follow.ensures.same

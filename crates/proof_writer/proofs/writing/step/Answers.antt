@@ -1,4 +1,5 @@
-use Rattle.proof_search.proofs.Keeping.{KeepsStarts-trans}
+use Rattle.std.proofs.lemmas.Result.{on_ok_weaker}
+use Rattle.proof_search.proofs.Keeping.{KeepsStarts-refl, KeepsStarts-trans}
 use Rattle.proof_writer.proofs.Extending.{ExtendsText-trans}
 use Rattle.proof_writer.proofs.Walking.{own_others, present_own}
 use Rattle.proof_writer.proofs.writing.step.Goals as goal
@@ -14,8 +15,24 @@ follow-requires-clause-here g c =
 
 pub returns-in_default-clause-nodes : goal.returns-in_default-clause-nodes
 returns-in_default-clause-nodes g c =
-    own_others c.args.walk.now c.next.new.self (g.A.Asker.is_own c.args.asker.now) c.requires.nodes
-    c.in_ok-next.ensures.nodes
+    on_ok_weaker c.next.result
+    (own_others c.args.walk.now c.next.new.self (g.A.Asker.is_own c.args.asker.now) c.requires.nodes) c.next.ensures.nodes
+
+pub returns-in_default-clause-front : goal.returns-in_default-clause-front
+returns-in_default-clause-front g c = c.next.ensures.front
+
+pub returns-in_default-clause-same : goal.returns-in_default-clause-same
+returns-in_default-clause-same g c =
+    KeepsStarts-refl (g.A.Asker.is_own c.args.asker.now) (g.A.Starter.starts c.args.asker.now)
+
+pub returns-in-Some-2-clause-front : goal.returns-in-Some-2-clause-front
+returns-in-Some-2-clause-front g c = c.use_lemma.ensures.front
+
+pub returns-in-Some-2-clause-nodes : goal.returns-in-Some-2-clause-nodes
+returns-in-Some-2-clause-nodes g c = c.in_ok-step.ensures.nodes
+
+pub returns-in-Some-2-clause-same : goal.returns-in-Some-2-clause-same
+returns-in-Some-2-clause-same g c = c.use_lemma.ensures.same
 
 pub returns-clause-front : goal.returns-clause-front
 returns-clause-front g c =

@@ -22,3 +22,30 @@ returns-clause-nodes g c =
 
 pub returns-clause-same : goal.returns-clause-same
 returns-clause-same g c = KeepsStarts-trans c.serving.ensures.same c.unbegun_at.ensures
+
+pub returns-in-Some-clause-front : goal.returns-in-Some-clause-front
+returns-in-Some-clause-front g c = c.cite.ensures.front
+
+pub returns-in-Some-clause-same : goal.returns-in-Some-clause-same
+returns-in-Some-clause-same g c = c.serving.ensures.same
+
+pub returns-in_err-cite-clause-front : goal.returns-in_err-cite-clause-front
+returns-in_err-cite-clause-front g c = c.cite.ensures.front
+
+pub returns-in_err-cite-clause-same : goal.returns-in_err-cite-clause-same
+returns-in_err-cite-clause-same g c = c.serving.ensures.same
+
+pub returns-in_err-lemma-clause-same : goal.returns-in_err-lemma-clause-same
+returns-in_err-lemma-clause-same g c = KeepsStarts-trans c.serving.ensures.same c.unbegun_at.ensures
+
+pub returns-in_default-2-clause-same : goal.returns-in_default-2-clause-same
+returns-in_default-2-clause-same g c = KeepsStarts-trans c.serving.ensures.same c.unbegun_at.ensures
+
+pub returns-in_err-learn-clause-front : goal.returns-in_err-learn-clause-front
+returns-in_err-learn-clause-front g c = c.learn.ensures.front
+
+pub returns-in_err-learn-clause-same : goal.returns-in_err-learn-clause-same
+returns-in_err-learn-clause-same g c = KeepsStarts-trans c.serving.ensures.same c.unbegun_at.ensures
+
+pub returns-clause-front : goal.returns-clause-front
+returns-clause-front g c = c.learn.ensures.front

@@ -1,4 +1,4 @@
-use Rattle.std.proofs.Common.{◌≡◌, ◌+◌, ◌-◌, ◌<◌, ℕ, false, List, length, Some, refl, sym, ap, ◌∙◌, subst, arith}
+use Rattle.std.proofs.Common.{◌≡◌, ◌+◌, ◌-◌, ◌<◌, ℕ, true, false, List, length, Some, None, refl, sym, ap, ◌∙◌, subst, arith}
 use Rattle.std.specs.Prelude.{slice_set, slice_get, Err}
 use Rattle.std.proofs.Math.Logic.{∥∥₁_elim, ∥∥₁_map}
 use Rattle.std.proofs.lemmas.Option.{slice_get_within}
@@ -12,7 +12,7 @@ use Rattle.ot_hub.specs.InStep.{AreInStep}
 use Rattle.ot_hub.specs.Clients.{client_at}
 use Rattle.ot_hub.specs.Usable.{IsUsable, reach}
 use Rattle.ot_hub.specs.Steps.{Step, To, step_map, client_step, HasStepped}
-use Rattle.ot_hub.specs.Views.{HubData, hub_view_of, IsClient, down_step, HasMoved}
+use Rattle.ot_hub.specs.Views.{HubData, hub_view_of, IsClient, down_step, down_with, HasMoved}
 use Rattle.ot_hub.proofs.Keeping.{one-kept, CanTakeEntry-kept, IsClientKept-stepped, IsHubKept-down, SteppedTo, stepped_to, IsClientStepped}
 use Rattle.ot_hub.proofs.Kept.{All-at}
 use Rattle.ot_hub.proofs.Near.{KeepsNear, keeps_near}
@@ -26,6 +26,27 @@ use Rattle.ot_hub.proofs.hub.Hub.down.Goals as goal
 leads_at : (all : List Client) (i : ℕ) (step : Step Client) → {P : Client → Type 0} → LeadsTo P step
     → LeadsTo (λ (clients : List Client). Unit {0}) (step_map (slice_set all i) step)
 leads_at all i step leads = record { to = slice_set all i leads.to; is = ap (step_map (slice_set all i)) leads.is; holds = tt }
+
+-- there is no such client
+pub returns-then-not-has_client-clause-moved : goal.returns-then-not-has_client-clause-moved
+returns-then-not-has_client-clause-moved c = (λ there. let wrong : false ≡ true = c.if-not-has_client.ensures.1 there in cc, refl)
+
+pub returns-then-not-has_client-clause-never_stuck : goal.returns-then-not-has_client-clause-never_stuck
+returns-then-not-has_client-clause-never_stuck c tp1 chars is = cc
+
+-- the client has received the whole log
+pub returns-in_default-clause-moved : goal.returns-in_default-clause-moved
+returns-in_default-clause-moved c =
+    let s = c.args.self.now in
+    let all : List Client = s.clients.items in
+    let one : Client = client_at all (c.args.client - 1) in
+    let there : IsClient (length all) c.args.client = c.if-not-has_client.ensures.0 refl in
+    let client_is : one ≡ c.index.result.now = client_read all c.args.client c.index.result.now there c.index.ensures in
+    let none : slice_get s.server.log one.received ≡ None = rw client_is (sym c.in_default.ensures) in
+    (there, ap (down_with (hub_view_of s) c.args.client) none, refl)
+
+pub returns-in_default-clause-never_stuck : goal.returns-in_default-clause-never_stuck
+returns-in_default-clause-never_stuck c tp1 chars is = cc
 
 -- the client can take the next entry of the log
 pub take_at-requires-clause-client : goal.take_at-requires-clause-client
@@ -81,6 +102,9 @@ invariant_of-self-in-Ok c =
           (AreInStep-down f (c.functions_keep_forms.ensures f) (c.tp1_holds_of_forms.ensures f tp1) chars (c.transform_keeps_all_but_the_position.ensures f)
           s.first s.server all k c.args.client there entry next) (subst (λ (n : ℕ). client_step f n entry one ≡ To to.client) number to.is)));
     }
+
+pub returns-in-Ok-clause-never_stuck : goal.returns-in-Ok-clause-never_stuck
+returns-in-Ok-clause-never_stuck c tp1 chars is = cc
 
 -- the client's step is done, and so is that of the hub
 pub returns-in-Ok-clause-moved : goal.returns-in-Ok-clause-moved

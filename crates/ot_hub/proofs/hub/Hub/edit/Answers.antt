@@ -1,4 +1,4 @@
-use Rattle.std.proofs.Common.{◌≡◌, ◌-◌, ◌<◌, ℕ, List, [], ◌∷◌, length, Some, refl, sym, ap, ◌∙◌, subst, arith, length-append}
+use Rattle.std.proofs.Common.{◌≡◌, ◌-◌, ◌<◌, ℕ, true, false, List, [], ◌∷◌, length, Some, refl, sym, ap, ◌∙◌, subst, arith, length-append}
 use Rattle.std.proofs.Math.Logic.{∥∥₁_map}
 use Rattle.std.specs.Prelude.{slice_set}
 use Rattle.std.specs.Vec.{with_items}
@@ -10,9 +10,9 @@ use Rattle.ot_hub.specs.declared.client.Client.{Client}
 use Rattle.ot_hub.specs.declared.limits.TheConstants.{MAX_EDITS}
 use Rattle.ot_hub.specs.Clients.{client_at}
 use Rattle.ot_hub.specs.Steps.{edited}
-use Rattle.ot_hub.specs.Views.{IsClient}
+use Rattle.ot_hub.specs.Views.{IsClient, hub_view_of}
 use Rattle.ot_hub.proofs.Keeping.{CanEdit-kept, IsHubKept-edited, IsForKind-declared}
-use Rattle.ot_hub.proofs.Acting.{inside_of, items_set}
+use Rattle.ot_hub.proofs.Acting.{inside_of, items_same, items_set}
 use Rattle.ot_hub.proofs.Together.{AreCountedEdits-set, AreInStep-edited}
 use Rattle.ot_hub.proofs.hub.Hub.edit.Goals as goal
 
@@ -58,3 +58,90 @@ invariant_of-self-in-Ok c =
           (record { declared = declared; enabled = enabled })
           (λ site has. let both : Some site ≡ Some c.args.client = sym has ∙ c.if-not-is_made_at.ensures.0 refl in cc)));
     }
+
+-- there is no such client
+pub returns-then-not-has_client-clause-edited : goal.returns-then-not-has_client-clause-edited
+returns-then-not-has_client-clause-edited c = (λ there. let wrong : false ≡ true = c.if-not-has_client.ensures.1 there in cc, refl)
+
+-- the operation is another client's
+pub returns-then-not-is_made_at-clause-edited : goal.returns-then-not-is_made_at-clause-edited
+returns-then-not-is_made_at-clause-edited c = (
+  c.if-not-has_client.ensures.0 refl,
+  λ own. let wrong : false ≡ true = c.if-not-is_made_at.ensures.1 own in cc,
+  refl,
+)
+
+pub returns-then-not-has_declared_kind-clause-edited : goal.returns-then-not-has_declared_kind-clause-edited
+returns-then-not-has_declared_kind-clause-edited c = (
+  record { there = c.if-not-has_client.ensures.0 refl; own = c.if-not-is_made_at.ensures.0 refl },
+  λ declared. let wrong : false ≡ true = c.if-not-has_declared_kind.ensures.1 declared in cc,
+  refl,
+)
+
+pub returns-then-not-enabled-clause-edited : goal.returns-then-not-enabled-clause-edited
+returns-then-not-enabled-clause-edited c = (
+  record {
+    site = record { there = c.if-not-has_client.ensures.0 refl; own = c.if-not-is_made_at.ensures.0 refl };
+    declared = c.if-not-has_declared_kind.ensures.0 refl;
+  },
+  λ enabled.
+      let wrong : false ≡ true =
+      c.if-not-enabled.ensures.fact.1 (subst (λ (n : ℕ). IsEnabled c.args.op n) (sym (c.len.ensures ∙ ap length c.client.ensures)) enabled) in cc,
+  refl,
+)
+
+-- as many operations were made as are allowed
+pub returns-then-self-eq-MAX_EDITS-clause-edited : goal.returns-then-self-eq-MAX_EDITS-clause-edited
+returns-then-self-eq-MAX_EDITS-clause-edited c = (
+  record {
+    kind = record {
+      site = record { there = c.if-not-has_client.ensures.0 refl; own = c.if-not-is_made_at.ensures.0 refl };
+      declared = c.if-not-has_declared_kind.ensures.0 refl;
+    };
+    enabled = subst (λ (n : ℕ). IsEnabled c.args.op n) (c.len.ensures ∙ ap length c.client.ensures) (c.if-not-enabled.ensures.fact.0 refl);
+  },
+  omega (arith, c.args.self.now.kept.made, c.if-self-eq-MAX_EDITS.true),
+  refl,
+)
+
+-- the client made the operation
+pub returns-in-Ok-clause-edited : goal.returns-in-Ok-clause-edited
+returns-in-Ok-clause-edited c =
+    let s = c.args.self.now in
+    let all : List Client = s.clients.items in
+    let place : ℕ = c.args.client - 1 in
+    let after : Client = edited (function_of s.rules).head.mode c.args.op (client_at all place) in
+    let new : List Client = c.edit_at.new.clients in
+    let is : new ≡ slice_set all place after = rw (← c.deref_mut.ensures.value) c.in-Ok.ensures.ok in (
+      record {
+        kind = record {
+          site = record { there = c.if-not-has_client.ensures.0 refl; own = c.if-not-is_made_at.ensures.0 refl };
+          declared = c.if-not-has_declared_kind.ensures.0 refl;
+        };
+        enabled = subst (λ (n : ℕ). IsEnabled c.args.op n) (c.len.ensures ∙ ap length c.client.ensures) (c.if-not-enabled.ensures.fact.0 refl);
+      },
+      λ full. absurd (omega (arith, full, s.kept.made, c.if-self-eq-MAX_EDITS.false)),
+      ap (λ (clients : List Client). record (hub_view_of s) { clients = clients }) (items_set s.clients place after new is),
+    )
+
+-- there was no memory: the hub is closed, and otherwise as it was
+pub invariant_of-self-in-Err : goal.invariant_of-self-in-Err
+invariant_of-self-in-Err c =
+    let s = c.args.self.now in
+    let items = items_same s.clients c.edit_at.new.clients (c.in-Err.ensures.err ∙ c.deref_mut.ensures.value) in
+    record { small = s.small; kept = rw items s.kept; counted = rw items s.counted; in_step = rw items s.in_step }
+
+pub returns-in-Err-clause-edited : goal.returns-in-Err-clause-edited
+returns-in-Err-clause-edited c =
+    let s = c.args.self.now in (
+      record {
+        kind = record {
+          site = record { there = c.if-not-has_client.ensures.0 refl; own = c.if-not-is_made_at.ensures.0 refl };
+          declared = c.if-not-has_declared_kind.ensures.0 refl;
+        };
+        enabled = subst (λ (n : ℕ). IsEnabled c.args.op n) (c.len.ensures ∙ ap length c.client.ensures) (c.if-not-enabled.ensures.fact.0 refl);
+      },
+      λ full. absurd (omega (arith, full, s.kept.made, c.if-self-eq-MAX_EDITS.false)),
+      ap (λ (clients : List Client). record (hub_view_of s) { clients = clients; is_open = false })
+          (items_same s.clients c.edit_at.new.clients (c.in-Err.ensures.err ∙ c.deref_mut.ensures.value)),
+    )

@@ -1,4 +1,4 @@
-use Rattle.std.proofs.Common.{◌≡◌, ◌+◌, ◌-◌, ◌<◌, ℕ, List, [], ◌∷◌, ◌++◌, false, length, map, Some, refl, sym, ap, ◌∙◌, subst, arith, length-append}
+use Rattle.std.proofs.Common.{◌≡◌, ◌+◌, ◌-◌, ◌<◌, ℕ, List, [], ◌∷◌, ◌++◌, true, false, length, map, Some, None, refl, sym, ap, ◌∙◌, subst, arith, length-append}
 use Rattle.std.specs.Prelude.{slice_set, slice_get, Err}
 use Rattle.std.proofs.Math.Logic.{∥∥₁_elim, ∥∥₁_map}
 use Rattle.std.proofs.lemmas.List.{length-set, length-map}
@@ -22,10 +22,83 @@ use Rattle.ot_hub.proofs.Keeping.{WentOn, goes_on-to, one-kept, one-messages, Is
 use Rattle.ot_hub.proofs.Kept.{All-at}
 use Rattle.ot_hub.proofs.Near.{KeepsNear, keeps_near}
 use Rattle.ot_hub.specs.Views.{HubData, hub_view_of, IsClient, HasMoved}
-use Rattle.ot_hub.proofs.Stepping.{up_with-first, some_first, HasMoved-refused}
+use Rattle.ot_hub.proofs.Stepping.{up_with-first, up_with-none, some_first, HasMoved-refused, refused-same}
 use Rattle.ot_hub.proofs.Acting.{inside_of, client_read, items_set}
 use Rattle.ot_hub.proofs.Together.{led_to, not_stuck, AreCountedEdits-up, AreInStep-up}
 use Rattle.ot_hub.proofs.hub.Hub.up.Goals as goal
+
+-- there is no such client
+pub returns-then-not-has_client-clause-moved : goal.returns-then-not-has_client-clause-moved
+returns-then-not-has_client-clause-moved c = (λ there. let wrong : false ≡ true = c.if-not-has_client.ensures.1 there in cc, refl)
+
+pub returns-then-not-has_client-clause-never_stuck : goal.returns-then-not-has_client-clause-never_stuck
+returns-then-not-has_client-clause-never_stuck c tp1 chars is = cc
+
+-- the client has no message
+pub returns-in_default-clause-moved : goal.returns-in_default-clause-moved
+returns-in_default-clause-moved c =
+    let s = c.args.self.now in
+    let all : List Client = s.clients.items in
+    let one : Client = client_at all (c.args.client - 1) in
+    let there : IsClient (length all) c.args.client = c.if-not-has_client.ensures.0 refl in
+    let client_is : one ≡ c.index.result.now = client_read all c.args.client c.index.result.now there c.index.ensures in
+    let none : slice_get one.messages 0 ≡ None = rw client_is (sym c.in_default.ensures) in
+    (there, up_with-none (hub_view_of s) c.args.client one.messages none, refl)
+
+pub returns-in_default-clause-never_stuck : goal.returns-in_default-clause-never_stuck
+returns-in_default-clause-never_stuck c tp1 chars is = cc
+
+-- the message can be taken
+pub take-requires-clause-kept : goal.take-requires-clause-kept
+take-requires-clause-kept c = c.args.self.now.kept.server
+
+pub take-requires-clause-few : goal.take-requires-clause-few
+take-requires-clause-few c =
+    let s = c.args.self.now in
+    let all : List Client = s.clients.items in
+    let place : ℕ = c.args.client - 1 in
+    let one : Client = client_at all place in
+    let message : PlacedOp = c.in-Some.message in
+    let there : IsClient (length all) c.args.client = c.if-not-has_client.ensures.0 refl in
+    let inside : place < length all = inside_of all c.args.client there in
+    let client_is : one ≡ c.index.result.now = client_read all c.args.client c.index.result.now there c.index.ensures in
+    let some : 0 < length one.messages = some_first one.messages message (rw client_is c.in-Some.ensures) in
+    omega (arith, some, s.kept.few, one-messages (function_of s.rules) s.made s.server all s.kept place inside)
+
+pub take-requires-clause-low : goal.take-requires-clause-low
+take-requires-clause-low c = let there = c.if-not-has_client.ensures.0 refl in there.low
+
+pub take-requires-clause-high : goal.take-requires-clause-high
+take-requires-clause-high c =
+    let there = c.if-not-has_client.ensures.0 refl in
+    omega (arith, there.high, c.args.self.now.kept.sides)
+
+pub take-requires-clause-usable : goal.take-requires-clause-usable
+take-requires-clause-usable c =
+    let s = c.args.self.now in
+    let f : Function = function_of s.rules in
+    let all : List Client = s.clients.items in
+    let place : ℕ = c.args.client - 1 in
+    let one : Client = client_at all place in
+    let there : IsClient (length all) c.args.client = c.if-not-has_client.ensures.0 refl in
+    let inside : place < length all = inside_of all c.args.client there in
+    let client_is : one ≡ c.index.result.now = client_read all c.args.client c.index.result.now there c.index.ensures in
+    let first : slice_get one.messages 0 ≡ Some c.in-Some.message = rw client_is (sym c.in-Some.ensures) in
+    All-at (λ b. IsUsable f most_hub_cells b.op) one.messages 0 c.in-Some.message
+    (one-kept f s.made s.server all s.kept place inside).messages first
+
+-- a server that refused is as it was, and so is what is kept
+pub invariant_of-self-in-Err : goal.invariant_of-self-in-Err
+invariant_of-self-in-Err c =
+    let s = c.args.self.now in
+    let new : Server = c.take.new.self in
+    let same : new ≡ s.server =
+    refused-same s.server new (server_step (function_of s.rules) c.args.client c.in-Some.message s.server)
+    c.in-Err.refusal c.in-Err.ensures in
+    record { small = s.small; kept = rw same s.kept; counted = rw same s.counted; in_step = rw same s.in_step }
+
+pub returns-in-Ok-clause-never_stuck : goal.returns-in-Ok-clause-never_stuck
+returns-in-Ok-clause-never_stuck c tp1 chars is = cc
 
 -- the hub stays kept, counted and in step where the server took the message
 pub invariant_of-self : goal.invariant_of-self

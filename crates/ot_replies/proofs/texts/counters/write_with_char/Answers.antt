@@ -1,6 +1,7 @@
 -- The parts one behind another.
 use Rattle.std.proofs.Common.{◌≡◌, ◌++◌, ◌∷◌, [], List, ℕ, ℤ, ap, ◌∙◌, rules}
 use Rattle.std.specs.Int.{w64}
+use Rattle.std.proofs.lemmas.Result.{IfOk-equal}
 use Rattle.std.proofs.lemmas.Int.{to_z-of_z}
 use Rattle.std.specs.Fmt.{decimal, signed_decimal}
 use Rattle.std.specs.Prelude.{encode_utf8_all}
@@ -17,8 +18,8 @@ returns c =
     let site = decimal c.args.site in
     let at : ℤ = to_z w64 (of_z w64 c.args.at) in
     let same : at ≡ c.args.at = search (rules, to_z-of_z) in
-    c.in_ok-write_site.ensures
-    ∙ (ap (λ (l : List ℕ). l ++ (32 ∷ [] ++ site))
+    IfOk-equal c.write_site.result _ _ _ c.write_site.ensures
+    (ap (λ (l : List ℕ). l ++ (32 ∷ [] ++ site))
     (c.in_ok-char_write.ensures.ok
     ∙ ap (λ (l : List ℕ). l ++ ch)
     (c.in_ok-write_position.ensures

@@ -1,0 +1,16 @@
+use Rattle.proof_search.proofs.Owning.{nodes_kept_twice, nodes_same}
+use Rattle.proof_search.proofs.adopt.assume_from.Goals as goal
+
+pub loop-number-init : goal.loop-number-init
+loop-number-init g c = nodes_same c.args.levels.now
+
+pub returns-then-not-is_still_reached-clause-nodes : goal.returns-then-not-is_still_reached-clause-nodes
+returns-then-not-is_still_reached-clause-nodes g c = nodes_kept_twice c.loop-number.invariant c.is_still_reached.ensures
+
+pub returns-in_err-assume_at-clause-nodes : goal.returns-in_err-assume_at-clause-nodes
+returns-in_err-assume_at-clause-nodes g c =
+    nodes_kept_twice (nodes_kept_twice c.loop-number.invariant c.is_still_reached.ensures) c.assume_at.ensures
+
+pub loop-number-preserved : goal.loop-number-preserved
+loop-number-preserved g c =
+    nodes_kept_twice (nodes_kept_twice c.loop-number.invariant c.is_still_reached.ensures) c.assume_at.ensures

@@ -1,0 +1,6 @@
+use Rattle.std.proofs.Common.{refl}
+use Rattle.proof_search.proofs.Owning.{node_set}
+use Rattle.proof_search.proofs.levels.assume_at.Goals as goal
+
+pub returns : goal.returns
+returns g c = node_set c.args.levels.now c.args.number _ c.index-levels-number.result c.requires refl
