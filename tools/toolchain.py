@@ -108,21 +108,38 @@ USED = ("RATTLE", "Crate", "crates_below", "guarded", "lock", "sum_of", "text_of
 USED_OF_CRATES = ("below", "build_rlib", "call", "count", "is_built", "run", "stamp", "words")
 
 
+def loaded(name):
+    """The file of this name in the toolchain's folder of programs, as a module."""
+    first_page = subprocess.run(["rt", "doc"], stdout=subprocess.PIPE, text=True, check=True).stdout.strip()
+    # Nothing is written beside the toolchain.
+    sys.dont_write_bytecode = True
+    loader = importlib.machinery.SourceFileLoader(name, os.path.join(os.path.dirname(first_page), "bin", name))
+    module = importlib.util.module_from_spec(importlib.util.spec_from_loader(name, loader))
+    loader.exec_module(module)
+    return module
+
+
+def over_statements(rtlib):
+    """Has what `rtlib` calls stand on libraries that hold their statements."""
+    rtlib.Crate.stamp = looking_once(rtlib.Crate.stamp)
+    with_statements(rtlib)
+
+
 def load():
     """The module; in it `rtlib` has the crates, and what a check of one is called with.
 
     An `AttributeError` or an `OSError` says that this toolchain's `rt` is made otherwise.
     """
-    first_page = subprocess.run(["rt", "doc"], stdout=subprocess.PIPE, text=True, check=True).stdout.strip()
-    file = os.path.join(os.path.dirname(first_page), "bin/rt")
-    # Nothing is written beside the toolchain.
-    sys.dont_write_bytecode = True
-    loader = importlib.machinery.SourceFileLoader("rt", file)
-    rt = importlib.util.module_from_spec(importlib.util.spec_from_loader("rt", loader))
-    loader.exec_module(rt)
+    rt = loaded("rt")
     for owner, names in ((rt, ("main", "read_files")), (rt.rtlib, USED), (rt.rtlib.Crate, USED_OF_CRATES)):
         for name in names:
             getattr(owner, name)
-    rt.rtlib.Crate.stamp = looking_once(rt.rtlib.Crate.stamp)
-    with_statements(rt.rtlib)
+    over_statements(rt.rtlib)
     return rt
+
+
+def plant(words):
+    """What `rt plant` does with these words."""
+    planter = loaded("rt-plant")
+    over_statements(planter.rt)
+    return planter.main(*words)

@@ -1,5 +1,5 @@
 -- One step in reading a cell.
-use Rattle.std.specs.Prelude.{ℤ, pos, negsuc, ℕ, Option, Some, None, option_map}
+use Rattle.std.specs.Prelude.{pos, negsuc, ℕ, Option, Some, None, option_map}
 use Rattle.std.specs.Option.{option_or}
 use Rattle.ot_questions.specs.declared.cell.Finished.{Finished}
 use Rattle.ot_questions.specs.declared.place.Place.{Place}

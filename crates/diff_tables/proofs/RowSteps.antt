@@ -1,14 +1,14 @@
 -- Rows of a table: an element-wise change of a row, as far as it has come.
-use Rattle.std.proofs.Common.{◌≡◌, ◌≢◌, ℕ, suc, ◌+◌, ◌-◌, ◌<◌, ◌≤◌, List, [], ◌∷◌, ◌++◌, length, get_or, set, take, Option, Some, None, ◌==◌, true, false}
+use Rattle.std.proofs.Common.{◌≡◌, ◌≢◌, ℕ, suc, ◌+◌, ◌-◌, ◌<◌, ◌≤◌, List, [], ◌∷◌, ◌++◌, length, get_or, set, Option, Some, None, ◌==◌, true, false}
 use Rattle.std.proofs.Common.{arith, refl, sym, ap, ◌∙◌, subst, inl, inr, if◌then◌else◌, pos, negsuc, ◌≤ℤ◌}
 use Rattle.std.proofs.lemmas.Int.{ints}
 use Rattle.std.proofs.lemmas.Bool.{cases_eq, cases_lt, ne_eqb}
-use Rattle.std.proofs.lemmas.List.{take_at, get_or_past, append-nil, append_assoc, get_or-set_same, get_or-set_other, length-set}
+use Rattle.std.proofs.lemmas.List.{get_or_past, append-nil, append_assoc, get_or-set_same, get_or-set_other, length-set}
 use Rattle.diff_tables.specs.declared.hop.Hop.{Hop}
 use Rattle.diff_graph.specs.declared.lit.Lit.{Lit}
 use Rattle.diff_graph.specs.Limits.{IsNamed, IsSmall}
 use Rattle.diff_tables.specs.Tables.{kept_of}
-use Rattle.diff_tables.specs.Steps.{way_of, joined, lower_of, added, numbers_along, AppendsFirst, IsLowered, AreLowered, IsSquare, IsModest}
+use Rattle.diff_tables.specs.Steps.{way_of, joined, lower_of, added, numbers_along, IsLowered, AreLowered, IsSquare, IsModest}
 
 -- below a place each element is changed, and from there on it is as it was
 pub record DoneBelow (change : ℕ → Option Hop → Option Hop) (old new : List (Option Hop)) (place : ℕ) : Type 0 where

@@ -5,7 +5,7 @@ use Rattle.fn_rules.specs.declared.guard.Cmp.{Cmp}
 use Rattle.ot_model.specs.Kinds.{is_same_kind}
 use Rattle.fn_rules.specs.declared.limits.TheConstants.{MAX_ATOMS, MAX_NESTING}
 use Rattle.fn_tokens.specs.declared.token.Token.{Token}
-use Rattle.fn_tokens.specs.declared.token.Token.TheVariants.{Known, Number, Comparison, Open, Close, Colon, LineEnd}
+use Rattle.fn_tokens.specs.declared.token.Token.TheVariants.{Known, Number, Open, Close, Colon}
 use Rattle.fn_tokens.specs.declared.token.Token.TheVariants as tokens
 use Rattle.fn_tokens.specs.declared.token.Word.TheVariants as words
 use Rattle.fn_moves.specs.declared.control.Written.TheVariants as written

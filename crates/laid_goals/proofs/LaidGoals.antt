@@ -1,5 +1,5 @@
 -- What is known of a goal that is laid out, from what it leads to.
-use Rattle.std.proofs.Common.{◌≡◌, ◌<◌, ◌≤◌, IsTrue, Some, refl, ap, sym, subst, arith}
+use Rattle.std.proofs.Common.{◌≡◌, ◌+◌, ◌*◌, ◌<◌, ◌≤◌, IsTrue, Some, refl, ap, sym, subst, arith}
 use Rattle.fn_rules.specs.declared.function.ObName.{ObName}
 use Rattle.fn_rules.specs.Functions.{Function}
 use Rattle.fn_rules.specs.Validity.{is_valid}
@@ -44,8 +44,13 @@ pub step_alike :
     (f : Function) (old next built : GoalTree) → IsStep f old next → StandsAlike f next built → StandsAlike f old built
 step_alike f old next built rule h = alike_on f old next built (alike_step f old next rule) h
 
-pub step_from : (f : Function) (old was next : GoalTree) → old ≡ was → IsStep f was next → IsStep f old next
-step_from f old was next same rule = subst (λ g. IsStep f g next) (sym same) rule
+-- the goal at its front, which is laid out by a function of its own, and the goal behind that
+pub at_front : (f : Function) (old front : GoalTree) → old ≡ front → 2 * goal_weight f front < 1 + 2 * goal_weight f old
+at_front f old front same =
+    let weighs : goal_weight f old ≡ goal_weight f front = ap (goal_weight f) same in omega arith
+
+pub behind_front : (f : Function) (old next : GoalTree) → goal_weight f next < goal_weight f old → 1 + 2 * goal_weight f next < 2 * goal_weight f old
+behind_front f old next falls = omega arith
 
 -- a question, or a form, and the goals behind it
 module _ (f : Function) (ob : ObName) (old : GoalTree) (is_goal : IsGoalOf f ob old) (g : FormTree) (y n : GoalTree)

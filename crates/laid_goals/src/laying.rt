@@ -1,10 +1,12 @@
 //! Goals whose questions are laid out, as far as to the next results.
-ghost use Rattle.std.specs.Prelude.{◌≡◌, ◌≤◌, IfOk, IfSome};
+ghost use Rattle.std.specs.Prelude.{◌≡◌, ◌≤◌, false, IfOk, IfSome};
 ghost use Rattle.std.specs.List.{All};
 ghost use Rattle.fn_rules.specs.declared.function.ObName.{ObName};
 ghost use Rattle.fn_rules.specs.Rules.{function_of};
 ghost use Rattle.ot_terms.specs.Belonging.{IsGoalOf};
-ghost use Rattle.ot_terms.specs.Goals.{goal_tree, Choose, Deliver};
+ghost use Rattle.ot_terms.specs.Forms.{form_tree};
+ghost use Rattle.ot_terms.specs.Goals.{goal_tree, Choose, Deliver, If};
+ghost use Rattle.ot_rewrite.specs.Fronts.{is_at_front};
 ghost use Rattle.ot_rewrite.specs.Reaching.{IsStep};
 ghost use Rattle.goal_rules.specs.Steps.{front_tree};
 ghost use Rattle.laid_goals.specs.Sharing.{StandsAlike, IsKeptGoal};
@@ -19,7 +21,7 @@ use bumpalo::Bump;
 use fn_rules::{Rules, rules_are_valid};
 use goal_rules::{Front, Trial, next_case};
 use ot_rewrite::step_front;
-use ot_terms::{Goal, GoalProgress, Operands, SymOp, placed};
+use ot_terms::{Form, Goal, GoalProgress, Operands, SymOp, placed};
 
 /// How many bytes an arena may have where more is laid out.
 const ROOM: usize = 2_097_152;
@@ -39,66 +41,136 @@ pub fn trial<'r, 'a>(
     next_case(rules, case, ops, progress)
 }
 
-// The goal after one rule.
+// The goal after one rule, of one at whose front something is left to be rewritten.
 #[inline]
-fn next_of<'a>(
-    bump: &'a Bump,
-    rules: &Rules,
-    front: Front<'a>,
-) -> Result<Option<Goal<'a>>, NoMemory>
-    requires { (ob : ObName) × IsGoalOf (function_of rules.now) ob (front_tree front) }
-    ensures { IfOk result (λ r. IfSome r (λ next. IsStep (function_of rules.now) (front_tree front.entry)
-        (goal_tree next))) }
+fn next_of<'a>(bump: &'a Bump, rules: &Rules, front: Front<'a>) -> Result<Goal<'a>, NoMemory>
+    requires goal { (ob : ObName) × IsGoalOf (function_of rules.now) ob (front_tree front) }
+    requires open { is_at_front (front_tree front) ≡ false }
+    ensures { IfOk result (λ next. IsStep (function_of rules.now) (front_tree front.entry) (goal_tree next)) }
 {
     match step_front(bump, rules, front)? {
-        Some(next) => Ok(Some(next.goal(bump)?)),
-        None => Ok(None),
+        Some(next) => next.goal(bump),
+        None => front.goal(bump),
     }
-}
-
-// What is left where no case is tried, after one rule.
-#[inline]
-fn untried<'a>(
-    bump: &'a Bump,
-    rules: &Rules,
-    case: u32,
-    ops: &'a Operands,
-    progress: &'a GoalProgress,
-) -> Result<Option<Goal<'a>>, NoMemory>
-    requires { (ob : ObName) × IsGoalOf (function_of rules.now) ob (Choose case ops.now.a ops.now.b progress.now) }
-    ensures { IfOk result (λ r. IfSome r (λ next. IsStep (function_of rules.now)
-        (Choose case ops.now.a ops.now.b progress.now) (goal_tree next))) }
-{
-    let front = Front::Choose {
-        case,
-        ops,
-        progress,
-    };
-    next_of(bump, rules, front)
-}
-
-// What is left where a result is delivered, after one rule; none where the arena has no room for more.
-#[inline]
-fn behind<'a>(
-    bump: &'a Bump,
-    rules: &Rules,
-    op: SymOp,
-    progress: &'a GoalProgress,
-) -> Result<Option<Goal<'a>>, NoMemory>
-    requires { (ob : ObName) × IsGoalOf (function_of rules.now) ob (Deliver op progress.now) }
-    ensures { IfOk result (λ r. IfSome r (λ next. IsStep (function_of rules.now) (Deliver op progress.now)
-        (goal_tree next))) }
-{
-    if bump.allocated_bytes() > ROOM {
-        return Ok(None);
-    }
-    next_of(bump, rules, Front::Deliver { op, progress })
 }
 
 // Whether nothing is asked behind either goal, so that they are laid out.
 #[inline]
 fn are_ends(yes: &Goal<'_>, no: &Goal<'_>) -> bool {
     matches!(*yes, Goal::Holds | Goal::Fails(_)) && matches!(*no, Goal::Holds | Goal::Fails(_))
+}
+
+// One of two goals by a form, laid out.
+#[cycle(laid)]
+#[inline]
+fn form_laid<'a>(
+    bump: &'a Bump,
+    rules: &Rules,
+    known: &mut Vec<Behind<'a>, &'a Bump>,
+    form: &Form<'a>,
+    yes: &'a Goal<'a>,
+    no: &'a Goal<'a>,
+) -> Result<&'a Goal<'a>, NoMemory>
+    requires goal { (ob : ObName) × IsGoalOf (function_of rules.now) ob (If (form_tree form.now) (goal_tree yes.now)
+        (goal_tree no.now)) }
+    requires known { All (IsKeptGoal (function_of rules.now)) known.old.items }
+    ensures alike { IfOk result (λ r. StandsAlike (function_of rules.now) (If (form_tree form.now)
+        (goal_tree yes.now) (goal_tree no.now)) (goal_tree r.now)) }
+    ensures known { IfOk result (λ _. All (IsKeptGoal (function_of rules.now)) known.new.items) }
+{
+    if are_ends(yes, no) {
+        return by_form(bump, form, yes, no);
+    }
+    let on_no = laid(bump, rules, known, no)?;
+    let on_yes = laid(bump, rules, known, yes)?;
+    by_form(bump, form, on_yes, on_no)
+}
+
+// What is left where cases are tried, laid out.
+#[cycle(laid)]
+#[inline]
+fn cases_laid<'a>(
+    bump: &'a Bump,
+    rules: &Rules,
+    known: &mut Vec<Behind<'a>, &'a Bump>,
+    case: u32,
+    ops: &'a Operands,
+    progress: &'a GoalProgress,
+) -> Result<&'a Goal<'a>, NoMemory>
+    requires goal { (ob : ObName) × IsGoalOf (function_of rules.now) ob (Choose case ops.now.a ops.now.b progress.now) }
+    requires known { All (IsKeptGoal (function_of rules.now)) known.old.items }
+    ensures alike { IfOk result (λ r. StandsAlike (function_of rules.now)
+        (Choose case ops.now.a ops.now.b progress.now) (goal_tree r.now)) }
+    ensures known { IfOk result (λ _. All (IsKeptGoal (function_of rules.now)) known.new.items) }
+{
+    let Some(Trial { guard, yes, no }) = trial(rules, case, ops, progress) else {
+        let front = Front::Choose {
+            case,
+            ops,
+            progress,
+        };
+        let next = next_of(bump, rules, front)?;
+        return laid(bump, rules, known, &next);
+    };
+    rules_are_valid(rules);
+    let on_no = laid(bump, rules, known, &no)?;
+    let on_yes = laid(bump, rules, known, &yes)?;
+    by_guard(bump, guard, &ops.a, &ops.b, on_yes, on_no)
+}
+
+// What is left behind a result, laid out; the result itself where the arena has no room for more.
+#[cycle(laid)]
+#[inline]
+fn rest_laid<'a>(
+    bump: &'a Bump,
+    rules: &Rules,
+    known: &mut Vec<Behind<'a>, &'a Bump>,
+    op: SymOp,
+    progress: &'a GoalProgress,
+) -> Result<&'a Goal<'a>, NoMemory>
+    requires goal { (ob : ObName) × IsGoalOf (function_of rules.now) ob (Deliver op progress.now) }
+    requires known { All (IsKeptGoal (function_of rules.now)) known.old.items }
+    ensures alike { IfOk result (λ r. StandsAlike (function_of rules.now) (Deliver op progress.now)
+        (goal_tree r.now)) }
+    ensures known { IfOk result (λ _. All (IsKeptGoal (function_of rules.now)) known.new.items) }
+{
+    if let Some(built) = found(known, op, progress) {
+        return Ok(built);
+    }
+    if bump.allocated_bytes() > ROOM {
+        let plan = progress;
+        return placed(bump, Goal::Deliver { op, plan });
+    }
+    let next = next_of(bump, rules, Front::Deliver { op, progress })?;
+    let mut inner = Vec::new(bump);
+    let built = laid(bump, rules, &mut inner, &next)?;
+    learnt(known, op, progress, built)
+}
+
+// The goal with its questions laid out.
+#[cycle(laid)]
+fn laid<'a>(
+    bump: &'a Bump,
+    rules: &Rules,
+    known: &mut Vec<Behind<'a>, &'a Bump>,
+    goal: &Goal<'a>,
+) -> Result<&'a Goal<'a>, NoMemory>
+    requires goal { (ob : ObName) × IsGoalOf (function_of rules.now) ob (goal_tree goal.now) }
+    requires known { All (IsKeptGoal (function_of rules.now)) known.old.items }
+    ensures alike { IfOk result (λ r. StandsAlike (function_of rules.now) (goal_tree goal.now) (goal_tree r.now)) }
+    ensures known { IfOk result (λ _. All (IsKeptGoal (function_of rules.now)) known.new.items) }
+{
+    match *goal {
+        Goal::Holds | Goal::Fails(_) => placed(bump, *goal),
+        Goal::Ask { order, yes, no } => {
+            let form = order.form();
+            form_laid(bump, rules, known, &form, yes, no)
+        }
+        Goal::If { form, yes, no } => form_laid(bump, rules, known, form, yes, no),
+        Goal::Choose { case, ops, plan } => cases_laid(bump, rules, known, case, ops, plan),
+        Goal::Deliver { op, plan } => rest_laid(bump, rules, known, op, plan),
+        Goal::Same { left, right } => by_cells(bump, rules, *left, *right),
+    }
 }
 
 /// The goal with its questions laid out in the arena. What is left behind equal results is laid out once, where
@@ -108,6 +180,7 @@ fn are_ends(yes: &Goal<'_>, no: &Goal<'_>) -> bool {
 /// # Errors
 ///
 /// Want of memory.
+#[inline]
 pub fn laid_out<'a>(
     bump: &'a Bump,
     rules: &Rules,
@@ -119,43 +192,5 @@ pub fn laid_out<'a>(
     ensures alike { IfOk result (λ r. StandsAlike (function_of rules.now) (goal_tree goal.entry) (goal_tree r.now)) }
     ensures known { IfOk result (λ _. All (IsKeptGoal (function_of rules.now)) known.new.items) }
 {
-    rules_are_valid(rules);
-    match Front::of(&goal) {
-        Front::Holds | Front::Fails(_) => placed(bump, goal),
-        Front::If { form, yes, no } => {
-            if are_ends(yes, no) {
-                return by_form(bump, &form, yes, no);
-            }
-            let on_no = laid_out(bump, rules, known, *no)?;
-            let on_yes = laid_out(bump, rules, known, *yes)?;
-            by_form(bump, &form, on_yes, on_no)
-        }
-        Front::Choose {
-            case,
-            ops,
-            progress,
-        } => {
-            let Some(Trial { guard, yes, no }) = trial(rules, case, ops, progress) else {
-                let Some(next) = untried(bump, rules, case, ops, progress)? else {
-                    return placed(bump, goal);
-                };
-                return laid_out(bump, rules, known, next);
-            };
-            let on_no = laid_out(bump, rules, known, no)?;
-            let on_yes = laid_out(bump, rules, known, yes)?;
-            by_guard(bump, guard, &ops.a, &ops.b, on_yes, on_no)
-        }
-        Front::Deliver { op, progress } => {
-            if let Some(built) = found(known, op, progress) {
-                return Ok(built);
-            }
-            let Some(next) = behind(bump, rules, op, progress)? else {
-                return placed(bump, goal);
-            };
-            let mut inner = Vec::new(bump);
-            let built = laid_out(bump, rules, &mut inner, next)?;
-            learnt(known, op, progress, built)
-        }
-        Front::Same { left, right } => by_cells(bump, rules, left, right),
-    }
+    laid(bump, rules, known, &goal)
 }

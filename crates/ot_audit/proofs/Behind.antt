@@ -1,6 +1,6 @@
 -- What holds of the first of blocks and of those behind it holds of them all.
 use Rattle.std.proofs.Common.{◌≡◌, ℕ, true, List, [], ◌∷◌, ◌++◌, length, get_or, take, drop, ap, sym, subst, ◌∙◌, ◌-◌, ◌≤◌, arith}
-use Rattle.std.proofs.Common.{append_assoc, inl, inr}
+use Rattle.std.proofs.Common.{append_assoc, inr}
 use Rattle.std.specs.List.{AllByRecursion}
 use Rattle.std.proofs.lemmas.List.{take_rest}
 use Rattle.ot_model.specs.declared.op.Kind.{Kind}
@@ -10,7 +10,7 @@ use Rattle.audit_answers.specs.declared.audits.BlockAudit.{BlockAudit}
 use Rattle.audit_answers.specs.declared.audits.Same.{Same}
 use Rattle.ot_audit.specs.declared.found.Agree.{Agree}
 use Rattle.ot_audit.specs.Answers.{IsAgreedAs}
-use Rattle.ot_audit.specs.Audits.{AreAudits, AreCompared, GoesOnWhereSame, HasLong, IsBlockAudit, IsLong}
+use Rattle.ot_audit.specs.Audits.{AreAudits, AreCompared, GoesOnWhereSame, HasLong, IsBlockAudit}
 
 abbrev pub behind : List (Kind × Kind) → List (Kind × Kind)
 behind names = take (length names - 1) (drop 1 names)
@@ -43,12 +43,6 @@ audits_from_first f budget (name ∷ names) d x old pushed new some is more (xs,
   rest ∙ ap (λ (l : List BlockAudit). l ++ xs) more ∙ append_assoc old (x ∷ []) xs,
   (is, subst (λ (l : List (Kind × Kind)). AreAudits f budget l xs) (take_rest (name ∷ names) 1) are),
 )
-
-pub long_first :
-    (f : Function) (budget : ℕ) (names : List (Kind × Kind)) (d : Kind × Kind) → 1 ≤ length names
-    → IsLong f budget ((get_or names 0 d).0, (get_or names 0 d).1) → HasLong f budget names
-long_first f budget [] d some is = absurd (omega arith)
-long_first f budget (name ∷ names) d some is = inl is
 
 pub long_behind :
     (f : Function) (budget : ℕ) (names : List (Kind × Kind)) → 1 ≤ length names → HasLong f budget (behind names)

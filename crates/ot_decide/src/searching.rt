@@ -1,12 +1,12 @@
 //! The search of a list of obligations.
-ghost use Rattle.std.specs.Prelude.{◌≡◌, ◌≤◌, [], Some, true, IfOk, IsTrue};
+ghost use Rattle.std.specs.Prelude.{◌≡◌, ◌≤◌, [], true, IfOk, IsTrue};
 ghost use Rattle.std.specs.List.{list_all};
 ghost use Rattle.fn_rules.specs.Obligations.{is_obligation};
 ghost use Rattle.fn_rules.specs.Rules.{function_of};
 ghost use Rattle.ask_core.specs.declared.asker.TheConstants.{MAX_QUESTIONS};
 ghost use Rattle.ask_core.specs.Askers.{IsFine, longest_path};
-ghost use Rattle.ask_core.specs.Plans.{premised};
-ghost use Rattle.ot_questions.specs.Obligation.{plan_below, plan_of};
+ghost use Rattle.ot_questions.specs.Obligation.{plan_below};
+ghost use Rattle.ot_sections.specs.Stands.{plan_behind};
 ghost use Rattle.search_places.specs.declared.split.TheConstants.{MAX_NAMES};
 ghost use Rattle.ot_prove.specs.Outcomes.{IsDecided, StandsBehind};
 ghost use Rattle.ot_decide.specs.Below.{IsBound};
@@ -23,66 +23,56 @@ use fn_rules::{ObName, Rules, rules_are_valid};
 use ot_paths::PathAsker;
 use ot_prove::{Outcome, prove_behind};
 use ot_questions::Why;
-use ot_sections::shorter_than;
+use ot_sections::premise_below;
 use std::alloc::Global;
 use std::mem;
+
+// Searches an asker's plan, behind a premise if there is one.
+fn search_behind<A: Asker>(
+    alloc: Global,
+    premise: Option<Lit>,
+    inner: A,
+    budget: u64,
+    tree: Tree,
+) -> Result<Outcome<A::Why>, NoMemory>
+    requires few { A.name_count inner ≤ MAX_NAMES }
+    requires fine { IsFine (A.name_count inner) (plan_behind premise (A.root inner)) }
+    requires empty { tree.tokens ≡ [] }
+    ensures decides { IfOk result (λ o. IsDecided (plan_behind premise (A.root inner)) budget o) }
+    ensures front { IfOk result (StandsBehind tree.front) }
+{
+    match premise {
+        None => {
+            let mut asker = inner;
+            prove_behind(alloc, &mut asker, budget, tree)
+        }
+        Some(lit) => {
+            let mut asker = Premised::new(lit, inner);
+            prove_behind(alloc, &mut asker, budget, tree)
+        }
+    }
+}
 
 // Searches the plan of an obligation, whose goals stand in the arena.
 fn search_in<'a>(
     alloc: Global,
     bump: &'a Bump,
     rules: &'a Rules,
+    below: Option<u32>,
     ob: ObName,
     budget: u64,
     tree: Tree,
 ) -> Result<Outcome<Why>, NoMemory>
     requires listed { IsTrue (is_obligation (function_of rules.now).head ob) }
+    requires bounded { IsBound below }
     requires empty { tree.tokens ≡ [] }
-    ensures decides { IfOk result (IsDecided (plan_of (function_of rules.now) ob) budget) }
-    ensures front { IfOk result (StandsBehind tree.front) }
-{
-    let mut asker = PathAsker::new(bump, rules, ob);
-    prove_behind(alloc, &mut asker, budget, tree)
-}
-
-// Searches an asker's plan behind a premise.
-fn search_behind<A: Asker>(
-    alloc: Global,
-    premise: Lit,
-    inner: A,
-    budget: u64,
-    tree: Tree,
-) -> Result<Outcome<A::Why>, NoMemory>
-    requires few { A.name_count inner ≤ MAX_NAMES }
-    requires fine { IsFine (A.name_count inner) (premised premise (A.root inner)) }
-    requires empty { tree.tokens ≡ [] }
-    ensures decides { IfOk result (λ o. IsDecided (premised premise (A.root inner)) budget o) }
-    ensures front { IfOk result (StandsBehind tree.front) }
-{
-    let mut asker = Premised::new(premise, inner);
-    prove_behind(alloc, &mut asker, budget, tree)
-}
-
-// Searches the plan of an obligation on the documents of fewer cells than the bound.
-fn search_below<'a>(
-    alloc: Global,
-    bump: &'a Bump,
-    rules: &'a Rules,
-    bound: u32,
-    ob: ObName,
-    budget: u64,
-    tree: Tree,
-) -> Result<Outcome<Why>, NoMemory>
-    requires listed { IsTrue (is_obligation (function_of rules.now).head ob) }
-    requires bounded { IsBound (Some bound) }
-    requires empty { tree.tokens ≡ [] }
-    ensures decides { IfOk result (IsDecided (plan_below (function_of rules.now) (Some bound) ob) budget) }
+    ensures decides { IfOk result (IsDecided (plan_below (function_of rules.now) below ob) budget) }
     ensures front { IfOk result (StandsBehind tree.front) }
 {
     shorter_plans_keep_limits();
     rules_are_valid(rules);
     let asker = PathAsker::new(bump, rules, ob);
-    search_behind(alloc, shorter_than(bound), asker, budget, tree)
+    search_behind(alloc, premise_below(below), asker, budget, tree)
 }
 
 // Searches the plan of an obligation in an arena of its own.
@@ -104,10 +94,7 @@ fn search_ob(
     shorter_plans_keep_limits();
     rules_are_valid(rules);
     let bump = Bump::new(alloc);
-    match below {
-        None => search_in(alloc, &bump, rules, ob, budget, tree),
-        Some(bound) => search_below(alloc, &bump, rules, bound, ob, budget, tree),
-    }
+    search_in(alloc, &bump, rules, below, ob, budget, tree)
 }
 
 /// Searches obligations in order by at most `budget` questions of all of them together, and appends the section of each

@@ -1,9 +1,12 @@
 -- The client that a call speaks of, and the clients of the hub behind the call.
-use Rattle.std.proofs.Common.{◌≡◌, ◌<◌, ◌-◌, ℕ, List, length, Vec, Global, refl, sym, ap, ◌∙◌, get_or, arith}
+use Rattle.std.proofs.Common.{◌≡◌, ◌≢◌, ◌<◌, ◌-◌, ℕ, List, length, Vec, Global, Result, Ok, Err, refl, sym, ap, ◌∙◌, get_or, arith}
 use Rattle.std.specs.Prelude.{slice_set, unwrap_or}
 use Rattle.std.specs.Vec.{with_items}
 use Rattle.std.proofs.lemmas.List.{length-set, with_items_is}
 use Rattle.std.proofs.lemmas.Option.{slice_get_read}
+use Rattle.ot_hub.specs.declared.answer.Move.{Move}
+use Rattle.ot_hub.specs.declared.answer.Move.TheVariants as moves
+use Rattle.ot_hub.specs.declared.answer.Moved.{Moved}
 use Rattle.ot_hub.specs.declared.client.Client.{Client}
 use Rattle.ot_hub.specs.Clients.{IsClient, nobody, client_at}
 
@@ -28,3 +31,13 @@ items_set all i x new is = with_items_is all new (ap length is ∙ length-set al
 
 pub items_same : (all : Vec Client Global) (new : List Client) → new ≡ all.items → (with_items all new).items ≡ all.items
 items_same all new is = with_items_is all new (ap length is ∙ sym all.ok.0) ∙ is
+
+-- what is not stuck
+pub done-not_stuck : (moved : Moved) → ◌≢◌ {A = Result Moved Move} (Ok moved) (Err moves.Stuck)
+done-not_stuck moved is = cc
+
+pub no_site-not_stuck : ◌≢◌ {A = Result Moved Move} (Err moves.NoSite) (Err moves.Stuck)
+no_site-not_stuck is = cc
+
+pub refusal-stuck : (refusal : Move) → ◌≡◌ {A = Result Moved Move} (Err refusal) (Err moves.Stuck) → refusal ≡ moves.Stuck
+refusal-stuck refusal is = cc

@@ -1,15 +1,22 @@
--- A new hub is in step, and nothing is counted.
-use Rattle.std.proofs.Common.{◌≡◌, ◌<◌, ◌-◌, ℕ, List, [], length, refl, sym, ◌∙◌, subst, arith}
+-- A new hub is kept and in step, and nothing is counted.
+use Rattle.std.proofs.Common.{◌≡◌, ◌<◌, ◌≤◌, ◌-◌, ℕ, List, [], length, refl, sym, ◌∙◌, subst, arith}
 use Rattle.std.specs.Prelude.{replicate}
 use Rattle.std.proofs.lemmas.Option.{unwrap_or-slice_get}
 use Rattle.std.proofs.lemmas.List.{get_or-replicate, length-replicate}
+use Rattle.std.proofs.lemmas.List.Elements.{All-replicate}
+use Rattle.std.proofs.lemmas.List.Folds.{sum_by-replicate}
+use Rattle.ot_model.specs.declared.limits.TheConstants.{MAX_CELLS}
 use Rattle.ot_model.specs.declared.cell.Cell.{Cell}
 use Rattle.fn_rules.specs.Functions.{Function}
 use Rattle.ot_hub.specs.declared.client.Client.{Client}
+use Rattle.ot_hub.specs.declared.limits.TheConstants.{MAX_CLIENTS}
+use Rattle.ot_hub.specs.declared.placed.PlacedOp.{PlacedOp}
 use Rattle.ot_hub.specs.declared.server.Server.{Server}
 use Rattle.ot_hub.specs.Clients.{IsClient, nobody, client_at}
 use Rattle.ot_hub.specs.InStep.{IsClientInStep, AreInStep, AreCountedEdits}
+use Rattle.ot_hub.specs.Kept.{IsClientKept, IsHubKept}
 use Rattle.ot_hub.specs.Steps.{ahead_of}
+use Rattle.ot_hub.specs.Usable.{AreUsable, reach}
 use Rattle.ot_hub.proofs.Keeping.{client_at-get_or}
 
 module _ (d : List Cell) (n : ℕ) where
@@ -30,6 +37,30 @@ module _ (d : List Cell) (n : ℕ) where
 
   pub AreCountedEdits-begun : AreCountedEdits [] (replicate n fresh)
   AreCountedEdits-begun = record { each = λ c there. rw (fresh_at c there) refl }
+
+  pub IsHubKept-begun : (f : Function) → n ≤ MAX_CLIENTS → length d ≤ MAX_CELLS → IsHubKept f 0 server (replicate n fresh)
+  IsHubKept-begun f most cells = record {
+    server = record {
+      few = omega arith;
+      log = λ k other inside. absurd (omega arith);
+      ahead = All-replicate (λ list. AreUsable f (reach 0) list) n [] (λ k other inside. absurd (omega arith));
+      short = All-replicate (λ (list : List PlacedOp). length list ≤ 0) n [] (omega arith);
+      cells = omega (arith, cells);
+    };
+    clients = All-replicate (IsClientKept f 0) n fresh (record {
+      few = omega arith;
+      received = omega arith;
+      pending = λ k other inside. absurd (omega arith);
+      short = omega arith;
+      messages = λ k other inside. absurd (omega arith);
+      cells = omega (arith, cells);
+    });
+    sides = length-replicate n [] ∙ sym (length-replicate n fresh);
+    most = omega (arith, length-replicate n fresh, most);
+    few = omega arith;
+    made = omega (arith, sum_by-replicate (λ (client : Client). client.edits) n fresh);
+    moved = omega (arith, sum_by-replicate (λ (client : Client). length client.messages) n fresh);
+  }
 
   pub AreInStep-begun_hub : (f : Function) → AreInStep f d server (replicate n fresh)
   AreInStep-begun_hub f = record {

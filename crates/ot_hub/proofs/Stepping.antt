@@ -1,7 +1,7 @@
 -- What the steps come to, by what was carried.
 use Rattle.std.proofs.Common.{◌≡◌, ◌≢◌, ℕ, true, false, List, [], ◌∷◌, length, Option, Some, None, refl, ap, ◌∙◌, ◌-◌, ◌+◌, sym, subst, get_or, arith, eqb-true}
 use Rattle.std.proofs.Common.{eq-eqb}
-use Rattle.std.specs.Prelude.{nat_eq, ◌<◌, slice_get, slice_set, Result, Ok, Err}
+use Rattle.std.specs.Prelude.{nat_eq, ◌<◌, slice_get, slice_set, Result, Ok, Err, IsErrAnd, is_some}
 use Rattle.std.proofs.lemmas.List.{set-get_or}
 use Rattle.std.proofs.lemmas.Bool.{false_from_ne_true}
 use Rattle.ot_model.specs.declared.op.Op.{Op}
@@ -48,6 +48,17 @@ pub goes_on-leads : {X : Type 0} (carried : Option Carried) (o : Op) (cells : �
     → is_enabled o cells ≡ true → IsTo (goes_on carried cells go)
 goes_on-leads None o cells go is enabled = cc
 goes_on-leads (Some carried) o cells go is enabled = let same : o ≡ carried.op = cc in rw (← same, enabled) tt
+
+-- what was carried over a list, where the operation was
+pub carried_some : (carried : Option Carried) (o : Op) → Some o ≡ carried_op carried → is_some carried ≡ true
+carried_some None o is = cc
+carried_some (Some carried) o is = refl
+
+-- memory was wanting where the step leads on
+pub HasStepped-lacked : {X R : Type 0} (old new : X) (step : Step X) (result : Result R Move) → IsErrAnd result (λ e. e ≡ moves.NoMemory)
+    → IsTo step → new ≡ old → HasStepped old new step result
+HasStepped-lacked old new step (Ok done) lacks leads same = absurd lacks
+HasStepped-lacked old new step (Err e) lacks leads same = rw lacks (leads, same)
 
 -- all of a list are from place 0 on
 from_place-all : (list : List PlacedOp) → from_place 0 list ≡ list

@@ -3,7 +3,6 @@ use Rattle.std.proofs.Common.{◌≡◌, ℕ, true, IsTrue, List, [], ◌∷◌,
 use Rattle.fn_rules.specs.declared.function.Head.{Head}
 use Rattle.fn_rules.specs.declared.function.Level.{Level}
 use Rattle.fn_rules.specs.declared.function.Level.TheVariants.{Tp1, Tp2}
-use Rattle.fn_rules.specs.declared.function.ObName.{ObName}
 use Rattle.fn_rules.specs.Functions.{Function}
 use Rattle.fn_rules.specs.Obligations.{obligations_of}
 use Rattle.fn_rules.specs.Validity.{is_valid}
@@ -35,11 +34,9 @@ abbrev pub reader_of : Function → ReaderState
 reader_of f = Reading (Start (obligations_of f.head Tp1) (obligations_of f.head Tp2)) 0 []
 
 pub at_start :
-    (f : Function) (head : Head) (tp1 tp2 : List ObName) (r : ReaderState) → r ≡ Reading (Start tp1 tp2) 0 [] → tp1 ≡ obligations_of head Tp1
-    → tp2 ≡ obligations_of head Tp2 → head ≡ f.head → r ≡ reader_of f
-at_start f head tp1 tp2 r is one two same =
-    is ∙ ap (λ (l : List ObName). Reading (Start l tp2) 0 []) (one ∙ ap (λ (h : Head). obligations_of h Tp1) same)
-    ∙ ap (λ (l : List ObName). Reading (Start (obligations_of f.head Tp1) l) 0 []) (two ∙ ap (λ (h : Head). obligations_of h Tp2) same)
+    (f : Function) (head : Head) (r : ReaderState) → r ≡ Reading (Start (obligations_of head Tp1) (obligations_of head Tp2)) 0 []
+    → head ≡ f.head → r ≡ reader_of f
+at_start f head r is same = is ∙ ap (λ (h : Head). Reading (Start (obligations_of h Tp1) (obligations_of h Tp2)) 0 []) same
 
 -- a part that is a header, by its level
 pub came_header :

@@ -93,6 +93,9 @@ after_question-some (p ∷ places) l on_yes on_no some = omega arith
 
 module _ {N W : Type 0} where
   -- ---- what stays when own nodes keep their plans
+  pub SamePlans-refl : (a : N → Type 0) (p : N → Plan W) → SamePlans a a p p
+  SamePlans-refl a p = record { own = λ n. (λ x. x, λ x. x); plans = λ n own. refl }
+
   pub SamePlans-trans :
       (a b c : N → Type 0) (p q r : N → Plan W) → SamePlans a b p q → SamePlans b c q r → SamePlans a c p r
   SamePlans-trans a b c p q r first second = record {

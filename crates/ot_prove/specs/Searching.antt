@@ -127,6 +127,12 @@ IsUnderWayOr is_own plan root budget s step.Spent = AgreesWithLists root budget 
 IsUnderWayOr is_own plan root budget s (step.Fails why) =
     (0 < length s.path) × FailsFirst root budget (first_answers s.path) why
 
+-- the search has ended so: no place is open, or the budget is spent, or the first place is the first failing end
+abbrev pub HasEnded : {N W : Type 0} → Plan W → ℕ → PlanSearch N → Stepped W → Type 0
+HasEnded root budget s step.GoesOn = AgreesWithLists root budget (outcome.Yes s.tree s.asked)
+HasEnded root budget s step.Spent = AgreesWithLists root budget outcome.Spent
+HasEnded root budget s (step.Fails why) = (0 < length s.path) × FailsFirst root budget (first_answers s.path) why
+
 -- where it leaves a search, the plans that are open weigh less than before
 abbrev pub WeighsLess : {N W : Type 0} → (N → Plan W) → (N → Plan W) → PlanSearch N → PlanSearch N → Stepped W → Type 0
 WeighsLess old new before after step.GoesOn =

@@ -43,8 +43,8 @@ pub fn answers_along<A: Asker>(
                 answers.push(Answer { lit, yes: said })?;
                 node = side_of(said, yes, no);
             }
-            Turn::Holds => break,
-            Turn::Fails(_) => break,
+            Turn::Holds => return Ok(answers),
+            Turn::Fails(_) => return Ok(answers),
         }
     }
     Ok(answers)

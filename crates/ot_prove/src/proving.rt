@@ -1,8 +1,9 @@
 //! The calls that search a plan.
-ghost use Rattle.std.specs.Prelude.{◌≡◌, ◌≤◌, [], IfOk};
+ghost use Rattle.std.specs.Prelude.{◌≡◌, ℕ, ◌≤◌, [], IfOk, OnOk};
 ghost use Rattle.ask_core.specs.Askers.{SamePlans};
 ghost use Rattle.search_places.specs.declared.split.TheConstants.{MAX_NAMES};
 ghost use Rattle.ot_prove.specs.Outcomes.{IsDecided, StandsBehind};
+ghost use Rattle.ot_prove.specs.Searching.{AgreesWithLists, HasEnded, IsSearchUnderWay};
 
 use crate::NoMemory;
 use crate::answers::answers_along;
@@ -51,22 +52,63 @@ pub fn prove_behind<A: Asker>(
     ensures root_kept { A.root asker.new ≡ A.root asker.old }
     ensures count_kept { A.name_count asker.new ≡ A.name_count asker.old }
 {
-    plans_have_one_question_list::<A::Why>();
     question_lists_are_possible::<A::Why>();
     let first = asker.start()?;
     let mut search = PlanSearch::begin(alloc, first, tree)?;
+    plans_have_one_question_list::<A::Why>();
+    let ended = search_through(asker, &mut search, budget)?;
+    outcome_of(alloc, asker, search, ended)
+}
+
+/// Takes steps until no place is open, or one ends the search.
+#[inline(always)]
+fn search_through<A: Asker>(
+    asker: &mut A,
+    search: &mut PlanSearch<A::Node>,
+    budget: u64,
+) -> Result<Stepped<A::Why>, NoMemory>
+    requires names { A.name_count asker.old ≤ MAX_NAMES }
+    requires searching { IsSearchUnderWay (A.is_own asker.old) (A.plan asker.old) (A.root asker.old) budget search.old }
+    ensures ended { IfOk result (HasEnded (A.root asker.new) budget search.new) }
+    ensures front { OnOk result (search.new.tree.front ≡ search.old.tree.front) }
+    ensures same { SamePlans (A.is_own asker.old) (A.is_own asker.new) (A.plan asker.old) (A.plan asker.new) }
+    ensures root { A.root asker.new ≡ A.root asker.old }
+    ensures count { A.name_count asker.new ≡ A.name_count asker.old }
+{
     'places: while search.path.is_open() {
-        match step(asker, &mut search, budget)? {
+        match step(asker, search, budget)? {
             Stepped::GoesOn => {}
-            Stepped::Spent => return Ok(Outcome::Spent),
-            Stepped::Fails(why) => {
-                let answers = answers_along(alloc, asker, search.path.answers())?;
-                return Ok(Outcome::No { answers, why });
-            }
+            Stepped::Spent => return Ok(Stepped::Spent),
+            Stepped::Fails(why) => return Ok(Stepped::Fails(why)),
         }
     }
-    Ok(Outcome::Yes {
-        tree: search.tree,
-        asked: search.asked,
-    })
+    Ok(Stepped::GoesOn)
+}
+
+/// What a search came to that has ended so.
+fn outcome_of<A: Asker>(
+    alloc: Global,
+    asker: &mut A,
+    search: PlanSearch<A::Node>,
+    ended: Stepped<A::Why>,
+) -> Result<Outcome<A::Why>, NoMemory>
+    requires { (budget : ℕ) × HasEnded (A.root asker.old) budget search ended }
+    ensures agrees { IfOk result (λ o. (budget : ℕ) → HasEnded (A.root asker.old) budget search ended
+        → AgreesWithLists (A.root asker.old) budget o) }
+    ensures front { IfOk result (StandsBehind search.tree.front) }
+    ensures same { SamePlans (A.is_own asker.old) (A.is_own asker.new) (A.plan asker.old) (A.plan asker.new) }
+    ensures root { A.root asker.new ≡ A.root asker.old }
+    ensures count { A.name_count asker.new ≡ A.name_count asker.old }
+{
+    match ended {
+        Stepped::GoesOn => Ok(Outcome::Yes {
+            tree: search.tree,
+            asked: search.asked,
+        }),
+        Stepped::Spent => Ok(Outcome::Spent),
+        Stepped::Fails(why) => {
+            let answers = answers_along(alloc, asker, search.path.answers())?;
+            Ok(Outcome::No { answers, why })
+        }
+    }
 }

@@ -4,13 +4,14 @@ use Rattle.cert_check.specs.declared.verdict.CheckError.{CheckError}
 use Rattle.cert_check.specs.declared.verdict.CheckError.TheVariants as check
 use Rattle.cert_text.specs.declared.item.CertError.{CertError}
 use Rattle.cert_text.specs.declared.item.CertError.TheVariants as cert
+use Rattle.cert_text.specs.Reading.{ReaderState}
 use Rattle.ot_outside.specs.Faults.{Rose}
 use Rattle.ot_outside.specs.declared.feed.Feed.{Ghosts}
 use Rattle.refusals.specs.declared.refusal.JudgeError.{JudgeError}
 use Rattle.refusals.specs.declared.refusal.JudgeError.TheVariants as judge
 use Rattle.refusals.specs.Spelling.{end_of_spelling}
 use Rattle.ot_sections.specs.Parts.{end_of_token}
-use Rattle.ot_sections.specs.Feeding.{Fed, IsKeptFeed, IsTruncated, Leaves}
+use Rattle.ot_sections.specs.Feeding.{Fed, IsKeptFeed, IsTruncated, Leaves, fed}
 
 -- a refusal by spelling is no failure
 pub spelling_no_failure : (c : CertError) (e : JudgeError) → e ≡ end_of_spelling c → e ≡ judge.Failed → ⊥
@@ -109,3 +110,7 @@ module _ {F : Type 0} (feeds : Ghosts F) where
         spent = tt;
         failed = tt;
       }
+
+  -- a feed that is asked, and a reader that is not
+  pub asked_on : (reader : ReaderState) (was now : F) → KeepsFeed was now → GoesOn (fed reader was) (fed reader now)
+  asked_on reader was now kept = record { kept = kept; room = omega (arith, kept.no_more_bytes); spent = tt; failed = tt }

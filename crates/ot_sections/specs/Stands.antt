@@ -1,7 +1,8 @@
 -- Where a judge stands in the bytes of a feed, and what it knows there of what it judged before.
-use Rattle.std.specs.Prelude.{◌≡◌, ℕ, ◌+◌, List, [], ◌∷◌, ◌++◌, length, Result, Ok, Err}
+use Rattle.std.specs.Prelude.{◌≡◌, ℕ, ◌+◌, List, [], ◌∷◌, ◌++◌, length, Option, Some, None, Result, Err}
+use Rattle.diff_graph.specs.declared.lit.Lit.{Lit}
 use Rattle.fn_rules.specs.declared.function.ObName.{ObName}
-use Rattle.ask_core.specs.Plans.{Plan}
+use Rattle.ask_core.specs.Plans.{Plan, premised}
 use Rattle.ask_core.specs.Trees.{Branch}
 use Rattle.cert_text.specs.declared.item.Item.{Item}
 use Rattle.cert_text.specs.declared.item.CertError.{CertError}
@@ -47,6 +48,11 @@ tree_with count Finish = Finish
 -- the one branch that an obligation with this plan opens
 abbrev pub opened : {W : Type 0} → Plan W → List (Branch W)
 opened p = record { plan = p; answers = [] } ∷ []
+
+-- the plan behind the premise, if there is one
+abbrev pub plan_behind : {W : Type 0} → Option Lit → Plan W → Plan W
+plan_behind None p = p
+plan_behind (Some premise) p = premised premise p
 
 -- a judge between two parts: its reader, its feed, and the open branches
 pub record Stand (F W : Type 0) : Type 0 where

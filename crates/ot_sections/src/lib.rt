@@ -15,5 +15,5 @@ pub use laws::{
 };
 pub use obligation::judge_in;
 pub use part::{expect_part, next_part};
-pub use premise::{MAX_BOUND, shorter_than};
+pub use premise::{MAX_BOUND, premise_below};
 pub use refusals::{JudgeError, Refusal};

@@ -10,8 +10,8 @@ ghost use Rattle.ot_sections.specs.Stands.{stand};
 ghost use Rattle.ot_sections.specs.Stands.{tree_with};
 
 use crate::JudgeError;
-use crate::premise::{MAX_BOUND, shorter_than};
-use crate::tree::{judge_tree, judge_tree_behind};
+use crate::premise::{MAX_BOUND, premise_below};
+use crate::tree::judge_tree_behind;
 use bumpalo::Bump;
 use cert_reader::Reader;
 use fn_rules::{ObName, Rules, rules_are_valid};
@@ -47,8 +47,5 @@ pub fn judge_in<'a, F: Feed>(
     plans_keep_limits();
     rules_are_valid(rules);
     let asker = PathAsker::new(bump, rules, ob);
-    match below {
-        None => judge_tree(alloc, asker, reader, feed),
-        Some(bound) => judge_tree_behind(alloc, shorter_than(bound), asker, reader, feed),
-    }
+    judge_tree_behind(alloc, premise_below(below), asker, reader, feed)
 }

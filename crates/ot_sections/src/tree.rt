@@ -1,20 +1,19 @@
 //! The tree of an obligation, judged token by token.
-ghost use Rattle.std.specs.Prelude.{◌≡◌, ℕ, ◌+◌, ◌^◌, ◌<◌, ◌≤◌, [], ◌∷◌, Ok, length, take, IfErr, IfNone, IfOk};
-ghost use Rattle.std.specs.Prelude.{IfSome, OnOk, IsTrue};
+ghost use Rattle.std.specs.Prelude.{◌≡◌, ℕ, ◌+◌, ◌^◌, ◌<◌, ◌≤◌, [], ◌∷◌, None, Ok, length, take, IfErr, IfNone};
+ghost use Rattle.std.specs.Prelude.{IfOk, IfSome, OnOk, IsTrue};
 ghost use Rattle.ask_core.specs.Askers.{has_fine_literals, is_fine_literal, longest_path};
-ghost use Rattle.ask_core.specs.Plans.{premised};
 ghost use Rattle.cert_check.specs.Judging.{open_branches};
 ghost use Rattle.cert_text.specs.Reading.{fed_to};
 ghost use Rattle.ot_sections.specs.Parts.{end_of_token};
 ghost use Rattle.ot_sections.specs.Feeding.{Leaves, fed};
 ghost use Rattle.ot_sections.specs.Stands.{Came, IsBetween, IsMisspeltBehind, IsRefusedAnyway, IsTreeOf, LeadsAnyway};
-ghost use Rattle.ot_sections.specs.Stands.{opened, reader_place_of, stand, tree_with};
+ghost use Rattle.ot_sections.specs.Stands.{opened, plan_behind, reader_place_of, stand, tree_with};
 ghost use Rattle.ot_sections.specs.Taking.{AreTaken, AreTakenFront};
 
 use crate::part::expect_part;
 use crate::{JudgeError, Refusal};
 use ask_core::{Asker, MAX_QUESTIONS, Premised, Tok};
-use cert_check::{CheckError, Checker, MAX_NAMES, Progress};
+use cert_check::{CheckError, Checker, MAX_NAMES};
 use cert_reader::Reader;
 use cert_text::{Item, Part};
 use diff_graph::Lit;
@@ -210,8 +209,38 @@ fn take_at_hand<A: Asker, F: Feed>(checker: &mut Checker<A>, reader: &mut Reader
     feed.consume(taken);
 }
 
-/// Judges the tree of an obligation, which answers what the asker asks: it takes its tokens up to the last one.
-pub(crate) fn judge_tree<A: Asker, F: Feed>(
+// Judges a tree at the open places of a checker: it takes the tokens up to the last one.
+fn judge_places<A: Asker, F: Feed>(
+    checker: &mut Checker<A>,
+    reader: &mut Reader,
+    feed: &mut F,
+) -> Result<(), JudgeError>
+    requires unrefused { checker.old.refusal ≡ None }
+    requires between { IsBetween reader.old }
+    requires tree { IsTreeOf (length (open_branches A.plan checker.old)) (reader_place_of reader.old) }
+    requires room { fed_to reader.old + F.bound feed.old < 2 ^ 63 }
+    ensures closed { OnOk result (IsBetween reader.new
+        × (reader_place_of reader.new ≡ tree_with 0 (reader_place_of reader.old))) }
+    ensures leads { OnOk result (LeadsAnyway F.Feed
+        (stand (fed reader.old feed.old) (open_branches A.plan checker.old)) (stand (fed reader.new feed.new) [])) }
+    ensures refused { IfErr result (IsRefusedAnyway F.Feed
+        (stand (fed reader.old feed.old) (open_branches A.plan checker.old)) feed.new) }
+    ensures leaves { Leaves F.Feed (fed reader.old feed.old) (fed reader.new feed.new) result }
+{
+    let mut tok = Tok::Ask;
+    'tokens: while checker.is_open() {
+        let offset = next_token(reader, feed, &mut tok)?;
+        match checker.judge(&tok) {
+            Ok(_) => {}
+            Err(end) => return Err(end_at(offset, end)),
+        }
+        take_at_hand(checker, reader, feed);
+    }
+    Ok(())
+}
+
+// Judges the tree of an obligation, which answers what the asker asks: it takes its tokens up to the last one.
+fn judge_tree<A: Asker, F: Feed>(
     alloc: Global,
     asker: A,
     reader: &mut Reader,
@@ -233,30 +262,18 @@ pub(crate) fn judge_tree<A: Asker, F: Feed>(
     ensures leaves { Leaves F.Feed (fed reader.old feed.old) (fed reader.new feed.new) result }
 {
     let mut checker = Checker::new(alloc, asker)?;
-    let mut tok = Tok::Ask;
-    loop {
-        let offset = next_token(reader, feed, &mut tok)?;
-        match checker.judge(&tok) {
-            Ok(Progress::More) => {}
-            Ok(Progress::Done) => return Ok(()),
-            Err(end) => return Err(end_at(offset, end)),
-        }
-        take_at_hand(&mut checker, reader, feed);
-        if !checker.is_open() {
-            return Ok(());
-        }
-    }
+    judge_places(&mut checker, reader, feed)
 }
 
-/// Judges a tree that answers first whether the premise is met, and where it is, what the asker asks.
+/// Judges a tree that answers first whether the premise is met, if there is one, and where it is, what the asker asks.
 pub(crate) fn judge_tree_behind<A: Asker, F: Feed>(
     alloc: Global,
-    premise: Lit,
+    premise: Option<Lit>,
     asker: A,
     reader: &mut Reader,
     feed: &mut F,
 ) -> Result<(), JudgeError>
-    requires premise { IsTrue (is_fine_literal (A.name_count asker) premise) }
+    requires premise { IfSome premise (λ lit. IsTrue (is_fine_literal (A.name_count asker) lit)) }
     requires literals { IsTrue (has_fine_literals (A.name_count asker) (A.root asker)) }
     requires paths { longest_path (A.root asker) < MAX_QUESTIONS }
     requires names { A.name_count asker ≤ MAX_NAMES }
@@ -266,11 +283,14 @@ pub(crate) fn judge_tree_behind<A: Asker, F: Feed>(
     ensures closed { OnOk result (IsBetween reader.new
         × (reader_place_of reader.new ≡ tree_with 0 (reader_place_of reader.old))) }
     ensures leads { OnOk result (LeadsAnyway F.Feed (stand (fed reader.old feed.old)
-        (opened (premised premise (A.root asker))))
+        (opened (plan_behind premise (A.root asker))))
         (stand (fed reader.new feed.new) [])) }
     ensures refused { IfErr result (IsRefusedAnyway F.Feed
-        (stand (fed reader.old feed.old) (opened (premised premise (A.root asker)))) feed.new) }
+        (stand (fed reader.old feed.old) (opened (plan_behind premise (A.root asker)))) feed.new) }
     ensures leaves { Leaves F.Feed (fed reader.old feed.old) (fed reader.new feed.new) result }
 {
-    judge_tree(alloc, Premised::new(premise, asker), reader, feed)
+    match premise {
+        None => judge_tree(alloc, asker, reader, feed),
+        Some(lit) => judge_tree(alloc, Premised::new(lit, asker), reader, feed),
+    }
 }

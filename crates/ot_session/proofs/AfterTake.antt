@@ -1,6 +1,6 @@
 -- A session after one of its sites took an operation. The call that took it names the lists of what was made and of the sites
 -- anew; they are those of the session.
-use Rattle.std.proofs.Common.{◌≡◌, ◌<◌, ◌≤◌, ◌-◌, ◌+◌, ◌*◌, ◌++◌, ℕ, Bool, true, List, length, map, Result, Err, sym, ◌∙◌, subst, reverse, arith, is_ok, OnOk}
+use Rattle.std.proofs.Common.{◌≡◌, ◌≢◌, ◌<◌, ◌≤◌, ◌-◌, ◌+◌, ◌*◌, ◌++◌, ℕ, Bool, true, List, length, map, Result, Err, sym, ◌∙◌, subst, reverse, arith, is_ok, OnOk}
 use Rattle.std.specs.Prelude.{slice_get, IfSome}
 use Rattle.std.specs.Coded.{Coded-set, coded_ℕ}
 use Rattle.std.specs.List.{AllByRecursion}
@@ -17,7 +17,7 @@ use Rattle.ot_causal.specs.Sessions.{SessionData, IsSite, IsSound, IsSoundPast, 
 use Rattle.ot_causal.specs.Convergence.{Converges}
 use Rattle.ot_session.specs.declared.answer.Took.{Took}
 use Rattle.ot_session.specs.declared.answer.Take.{Take}
-use Rattle.ot_session.specs.declared.answer.Take.TheVariants.{Stuck, Spent}
+use Rattle.ot_session.specs.declared.answer.Take.TheVariants.{NoSite, NoOp, Stuck, Spent}
 use Rattle.ot_session.specs.declared.limits.TheConstants.{MAX_SITES, MAX_FORMS}
 use Rattle.ot_session.specs.declared.made.Made.{Made}
 use Rattle.ot_session.specs.declared.session.Session.{Session}
@@ -138,3 +138,16 @@ module _ (s : Session) where
         never-spent whole within inside opened enough is = ∥∥₁_elim s.kept (hlevel) (λ k.
             never-spent-taken rules s.first s.made.items s.sites.items new_sites t at n s.counted total answer step sound_law count_law k.sound
             whole within inside k.sorted (s.counts opened) enough is)
+
+-- what is refused before it is taken is not stuck, and nothing is spent for it
+pub no_site-not_stuck : (o : ℕ) → ◌≢◌ {A = Result Took Take} (Err NoSite) (Err (Stuck o))
+no_site-not_stuck o is = cc
+
+pub no_site-not_spent : ◌≢◌ {A = Result Took Take} (Err NoSite) (Err Spent)
+no_site-not_spent is = cc
+
+pub no_op-not_stuck : (o : ℕ) → ◌≢◌ {A = Result Took Take} (Err NoOp) (Err (Stuck o))
+no_op-not_stuck o is = cc
+
+pub no_op-not_spent : ◌≢◌ {A = Result Took Take} (Err NoOp) (Err Spent)
+no_op-not_spent is = cc

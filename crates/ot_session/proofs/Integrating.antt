@@ -1,7 +1,7 @@
 -- A site at which an operation was integrated.
 use Rattle.std.proofs.Common.{◌≡◌, ◌≢◌, ◌<◌, ◌≤◌, ◌+◌, ◌-◌, ◌++◌, ◌∷◌, [], ℕ, Bool, true, false, List, length, Option, Some, None, Result, Ok, Err, refl, sym}
 use Rattle.std.proofs.Common.{ap, ◌∙◌, subst, inl, inr, arith, reverse}
-use Rattle.std.specs.Prelude.{nat_eq, slice_set}
+use Rattle.std.specs.Prelude.{nat_eq, slice_set, IsErrAnd}
 use Rattle.std.specs.List.{AllByRecursion}
 use Rattle.std.proofs.Math.Logic.{∥∥₁_map, ∥∥₁_map₂}
 use Rattle.std.proofs.Common.{get_or-set_other}
@@ -21,7 +21,7 @@ use Rattle.ot_session.specs.declared.site.Site.{Site}
 use Rattle.ot_session.specs.declared.table.Key.{Key}
 use Rattle.ot_session.specs.Past.{is_marked}
 use Rattle.ot_session.specs.declared.form.FormError.{FormError}
-use Rattle.ot_session.specs.declared.form.FormError.TheVariants.{NoForm, Spent}
+use Rattle.ot_session.specs.declared.form.FormError.TheVariants.{NoForm, Spent, NoMemory}
 use Rattle.ot_session.specs.Entries.{IsFormEntry, HasForms, IsTable, MaySeek, Seeks, HasSought}
 use Rattle.ot_session.specs.Seeking.{Obstacle, Missing, Exhausted, first_obstacle, IsCountSpent, uncounted, count_at, count_behind}
 use Rattle.ot_session.specs.Sites.{IsMarked, IsApart, CanTake, Executes}
@@ -280,3 +280,25 @@ module _ (f : Function) (past : Past) (site : Site) (n total more : ℕ) (table 
             → ((names : List FormName) → AreCounted past seen names → AreCounted past (n ∷ seen) names) → ∥ CanTake f past new ∥₁
         CanTake-sought few longer = ∥∥₁_map₂ can (seeks p clause).table (λ k forms.
             CanTake-changed f past n p table site new change next counted_next few longer k forms)
+
+-- where memory was wanting nothing is stuck or spent
+pub lacked-not_stuck : (r : Result (Unit {0}) FormError) → IsErrAnd r (λ e. e ≡ NoMemory) → r ≢ Err NoForm
+lacked-not_stuck (Ok done) lacks is = absurd lacks
+lacked-not_stuck (Err e) lacks is = cc
+
+pub lacked-not_spent : (r : Result (Unit {0}) FormError) → IsErrAnd r (λ e. e ≡ NoMemory) → r ≢ Err Spent
+lacked-not_spent (Ok done) lacks is = absurd lacks
+lacked-not_spent (Err e) lacks is = cc
+
+-- an answer is not another one
+pub done-not_refused : (done : Unit {0}) (e : FormError) → ◌≢◌ {A = Result (Unit {0}) FormError} (Ok done) (Err e)
+done-not_refused done e is = cc
+
+pub no_form-not_spent : ◌≢◌ {A = Result (Unit {0}) FormError} (Err NoForm) (Err Spent)
+no_form-not_spent is = cc
+
+pub no_memory-not_stuck : ◌≢◌ {A = Result (Unit {0}) FormError} (Err NoMemory) (Err NoForm)
+no_memory-not_stuck is = cc
+
+pub no_memory-not_spent : ◌≢◌ {A = Result (Unit {0}) FormError} (Err NoMemory) (Err Spent)
+no_memory-not_spent is = cc

@@ -1,4 +1,5 @@
 pub mod AfterTake
+pub mod Answered
 pub mod Beginning
 pub mod BothParts
 pub mod Clocks

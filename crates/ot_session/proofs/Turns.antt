@@ -2,16 +2,20 @@
 use Rattle.std.proofs.Common.{◌≡◌, ◌≢◌, ◌<◌, ◌≤◌, ◌++◌, ◌∷◌, [], ℕ, Bool, true, false, List, length, sym, ap, ◌∙◌, inl, inr, arith, reverse}
 use Rattle.std.specs.Coded.{Coded-set, coded_bool}
 use Rattle.std.proofs.Math.Logic.{∥∥₁_elim}
-use Rattle.std.specs.Prelude.{slice_set}
+use Rattle.std.specs.Prelude.{slice_set, Result, Ok, Err, IsErrAnd}
+use Rattle.fn_rules.specs.Functions.{Function}
 use Rattle.std.proofs.Common.{get_or-set_other}
 use Rattle.std.proofs.lemmas.Bool.{false≢true, false_from_ne_true, cases_eq, cases_lt}
 use Rattle.std.proofs.lemmas.List.{length-set}
 use Rattle.ot_causal.specs.Members.{has}
 use Rattle.ot_causal.specs.Past.{Past, IsNext}
+use Rattle.ot_session.specs.declared.answer.Take.{Take}
+use Rattle.ot_session.specs.declared.answer.Take.TheVariants.{NoMemory}
+use Rattle.ot_session.specs.declared.answer.Took.{Took}
 use Rattle.ot_session.specs.declared.site.Site.{Site}
 use Rattle.ot_session.specs.Past.{is_marked}
 use Rattle.ot_session.specs.Sites.{SiteView, view_site, IsSorted, IsSameSite}
-use Rattle.ot_session.specs.Taking.{IsKnown, HasAllBefore, IsDue, IsLeastDue, NoneIsDue, IsTurn, IsDueByMarks, IsLeastByMarks}
+use Rattle.ot_session.specs.Taking.{SiteStanding, HasLacked, Takes, IsKnown, HasAllBefore, IsDue, IsLeastDue, NoneIsDue, IsTurn, IsDueByMarks, IsLeastByMarks}
 
 -- behind some it is the turn of the least that is due
 pub IsTurn-later : (past : Past) (n : ℕ) (done : List ℕ) (one : ℕ) (site : SiteView) (o : ℕ) → IsLeastDue past site o
@@ -42,6 +46,12 @@ IsSorted-same count old new same sorted = record {
         ∙ sorted.apart.other x (ap (λ (marks : List Bool). is_marked marks x) (sym same.held) ∙ is);
   };
 }
+
+-- memory was wanting
+pub Takes-lacked : (f : Function) (past : Past) (n : ℕ) (old new : SiteStanding) (answer : Result Took Take) → IsErrAnd answer (λ e. e ≡ NoMemory)
+    → HasLacked f past n old new → Takes f past n old new answer
+Takes-lacked f past n old new (Ok took) lacks lacked = absurd lacks
+Takes-lacked f past n old new (Err e) lacks lacked = rw lacks lacked
 
 module _ (past : Past) (site : Site) (sorted : ∥ IsSorted past.count site ∥₁) where
   pub marks : (x : ℕ) → is_marked site.integrated x ≡ has (reverse site.seen.items) x

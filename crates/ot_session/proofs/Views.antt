@@ -1,6 +1,6 @@
 -- Documents are told apart by their cells; what is seen of a site.
 use Rattle.std.proofs.Common.{◌≡◌, ◌<◌, ◌+◌, ◌-◌, ℕ, Bool, List, length, map, Option, Some, refl, ap, ◌∙◌, subst, reverse, get_or, arith}
-use Rattle.std.specs.Prelude.{slice_get}
+use Rattle.std.specs.Prelude.{slice_get, Result, Ok, Err, OnErr}
 use Rattle.std.specs.Option.{option_map}
 use Rattle.std.specs.Coded.{Coded, code_by, coded×, coded_ℕ, coded_bool, coded_list, coded_option}
 use Rattle.std.proofs.lemmas.List.{length-map}
@@ -19,6 +19,11 @@ cell_code = code_by (ℕ × Bool) (coded× coded_ℕ coded_bool) (λ c. (c.ch, c
 
 pub document_code : Coded (Option (List Cell))
 document_code = coded_option (coded_list cell_code)
+
+-- what holds anyway holds of an error
+pub OnErr-always : {T E P : Type 0} (r : Result T E) → P → OnErr r P
+OnErr-always (Ok x) holds = tt
+OnErr-always (Err e) holds = holds
 
 -- the site at an index is seen there
 pub viewed : (sites : List Site) (i : ℕ) (site : Site) → i < length sites → site ≡ get_or sites i site

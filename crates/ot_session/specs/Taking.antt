@@ -141,11 +141,6 @@ Takes f past taken old new (Err NoMemory) = HasLacked f past taken old new
 Takes f past taken old new (Err NoSite) = ⊥
 Takes f past taken old new (Err NoOp) = ⊥
 
--- the answer, where the operation was next
-abbrev pub done_in : Result (List ℕ) Take → Result Took Take
-done_in (Ok done) = Ok (Done done)
-done_in (Err e) = Err e
-
 -- the site at a place took an operation, and nothing else changed
 pub record TakesAtPlace (f : Function) (past : Past) (place taken : ℕ) (old new : List Site) (total new_total : ℕ)
     (answer : Result Took Take) : Type 0 where

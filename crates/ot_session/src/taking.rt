@@ -10,7 +10,7 @@ ghost use Rattle.ot_session.specs.declared.form.FormError.TheVariants.{NoForm, S
 ghost use Rattle.ot_session.specs.Past.{is_marked, past_of};
 ghost use Rattle.ot_session.specs.Seeking.{IsCountSpent, count_behind};
 ghost use Rattle.ot_session.specs.Sites.{view_site, IsSameSite, IsSorted, CanTake};
-ghost use Rattle.ot_session.specs.Taking.{standing, IsKnown, HasAllBefore, HasIntegrated, IsStuck, Takes, done_in};
+ghost use Rattle.ot_session.specs.Taking.{standing, IsKnown, HasAllBefore, HasIntegrated, IsStuck, Takes};
 ghost use Rattle.ot_session.specs.Taking.{TakesAtPlace, IsDueByMarks, IsLeastByMarks};
 
 use crate::answer::{Take, Took};
@@ -84,10 +84,7 @@ fn take_here(
         site.held.set(number as usize, true);
         return Ok(Took::Held);
     }
-    match integrate_all(alloc, rules, made, site, total, number) {
-        Ok(done) => Ok(Took::Done(done)),
-        Err(error) => Err(error),
-    }
+    integrate_all(alloc, rules, made, site, total, number)
 }
 
 /// Integrates an operation, and then, again and again, the least of those held that are due.
@@ -98,7 +95,7 @@ fn integrate_all(
     site: &mut Site,
     total: &mut u64,
     number: u32,
-) -> Result<List<u32>, Take>
+) -> Result<Took, Take>
     requires made { number < length made.now }
     requires few { length made.now ≤ MAX_MADE }
     requires can { ∥ CanTake (function_of rules.now) (past_of made.now) site.old ∥₁ }
@@ -107,8 +104,7 @@ fn integrate_all(
     requires unknown { ¬ (IsKnown (view_site site.old) number) }
     requires ready { HasAllBefore (past_of made.now) (view_site site.old) number }
     ensures takes { Takes (function_of rules.now) (past_of made.now) number (standing site.old total.old)
-        (standing site.new total.new)
-        (done_in result) }
+        (standing site.new total.new) result }
     ensures sorted { ∥ IsSorted (length made.now) site.new ∥₁ }
     ensures can { OnOk result (∥ CanTake (function_of rules.now) (past_of made.now) site.new ∥₁) }
     ensures within { total.new ≤ MAX_FORMS }
@@ -127,7 +123,7 @@ fn integrate_all(
         }
         next = least_due(made, site.integrated.as_slice(), site.held.as_slice());
     }
-    Ok(done)
+    Ok(Took::Done(done))
 }
 
 /// The least of the held operations before which nothing is missing.

@@ -9,11 +9,23 @@ use Rattle.goal_rules.specs.Table.{rewritten}
 use Rattle.ot_rewrite.specs.Fronts.{is_at_front}
 use Rattle.ot_rewrite.specs.Reaching.{after_rules, Reaches, IsStep}
 use Rattle.marked_goals.specs.Marking.{marked_goal, with_start}
-use Rattle.marked_goals.specs.Settled.{is_begun, is_settled, StandsMarked}
+use Rattle.marked_goals.specs.Settled.{is_begun, is_settled, OpensStart, StandsMarked}
 
 pub settled_on : (f : Function) (g h i : GoalTree) → StandsMarked f g h → StandsMarked f h i → StandsMarked f g i
 settled_on f g h i first next = record {
   marked = next.marked ∙ first.marked;
+  belongs = λ ob is_goal. next.belongs ob (first.belongs ob is_goal);
+}
+
+pub opens_on : (f : Function) (g h i : GoalTree) → OpensStart f g h → OpensStart f h i → OpensStart f g i
+opens_on f g h i first next = record {
+  marked = next.marked ∙ first.marked;
+  belongs = λ ob is_goal. next.belongs ob (first.belongs ob is_goal);
+}
+
+pub opens_by : (f : Function) (g h i : GoalTree) → OpensStart f g h → StandsMarked f h i → OpensStart f g i
+opens_by f g h i first next = record {
+  marked = ap (with_start None) next.marked ∙ first.marked;
   belongs = λ ob is_goal. next.belongs ob (first.belongs ob is_goal);
 }
 
@@ -47,11 +59,26 @@ pub not_begun : (g : GoalTree) → is_settled g ≡ false → is_begun g ≡ fal
 not_begun g e = or_false (is_begun g) (is_at_front g) e
 
 -- the goal that a rule gives
+next_is :
+    {X : Type 0} (f : Function) (old : GoalTree) (tree : X → GoalTree) (o : Option X) (next : X) → o ≡ Some next
+    → option_map tree o ≡ rewritten f old → MatchOption o (IsTrue (is_at_front old)) (λ g. IsStep f old (tree g))
+    → (rewritten f old ≡ Some (tree next)) × IsStep f old (tree next)
+next_is f old tree o next is rule kept =
+    let given : option_map tree (Some next) ≡ rewritten f old = subst (λ t. option_map tree t ≡ rewritten f old) is rule in
+    let stepped : IsStep f old (tree next) = subst (λ t. MatchOption t (IsTrue (is_at_front old)) (λ g. IsStep f old (tree g))) is kept in
+    (sym given, stepped)
+
 pub next_alike :
     {X : Type 0} (f : Function) (old : GoalTree) (tree : X → GoalTree) (o : Option X) (next : X) → o ≡ Some next
     → option_map tree o ≡ rewritten f old → MatchOption o (IsTrue (is_at_front old)) (λ g. IsStep f old (tree g))
     → ((h : GoalTree) → rewritten f old ≡ Some h → marked_goal f h ≡ marked_goal f old) → StandsMarked f old (tree next)
 next_alike f old tree o next is rule kept marks =
-    let given : option_map tree (Some next) ≡ rewritten f old = subst (λ t. option_map tree t ≡ rewritten f old) is rule in
-    let stepped : IsStep f old (tree next) = subst (λ t. MatchOption t (IsTrue (is_at_front old)) (λ g. IsStep f old (tree g))) is kept in
-    record { marked = marks (tree next) (sym given); belongs = stepped.belongs }
+    let was = next_is f old tree o next is rule kept in record { marked = marks (tree next) was.0; belongs = was.1.belongs }
+
+pub next_opens :
+    {X : Type 0} (f : Function) (old : GoalTree) (tree : X → GoalTree) (o : Option X) (next : X) → o ≡ Some next
+    → option_map tree o ≡ rewritten f old → MatchOption o (IsTrue (is_at_front old)) (λ g. IsStep f old (tree g))
+    → ((h : GoalTree) → rewritten f old ≡ Some h → with_start None (marked_goal f h) ≡ with_start None (marked_goal f old))
+    → OpensStart f old (tree next)
+next_opens f old tree o next is rule kept marks =
+    let was = next_is f old tree o next is rule kept in record { marked = marks (tree next) was.0; belongs = was.1.belongs }

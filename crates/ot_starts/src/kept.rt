@@ -1,12 +1,14 @@
 //! What is laid out where transformations begin, and after the last of them, kept so that each of these places is laid
 //! out once.
-ghost use Rattle.std.specs.Prelude.{◌≡◌, IsTrue, IfSome};
+ghost use Rattle.std.specs.Prelude.{◌≡◌, IsTrue, IfOk, IfSome};
 ghost use Rattle.std.specs.List.{All};
 ghost use Rattle.fn_rules.specs.Functions.{Function};
 ghost use Rattle.ot_terms.specs.Goals.{goal_tree};
 ghost use Rattle.marked_goals.specs.Settled.{OpensStart, StandsMarked};
 ghost use Rattle.ot_starts.specs.Kept.{IsKeptStart, IsKeptEnd};
 
+use ask_core::NoMemory;
+use bumpalo::Bump;
 use laid_goals::is_same_progress;
 use ot_terms::{Goal, SymOp};
 
@@ -73,4 +75,21 @@ pub(crate) fn found<'a>(kept: &[Kept<'a>], at: &Goal<'_>) -> Option<&'a Goal<'a>
         }
     }
     None
+}
+
+/// The goal, which is kept from now on as what is laid out there.
+#[inline]
+pub(crate) fn learnt<'a>(
+    kept: &mut Vec<Kept<'a>, &'a Bump>,
+    at: &'a Goal<'a>,
+    goal: &'a Goal<'a>,
+) -> Result<&'a Goal<'a>, NoMemory>
+    ensures same { IfOk result (λ r. r.now ≡ goal.now) }
+    ensures end { (f : Function) → All (IsKeptEnd f) kept.old.items → StandsMarked f (goal_tree at.now) (goal_tree goal.now)
+        → All (IsKeptEnd f) kept.new.items }
+    ensures start { (f : Function) → All (IsKeptStart f) kept.old.items → OpensStart f (goal_tree at.now)
+        (goal_tree goal.now) → All (IsKeptStart f) kept.new.items }
+{
+    kept.push(Kept { at, goal })?;
+    Ok(goal)
 }

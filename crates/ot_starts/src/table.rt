@@ -9,7 +9,7 @@ ghost use Rattle.marked_goals.specs.Settled.{OpensStart};
 ghost use Rattle.ot_starts.specs.Kept.{IsKeptStart, IsKeptEnd};
 
 use crate::fronts::is_begun;
-use crate::kept::{Kept, found};
+use crate::kept::{Kept, found, learnt};
 use crate::laying::laid;
 use ask_core::NoMemory;
 use bumpalo::Bump;
@@ -36,7 +36,7 @@ fn laid_behind<'a>(
     rules_keep_starts();
     rules_are_valid(rules);
     match step(bump, rules, goal)? {
-        Some(next) => laid(bump, rules, ends, *next),
+        Some(next) => laid(bump, rules, ends, next),
         None => Ok(goal),
     }
 }
@@ -64,11 +64,7 @@ fn laid_at<'a>(
         return Ok(goal);
     }
     let built = laid_behind(bump, rules, ends, goal)?;
-    starts.push(Kept {
-        at: goal,
-        goal: built,
-    })?;
-    Ok(built)
+    learnt(starts, goal, built)
 }
 
 /// The goal after what is laid out where transformations begin, as long as another one begins there and at most so

@@ -84,7 +84,7 @@ pub(crate) fn turn_at<'a>(
     match front {
         Front::Holds => Ok(Turn::Holds),
         Front::Fails(why) => Ok(Turn::Fails(why)),
-        Front::If { form, yes, no } => Ok(asked(bump, rules, form, yes, no)?),
+        Front::If { form, yes, no } => asked(bump, rules, form, yes, no),
         Front::Choose { .. } => Ok(Turn::Holds),
         Front::Deliver { .. } => Ok(Turn::Holds),
         Front::Same { .. } => Ok(Turn::Holds),
@@ -120,7 +120,7 @@ fn turn_on<'a>(
 {
     let near = laid_on(bump, rules, starts, ends, goal, MOST_TRANSFORMS)?;
     let front = opened(bump, rules, near)?;
-    Ok(turn_at(bump, rules, front)?)
+    turn_at(bump, rules, front)
 }
 
 /// How the plan of a goal begins. Most goals have a question at their front already.

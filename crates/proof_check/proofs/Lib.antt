@@ -2,4 +2,5 @@ pub mod Completing
 pub mod Standings
 pub mod Keeping
 pub mod Taking
+pub mod Citing
 mod Examples

@@ -31,7 +31,7 @@ use Rattle.proof_check.proofs.Keeping.{KeepsStarts-refl, standing_kept, own_aske
 use Rattle.proof_check.proofs.Standings.{question_taken, end_taken, cycle_taken, citation_taken}
 
 -- a lemma that is found, and its literals
-lemma_found :
+pub lemma_found :
     {N : Type 0} (known : List (Known N)) (number : ℕ) (n : N) → option_map (λ k. k.node) (slice_get known number) ≡ Some n
     → (k : Known N) × (slice_get known number ≡ Some k) × (k.node ≡ n) × (k.literals ≡ literals_at known number) × (number < length known)
 lemma_found [] number n found = absurd (cc)

@@ -13,7 +13,7 @@ use Rattle.lemma_levels.specs.declared.open.LemmaLevel.{LemmaLevel}
 use Rattle.lemma_levels.specs.declared.lemmas.Lemma.{Lemma}
 use Rattle.lemma_levels.specs.declared.open.WaitingPart.{WaitingPart}
 use Rattle.lemma_levels.specs.declared.open.Search.{Search}
-use Rattle.proof_search.specs.Owning.{AreOwnLemmas, IsOwnSearch, KeepsNodes, KeepsPlaces, BeginsLevel, AddsItem, MayAddItem, HasAskedInSearch, TakesPart}
+use Rattle.proof_search.specs.Owning.{AreOwnLemmas, IsOwnSearch, KeepsNodes, KeepsPlaces, BeginsLevel, AddsItem, AddsLemma, MayAddItem, HasAskedInSearch, TakesPart}
 use Rattle.proof_search.specs.Owning.{OpensPart, closed_search}
 
 IfSome-weaker : {N : Type 0} (P Q : N → Type 0) → ((n : N) → P n → Q n) → (o : Option N) → IfSome o P → IfSome o Q
@@ -121,6 +121,15 @@ module _ {N : Type 0} (is_own : N → Type 0) (old new : Search N) (own : IsOwnS
     levels =
         item_added (λ l. l.node) is_own n one old.levels.items new.levels.items begun.levels own.levels;
     lemmas = subst (λ (held : List (Lemma N)). AreOwnLemmas is_own held) (sym begun.lemmas) own.lemmas;
+  }
+
+  -- nor one that has a lemma more of such a node
+  pub own_lemma : (n : N) → is_own n → AddsLemma n old new → IsOwnSearch is_own new
+  own_lemma n one added = record {
+    at = subst (λ (o : Option N). IfSome o is_own) (sym added.at) own.at;
+    waiting = subst (λ (parts : List (WaitingPart N)). All (λ w. is_own w.node) parts) (sym added.waiting) own.waiting;
+    levels = subst (λ (held : List (LemmaLevel N)). All (λ l. is_own l.node) held) (sym added.levels) own.levels;
+    lemmas = item_added (λ l. l.node) is_own n one old.lemmas new.lemmas (inr added.lemma) own.lemmas;
   }
 
   -- nor one that has asked a question with two such parts

@@ -72,6 +72,14 @@ pub record HasAskedInSearch {N : Type 0} (on_yes on_no : N) (old new : Search N)
   pub lemmas : new.lemmas ≡ old.lemmas
   pub asked : new.asked ≡ old.asked + 1
 
+-- a lemma of the node is known now
+pub record AddsLemma {N : Type 0} (n : N) (old new : Search N) : Type 0 where
+  pub lemma : AddsItem (λ l. l.node) n old.lemmas new.lemmas
+  pub at : new.at ≡ old.at
+  pub waiting : new.waiting.items ≡ old.waiting.items
+  pub levels : new.levels.items ≡ old.levels.items
+  pub asked : new.asked ≡ old.asked
+
 -- the innermost part that waits is taken, and is open now, or what was open before is so
 pub record TakesPart {N : Type 0} (old new : Search N) : Type 0 where
   pub part : WaitingPart N

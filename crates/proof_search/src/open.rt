@@ -69,6 +69,7 @@ fn ask<N: Copy>(search: &mut Search<N>, lit: Lit, yes: N, no: N) -> Result<(), N
 }
 
 /// Asks a literal at the node of the open place. Where a start is there, a level is begun first.
+#[inline(always)]
 pub(crate) fn ask_at<N: Copy>(
     search: &mut Search<N>,
     alloc: Global,

@@ -1,7 +1,7 @@
 //! The call that searches a plan.
-ghost use Rattle.std.specs.Prelude.{◌≡◌, ◌≤◌, IfOk};
+ghost use Rattle.std.specs.Prelude.{◌≡◌, ◌≤◌, IfOk, OnOk};
 ghost use Rattle.proof_trees.specs.Starters.{KeepsStarts};
-ghost use Rattle.proof_search.specs.Owning.{AreOwnLemmas};
+ghost use Rattle.proof_search.specs.Owning.{AreOwnLemmas, IsOwnSearch};
 
 use crate::NoMemory;
 use crate::finder::Finder;
@@ -57,7 +57,31 @@ fn ended<N: Copy>(search: Search<N>, ending: SearchEnd) -> SearchResult<N>
 }
 
 /// Takes turns until the search ends.
-#[tactic(auto, using(crate::proofs::Owning::keeping))]
+#[inline(always)]
+fn take_turns<A: Finder>(
+    alloc: Global,
+    asker: &mut A,
+    search: &mut Search<A::Node>,
+    budget: u64,
+) -> Result<SearchEnd, NoMemory>
+    requires within { search.old.asked ≤ budget }
+    requires own { IsOwnSearch (A.is_own asker.old) search.old }
+    ensures within { OnOk result (search.new.asked ≤ budget) }
+    ensures own { OnOk result (IsOwnSearch (A.is_own asker.new) search.new) }
+    ensures same { KeepsStarts (A.is_own asker.old) (A.is_own asker.new) (A.starts asker.old) (A.starts asker.new) }
+{
+    // A turn asks, or closes a place or a level, or goes on to a part that waits; each question opens two places, of
+    // which one may wait, and a level.
+    let turns = budget.saturating_mul(4).saturating_add(4);
+    'turns: for _turn in 0..turns {
+        if let Some(ending) = step(alloc, asker, search, budget)? {
+            return Ok(ending);
+        }
+    }
+    Ok(SearchEnd::Spent)
+}
+
+/// Searches from the first place on.
 fn seek<A: Finder>(
     alloc: Global,
     asker: &mut A,
@@ -69,15 +93,8 @@ fn seek<A: Finder>(
 {
     let first = asker.first()?;
     let mut search = Search::begin(alloc, first);
-    // A turn asks, or closes a place or a level, or goes on to a part that waits; each question opens two places, of
-    // which one may wait, and a level.
-    let turns = budget.saturating_mul(4).saturating_add(4);
-    'turns: for _turn in 0..turns {
-        if let Some(ending) = step(alloc, asker, &mut search, budget)? {
-            return Ok(ended(search, ending));
-        }
-    }
-    Ok(ended(search, SearchEnd::Spent))
+    let ending = take_turns(alloc, asker, &mut search, budget)?;
+    Ok(ended(search, ending))
 }
 
 /// Searches an asker's own plan for an end that fails, by at most `budget` questions, and keeps as lemmas what it

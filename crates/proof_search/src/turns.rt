@@ -1,7 +1,7 @@
 //! The turns of a search: each goes on at the open place, or to the next one where that was closed.
 ghost use Rattle.std.specs.Prelude.{◌≡◌, ◌≤◌, OnOk};
 ghost use Rattle.proof_trees.specs.Starters.{KeepsStarts};
-ghost use Rattle.proof_search.specs.Owning.{AreOwnLemmas, IsOwnSearch, KeepsPlaces, OpensPart, closed_search};
+ghost use Rattle.proof_search.specs.Owning.{AddsLemma, AreOwnLemmas, IsOwnSearch, KeepsPlaces, OpensPart, closed_search};
 
 use crate::NoMemory;
 use crate::adopt::adopt;
@@ -11,7 +11,7 @@ use crate::levels::waiting_before;
 use crate::open::{answer, ask_at};
 use crate::service::{Any, serving};
 use ask_core::Turn;
-use lemma_levels::{Lemma, Search};
+use lemma_levels::{Lemma, LemmaLevel, Search};
 use plain_list::List;
 use std::alloc::Global;
 
@@ -101,18 +101,35 @@ fn arrive<A: Finder>(
     }
 }
 
-/// Opens the innermost part that waits, if some integers lead there.
-fn go_on<N: Copy>(search: &mut Search<N>) -> Result<(), NoMemory>
+/// Opens the innermost part that waits, if some integers lead there. The search has not ended.
+fn go_on<N: Copy>(search: &mut Search<N>) -> Result<Option<SearchEnd>, NoMemory>
     ensures { OnOk result (OpensPart search.old search.new) }
 {
     let Some(part) = search.waiting.pop() else {
-        return Ok(());
+        return Ok(None);
     };
     if answer(search, part.answers, part.answer)? {
         search.at = Some(part.node);
-        return Ok(());
+        return Ok(None);
     }
-    Ok(())
+    Ok(None)
+}
+
+/// Adds the lemma that a level has shown, and drops the answers since it was begun. The search has not ended.
+fn end_level<N: Copy>(
+    search: &mut Search<N>,
+    level: LemmaLevel<N>,
+    number: usize,
+) -> Result<Option<SearchEnd>, NoMemory>
+    ensures { OnOk result (AddsLemma level.node search.old search.new) }
+{
+    search.answers.truncate(level.answers);
+    let lemma = Lemma {
+        node: level.node,
+        literals: List::from_vec(level.literals),
+    };
+    search.lemmas.add(number, lemma)?;
+    Ok(None)
 }
 
 /// Goes on where the open place was closed: to the next part that waits within the innermost level, if some integers
@@ -128,20 +145,13 @@ fn close<A: Finder>(
     ensures same { KeepsStarts (A.is_own asker.old) (A.is_own asker.new) (A.starts asker.old) (A.starts asker.new) }
 {
     if search.waiting.len() > waiting_before(&search.levels) {
-        go_on(search)?;
-        return Ok(None);
+        return go_on(search);
     }
     match search.levels.pop() {
         None => Ok(Some(SearchEnd::Shown)),
         Some(level) => {
             let number = asker.number(level.node)?;
-            search.answers.truncate(level.answers);
-            let lemma = Lemma {
-                node: level.node,
-                literals: List::from_vec(level.literals),
-            };
-            search.lemmas.add(number, lemma)?;
-            Ok(None)
+            end_level(search, level, number)
         }
     }
 }

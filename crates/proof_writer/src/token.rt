@@ -9,10 +9,10 @@ use proof_trees::{Literals, MAX_LITERALS, ProofTok};
 use std::alloc::Global;
 
 /// Appends a token.
-pub fn put(tok: &ProofTok, out: &mut Vec<u8>) -> Result<(), NoMemory>
+pub fn put(tok: ProofTok, out: &mut Vec<u8>) -> Result<(), NoMemory>
     ensures { ExtendsText out.old.items out.new.items }
 {
-    write_token(tok, out)
+    write_token(&tok, out)
 }
 
 // The place of the least number.
@@ -52,7 +52,7 @@ pub fn cycle_of(alloc: Global, numbers: &[u32]) -> Picks {
 pub fn put_cycle(alloc: Global, numbers: &[u32], out: &mut Vec<u8>) -> Result<(), NoMemory>
     ensures { ExtendsText out.old.items out.new.items }
 {
-    put(&ProofTok::Cycle(cycle_of(alloc, numbers)), out)
+    put(ProofTok::Cycle(cycle_of(alloc, numbers)), out)
 }
 
 /// The literals of a lemma, if they are few enough.

@@ -61,7 +61,7 @@ impl<N: Copy> PlanWalk<N> {
         match self.waiting.pop() {
             None => Ok(WriterStep::Done),
             Some(WriterTask::Cycle(picks)) => {
-                put(&ProofTok::Cycle(picks), out)?;
+                put(ProofTok::Cycle(picks), out)?;
                 Ok(WriterStep::More)
             }
             Some(WriterTask::Learn(place)) => {
@@ -84,7 +84,7 @@ impl<N: Copy> PlanWalk<N> {
         ensures front { ExtendsText out.old.items out.new.items }
         ensures nodes { OnOk result (HasNoOthers self.old self.new) }
     {
-        put(&ProofTok::Holds, out)?;
+        put(ProofTok::Holds, out)?;
         self.present = None;
         Ok(WriterStep::More)
     }
@@ -106,7 +106,7 @@ impl<N: Copy> PlanWalk<N> {
             return Ok(WriterStep::Stuck);
         }
         self.left -= 1;
-        put(&ProofTok::Ask, out)?;
+        put(ProofTok::Ask, out)?;
         let on_yes = part(yes, number);
         let on_no = part(no, number);
         let negation = negate(lit);
@@ -160,7 +160,7 @@ impl<N: Copy> PlanWalk<N> {
         };
         let facts = facts_of(literals.as_slice());
         let length = literals.as_slice().len() as u32;
-        put(&ProofTok::Lemma(literals), out)?;
+        put(ProofTok::Lemma(literals), out)?;
         self.unbegun.begin(lemma);
         self.behind.push(self.facts)?;
         self.waiting.push(WriterTask::Part(at))?;
@@ -193,7 +193,7 @@ impl<N: Copy> PlanWalk<N> {
         let Some(lemma) = lemmas.get(found.place) else {
             return Ok(WriterStep::Stuck);
         };
-        put(&ProofTok::Cite(number), out)?;
+        put(ProofTok::Cite(number), out)?;
         if !self.put_cycles(alloc, lemma.literals.as_slice(), length, out)? {
             return Ok(WriterStep::Stuck);
         }

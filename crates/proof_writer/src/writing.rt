@@ -79,11 +79,11 @@ fn turn<A: Finder>(
     if out.len() > most {
         return Ok(Some(false));
     }
-    Ok(match step {
-        WriterStep::More => None,
-        WriterStep::Done => Some(true),
-        WriterStep::Stuck => Some(false),
-    })
+    match step {
+        WriterStep::More => Ok(None),
+        WriterStep::Done => Ok(Some(true)),
+        WriterStep::Stuck => Ok(Some(false)),
+    }
 }
 
 // More steps than a walk can take: each question and each lemma leaves at most three parts more, and each part takes
@@ -112,10 +112,18 @@ fn step<A: Finder>(
     let Some(place) = walk.present else {
         return walk.next(out);
     };
-    if let Some(step) = use_lemma(alloc, asker, lemmas, walk, place, out)? {
-        return Ok(step);
+    if !is_start(asker, place) {
+        return follow(alloc, asker, walk, place, out);
     }
-    follow(alloc, asker, walk, place, out)
+    use_lemma(alloc, asker, lemmas, walk, place, out)
+}
+
+// Whether a start is at a place where no lemma was just begun.
+#[inline]
+fn is_start<A: Finder>(asker: &A, place: TreePlace<A::Node>) -> bool
+    requires { A.is_own asker.now place.node }
+{
+    !place.begun && asker.begins(place.node)
 }
 
 // Writes a question, or that the plan holds, at the present place.
@@ -139,8 +147,7 @@ fn follow<A: Finder>(
     }
 }
 
-// At a start, where none was just begun: cites the newest lemma that is written and serves, or else begins the newest
-// one of the start that was not begun and serves, if there are any.
+// At a start: cites the newest lemma that is written and serves, or else begins one.
 fn use_lemma<A: Finder>(
     alloc: Global,
     asker: &mut A,
@@ -148,7 +155,7 @@ fn use_lemma<A: Finder>(
     walk: &mut PlanWalk<A::Node>,
     place: TreePlace<A::Node>,
     out: &mut Vec<u8>,
-) -> Result<Option<WriterStep>, NoMemory>
+) -> Result<WriterStep, NoMemory>
     requires lemmas { AreOwnLemmas (A.is_own asker.old) lemmas.now }
     requires here { A.is_own asker.old place.node }
     requires nodes { AreOwnNodes (A.is_own asker.old) walk.old }
@@ -156,16 +163,33 @@ fn use_lemma<A: Finder>(
     ensures nodes { OnOk result (AreOwnNodes (A.is_own asker.new) walk.new) }
     ensures same { KeepsStarts (A.is_own asker.old) (A.is_own asker.new) (A.starts asker.old) (A.starts asker.new) }
 {
-    if place.begun || !asker.begins(place.node) {
-        return Ok(None);
-    }
     if let Some(found) = serving(alloc, asker, lemmas, place.node, &walk.facts, &walk.numbers)? {
-        return Ok(Some(walk.cite(alloc, lemmas, &found, place.length, out)?));
+        return walk.cite(alloc, lemmas, &found, place.length, out);
     }
-    let Some(lemma) = unbegun_at(alloc, asker, lemmas, walk, place.node)? else {
-        return Ok(None);
-    };
-    Ok(Some(walk.learn(lemmas, lemma, place, out)?))
+    begin_lemma(alloc, asker, lemmas, walk, place, out)
+}
+
+// Begins the newest lemma of the start that was not begun and serves. Where there is none, the walk goes on without
+// one.
+fn begin_lemma<A: Finder>(
+    alloc: Global,
+    asker: &mut A,
+    lemmas: &Lemmas<A::Node>,
+    walk: &mut PlanWalk<A::Node>,
+    place: TreePlace<A::Node>,
+    out: &mut Vec<u8>,
+) -> Result<WriterStep, NoMemory>
+    requires lemmas { AreOwnLemmas (A.is_own asker.old) lemmas.now }
+    requires here { A.is_own asker.old place.node }
+    requires nodes { AreOwnNodes (A.is_own asker.old) walk.old }
+    ensures front { ExtendsText out.old.items out.new.items }
+    ensures nodes { OnOk result (AreOwnNodes (A.is_own asker.new) walk.new) }
+    ensures same { KeepsStarts (A.is_own asker.old) (A.is_own asker.new) (A.starts asker.old) (A.starts asker.new) }
+{
+    match unbegun_at(alloc, asker, lemmas, walk, place.node)? {
+        Some(lemma) => walk.learn(lemmas, lemma, place, out),
+        None => follow(alloc, asker, walk, place, out),
+    }
 }
 
 // The newest lemma of the start at a node that was not begun and serves there.

@@ -5,7 +5,6 @@ use Rattle.serde_json.specs.View.{view}
 use Rattle.case_json.specs.declared.fault.Name.TheVariants.{Events}
 use Rattle.case_json.specs.declared.limits.TheConstants.{MAX_EVENTS}
 use Rattle.case_json.specs.Json.{elements_of}
-use Rattle.case_json.specs.Cases.{document_in}
 use Rattle.case_json.proofs.Elements.{elements_from-few}
 use Rattle.case_json.proofs.Readings.{document_from-few}
 use Rattle.case_json.proofs.Scripts.{sites_from-within}

@@ -1,18 +1,4 @@
-use Rattle.std.proofs.Common.{◌≡◌, List, length, IsTrue, ℤ}
-use Rattle.diff_graph.specs.declared.lit.Lit.{Lit}
-use Rattle.diff_graph.specs.Literals.{AreMet}
-use Rattle.diff_tables.specs.Solutions.{AreLeast, valuation_of}
-use Rattle.fn_rules.specs.declared.function.ObName.{ObName}
-use Rattle.fn_rules.specs.Functions.{Function}
-use Rattle.fn_rules.specs.Obligations.{level_of, is_obligation}
-use Rattle.fn_rules.specs.Validity.{is_valid}
-use Rattle.ask_core.specs.Leading.{LeadTo}
-use Rattle.ot_questions.specs.declared.why.Why.{Why}
 use Rattle.ot_questions.specs.Obligation.{plan_of}
-use Rattle.ot_questions.specs.Sorts.{AreLike}
-use Rattle.ot_values.specs.Values.{floors_of, ops_at}
-use Rattle.ot_counter.specs.Counters.{Breaks, BreaksBy}
-use Rattle.ot_counter.specs.Documents.{document_at}
 use Rattle.ot_counter.proofs.Counterexamples.{least_broken}
 use Rattle.ot_counter.proofs.laws.failing_ends_have_counterexamples.Goals as goal
 

@@ -8,7 +8,7 @@ use Rattle.ot_hub.specs.declared.carry.Crossed.{Crossed}
 use Rattle.ot_hub.specs.declared.placed.PlacedOp.{PlacedOp}
 use Rattle.ot_hub.specs.Carry.{crossed, carry, from_place, carried_op}
 use Rattle.ot_hub.specs.Usable.{farthest_carried}
-use Rattle.ot_hub.proofs.Carrying.{no_one, from_true, from_false, rest-dropped, carry-next, carried_op-carried_behind}
+use Rattle.ot_hub.proofs.Carrying.{no_one, from_true, from_false, rest-dropped, carry-next, carry-stuck, carried_op-carried_behind}
 use Rattle.ot_hub.proofs.Near.{KeepsNear, keeps_near, CanCross, CanCross-next, IsUsable-next, IsUsable-passed}
 use Rattle.ot_hub.proofs.carry.carried.Goals as goal
 use Rattle.ot_hub.proofs.carry.carried.Goals.{then-other-place+in_ok-form, else-other-place}
@@ -57,6 +57,16 @@ loop-other-preserved c =
         usable = IsUsable-passed f has list m i o inside c.loop-other.invariant.usable c.requires.list;
       })
     ]
+
+-- one that the operation can't cross
+pub returns-in_err-form : goal.returns-in_err-form
+returns-in_err-form c =
+    let f : Function = function_of c.args.rules.now in
+    let list : List PlacedOp = c.args.list.now in
+    let i : ℕ = c.loop-other.other-index in
+    c.from_residual.ensures
+    ∙ sym (c.loop-other.invariant.same ∙ ap carried_op (carry-stuck f list c.args.place i c.loop-other-test.true c.loop-other.form
+    (from_true c.args.place (get_or list i no_one).place c.if-other-place.true) (sym c.in_err-form.ensures)))
 
 pub returns : goal.returns
 returns c = sym (c.loop-other.invariant.same ∙ ap (λ bs. carried_op (carry (function_of c.args.rules.now) c.loop-other.form (from_place c.args.place bs)))

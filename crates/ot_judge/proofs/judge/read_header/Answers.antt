@@ -1,4 +1,3 @@
-use Rattle.std.proofs.Common.{◌≡◌}
 use Rattle.ot_sections.specs.Feeding.{fed}
 use Rattle.ot_judge.proofs.WholeRun.{came_header}
 use Rattle.ot_judge.proofs.judge.read_header.Goals as goal

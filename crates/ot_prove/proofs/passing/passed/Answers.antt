@@ -160,3 +160,72 @@ returns-then-not-put_no-clause-searching g c cycles begun =
     c.put_yes.new.tree
     ≡ with_token (with_token c.questions.passed.tree Ask) (Cycle (cycle_along c.index-table.result.now n c.in-Some.question.0)))
     same written)
+
+pub returns-in_default-clause-opened : goal.returns-in_default-clause-opened
+returns-in_default-clause-opened g c = c.questions.invariant.opened
+
+pub returns-in_default-clause-searching : goal.returns-in_default-clause-searching
+returns-in_default-clause-searching g c = c.questions.invariant.searching
+
+pub returns-in_default-clause-falls : goal.returns-in_default-clause-falls
+returns-in_default-clause-falls g c = c.questions.invariant.falls
+
+pub returns-in_default-clause-front : goal.returns-in_default-clause-front
+returns-in_default-clause-front g c = c.questions.invariant.front
+
+pub returns-then-passed-budget-clause-opened : goal.returns-then-passed-budget-clause-opened
+returns-then-passed-budget-clause-opened g c = c.questions.invariant.opened
+
+pub returns-then-passed-budget-clause-searching : goal.returns-then-passed-budget-clause-searching
+returns-then-passed-budget-clause-searching g c = c.questions.invariant.searching
+
+pub returns-then-passed-budget-clause-falls : goal.returns-then-passed-budget-clause-falls
+returns-then-passed-budget-clause-falls g c = c.questions.invariant.falls
+
+pub returns-then-passed-budget-clause-front : goal.returns-then-passed-budget-clause-front
+returns-then-passed-budget-clause-front g c = c.questions.invariant.front
+
+pub returns-then-not-excludes_yes-clause-opened : goal.returns-then-not-excludes_yes-clause-opened
+returns-then-not-excludes_yes-clause-opened g c = c.questions.invariant.opened
+
+pub returns-then-not-excludes_yes-clause-searching : goal.returns-then-not-excludes_yes-clause-searching
+returns-then-not-excludes_yes-clause-searching g c = c.questions.invariant.searching
+
+pub returns-then-not-excludes_yes-clause-falls : goal.returns-then-not-excludes_yes-clause-falls
+returns-then-not-excludes_yes-clause-falls g c = c.questions.invariant.falls
+
+pub returns-then-not-excludes_yes-clause-front : goal.returns-then-not-excludes_yes-clause-front
+returns-then-not-excludes_yes-clause-front g c = c.questions.invariant.front
+
+pub returns-then-not-put_yes-clause-opened : goal.returns-then-not-put_yes-clause-opened
+returns-then-not-put_yes-clause-opened g c = c.questions.invariant.opened
+
+pub returns-then-not-put_yes-clause-falls : goal.returns-then-not-put_yes-clause-falls
+returns-then-not-put_yes-clause-falls g c = c.questions.invariant.falls
+
+pub returns-then-not-put_yes-clause-front : goal.returns-then-not-put_yes-clause-front
+returns-then-not-put_yes-clause-front g c =
+    ap (λ (t : Written). t.front) (c.put_yes.ensures.kept c.if-not-put_yes.true) ∙ c.questions.invariant.front
+
+pub returns-then-not-put_no-clause-front : goal.returns-then-not-put_no-clause-front
+returns-then-not-put_no-clause-front g c =
+    ap (λ (t : Written). t.front) (c.put_yes.ensures.put c.if-not-put_yes.false) ∙ c.questions.invariant.front
+
+pub excludes_yes-requires-clause-named : goal.excludes_yes-requires-clause-named
+excludes_yes-requires-clause-named g c =
+    let A = g.A.Asker in
+    let now = c.args.asker.now in
+    let asks = c.in-Some.ensures.asks in
+    (asked_literal (A.name_count now) (first_plan (A.plan now) c.questions.passed.path) c.in-Some.question.0 (A.plan now asks.0)
+    (A.plan now c.in-Some.question.1) c.look_at.ensures.fine asks.1.2 c.requires.names).0
+
+pub excludes_yes-requires-clause-asked : goal.excludes_yes-requires-clause-asked
+excludes_yes-requires-clause-asked g c =
+    let A = g.A.Asker in
+    let now = c.args.asker.now in
+    let asks = c.in-Some.ensures.asks in
+    (asked_literal (A.name_count now) (first_plan (A.plan now) c.questions.passed.path) c.in-Some.question.0 (A.plan now asks.0)
+    (A.plan now c.in-Some.question.1) c.look_at.ensures.fine asks.1.2 c.requires.names).1
+
+pub look_at-requires-clause-opened : goal.look_at-requires-clause-opened
+look_at-requires-clause-opened g c = c.questions.invariant.opened

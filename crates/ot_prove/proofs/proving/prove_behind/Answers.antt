@@ -1,52 +1,89 @@
-use Rattle.std.proofs.Common.{◌∙◌, ap, arith, subst}
+use Rattle.std.proofs.Common.{ℕ, List, ◌∙◌, ap, arith, subst}
+use Rattle.std.proofs.lemmas.Result.{IfOk-weaker}
 use Rattle.ask_core.specs.Plans.{Plan}
 use Rattle.ask_core.specs.Askers.{IsFine}
-use Rattle.ot_prove.specs.declared.outcome.Outcome.TheVariants.{Yes, Spent}
+use Rattle.std.specs.Prelude.{IfOk}
+use Rattle.ot_prove.specs.Outcomes.{IsDecided, StandsBehind}
 use Rattle.ot_prove.specs.Searching.{AgreesWithLists}
-use Rattle.ot_prove.proofs.Steps.{IsSearching-begun, AgreesWithLists-done, IsDecided-by_list}
+use Rattle.ot_prove.proofs.Steps.{SamePlans-trans, IsSearching-begun, IsDecided-by_list}
 use Rattle.ot_prove.proofs.proving.prove_behind.Goals as goal
 
--- the search has begun, and the plan has a question list
-pub places-init : goal.places-init
-places-init g c =
+pub returns-in_err-first-clause-same : goal.returns-in_err-first-clause-same
+returns-in_err-first-clause-same g c = c.start.ensures.same
+
+pub returns-in_err-search-clause-same : goal.returns-in_err-search-clause-same
+returns-in_err-search-clause-same g c = c.start.ensures.same
+
+pub search_through-requires-clause-names : goal.search_through-requires-clause-names
+search_through-requires-clause-names g c = omega (arith, c.start.ensures.count_kept, c.requires.names)
+
+-- the search has begun
+pub search_through-requires-clause-searching : goal.search_through-requires-clause-searching
+search_through-requires-clause-searching g c =
     let A = g.A.Asker in
     let now = c.start.new.self in
     let first = c.in_ok-first.first in
     let begins = c.in_ok-first.ensures.begins in
-    let fine = g.met.A.Asker.fine now first begins.0 in
     let search = c.in_ok-search.search in
     let at = c.in_ok-search.ensures in
-    record {
-      few = omega (arith, c.start.ensures.count_kept, c.requires.names);
-      count = c.start.ensures.count_kept;
-      root = c.start.ensures.root_kept;
-      same = c.start.ensures.same;
-      found =
-          c.plans_have_one_question_list.ensures.some (A.name_count now) (A.root c.args.asker.now)
-          (subst (λ (p : Plan g.row.A-Why.Denot). IsFine (A.name_count now) p) (begins.1 ∙ c.start.ensures.root_kept) fine);
-      front = ap (λ t. t.front) at.nothing.0;
-      searching =
-          rw (at.path, at.nothing.0, c.requires.empty, at.nothing.1)
-          (IsSearching-begun (A.is_own now) (A.plan now) (A.root now) c.args.budget (A.name_count now) first search.possible search.cycles
-          search.tables.items begins fine at.cycles at.tables);
-    }
+    rw (at.path, at.nothing.0, c.requires.empty, at.nothing.1)
+    (IsSearching-begun (A.is_own now) (A.plan now) (A.root now) c.args.budget (A.name_count now) first search.possible search.cycles
+    search.tables.items begins (g.met.A.Asker.fine now first begins.0) at.cycles at.tables)
 
-pub returns-in-Spent-clause-decides : goal.returns-in-Spent-clause-decides
-returns-in-Spent-clause-decides g c =
-    let A = g.A.Asker in
-    let known = c.places.invariant in
-    let agrees : AgreesWithLists (A.root c.step.new.asker) c.args.budget Spent = rw c.in-Spent.is at c.in_ok-step.ensures.step in
-    IsDecided-by_list (A.root c.args.asker.now) c.args.budget Spent c.question_lists_are_possible.ensures known.found
-    (subst (λ (p : Plan g.row.A-Why.Denot). AgreesWithLists p c.args.budget Spent) (c.step.ensures.root ∙ known.root) agrees)
+pub returns-in_err-ended-clause-same : goal.returns-in_err-ended-clause-same
+returns-in_err-ended-clause-same g c =
+    SamePlans-trans (g.A.Asker.is_own c.args.asker.now) (g.A.Asker.is_own c.start.new.self) (g.A.Asker.is_own c.search_through.new.asker)
+    (g.A.Asker.plan c.args.asker.now) (g.A.Asker.plan c.start.new.self) (g.A.Asker.plan c.search_through.new.asker)
+    c.start.ensures.same c.search_through.ensures.same
 
+pub returns-in_err-ended-clause-root_kept : goal.returns-in_err-ended-clause-root_kept
+returns-in_err-ended-clause-root_kept g c = c.search_through.ensures.root ∙ c.start.ensures.root_kept
+
+pub returns-in_err-ended-clause-count_kept : goal.returns-in_err-ended-clause-count_kept
+returns-in_err-ended-clause-count_kept g c = c.search_through.ensures.count ∙ c.start.ensures.count_kept
+
+pub outcome_of-requires : goal.outcome_of-requires
+outcome_of-requires g c = (c.args.budget, c.in_ok-ended.ensures.ended)
+
+-- the plan has a question list
 pub returns-clause-decides : goal.returns-clause-decides
 returns-clause-decides g c =
     let A = g.A.Asker in
-    let now = c.places.asker in
-    let search = c.places.search in
-    let known = c.places.invariant in
-    let outcome = Yes search.tree search.asked in
-    IsDecided-by_list (A.root c.args.asker.now) c.args.budget outcome c.question_lists_are_possible.ensures known.found
-    (subst (λ (p : Plan g.row.A-Why.Denot). AgreesWithLists p c.args.budget outcome) known.root
-    (AgreesWithLists-done (A.is_own now) (A.plan now) (A.root now) c.args.budget search.path _ _ search.tree search.asked
-    c.is_open.result c.places-test.false c.is_open.ensures known.searching))
+    let W = g.row.A-Why.Denot in
+    let root = A.root c.args.asker.now in
+    let now = c.start.new.self in
+    let first = c.in_ok-first.first in
+    let begins = c.in_ok-first.ensures.begins in
+    let found =
+    c.plans_have_one_question_list.ensures.some (A.name_count now) root
+    (subst (λ (p : Plan W). IsFine (A.name_count now) p) (begins.1 ∙ c.start.ensures.root_kept) (g.met.A.Asker.fine now first begins.0)) in
+    let agreed = c.outcome_of.ensures.agrees in
+    IfOk-weaker c.outcome_of.result _ (IsDecided root c.args.budget)
+    (λ o agrees.
+    IsDecided-by_list root c.args.budget o c.question_lists_are_possible.ensures found
+    (subst (λ (p : Plan W). AgreesWithLists p c.args.budget o)
+    (c.search_through.ensures.root ∙ c.start.ensures.root_kept) (agrees c.args.budget c.in_ok-ended.ensures.ended))) agreed
+
+pub returns-clause-front : goal.returns-clause-front
+returns-clause-front g c =
+    subst (λ (front : List ℕ). IfOk c.outcome_of.result (StandsBehind front))
+    (c.in_ok-ended.ensures.front ∙ ap (λ t. t.front) c.in_ok-search.ensures.nothing.0) c.outcome_of.ensures.front
+
+pub returns-clause-same : goal.returns-clause-same
+returns-clause-same g c =
+    let A = g.A.Asker in
+    let was = c.args.asker.now in
+    let begun = c.start.new.self in
+    let now = c.search_through.new.asker in
+    let last = c.outcome_of.new.asker in
+    SamePlans-trans (A.is_own was) (A.is_own begun) (A.is_own last) (A.plan was) (A.plan begun) (A.plan last) c.start.ensures.same
+    (SamePlans-trans (A.is_own begun) (A.is_own now) (A.is_own last) (A.plan begun) (A.plan now) (A.plan last)
+    c.search_through.ensures.same c.outcome_of.ensures.same)
+
+pub returns-clause-root_kept : goal.returns-clause-root_kept
+returns-clause-root_kept g c =
+    c.outcome_of.ensures.root ∙ c.search_through.ensures.root ∙ c.start.ensures.root_kept
+
+pub returns-clause-count_kept : goal.returns-clause-count_kept
+returns-clause-count_kept g c =
+    c.outcome_of.ensures.count ∙ c.search_through.ensures.count ∙ c.start.ensures.count_kept

@@ -1,12 +1,14 @@
-use Rattle.std.proofs.Common.{◌≡◌, ℕ, Bool, true, false, List, ◌∷◌, Option, None, reverse, subst, arith}
+use Rattle.std.proofs.Common.{◌≡◌, ℕ, Bool, true, false, List, ◌∷◌, Option, None, reverse, ap, subst, arith}
 use Rattle.ask_core.specs.Plans.{Plan}
 use Rattle.ask_core.specs.declared.tree.Tok.{Tok}
+use Rattle.ask_core.specs.declared.tree.Tok.TheVariants.{Ask}
+use Rattle.cert_text.specs.TreeTexts.{with_token}
 use Rattle.ask_core.specs.Paths.{OpenPlace, first_answers, first_plan}
 use Rattle.diff_bounds.specs.Kept.{Rows}
-use Rattle.ot_prove.specs.Searching.{LeadsTo, IsSearching}
+use Rattle.ot_prove.specs.Searching.{LeadsTo, IsSearching, weight_of}
 use Rattle.search_places.specs.Changes.{known_by}
 use Rattle.ot_prove.proofs.Steps.{IsSearching-same, IsSearching-asked, IsSearching-holds, spent_at_first, failing_at_first, first_is_reached, first_has_table}
-use Rattle.ot_prove.proofs.Steps.{asked_literal, weight_of-close, without_last}
+use Rattle.ot_prove.proofs.Steps.{asked_literal, weight_of-asked, weight_of-close, without_last}
 use Rattle.ot_prove.proofs.search.take_turn.Goals as goal
 
 -- a first place that is known to be possible
@@ -134,3 +136,112 @@ returns-in-Fails-clause-step g c =
             s.asked c.in-Fails.why q searching begins list;
       },
     )
+
+pub returns-in_err-lit-clause-same : goal.returns-in_err-lit-clause-same
+returns-in_err-lit-clause-same g c = c.turn_at.ensures.same
+
+pub returns-in_err-lit-clause-root : goal.returns-in_err-lit-clause-root
+returns-in_err-lit-clause-root g c = c.turn_at.ensures.root_kept
+
+pub returns-in_err-lit-clause-count : goal.returns-in_err-lit-clause-count
+returns-in_err-lit-clause-count g c = c.turn_at.ensures.count_kept
+
+pub returns-then-search-budget-clause-same : goal.returns-then-search-budget-clause-same
+returns-then-search-budget-clause-same g c = c.turn_at.ensures.same
+
+pub returns-then-search-budget-clause-root : goal.returns-then-search-budget-clause-root
+returns-then-search-budget-clause-root g c = c.turn_at.ensures.root_kept
+
+pub returns-then-search-budget-clause-count : goal.returns-then-search-budget-clause-count
+returns-then-search-budget-clause-count g c = c.turn_at.ensures.count_kept
+
+pub returns-in_err-ask-in-Ask-clause-same : goal.returns-in_err-ask-in-Ask-clause-same
+returns-in_err-ask-in-Ask-clause-same g c = c.turn_at.ensures.same
+
+pub returns-in_err-ask-in-Ask-clause-root : goal.returns-in_err-ask-in-Ask-clause-root
+returns-in_err-ask-in-Ask-clause-root g c = c.turn_at.ensures.root_kept
+
+pub returns-in_err-ask-in-Ask-clause-count : goal.returns-in_err-ask-in-Ask-clause-count
+returns-in_err-ask-in-Ask-clause-count g c = c.turn_at.ensures.count_kept
+
+pub returns-in_err-pass_on-in-Ask-clause-same : goal.returns-in_err-pass_on-in-Ask-clause-same
+returns-in_err-pass_on-in-Ask-clause-same g c = c.turn_at.ensures.same
+
+pub returns-in_err-pass_on-in-Ask-clause-root : goal.returns-in_err-pass_on-in-Ask-clause-root
+returns-in_err-pass_on-in-Ask-clause-root g c = c.turn_at.ensures.root_kept
+
+pub returns-in_err-pass_on-in-Ask-clause-count : goal.returns-in_err-pass_on-in-Ask-clause-count
+returns-in_err-pass_on-in-Ask-clause-count g c = c.turn_at.ensures.count_kept
+
+pub returns-then-eq-clause-same : goal.returns-then-eq-clause-same
+returns-then-eq-clause-same g c = c.turn_at.ensures.same
+
+pub returns-then-eq-clause-root : goal.returns-then-eq-clause-root
+returns-then-eq-clause-root g c = c.turn_at.ensures.root_kept
+
+pub returns-then-eq-clause-count : goal.returns-then-eq-clause-count
+returns-then-eq-clause-count g c = c.turn_at.ensures.count_kept
+
+pub returns-else-eq-clause-same : goal.returns-else-eq-clause-same
+returns-else-eq-clause-same g c = c.turn_at.ensures.same
+
+pub returns-else-eq-clause-root : goal.returns-else-eq-clause-root
+returns-else-eq-clause-root g c = c.turn_at.ensures.root_kept
+
+pub returns-else-eq-clause-count : goal.returns-else-eq-clause-count
+returns-else-eq-clause-count g c = c.turn_at.ensures.count_kept
+
+pub returns-in_err-close_holds-in-Holds-clause-same : goal.returns-in_err-close_holds-in-Holds-clause-same
+returns-in_err-close_holds-in-Holds-clause-same g c = c.turn_at.ensures.same
+
+pub returns-in_err-close_holds-in-Holds-clause-root : goal.returns-in_err-close_holds-in-Holds-clause-root
+returns-in_err-close_holds-in-Holds-clause-root g c = c.turn_at.ensures.root_kept
+
+pub returns-in_err-close_holds-in-Holds-clause-count : goal.returns-in_err-close_holds-in-Holds-clause-count
+returns-in_err-close_holds-in-Holds-clause-count g c = c.turn_at.ensures.count_kept
+
+pub returns-in_ok-close_holds-in-Holds-clause-same : goal.returns-in_ok-close_holds-in-Holds-clause-same
+returns-in_ok-close_holds-in-Holds-clause-same g c = c.turn_at.ensures.same
+
+pub returns-in_ok-close_holds-in-Holds-clause-root : goal.returns-in_ok-close_holds-in-Holds-clause-root
+returns-in_ok-close_holds-in-Holds-clause-root g c = c.turn_at.ensures.root_kept
+
+pub returns-in_ok-close_holds-in-Holds-clause-count : goal.returns-in_ok-close_holds-in-Holds-clause-count
+returns-in_ok-close_holds-in-Holds-clause-count g c = c.turn_at.ensures.count_kept
+
+pub returns-in-Fails-clause-same : goal.returns-in-Fails-clause-same
+returns-in-Fails-clause-same g c = c.turn_at.ensures.same
+
+pub returns-in-Fails-clause-root : goal.returns-in-Fails-clause-root
+returns-in-Fails-clause-root g c = c.turn_at.ensures.root_kept
+
+pub returns-in-Fails-clause-count : goal.returns-in-Fails-clause-count
+returns-in-Fails-clause-count g c = c.turn_at.ensures.count_kept
+
+-- the places that a question leaves weigh less
+pub returns-else-eq-clause-falls : goal.returns-else-eq-clause-falls
+returns-else-eq-clause-falls g c =
+    let A = g.A.Asker in
+    let now = c.turn_at.new.asker in
+    let s = c.args.search.now in
+    let begins = rw c.in-Ask.is at c.in_ok-lit.ensures.begins in
+    let judged = c.in_ok-ask-in-Ask.ensures.judged in
+    let falls =
+    weight_of-asked (A.plan now) c.in_ok-ask-in-Ask.field-0 judged.0 s.path c.ask.new.self.path s.cycles c.ask.new.self.cycles
+    (with_token s.tree Ask) c.ask.new.self.tree c.in-Ask.lit c.in-Ask.yes c.in-Ask.no c.requires.opened begins.2 judged.2 in
+    rw (← c.turn_at.ensures.branches) falls
+
+pub returns-then-eq-clause-falls : goal.returns-then-eq-clause-falls
+returns-then-eq-clause-falls g c =
+    let A = g.A.Asker in
+    let now = c.turn_at.new.asker in
+    let s = c.args.search.now in
+    let begins = rw c.in-Ask.is at c.in_ok-lit.ensures.begins in
+    let judged = c.in_ok-ask-in-Ask.ensures.judged in
+    let falls =
+    weight_of-asked (A.plan now) c.in_ok-ask-in-Ask.field-0 judged.0 s.path c.ask.new.self.path s.cycles c.ask.new.self.cycles
+    (with_token s.tree Ask) c.ask.new.self.tree c.in-Ask.lit c.in-Ask.yes c.in-Ask.no c.requires.opened begins.2 judged.2 in
+    omega (arith, falls, ap weight_of c.turn_at.ensures.branches, c.in_ok-pass_on-in-Ask.ensures.falls)
+
+pub returns-then-eq-clause-step : goal.returns-then-eq-clause-step
+returns-then-eq-clause-step g c = c.in_ok-pass_on-in-Ask.ensures.searching

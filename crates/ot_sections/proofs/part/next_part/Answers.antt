@@ -1,5 +1,5 @@
 -- What ends a part, or the bytes.
-use Rattle.std.proofs.Common.{◌≡◌, ◌∙◌, Ok, Err, arith, take}
+use Rattle.std.proofs.Common.{◌∙◌, Ok, arith, take}
 use Rattle.std.proofs.lemmas.Result.{err_from_is_err_and}
 use Rattle.ot_outside.specs.Faults.{Rose}
 use Rattle.ot_sections.specs.Feeding.{fed}

@@ -1,4 +1,4 @@
-use Rattle.std.proofs.Common.{ℤ, pos, ◌-ℤ◌, IsTrue, refl, sym, ap, subst}
+use Rattle.std.proofs.Common.{pos, ◌-ℤ◌, IsTrue, refl, sym, ap, subst}
 use Rattle.diff_graph.specs.declared.lit.Lit.{Lit}
 use Rattle.ask_core.specs.Askers.{is_fine_literal}
 use Rattle.ask_core.specs.Plans.{premised}

@@ -52,3 +52,40 @@ returns-in-true-ask-clause-taken g c =
     let new = open_branches g.A.Asker.plan c.ask.new.self in
     byte_taken 63 c.args.rest.now token.Ask (open_branches g.A.Asker.plan c.args.checker.now) new tt refl
     (subst (λ (b : List (Branch _)). after token.Ask b ≡ Ok new) c.question.ensures.same (c.ask.ensures.taken c.in-true-ask.is))
+
+-- the question leaves one place more open
+pub returns-in-true-ask-clause-count : goal.returns-in-true-ask-clause-count
+returns-in-true-ask-clause-count g c =
+    let new = open_branches g.A.Asker.plan c.ask.new.self in
+    omega (
+      arith,
+      c.requires.count,
+      open_as_counted token.Ask (open_branches g.A.Asker.plan c.args.checker.now) new
+          (subst (λ (b : List (Branch _)). after token.Ask b ≡ Ok new) c.question.ensures.same (c.ask.ensures.taken c.in-true-ask.is)),
+    )
+
+pub returns-in-true-ask-clause-refusal : goal.returns-in-true-ask-clause-refusal
+returns-in-true-ask-clause-refusal g c = c.ask.ensures.refusal ∙ c.question.ensures.refusal
+
+pub returns-in-false-ask-clause-none : goal.returns-in-false-ask-clause-none
+returns-in-false-ask-clause-none g c = c.ask.ensures.same c.in-false-ask.is ∙ c.question.ensures.same
+
+pub returns-in-false-ask-clause-refusal : goal.returns-in-false-ask-clause-refusal
+returns-in-false-ask-clause-refusal g c = c.ask.ensures.refusal ∙ c.question.ensures.refusal
+
+pub returns-in-true-clause-refusal : goal.returns-in-true-clause-refusal
+returns-in-true-clause-refusal g c = c.skip.ensures.refusal ∙ c.question.ensures.refusal
+
+pub returns-in-false-clause-none : goal.returns-in-false-clause-none
+returns-in-false-clause-none g c = c.skip.ensures.same c.in-false.is ∙ c.question.ensures.same
+
+pub returns-in-false-clause-refusal : goal.returns-in-false-clause-refusal
+returns-in-false-clause-refusal g c = c.skip.ensures.refusal ∙ c.question.ensures.refusal
+
+pub skip-requires-clause-cycle : goal.skip-requires-clause-cycle
+skip-requires-clause-cycle g c =
+    let front = c.in-Some.ensures in (
+      front.1.0,
+      front.1.1.1,
+      subst (λ (l : List Lit). pick_verdict (l ++ c.in_ok-question.question.lit ∷ []) front.1.0 ≡ Ok tt) c.answers.ensures front.1.3,
+    )

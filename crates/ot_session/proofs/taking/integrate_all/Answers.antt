@@ -1,14 +1,16 @@
-use Rattle.std.proofs.Common.{◌≡◌, ◌<◌, ◌≤◌, ◌-◌, ◌++◌, ◌∷◌, [], ℕ, Bool, List, length, length-append, Option, sym, ap, subst, arith, reverse, IfSome}
+use Rattle.std.proofs.Common.{◌≡◌, ◌<◌, ◌≤◌, ◌-◌, ◌++◌, ◌∷◌, [], ℕ, Bool, List, Err, length, length-append, Option, refl, sym, ap, subst, arith, reverse, IfSome}
 use Rattle.std.specs.Coded.{le_prop}
 use Rattle.std.proofs.Math.Logic.{∥∥₁_elim, ∥∥₁_map}
 use Rattle.fn_rules.specs.Rules.{function_of}
 use Rattle.fn_rules.specs.Functions.{Function}
 use Rattle.ot_causal.specs.Past.{Past, IsNext}
+use Rattle.ot_session.specs.declared.form.FormError.{FormError}
 use Rattle.ot_session.specs.declared.site.Site.{Site}
 use Rattle.ot_session.specs.Past.{is_marked, past_of}
 use Rattle.ot_session.specs.Sites.{SiteView, view_site, IsSorted}
 use Rattle.ot_session.specs.Taking.{standing, HasIntegrated, IsTurn, IsCourse, start, then, IsDueByMarks, IsLeastByMarks}
-use Rattle.ot_session.proofs.Turns.{IsTurn-later, IsNext-unknown, IsSorted-same, IsLeastDue-marked, IsNext-due, NoneIsDue-marked}
+use Rattle.ot_session.proofs.Views.{view_site-same}
+use Rattle.ot_session.proofs.Turns.{Takes-lacked, IsTurn-later, IsNext-unknown, IsSorted-same, IsLeastDue-marked, IsNext-due, NoneIsDue-marked}
 use Rattle.ot_session.proofs.taking.integrate_all.Goals as goal
 
 -- the course begins with the operation itself
@@ -38,6 +40,52 @@ returns-in_err-push-clause-sorted c = ∥∥₁_map c.loop-next.invariant.can (�
 
 pub integrate-requires-clause-next : goal.integrate-requires-clause-next
 integrate-requires-clause-next c = (c.loop-next.invariant.turn c.in-Some.one c.in-Some.is).1
+
+-- there is no memory for the number of one more
+pub returns-in_err-push-clause-takes : goal.returns-in_err-push-clause-takes
+returns-in_err-push-clause-takes c =
+    let old = standing c.args.site.now c.args.total.now in
+    let mid = standing c.loop-next.site c.loop-next.total in
+    Takes-lacked (function_of c.args.rules.now) (past_of c.args.made.now) c.args.number old mid c.from_residual.result c.from_residual.ensures.1 (record {
+      done = c.loop-next.done;
+      mid = mid;
+      integrates = record { unknown = c.requires.unknown; ready = c.requires.ready; course = c.loop-next.invariant.course };
+      site = refl;
+      counted = omega arith;
+    })
+
+-- the one whose turn it is is not integrated
+pub returns-in-Err-NoForm-clause-takes : goal.returns-in-Err-NoForm-clause-takes
+returns-in-Err-NoForm-clause-takes c = record {
+  done = c.loop-next.done;
+  mid = standing c.loop-next.site c.loop-next.total;
+  integrates = record { unknown = c.requires.unknown; ready = c.requires.ready; course = c.loop-next.invariant.course };
+  turn = (c.loop-next.invariant.turn c.in-Some.one c.in-Some.is).0;
+  stuck = c.in-Err-NoForm.ensures.stuck (ap (λ (e : FormError). Err e) c.in-Err-NoForm.field-0-is);
+  site = view_site-same c.loop-next.site c.integrate.new.site c.in-Err-NoForm.ensures.err;
+  counted = c.in-Err-NoForm.ensures.stuck_at (ap (λ (e : FormError). Err e) c.in-Err-NoForm.field-0-is);
+}
+
+pub returns-in-Err-Spent-clause-takes : goal.returns-in-Err-Spent-clause-takes
+returns-in-Err-Spent-clause-takes c = record {
+  done = c.loop-next.done;
+  mid = standing c.loop-next.site c.loop-next.total;
+  integrates = record { unknown = c.requires.unknown; ready = c.requires.ready; course = c.loop-next.invariant.course };
+  o = c.in-Some.one;
+  turn = (c.loop-next.invariant.turn c.in-Some.one c.in-Some.is).0;
+  spent = c.in-Err-Spent.ensures.spent (ap (λ (e : FormError). Err e) c.in-Err-Spent.field-0-is);
+  site = view_site-same c.loop-next.site c.integrate.new.site c.in-Err-Spent.ensures.err;
+  counted = c.in-Err-Spent.ensures.spent_at (ap (λ (e : FormError). Err e) c.in-Err-Spent.field-0-is);
+}
+
+pub returns-in-Err-NoMemory-clause-takes : goal.returns-in-Err-NoMemory-clause-takes
+returns-in-Err-NoMemory-clause-takes c = record {
+  done = c.loop-next.done;
+  mid = standing c.loop-next.site c.loop-next.total;
+  integrates = record { unknown = c.requires.unknown; ready = c.requires.ready; course = c.loop-next.invariant.course };
+  site = view_site-same c.loop-next.site c.integrate.new.site c.in-Err-NoMemory.ensures.err;
+  counted = c.integrate.ensures.more;
+}
 
 pub returns-in-Err-NoForm-clause-sorted : goal.returns-in-Err-NoForm-clause-sorted
 returns-in-Err-NoForm-clause-sorted c = ∥∥₁_map c.loop-next.invariant.can

@@ -1,4 +1,4 @@
-use Rattle.std.proofs.Common.{◌≡◌, ℕ, Bool, false, List, length, refl, sym, ap, ◌∙◌, arith, reverse}
+use Rattle.std.proofs.Common.{◌≡◌, ℕ, Bool, false, List, length, inl, inr, refl, sym, ap, ◌∙◌, arith, reverse}
 use Rattle.std.specs.Coded.{le_prop}
 use Rattle.std.proofs.Math.Logic.{∥∥₁_elim, ∥∥₁_map}
 use Rattle.std.proofs.lemmas.Bool.{false≢true}
@@ -8,6 +8,26 @@ use Rattle.ot_session.specs.Past.{is_marked, past_of}
 use Rattle.ot_session.specs.Sites.{IsSorted}
 use Rattle.ot_session.proofs.Turns.{marks, unknown-unmarked, Holds, IsSorted-held}
 use Rattle.ot_session.proofs.taking.take_here.Goals as goal
+
+-- the operation is integrated already
+pub returns-then-is_marked-clause-takes : goal.returns-then-is_marked-clause-takes
+returns-then-is_marked-clause-takes c =
+    let site : Site = c.args.site.now in
+    let n : ℕ = c.args.number in
+    record {
+      known = inl (sym (marks (past_of c.args.made.now) site (∥∥₁_map c.requires.can (λ k. k.sorted)) n)
+          ∙ ap (λ (m : List Bool). is_marked m n) (sym c.as_slice.ensures) ∙ sym c.is_marked.ensures ∙ c.if-is_marked.true);
+      same = refl;
+    }
+
+-- it is held already
+pub returns-then-is_marked-2-clause-takes : goal.returns-then-is_marked-2-clause-takes
+returns-then-is_marked-2-clause-takes c =
+    let n : ℕ = c.args.number in
+    record {
+      known = inr (ap (λ (m : List Bool). is_marked m n) (sym c.as_slice-2.ensures) ∙ sym c.is_marked-2.ensures ∙ c.if-is_marked-2.true);
+      same = refl;
+    }
 
 pub returns-then-is_marked-clause-sorted : goal.returns-then-is_marked-clause-sorted
 returns-then-is_marked-clause-sorted c = ∥∥₁_map c.requires.can (λ k. k.sorted)

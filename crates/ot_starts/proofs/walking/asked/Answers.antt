@@ -4,8 +4,34 @@ use Rattle.proof_trees.specs.Starts.{Ask, start_of}
 use Rattle.ot_terms.specs.Forms.{form_tree}
 use Rattle.ot_terms.specs.Goals.{goal_tree}
 use Rattle.marked_goals.specs.Marking.{marked_goal}
-use Rattle.ot_starts.proofs.Turns.{question_begins}
+use Rattle.laid_goals.proofs.LaidForms.{part_of_yes, part_of_no}
+use Rattle.ot_starts.proofs.Turns.{places_near, question_begins}
 use Rattle.ot_starts.proofs.walking.asked.Goals as goal
+
+-- both goals are of the obligation, and the places of the question are near
+pub settled-requires : goal.settled-requires
+settled-requires c = (
+  c.requires.goal.0,
+  part_of_yes (function_of c.args.rules.now) c.requires.goal.0 (form_tree c.args.form) (goal_tree c.args.yes.now)
+      (goal_tree c.args.no.now) c.requires.goal.1,
+)
+
+pub settled-requires-2 : goal.settled-requires-2
+settled-requires-2 c = (
+  c.requires.goal.0,
+  part_of_no (function_of c.args.rules.now) c.requires.goal.0 (form_tree c.args.form) (goal_tree c.args.yes.now)
+      (goal_tree c.args.no.now) c.requires.goal.1,
+)
+
+pub literal-requires-clause-x_near : goal.literal-requires-clause-x_near
+literal-requires-clause-x_near c =
+    (places_near (function_of c.args.rules.now) c.requires.goal.0 (form_tree c.args.form) c.in-Some.x c.in-Some.y
+    (goal_tree c.args.yes.now) (goal_tree c.args.no.now) c.in-Some.ensures.0 c.requires.goal.1).0
+
+pub literal-requires-clause-y_near : goal.literal-requires-clause-y_near
+literal-requires-clause-y_near c =
+    (places_near (function_of c.args.rules.now) c.requires.goal.0 (form_tree c.args.form) c.in-Some.x c.in-Some.y
+    (goal_tree c.args.yes.now) (goal_tree c.args.no.now) c.in-Some.ensures.0 c.requires.goal.1).1
 
 -- the turn asks the question's literal, and goes on with both settled goals
 pub returns : goal.returns

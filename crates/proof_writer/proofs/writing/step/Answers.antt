@@ -1,17 +1,19 @@
 use Rattle.std.proofs.lemmas.Result.{on_ok_weaker}
-use Rattle.proof_search.proofs.Keeping.{KeepsStarts-refl, KeepsStarts-trans}
-use Rattle.proof_writer.proofs.Extending.{ExtendsText-trans}
+use Rattle.proof_search.proofs.Keeping.{KeepsStarts-refl}
 use Rattle.proof_writer.proofs.Walking.{own_others, present_own}
 use Rattle.proof_writer.proofs.writing.step.Goals as goal
 
-pub use_lemma-requires-clause-here : goal.use_lemma-requires-clause-here
-use_lemma-requires-clause-here g c =
+pub is_start-requires : goal.is_start-requires
+is_start-requires g c =
     present_own (g.A.Asker.is_own c.args.asker.now) c.args.walk.now c.in-Some.place c.in-Some.is c.requires.nodes
 
 pub follow-requires-clause-here : goal.follow-requires-clause-here
 follow-requires-clause-here g c =
-    (c.use_lemma.ensures.same.own c.in-Some.place.node).0
-    (present_own (g.A.Asker.is_own c.args.asker.now) c.args.walk.now c.in-Some.place c.in-Some.is c.requires.nodes)
+    present_own (g.A.Asker.is_own c.args.asker.now) c.args.walk.now c.in-Some.place c.in-Some.is c.requires.nodes
+
+pub use_lemma-requires-clause-here : goal.use_lemma-requires-clause-here
+use_lemma-requires-clause-here g c =
+    present_own (g.A.Asker.is_own c.args.asker.now) c.args.walk.now c.in-Some.place c.in-Some.is c.requires.nodes
 
 pub returns-in_default-clause-nodes : goal.returns-in_default-clause-nodes
 returns-in_default-clause-nodes g c =
@@ -25,19 +27,20 @@ pub returns-in_default-clause-same : goal.returns-in_default-clause-same
 returns-in_default-clause-same g c =
     KeepsStarts-refl (g.A.Asker.is_own c.args.asker.now) (g.A.Starter.starts c.args.asker.now)
 
-pub returns-in-Some-2-clause-front : goal.returns-in-Some-2-clause-front
-returns-in-Some-2-clause-front g c = c.use_lemma.ensures.front
+pub returns-then-not-is_start-clause-front : goal.returns-then-not-is_start-clause-front
+returns-then-not-is_start-clause-front g c = c.follow.ensures.front
 
-pub returns-in-Some-2-clause-nodes : goal.returns-in-Some-2-clause-nodes
-returns-in-Some-2-clause-nodes g c = c.in_ok-step.ensures.nodes
+pub returns-then-not-is_start-clause-nodes : goal.returns-then-not-is_start-clause-nodes
+returns-then-not-is_start-clause-nodes g c = c.follow.ensures.nodes
 
-pub returns-in-Some-2-clause-same : goal.returns-in-Some-2-clause-same
-returns-in-Some-2-clause-same g c = c.use_lemma.ensures.same
+pub returns-then-not-is_start-clause-same : goal.returns-then-not-is_start-clause-same
+returns-then-not-is_start-clause-same g c = c.follow.ensures.same
 
 pub returns-clause-front : goal.returns-clause-front
-returns-clause-front g c =
-    ExtendsText-trans c.args.out.now.items c.use_lemma.new.out.items c.follow.new.out.items c.use_lemma.ensures.front
-    c.follow.ensures.front
+returns-clause-front g c = c.use_lemma.ensures.front
+
+pub returns-clause-nodes : goal.returns-clause-nodes
+returns-clause-nodes g c = c.use_lemma.ensures.nodes
 
 pub returns-clause-same : goal.returns-clause-same
-returns-clause-same g c = KeepsStarts-trans c.use_lemma.ensures.same c.follow.ensures.same
+returns-clause-same g c = c.use_lemma.ensures.same

@@ -36,3 +36,30 @@ returns-in_err-done-clause-front g c =
 
 pub returns-in_err-done-clause-same : goal.returns-in_err-done-clause-same
 returns-in_err-done-clause-same g c = KeepsStarts-trans c.turns.invariant.same c.turn.ensures.same
+
+pub returns-in_err-first-clause-front : goal.returns-in_err-first-clause-front
+returns-in_err-first-clause-front g c = ExtendsText-refl c.args.out.now.items
+
+pub returns-in_err-first-clause-same : goal.returns-in_err-first-clause-same
+returns-in_err-first-clause-same g c = c.first.ensures.same
+
+pub returns-in_err-walk-clause-front : goal.returns-in_err-walk-clause-front
+returns-in_err-walk-clause-front g c = ExtendsText-refl c.args.out.now.items
+
+pub returns-in_err-walk-clause-same : goal.returns-in_err-walk-clause-same
+returns-in_err-walk-clause-same g c = c.first.ensures.same
+
+pub turn-requires-clause-lemmas : goal.turn-requires-clause-lemmas
+turn-requires-clause-lemmas g c = c.turns.invariant.lemmas
+
+pub turn-requires-clause-nodes : goal.turn-requires-clause-nodes
+turn-requires-clause-nodes g c = c.turns.invariant.nodes
+
+pub returns-in-Some-clause-within : goal.returns-in-Some-clause-within
+returns-in-Some-clause-within g c = rw c.in-Some.is at c.in_ok-done.ensures.within
+
+pub returns-clause-front : goal.returns-clause-front
+returns-clause-front g c = c.turns.invariant.front
+
+pub returns-clause-same : goal.returns-clause-same
+returns-clause-same g c = c.turns.invariant.same

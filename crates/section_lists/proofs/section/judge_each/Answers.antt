@@ -1,14 +1,37 @@
 -- One obligation after another.
-use Rattle.std.proofs.Common.{◌+◌, [], Ok, drop}
+use Rattle.std.proofs.Common.{◌+◌, [], Ok, arith, drop}
 use Rattle.std.proofs.lemmas.Result.{err_from_is_err_and}
+use Rattle.fn_rules.specs.Obligations.{is_obligation}
 use Rattle.fn_rules.specs.Rules.{function_of}
 use Rattle.ot_questions.specs.Obligation.{plan_below}
 use Rattle.ot_sections.specs.Feeding.{fed}
 use Rattle.ot_sections.specs.Stands.{reader_place_of, stand}
-use Rattle.ot_sections.proofs.Leading.{leads_on, refused_through}
-use Rattle.ot_sections.proofs.Leaving.{goes_on_by, leaves_on}
-use Rattle.section_lists.proofs.Listed.{line_at}
+use Rattle.ot_sections.proofs.Leading.{leads_on, leads_same, refused_through}
+use Rattle.ot_sections.proofs.Leaving.{goes_on_by, leaves_on, not_yet}
+use Rattle.section_lists.proofs.Listed.{all_at, line_at}
 use Rattle.section_lists.proofs.section.judge_each.Goals as goal
+
+pub loop-ob-init : goal.loop-ob-init
+loop-ob-init g c = record {
+  between = c.requires.between;
+  lines = c.requires.lines;
+  leads =
+      leads_same g.F.Feed (plan_below (function_of c.args.rules.now) c.args.below) (stand (fed c.args.reader.now c.args.feed.now) []);
+  leaves = not_yet g.F.Feed (fed c.args.reader.now c.args.feed.now);
+}
+
+pub judge_section-requires-clause-bounded : goal.judge_section-requires-clause-bounded
+judge_section-requires-clause-bounded g c = c.requires.bounded
+
+pub judge_section-requires-clause-listed : goal.judge_section-requires-clause-listed
+judge_section-requires-clause-listed g c =
+    all_at (is_obligation (function_of c.args.rules.now).head) c.args.names.now c.loop-ob.ob-index _ c.requires.listed c.loop-ob-test.true
+
+pub judge_section-requires-clause-between : goal.judge_section-requires-clause-between
+judge_section-requires-clause-between g c = c.loop-ob.invariant.between
+
+pub judge_section-requires-clause-room : goal.judge_section-requires-clause-room
+judge_section-requires-clause-room g c = omega (arith, c.requires.room, c.loop-ob.invariant.leaves.room)
 
 pub judge_section-requires-clause-line : goal.judge_section-requires-clause-line
 judge_section-requires-clause-line g c = (
@@ -49,3 +72,9 @@ returns-in_err-judge_section-clause-leaves g c =
     rw (p.1, p.2)
     (leaves_on g.F.Feed (fed c.args.reader.now c.args.feed.now) (fed c.loop-ob.reader c.loop-ob.feed) (fed c.judge_section.new.reader c.judge_section.new.feed)
     _ c.loop-ob.invariant.leaves (rw c.in_err-judge_section.was at c.judge_section.ensures.leaves))
+
+pub returns-clause-leads : goal.returns-clause-leads
+returns-clause-leads g c = c.loop-ob.invariant.leads
+
+pub returns-clause-leaves : goal.returns-clause-leaves
+returns-clause-leaves g c = c.loop-ob.invariant.leaves

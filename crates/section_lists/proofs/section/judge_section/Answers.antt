@@ -5,7 +5,7 @@ use Rattle.fn_rules.specs.Rules.{function_of}
 use Rattle.ot_questions.specs.Obligation.{plan_below}
 use Rattle.ot_sections.specs.Feeding.{fed}
 use Rattle.ot_sections.proofs.Leading.{between_parts, misspelt_refused}
-use Rattle.ot_sections.proofs.Leaving.{goes_on_by, goes_on_with, leaves_as, leaves_on}
+use Rattle.ot_sections.proofs.Leaving.{goes_on_by, leaves_as, leaves_on}
 use Rattle.section_lists.proofs.SectionRun.{newline_refused, section_behind, section_leads, tree_refused}
 use Rattle.section_lists.proofs.section.judge_section.Goals as goal
 

@@ -1,5 +1,5 @@
 -- What is judged of the end is judged of the sections before it.
-use Rattle.std.proofs.Common.{[], Ok}
+use Rattle.std.proofs.Common.{[]}
 use Rattle.std.proofs.lemmas.Result.{err_from_is_err_and, on_ok_weaker}
 use Rattle.fn_rules.specs.Rules.{function_of}
 use Rattle.ot_questions.specs.Obligation.{plan_below}

@@ -3,7 +3,7 @@ use Rattle.std.proofs.Common.{[], Ok}
 use Rattle.std.proofs.lemmas.Result.{err_from_is_err_and}
 use Rattle.ot_sections.specs.Feeding.{fed}
 use Rattle.ot_sections.proofs.Leading.{misspelt_refused}
-use Rattle.ot_sections.proofs.Leaving.{goes_on_by, goes_on_with, leaves_as, leaves_on}
+use Rattle.ot_sections.proofs.Leaving.{goes_on_by, leaves_as, leaves_on}
 use Rattle.section_lists.proofs.SectionRun.{end_judged, trailing_refused}
 use Rattle.section_lists.proofs.section.read_end.Goals as goal
 

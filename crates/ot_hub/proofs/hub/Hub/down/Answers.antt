@@ -17,7 +17,7 @@ use Rattle.ot_hub.proofs.Keeping.{one-kept, CanTakeEntry-kept, IsClientKept-step
 use Rattle.ot_hub.proofs.Kept.{All-at}
 use Rattle.ot_hub.proofs.Near.{KeepsNear, keeps_near}
 use Rattle.ot_hub.proofs.Stepping.{refused-same, down-done, down-refused}
-use Rattle.ot_hub.proofs.Acting.{inside_of, client_read, items_set, items_same}
+use Rattle.ot_hub.proofs.Acting.{done-not_stuck, no_site-not_stuck, refusal-stuck, inside_of, client_read, items_set, items_same}
 use Rattle.ot_hub.proofs.Together.{led_to, not_stuck, AreCountedEdits-same, AreInStep-down}
 use Rattle.ot_hub.proofs.Ways.{LeadsTo}
 use Rattle.ot_hub.proofs.hub.Hub.down.Goals as goal
@@ -32,7 +32,7 @@ pub returns-then-not-has_client-clause-moved : goal.returns-then-not-has_client-
 returns-then-not-has_client-clause-moved c = (λ there. let wrong : false ≡ true = c.if-not-has_client.ensures.1 there in cc, refl)
 
 pub returns-then-not-has_client-clause-never_stuck : goal.returns-then-not-has_client-clause-never_stuck
-returns-then-not-has_client-clause-never_stuck c tp1 chars is = cc
+returns-then-not-has_client-clause-never_stuck c tp1 chars = no_site-not_stuck
 
 -- the client has received the whole log
 pub returns-in_default-clause-moved : goal.returns-in_default-clause-moved
@@ -46,7 +46,7 @@ returns-in_default-clause-moved c =
     (there, ap (down_with (hub_view_of s) c.args.client) none, refl)
 
 pub returns-in_default-clause-never_stuck : goal.returns-in_default-clause-never_stuck
-returns-in_default-clause-never_stuck c tp1 chars is = cc
+returns-in_default-clause-never_stuck c tp1 chars = done-not_stuck _
 
 -- the client can take the next entry of the log
 pub take_at-requires-clause-client : goal.take_at-requires-clause-client
@@ -104,7 +104,7 @@ invariant_of-self-in-Ok c =
     }
 
 pub returns-in-Ok-clause-never_stuck : goal.returns-in-Ok-clause-never_stuck
-returns-in-Ok-clause-never_stuck c tp1 chars is = cc
+returns-in-Ok-clause-never_stuck c tp1 chars = done-not_stuck _
 
 -- the client's step is done, and so is that of the hub
 pub returns-in-Ok-clause-moved : goal.returns-in-Ok-clause-moved
@@ -179,7 +179,7 @@ returns-in-Err-clause-never_stuck c tp1 chars is =
     subst (λ (clients : List Client). HasStepped {X = List Client} {R = Unit {0}} clients new
     (step_map (slice_set clients place) (client_step f (place + 1) entry (client_at clients place))) (Err c.in-Err.refusal)) c.deref_mut.ensures.value
     c.in-Err.ensures in
-    let stuck : c.in-Err.refusal ≡ moves.Stuck = cc in
+    let stuck : c.in-Err.refusal ≡ moves.Stuck = refusal-stuck c.in-Err.refusal is in
     let number : c.args.client ≡ place + 1 = omega (arith, there.low) in
     ∥∥₁_elim (s.in_step tp1 chars) (hlevel) (λ k.
     not_stuck (λ (clients : List Client). Unit {0}) all new (step_map (slice_set all place) (client_step f (place + 1) entry one)) c.in-Err.refusal

@@ -23,7 +23,7 @@ use Rattle.ot_hub.proofs.Kept.{All-at}
 use Rattle.ot_hub.proofs.Near.{KeepsNear, keeps_near}
 use Rattle.ot_hub.specs.Views.{HubData, hub_view_of, IsClient, HasMoved}
 use Rattle.ot_hub.proofs.Stepping.{up_with-first, up_with-none, some_first, HasMoved-refused, refused-same}
-use Rattle.ot_hub.proofs.Acting.{inside_of, client_read, items_set}
+use Rattle.ot_hub.proofs.Acting.{done-not_stuck, no_site-not_stuck, refusal-stuck, inside_of, client_read, items_set}
 use Rattle.ot_hub.proofs.Together.{led_to, not_stuck, AreCountedEdits-up, AreInStep-up}
 use Rattle.ot_hub.proofs.hub.Hub.up.Goals as goal
 
@@ -32,7 +32,7 @@ pub returns-then-not-has_client-clause-moved : goal.returns-then-not-has_client-
 returns-then-not-has_client-clause-moved c = (λ there. let wrong : false ≡ true = c.if-not-has_client.ensures.1 there in cc, refl)
 
 pub returns-then-not-has_client-clause-never_stuck : goal.returns-then-not-has_client-clause-never_stuck
-returns-then-not-has_client-clause-never_stuck c tp1 chars is = cc
+returns-then-not-has_client-clause-never_stuck c tp1 chars = no_site-not_stuck
 
 -- the client has no message
 pub returns-in_default-clause-moved : goal.returns-in_default-clause-moved
@@ -46,7 +46,7 @@ returns-in_default-clause-moved c =
     (there, up_with-none (hub_view_of s) c.args.client one.messages none, refl)
 
 pub returns-in_default-clause-never_stuck : goal.returns-in_default-clause-never_stuck
-returns-in_default-clause-never_stuck c tp1 chars is = cc
+returns-in_default-clause-never_stuck c tp1 chars = done-not_stuck _
 
 -- the message can be taken
 pub take-requires-clause-kept : goal.take-requires-clause-kept
@@ -98,7 +98,7 @@ invariant_of-self-in-Err c =
     record { small = s.small; kept = rw same s.kept; counted = rw same s.counted; in_step = rw same s.in_step }
 
 pub returns-in-Ok-clause-never_stuck : goal.returns-in-Ok-clause-never_stuck
-returns-in-Ok-clause-never_stuck c tp1 chars is = cc
+returns-in-Ok-clause-never_stuck c tp1 chars = done-not_stuck _
 
 -- the hub stays kept, counted and in step where the server took the message
 pub invariant_of-self : goal.invariant_of-self
@@ -202,7 +202,7 @@ returns-in-Err-clause-never_stuck c tp1 chars is =
     let there : IsClient (length all) c.args.client = c.if-not-has_client.ensures.0 refl in
     let client_is : one ≡ c.index.result.now = client_read all c.args.client c.index.result.now there c.index.ensures in
     let first : Some message ≡ slice_get one.messages 0 = rw client_is c.in-Some.ensures in
-    let stuck : c.in-Err.refusal ≡ moves.Stuck = cc in
+    let stuck : c.in-Err.refusal ≡ moves.Stuck = refusal-stuck c.in-Err.refusal is in
     ∥∥₁_elim (s.in_step tp1 chars) (hlevel) (λ k.
     not_stuck (λ (server : Server). AreInStep f s.first server (slice_set all place (sent one))) s.server c.take.new.self
     (server_step f c.args.client message s.server) c.in-Err.refusal

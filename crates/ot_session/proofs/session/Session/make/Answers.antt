@@ -20,9 +20,10 @@ use Rattle.ot_causal.specs.Sessions.{SessionData, IsSite, IsSound, Makes, MayMak
 use Rattle.ot_session.specs.declared.made.Made.{Made}
 use Rattle.ot_session.specs.declared.site.Site.{Site}
 use Rattle.ot_session.specs.declared.limits.TheConstants.{MAX_MADE}
-use Rattle.ot_session.specs.Sites.{view_site, site_document, data_of, ExecutesAt, IsSorted, IsKeptSession}
+use Rattle.ot_session.specs.Sites.{SiteView, view_site, site_document, data_of, ExecutesAt, IsSorted, IsKeptSession}
 use Rattle.ot_session.specs.Past.{is_marked, past_of}
-use Rattle.ot_session.specs.Views.{View, HasMade}
+use Rattle.ot_session.specs.Views.{View, HasMade, closed_session, data_in, view_of}
+use Rattle.ot_session.proofs.Answered.{no_site-answers, wrong_site-answers, wrong_kind-answers, not_enabled-answers, full-answers, no_memory-answers, made-answers}
 use Rattle.ot_session.proofs.Lists.{AllByRecursion-at}
 use Rattle.ot_session.proofs.Making.{all-marked, extends-executed, Makes-executed, known-executed, held-executed, may_make, makes, IsKeptSession-executed}
 use Rattle.ot_session.proofs.Making.{counts-executed, SiteKeepsForms-executed}
@@ -49,6 +50,136 @@ execute_at-requires-clause-enabled c =
     (λ site is.
     subst (λ (d : List Cell). IsEnabled c.args.op (length d))
     (ap site_document (slice_get-map view_site sites i ∙ ap (option_map view_site) is)) enabled))
+
+-- the operation does not pass a test
+pub returns-then-not-has_site : goal.returns-then-not-has_site
+returns-then-not-has_site c =
+    let v : View = view_of c.args.self.now in
+    let k = no_site-answers v v c.args.site c.args.op (λ is. false≢true (c.if-not-has_site.ensures.1 is)) refl in
+    record {
+      made = tt;
+      passed = tt;
+      no_site = k.no_site;
+      wrong_site = k.wrong_site;
+      wrong_kind = k.wrong_kind;
+      not_enabled = k.not_enabled;
+      full = k.full;
+      no_memory = k.no_memory;
+      unchanged = k.unchanged;
+      closed = k.closed;
+    }
+
+pub returns-then-not-is_made_at : goal.returns-then-not-is_made_at
+returns-then-not-is_made_at c =
+    let v : View = view_of c.args.self.now in
+    let k = wrong_site-answers v v c.args.site c.args.op (c.if-not-has_site.ensures.0 refl) (λ is. false≢true (c.if-not-is_made_at.ensures.1 is)) refl in
+    record {
+      made = tt;
+      passed = tt;
+      no_site = k.no_site;
+      wrong_site = k.wrong_site;
+      wrong_kind = k.wrong_kind;
+      not_enabled = k.not_enabled;
+      full = k.full;
+      no_memory = k.no_memory;
+      unchanged = k.unchanged;
+      closed = k.closed;
+    }
+
+pub returns-then-not-has_declared_kind : goal.returns-then-not-has_declared_kind
+returns-then-not-has_declared_kind c =
+    let v : View = view_of c.args.self.now in
+    let k = wrong_kind-answers v v c.args.site c.args.op (c.if-not-has_site.ensures.0 refl) (c.if-not-is_made_at.ensures.0 refl) (λ is. false≢true (c.if-not-has_declared_kind.ensures.1 is)) refl in
+    record {
+      made = tt;
+      passed = tt;
+      no_site = k.no_site;
+      wrong_site = k.wrong_site;
+      wrong_kind = k.wrong_kind;
+      not_enabled = k.not_enabled;
+      full = k.full;
+      no_memory = k.no_memory;
+      unchanged = k.unchanged;
+      closed = k.closed;
+    }
+
+pub returns-then-not-can_execute : goal.returns-then-not-can_execute
+returns-then-not-can_execute c =
+    let v : View = view_of c.args.self.now in
+    let k = not_enabled-answers v v c.args.site c.args.op (c.if-not-has_site.ensures.0 refl) (c.if-not-is_made_at.ensures.0 refl) (c.if-not-has_declared_kind.ensures.0 refl)
+    (λ is. false≢true (c.if-not-can_execute.ensures.1 is)) refl in
+    record {
+      made = tt;
+      passed = tt;
+      no_site = k.no_site;
+      wrong_site = k.wrong_site;
+      wrong_kind = k.wrong_kind;
+      not_enabled = k.not_enabled;
+      full = k.full;
+      no_memory = k.no_memory;
+      unchanged = k.unchanged;
+      closed = k.closed;
+    }
+
+pub returns-then-len-eq-MAX_MADE : goal.returns-then-len-eq-MAX_MADE
+returns-then-len-eq-MAX_MADE c =
+    let v : View = view_of c.args.self.now in
+    let k = full-answers v v c.args.site c.args.op (record {
+      site = c.if-not-has_site.ensures.0 refl;
+      own = c.if-not-is_made_at.ensures.0 refl;
+      declared = c.if-not-has_declared_kind.ensures.0 refl;
+      enabled = c.if-not-can_execute.ensures.0 refl;
+    })
+    (omega (arith, c.if-len-eq-MAX_MADE.true, c.len.ensures, c.args.self.now.made.ok.0)) refl in
+    record {
+      made = tt;
+      passed = tt;
+      no_site = k.no_site;
+      wrong_site = k.wrong_site;
+      wrong_kind = k.wrong_kind;
+      not_enabled = k.not_enabled;
+      full = k.full;
+      no_memory = k.no_memory;
+      unchanged = k.unchanged;
+      closed = k.closed;
+    }
+
+-- memory was wanting
+pub returns-in-Err : goal.returns-in-Err
+returns-in-Err c =
+    let s = c.args.self.now in
+    let v : View = view_of s in
+    let sites : List Site = s.sites.items in
+    let new_sites : List Site = c.execute_at.new.sites in
+    let same_views : map view_site new_sites ≡ map view_site sites =
+    c.in-Err.ensures.sites ∙ ap (λ (ss : List Site). map view_site ss) c.deref_mut.ensures.value in
+    let len : length new_sites ≡ length sites =
+    sym (length-map new_sites view_site) ∙ ap length same_views ∙ length-map sites view_site in
+    let items : map view_site (with_items s.sites new_sites).items ≡ map view_site sites =
+    ap (λ (ss : List Site). map view_site ss) (with_items_is s.sites new_sites (len ∙ sym s.sites.ok.0)) ∙ same_views in
+    let new : View = record (closed_session v) { made = c.execute_at.new.made.items; sites = map view_site (with_items s.sites new_sites).items } in
+    let is : new ≡ closed_session v =
+    ap (λ (ms : List Made). record new { made = ms }) c.in-Err.ensures.made
+    ∙ ap (λ (ss : List SiteView). record (closed_session v) { sites = ss }) items in
+    let few : length s.made.items < MAX_MADE = omega (arith, s.few, c.if-len-eq-MAX_MADE.false, c.len.ensures, s.made.ok.0) in
+    let k = no_memory-answers v new c.args.site c.args.op (record {
+      site = c.if-not-has_site.ensures.0 refl;
+      own = c.if-not-is_made_at.ensures.0 refl;
+      declared = c.if-not-has_declared_kind.ensures.0 refl;
+      enabled = c.if-not-can_execute.ensures.0 refl;
+    }) few is in
+    record {
+      made = tt;
+      passed = tt;
+      no_site = k.no_site;
+      wrong_site = k.wrong_site;
+      wrong_kind = k.wrong_kind;
+      not_enabled = k.not_enabled;
+      full = k.full;
+      no_memory = k.no_memory;
+      unchanged = k.unchanged;
+      closed = k.closed;
+    }
 
 -- where memory was wanting the sites are as they were, and the session is not open
 pub invariant_of-self-in-Err : goal.invariant_of-self-in-Err
@@ -128,8 +259,8 @@ invariant_of-self-in-Ok-1 c =
     }
 
 -- the operation is the last one made, and its site alone has executed it
-pub returns-in-Ok-clause-made : goal.returns-in-Ok-clause-made
-returns-in-Ok-clause-made c =
+pub returns-in-Ok : goal.returns-in-Ok
+returns-in-Ok c =
     let s = c.args.self.now in
     let f : Function = function_of s.rules in
     let t : ℕ = c.args.site in
@@ -150,21 +281,41 @@ returns-in-Ok-clause-made c =
     let marks : (x : ℕ) → is_marked step.before.integrated x ≡ has (reverse step.before.seen.items) x =
     λ x. ∥∥₁_elim s.kept (Coded-set coded_bool _ _) (λ k. (sorted k).marked.marks x) in
     let before : View = record { function = f; first = s.first; made = made; sites = map view_site sites; counted = s.counted; is_open = s.is_open } in
-    subst (λ (ss : List Site).
-    HasMade before (record { function = f; first = s.first; made = new_made; sites = map view_site ss; counted = s.counted; is_open = s.is_open }) t o
-    c.in-Ok.number)
-    items
-    (record {
-      number = c.in-Ok.ensures.number;
-      made = record {
-        known = step.before.integrated;
-        is = step.made;
-        marks = known-executed f s.first t o made new_made sites new_sites at step marks;
-        room = ∥∥₁_elim s.kept (Coded-set coded_ℕ _ _) (λ k. (sorted k).marked.integrated);
-      };
-      makes = Makes-executed f s.first t o made new_made sites new_sites at step marks;
-      function = refl;
-      held = held-executed f s.first t o made new_made sites new_sites at step;
-      counted = refl;
-      is_open = refl;
-    })
+    let few : length made < MAX_MADE = omega (arith, s.few, c.if-len-eq-MAX_MADE.false, c.len.ensures, s.made.ok.0) in
+    let may : MayMake f (data_in before) t o = record {
+      site = site;
+      own = c.if-not-is_made_at.ensures.0 refl;
+      declared = c.if-not-has_declared_kind.ensures.0 refl;
+      enabled = c.if-not-can_execute.ensures.0 refl;
+    } in
+    let after : View = record before { made = new_made; sites = map view_site (with_items s.sites new_sites).items } in
+    let k = made-answers before after t o c.in-Ok.number may in
+    record {
+      made = subst (λ (ss : List Site).
+          HasMade before (record { function = f; first = s.first; made = new_made; sites = map view_site ss; counted = s.counted; is_open = s.is_open }) t o
+          c.in-Ok.number)
+          items
+          (record {
+            number = c.in-Ok.ensures.number;
+            made = record {
+              known = step.before.integrated;
+              is = step.made;
+              marks = known-executed f s.first t o made new_made sites new_sites at step marks;
+              room = ∥∥₁_elim s.kept (Coded-set coded_ℕ _ _) (λ k. (sorted k).marked.integrated);
+            };
+            makes = Makes-executed f s.first t o made new_made sites new_sites at step marks;
+            function = refl;
+            held = held-executed f s.first t o made new_made sites new_sites at step;
+            counted = refl;
+            is_open = refl;
+          });
+      passed = (may, few);
+      no_site = k.no_site;
+      wrong_site = k.wrong_site;
+      wrong_kind = k.wrong_kind;
+      not_enabled = k.not_enabled;
+      full = k.full;
+      no_memory = k.no_memory;
+      unchanged = k.unchanged;
+      closed = k.closed;
+    }

@@ -1,11 +1,13 @@
 use Rattle.std.proofs.Common.{◌≡◌, List, map, refl, sym, subst, arith}
 use Rattle.std.specs.Vec.{with_items}
+use Rattle.std.proofs.lemmas.Bool.{false≢true}
+use Rattle.std.proofs.lemmas.List.{length-map}
 use Rattle.fn_rules.specs.Rules.{function_of}
 use Rattle.ot_causal.specs.Sessions.{all_counted}
 use Rattle.ot_session.specs.declared.site.Site.{Site}
 use Rattle.ot_session.specs.Past.{past_of}
 use Rattle.ot_session.specs.Sites.{view_site, data_of}
-use Rattle.ot_session.proofs.AfterTake.{can-take, counted-before, items, few-sites, taken, forms-taken, kept-taken, counts-taken, never-stuck, never-spent}
+use Rattle.ot_session.proofs.AfterTake.{no_site-not_stuck, no_site-not_spent, no_op-not_stuck, no_op-not_spent, can-take, counted-before, items, few-sites, taken, forms-taken, kept-taken, counts-taken, never-stuck, never-spent}
 use Rattle.ot_session.proofs.session.Session.take.Goals as goal
 
 pub take_at-taken-requires-clause-can : goal.take_at-taken-requires-clause-can
@@ -75,3 +77,44 @@ returns-clause-never_spent c = λ enough.
     (c.steps_keep_sessions_sound.ensures.integrated f) (c.steps_count_what_they_seek.ensures.all_integrated f)
     (c.sites_count_no_more_than_the_bound.ensures.whole f) (c.sites_count_no_more_than_the_bound.ensures.within f)
     (omega (arith, c.if-number-len.false, c.len.ensures, s.made.ok.0)) c.requires enough
+
+-- there is no such site
+pub returns-then-not-has_site : goal.returns-then-not-has_site
+returns-then-not-has_site c = record {
+  taken = (λ there. false≢true (c.if-not-has_site.ensures.1 there), refl);
+  never_stuck = λ tp1 tp2 chars. no_site-not_stuck;
+  never_spent = λ enough. no_site-not_spent;
+  more = omega arith;
+}
+
+-- no such operation was made
+pub returns-then-number-len : goal.returns-then-number-len
+returns-then-number-len c = record {
+  taken = (
+    c.if-not-has_site.ensures.0 refl,
+    omega (arith, c.if-number-len.true, c.len.ensures, c.args.self.now.made.ok.0),
+    refl,
+  );
+  never_stuck = λ tp1 tp2 chars. no_op-not_stuck;
+  never_spent = λ enough. no_op-not_spent;
+  more = omega arith;
+}
+
+pub take_at-taken-requires-clause-place : goal.take_at-taken-requires-clause-place
+take_at-taken-requires-clause-place c =
+    let sites = c.args.self.now.sites.items in
+    let there = c.if-not-has_site.ensures.0 refl in
+    rw c.deref_mut.ensures.value (omega (arith, there.low, there.high, length-map sites view_site))
+
+pub take_at-taken-requires-clause-made : goal.take_at-taken-requires-clause-made
+take_at-taken-requires-clause-made c =
+    rw c.deref.ensures.value (omega (arith, c.if-number-len.false, c.len.ensures, c.args.self.now.made.ok.0))
+
+pub take_at-taken-requires-clause-few : goal.take_at-taken-requires-clause-few
+take_at-taken-requires-clause-few c = rw c.deref.ensures.value c.args.self.now.few
+
+pub take_at-taken-requires-clause-within : goal.take_at-taken-requires-clause-within
+take_at-taken-requires-clause-within c = c.args.self.now.within
+
+pub returns-clause-more : goal.returns-clause-more
+returns-clause-more c = c.take_at-taken.ensures.more

@@ -66,3 +66,39 @@ returns-in-Err-clause-err_open g c =
 
 pub returns-in-Err-clause-why : goal.returns-in-Err-clause-why
 returns-in-Err-clause-why g c none = rw (← c.self.view_is) c.in-Err.ensures.why
+
+pub returns-in-Ok-clause-root : goal.returns-in-Ok-clause-root
+returns-in-Ok-clause-root g c = rw (← c.self.view_is) c.take_token.ensures.root
+
+pub returns-in-Ok-clause-compare : goal.returns-in-Ok-clause-compare
+returns-in-Ok-clause-compare g c = rw (← c.self.view_is) c.take_token.ensures.same.compare
+
+pub returns-in-Ok-clause-marked : goal.returns-in-Ok-clause-marked
+returns-in-Ok-clause-marked g c = rw (← c.self.view_is) c.take_token.ensures.same.root
+
+pub returns-in-Ok-2-clause-root : goal.returns-in-Ok-2-clause-root
+returns-in-Ok-2-clause-root g c = rw (← c.self.view_is) c.take_token.ensures.root
+
+pub returns-in-Ok-2-clause-compare : goal.returns-in-Ok-2-clause-compare
+returns-in-Ok-2-clause-compare g c = rw (← c.self.view_is) c.take_token.ensures.same.compare
+
+pub returns-in-Ok-2-clause-marked : goal.returns-in-Ok-2-clause-marked
+returns-in-Ok-2-clause-marked g c = rw (← c.self.view_is) c.take_token.ensures.same.root
+
+pub returns-in-Err-clause-root : goal.returns-in-Err-clause-root
+returns-in-Err-clause-root g c = rw (← c.self.view_is) c.take_token.ensures.root
+
+pub returns-in-Err-clause-compare : goal.returns-in-Err-clause-compare
+returns-in-Err-clause-compare g c = rw (← c.self.view_is) c.take_token.ensures.same.compare
+
+pub returns-in-Err-clause-marked : goal.returns-in-Err-clause-marked
+returns-in-Err-clause-marked g c = rw (← c.self.view_is) c.take_token.ensures.same.root
+
+pub returns-in-Ok-clause-step : goal.returns-in-Ok-clause-step
+returns-in-Ok-clause-step g c = rw (← c.self.view_is) c.in-Ok.ensures.ok
+
+pub returns-in-Ok-2-clause-step : goal.returns-in-Ok-2-clause-step
+returns-in-Ok-2-clause-step g c = rw (← c.self.view_is) c.in-Ok-2.ensures.ok
+
+pub returns-in-Err-clause-err : goal.returns-in-Err-clause-err
+returns-in-Err-clause-err g c = rw (← c.self.view_is) c.in-Err.ensures.kept

@@ -1,7 +1,7 @@
 use Rattle.std.proofs.Common.{◌≤◌}
 use Rattle.proof_trees.specs.Starters.{KeepsStarts}
 use Rattle.proof_search.specs.Owning.{IsOwnSearch}
-use Rattle.proof_search.proofs.seeking.seek.Given as goal
+use Rattle.proof_search.proofs.seeking.take_turns.Given as goal
 
 abbrev pub invariant-turns : goal.invariant-turns
 invariant-turns g l = record {

@@ -1,10 +1,9 @@
-use Rattle.std.proofs.Common.{◌≡◌, ◌≤◌, []}
+use Rattle.std.proofs.Common.{◌≡◌, ◌≤◌}
 use Rattle.ask_core.specs.Askers.{SamePlans}
 use Rattle.ask_core.specs.Paths.{branches_at}
-use Rattle.ask_core.specs.Questions.{Questions, QuestionList}
 use Rattle.search_places.specs.declared.split.TheConstants.{MAX_NAMES}
 use Rattle.ot_prove.specs.Searching.{IsSearchUnderWay, weight_of}
-use Rattle.ot_prove.proofs.proving.prove_behind.Given as goal
+use Rattle.ot_prove.proofs.proving.search_through.Given as goal
 
 abbrev pub invariant-places : goal.invariant-places
 invariant-places g l = record {
@@ -12,8 +11,7 @@ invariant-places g l = record {
   count : g.A.Asker.name_count l.asker ≡ g.A.Asker.name_count l.fn.asker;
   root : g.A.Asker.root l.asker ≡ g.A.Asker.root l.fn.asker;
   same : SamePlans (g.A.Asker.is_own l.fn.asker) (g.A.Asker.is_own l.asker) (g.A.Asker.plan l.fn.asker) (g.A.Asker.plan l.asker);
-  found : (q : Questions g.row.A-Why.Denot) × QuestionList (g.A.Asker.root l.fn.asker) [] q;
-  front : l.search.tree.front ≡ l.fn.tree.front;
+  front : l.search.tree.front ≡ l.fn.search.tree.front;
   searching : IsSearchUnderWay (g.A.Asker.is_own l.asker) (g.A.Asker.plan l.asker) (g.A.Asker.root l.asker) l.budget l.search;
 }
 
