@@ -116,6 +116,20 @@ closed_places current w u waiting rest x places shown opened same nested shorter
     let e = places_of-close current w waiting rest x opened' same nested in
     rw (shorter, ← shown) e
 
+-- the answer of the innermost part that waits comes in place of one that is there
+pub closed_depth :
+    {N : Type 0} (w : List Lit) (waiting rest : List (Waiting N)) (x : Waiting N) (count : ℕ) → count ≡ length w
+    → waiting ≡ rest ++ x ∷ [] → IsNested (length w) (reverse waiting) → x.depth < count
+closed_depth w waiting rest x count counted same nested = omega (arith, counted, (IsNested-close w waiting rest x same nested).0)
+
+-- where none waits, no place is left
+pub closed_last :
+    {N : Type 0} (current : Option N) (w : List Lit) (waiting : List (Waiting N)) (places : List (OpenPlace N))
+    → places_of current w waiting ≡ places → 0 < length places → length waiting ≡ 0 → [] ≡ drop 1 places
+closed_last None w waiting places shown opened none = absurd (omega (arith, ap length shown))
+closed_last (Some n) w [] places shown opened none = rw (← shown) refl
+closed_last (Some n) w (x ∷ waiting) places shown opened none = absurd (omega arith)
+
 pub closed_nested :
     {N : Type 0} (w u : List Lit) (waiting rest : List (Waiting N)) (x : Waiting N)
     → waiting ≡ rest ++ x ∷ [] → IsNested (length w) (reverse waiting) → u ≡ take (x.depth + 1) (set w x.depth x.answer)

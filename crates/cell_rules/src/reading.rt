@@ -102,11 +102,21 @@ fn read_change<'a>(
     }
 }
 
-// A dead cell with the character of this name.
-fn dead_char<'a>(bump: &'a Bump, ch: u8) -> Result<Option<CellT<'a>>, NoMemory>
-    ensures { IfOk result (λ r. option_map cell_tree r ≡ Some (trees.Dead (trees.Char ch))) }
+// The cell, dead.
+#[inline]
+fn dead<'a>(bump: &'a Bump, cell: CellT<'a>) -> Result<Option<CellT<'a>>, NoMemory>
+    ensures { IfOk result (λ r. option_map cell_tree r ≡ Some (trees.Dead (cell_tree cell.entry))) }
 {
-    Ok(Some(CellT::Dead(CellT::of_char(bump, ch)?)))
+    Ok(Some(CellT::Dead(placed(bump, cell)?)))
+}
+
+// The cell, with another character.
+#[inline]
+fn over<'a>(bump: &'a Bump, ch: u8, cell: CellT<'a>) -> Result<Option<CellT<'a>>, NoMemory>
+    ensures { IfOk result (λ r. option_map cell_tree r ≡ Some (trees.Over ch (cell_tree cell.entry))) }
+{
+    let cell = placed(bump, cell)?;
+    Ok(Some(CellT::Over { ch, cell }))
 }
 
 // A dead cell, by the cell that it was.
@@ -117,7 +127,7 @@ fn bury<'a>(bump: &'a Bump, cell: CellT<'a>) -> Result<Option<CellT<'a>>, NoMemo
         CellT::At { .. } => Ok(None),
         CellT::Char(_) => Ok(None),
         CellT::Dead(cell) => Ok(Some(CellT::Dead(cell))),
-        CellT::Over { ch, .. } => dead_char(bump, ch),
+        CellT::Over { ch, .. } => dead(bump, CellT::Char(ch)),
         CellT::If { form, yes, no } => either(bump, form, CellT::Dead(yes), CellT::Dead(no)),
     }
 }
@@ -129,7 +139,7 @@ fn replace<'a>(bump: &'a Bump, ch: u8, cell: CellT<'a>) -> Result<Option<CellT<'
     match cell {
         CellT::At { .. } => Ok(None),
         CellT::Char(_) => Ok(Some(CellT::Char(ch))),
-        CellT::Dead(_) => dead_char(bump, ch),
+        CellT::Dead(_) => dead(bump, CellT::Char(ch)),
         CellT::Over { cell, .. } => Ok(Some(CellT::Over { ch, cell })),
         CellT::If { form, yes, no } => {
             either(
@@ -152,14 +162,11 @@ pub fn read_step<'a>(bump: &'a Bump, cell: CellT<'a>) -> Result<Option<CellT<'a>
         CellT::At { doc, at } => read_change(bump, doc, at),
         CellT::Char(_) => Ok(None),
         CellT::Dead(inner) => match read_step(bump, *inner)? {
-            Some(read) => Ok(Some(CellT::Dead(placed(bump, read)?))),
+            Some(read) => dead(bump, read),
             None => bury(bump, *inner),
         },
         CellT::Over { ch, cell: inner } => match read_step(bump, *inner)? {
-            Some(read) => Ok(Some(CellT::Over {
-                ch,
-                cell: placed(bump, read)?,
-            })),
+            Some(read) => over(bump, ch, read),
             None => replace(bump, ch, *inner),
         },
         CellT::If { .. } => Ok(None),

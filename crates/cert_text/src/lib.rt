@@ -26,7 +26,7 @@ pub use laws::{
     all_bytes_are_read, parts_are_told_apart, read_certificates_are_written,
     written_certificates_are_read,
 };
-pub use line::LineBytes;
+pub use line::{LineBytes, ob_line};
 pub use piece::{branches_behind, number_front, short_number_front, whole_token};
 pub use stage::Stage;
 pub use step::{PartFront, PartStep, part_step};

@@ -157,8 +157,8 @@ pub(crate) fn header_line(alloc: Global, names: &[ObName], level: Level) -> Line
     line
 }
 
-/// The line before the tree of an obligation.
-pub(crate) fn ob_line(alloc: Global, name: ObName) -> LineBytes
+/// The line before the tree of an obligation. The allocator is not asked for memory.
+pub fn ob_line(alloc: Global, name: ObName) -> LineBytes
     ensures { result ≡ ob_text name }
 {
     let mut line = LineBytes::new(alloc);

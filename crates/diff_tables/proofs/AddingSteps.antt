@@ -79,6 +79,20 @@ pub record IsAdding (n : ℕ) (initial rows : List (List (Option Hop))) (ls : Li
   pub square : IsSquare rows
   pub stands : (ps : List Numbered) → StandsFor n (kept_of initial) ps → StandsFor n (kept_of rows) (ps ++ numbered_from 0 (take place ls))
 
+-- before the first one the table is as it was
+pub IsAdding-none : (rows : List (List (Option Hop))) (ls : List Lit) → IsSquare rows → IsAdding (length rows) rows rows ls 0
+IsAdding-none rows ls square = record {
+  len = refl;
+  square = square;
+  stands = λ ps stands.
+      subst (λ (qs : List Numbered). StandsFor (length rows) (kept_of rows) qs)
+      (sym (ap (λ (fs : List Lit). ps ++ numbered_from 0 fs) (none ls) ∙ append-nil ps)) stands;
+}
+  where
+    none : (fs : List Lit) → take 0 fs ≡ []
+    none [] = refl
+    none (l ∷ fs) = refl
+
 -- one literal more is added, where the new rows stand for it and those before
 pub IsAdding-more :
     (n m : ℕ) (initial rows new : List (List (Option Hop))) (ls : List Lit) (place : ℕ) → IsAdding n initial rows ls place

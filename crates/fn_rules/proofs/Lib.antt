@@ -5,5 +5,6 @@ pub mod KindPairs
 pub mod LevelLengths
 pub mod Naming
 pub mod Positions
+pub mod Pushing
 pub mod Instances
 mod Examples

@@ -62,12 +62,15 @@ cases_of-undeclared f k l valid undeclared =
     let none : nat_eq (length (cases_of f k l)) 0 ≡ true = rw undeclared at parts.1 in
     no_members (cases_of f k l) (eqb-true (length (cases_of f k l)) 0 none)
 
+-- the function of blocks that build one is valid
+pub is_valid-buildable : (head : Head) (blocks : List PairCases) → is_buildable head blocks ≡ true → is_valid (function_from head blocks) ≡ true
+is_valid-buildable head blocks buildable = (and_parts (has_own_blocks head blocks) (is_valid (function_from head blocks)) buildable).1
+
 -- the cases of blocks that build a function may stand in their block
 pub are_valid_cases-buildable : (head : Head) (blocks : List PairCases) (k l : Kind) → is_buildable head blocks ≡ true →
     are_valid_cases (compares_chars k l) (cases_in blocks k l) ≡ true
 are_valid_cases-buildable head blocks k l buildable =
-    are_valid_cases-valid (function_from head blocks) k l
-    (and_parts (has_own_blocks head blocks) (is_valid (function_from head blocks)) buildable).1
+    are_valid_cases-valid (function_from head blocks) k l (is_valid-buildable head blocks buildable)
 
 -- each of valid cases is valid
 pub is_valid_case-at : (chars : Bool) (cases : List Case) (i : ℕ) (d : Case) → are_valid_cases chars (map case_of cases) ≡ true → i < length cases →

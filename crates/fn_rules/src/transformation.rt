@@ -12,8 +12,16 @@ ghost use Rattle.fn_rules.specs.Conditions.{IsInRange, both_have_chars, is_integ
 use crate::function::{Case, Res};
 use crate::guard::Side;
 use crate::rules::Rules;
-use crate::truth::holds;
+use crate::truth::{holds, shifted};
 use ot_model::{Op, enabled};
+
+// The position of an operation, moved by an offset.
+fn moved(op: &Op, k: i32) -> i64
+    requires { IsInRange op.now }
+    ensures { result ≡ at_of op.now +ℤ k }
+{
+    shifted(op.position(), k)
+}
 
 fn give(res: &Res, a: &Op, b: &Op) -> Op
     requires a_in_range { IsInRange a.now }
@@ -22,8 +30,8 @@ fn give(res: &Res, a: &Op, b: &Op) -> Op
 {
     match *res {
         Res::Keep { base, k } => match base {
-            Side::First => a.placed(a.position() + i64::from(k)),
-            Side::Second => a.placed(b.position() + i64::from(k)),
+            Side::First => a.placed(moved(a, k)),
+            Side::Second => a.placed(moved(b, k)),
         },
         Res::Nop => Op::Nop,
     }

@@ -20,7 +20,8 @@ fn thing(sort: Sort, op: &Op) -> i64
     }
 }
 
-fn shifted(y: i64, k: i32) -> i64
+// A thing plus an offset.
+pub(crate) fn shifted(y: i64, k: i32) -> i64
     requires least { pos 0 ≤ℤ (y +ℤ pos 1099511627776) }
     requires most { y ≤ℤ pos 1099511627776 }
     ensures { result ≡ y +ℤ k }

@@ -9,7 +9,7 @@ ghost use Rattle.cell_rules.specs.Cells.{IsReadable};
 ghost use Rattle.goal_rules.specs.Steps.{front_tree};
 ghost use Rattle.goal_rules.specs.Table as table;
 
-use crate::front::Front;
+use crate::front::{Front, fitting};
 use crate::known::holds;
 use ask_core::NoMemory;
 use bumpalo::Bump;
@@ -81,7 +81,7 @@ fn both_finished<'a>(
         None => Ok(None),
         Some(left) => match right {
             None => Ok(None),
-            Some(right) => Ok(Some(same_finished(bump, left, right)?)),
+            Some(right) => fitting(same_finished(bump, left, right)),
         },
     }
 }
@@ -96,7 +96,7 @@ fn either<'a>(
     ensures { IfOk result (λ r. option_map front_tree r
         ≡ Some (trees.If (form_tree form.now) (goal_tree yes.entry) (goal_tree no.entry))) }
 {
-    Ok(Some(Front::either(bump, form, yes, no)?))
+    fitting(Front::either(bump, form, yes, no))
 }
 
 // The comparison where the left cell is finished and the right one needs no step.
@@ -137,6 +137,28 @@ fn compare_right<'a>(
     }
 }
 
+// The comparison where the left cell needs no step.
+fn compare_left<'a>(
+    bump: &'a Bump,
+    left: CellT<'a>,
+    right: CellT<'a>,
+) -> Result<Option<Front<'a>>, NoMemory>
+    requires { IsReadable (cell_tree right) }
+    ensures { IfOk result (λ r. option_map front_tree r
+        ≡ table.rewrite_left (cell_tree left.entry) (cell_tree right.entry) None) }
+{
+    let CellT::If { form, yes, no } = left else {
+        return compare_right(bump, left, right);
+    };
+    let right = placed(bump, right)?;
+    either(
+        bump,
+        form,
+        Goal::Same { left: yes, right },
+        Goal::Same { left: no, right },
+    )
+}
+
 /// The comparison: the left cell is read first.
 pub(crate) fn compare<'a>(
     bump: &'a Bump,
@@ -150,17 +172,6 @@ pub(crate) fn compare<'a>(
 {
     match read_step(bump, left)? {
         Some(read) => Ok(Some(Front::Same { left: read, right })),
-        None => {
-            let CellT::If { form, yes, no } = left else {
-                return compare_right(bump, left, right);
-            };
-            let right = placed(bump, right)?;
-            either(
-                bump,
-                form,
-                Goal::Same { left: yes, right },
-                Goal::Same { left: no, right },
-            )
-        }
+        None => compare_left(bump, left, right),
     }
 }

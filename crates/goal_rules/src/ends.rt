@@ -122,6 +122,22 @@ fn if_enabled<'a>(
     Goal::either(bump, *form, goal, out_of_range())
 }
 
+fn front_if_enabled<'a>(
+    bump: &'a Bump,
+    op: SymOp,
+    off: i32,
+    goal: &'a Goal<'a>,
+) -> Result<Front<'a>, NoMemory>
+    ensures { IfOk result (λ r. front_tree r
+        ≡ trees.If (enabled_form op off) (goal_tree goal.now) (trees.Fails Why.OutOfRange)) }
+{
+    Ok(Front::If {
+        form: *enabled_form(bump, op, off)?,
+        yes: goal,
+        no: out_of_range(),
+    })
+}
+
 // Both forms are enabled behind the other operation, and then both ways give one document.
 fn both_ways<'a>(
     bump: &'a Bump,
@@ -135,11 +151,7 @@ fn both_ways<'a>(
 {
     let same = same_lengths(bump, mode, a, b_after_a, b, a_after_b)?;
     let second = if_enabled(bump, a_after_b, b.growth(mode), same)?;
-    Ok(Front::If {
-        form: *enabled_form(bump, b_after_a, a.growth(mode))?,
-        yes: second,
-        no: out_of_range(),
-    })
+    front_if_enabled(bump, b_after_a, a.growth(mode), second)
 }
 
 /// What is left of a pair behind its results.

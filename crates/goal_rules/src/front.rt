@@ -1,9 +1,9 @@
 //! Goals that are held by value at their front.
-ghost use Rattle.std.specs.Prelude.{◌≡◌, IfOk};
+ghost use Rattle.std.specs.Prelude.{◌≡◌, Some, IfOk, option_map};
 ghost use Rattle.ot_terms.specs.Cells.{cell_tree};
 ghost use Rattle.ot_terms.specs.Forms.{form_tree};
 ghost use Rattle.ot_terms.specs.Goals as trees;
-ghost use Rattle.ot_terms.specs.Goals.{goal_tree};
+ghost use Rattle.ot_terms.specs.Goals.{GoalTree, goal_tree};
 ghost use Rattle.goal_rules.specs.Steps.{front_tree};
 
 use ask_core::NoMemory;
@@ -41,6 +41,17 @@ pub enum Front<'a> {
         left: CellT<'a>,
         right: CellT<'a>,
     },
+}
+
+/// The outcome of a rule, as one that fits.
+#[inline(always)]
+pub(crate) fn fitting<'a>(
+    outcome: Result<Front<'a>, NoMemory>,
+) -> Result<Option<Front<'a>>, NoMemory>
+    ensures { (g : GoalTree) → IfOk outcome.entry (λ r. front_tree r ≡ g)
+        → IfOk result (λ r. option_map front_tree r ≡ Some g) }
+{
+    Ok(Some(outcome?))
 }
 
 // The comparison, with both cells in the arena.

@@ -8,7 +8,7 @@ use crate::choosing::choose;
 use crate::comparing::compare;
 use crate::delivering::deliver;
 use crate::forms::by_form;
-use crate::front::Front;
+use crate::front::{Front, fitting};
 use ask_core::NoMemory;
 use bumpalo::Bump;
 use fn_rules::Rules;
@@ -36,8 +36,8 @@ pub fn rewrite<'a>(
             case,
             ops,
             progress,
-        } => Ok(Some(choose(bump, rules, case, ops, progress)?)),
-        Front::Deliver { op, progress } => Ok(Some(deliver(bump, rules, op, progress)?)),
+        } => fitting(choose(bump, rules, case, ops, progress)),
+        Front::Deliver { op, progress } => fitting(deliver(bump, rules, op, progress)),
         Front::Same { left, right } => compare(bump, left, right),
     }
 }

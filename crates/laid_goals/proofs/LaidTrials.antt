@@ -1,22 +1,33 @@
 -- Cases that are tried.
-use Rattle.std.proofs.Common.{◌≡◌, ℕ, Option, Some, None, IfSome, ap, sym, arith}
+use Rattle.std.proofs.Common.{◌≡◌, ℕ, IsTrue, Option, Some, None, IfSome, refl, ap, sym, arith}
 use Rattle.std.proofs.lemmas.Int.{ints}
 use Rattle.fn_rules.specs.declared.function.ObName.{ObName}
 use Rattle.fn_rules.specs.Formulas.{formula_of}
 use Rattle.fn_rules.specs.Functions.{Function}
+use Rattle.fn_rules.specs.Validity.{is_valid}
 use Rattle.ot_questions.specs.declared.place.SymOp.{SymOp}
 use Rattle.ot_questions.specs.Nears.{IsNearOp, HasNearAtoms}
 use Rattle.ot_terms.specs.declared.goal.GoalProgress.{GoalProgress}
 use Rattle.ot_terms.specs.Belonging.{IsGoalOf}
-use Rattle.ot_terms.specs.Goals.{Choose}
+use Rattle.ot_terms.specs.Goals.{GoalTree, Choose}
 use Rattle.goal_rules.specs.declared.choosing.Trial.{Trial}
 use Rattle.goal_rules.specs.Steps.{trial_tree, IsChoosable}
 use Rattle.goal_rules.specs.Table.{rewrite_choose, rewritten}
+use Rattle.ot_rewrite.proofs.Stepped.{rule_steps}
 use Rattle.laid_goals.specs.Trials.{IsTrialOf}
+use Rattle.laid_goals.proofs.LaidGoals.{LeadsTo, leads_by_step}
 
 -- an operation that is near is nearer than a wider bound
 wider : (o : SymOp) → IsNearOp 99 o → IsNearOp 200 o
 wider o near = record { low = omega (arith, ints, near.low); high = omega (arith, ints, near.high) }
+
+-- a goal leads to the case that is tried
+pub trial_leads :
+    (f : Function) (ob : ObName) (old : GoalTree) (a b : SymOp) (t : Trial) → IsTrue (is_valid f) → IsGoalOf f ob old
+    → IsTrialOf f old a b t → LeadsTo f old (trial_tree a b (Some t))
+trial_leads f ob old a b t valid is_goal tried =
+    let new = trial_tree a b (Some t) in
+    leads_by_step f old new new (rule_steps f ob valid old is_goal new tried.rule) refl
 
 module _ (f : Function) (ob : ObName) (case : ℕ) (a b : SymOp) (plan : GoalProgress)
     (h : IsGoalOf f ob (Choose case a b plan)) where

@@ -144,3 +144,18 @@ pub(crate) fn found_read<'a>(known: &[Compared<'a>], left: CellT<'a>) -> Option<
     }
     None
 }
+
+/// The goal, which is known from now on as what is left of the comparison where its left cell is read.
+pub(crate) fn learnt_read<'a>(
+    known: &mut Vec<Compared<'a>, &'a Bump>,
+    left: CellT<'a>,
+    goal: &'a Goal<'a>,
+) -> Result<&'a Goal<'a>, NoMemory>
+    ensures same { IfOk result (λ r. r.now ≡ goal.now) }
+    ensures known { IfOk result (λ _. (f : Function) (right : CellTree) → All (IsKeptRead f right) known.old.items
+        → StandsAlike f (Same (cell_tree left.entry) right) (goal_tree goal.now)
+        → All (IsKeptRead f right) known.new.items) }
+{
+    known.push(Compared { left, goal })?;
+    Ok(goal)
+}

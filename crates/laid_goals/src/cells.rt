@@ -7,11 +7,11 @@ ghost use Rattle.ot_terms.specs.Belonging.{IsGoalOf};
 ghost use Rattle.ot_terms.specs.Cells as trees;
 ghost use Rattle.ot_terms.specs.Cells.{cell_tree};
 ghost use Rattle.ot_terms.specs.Forms.{form_tree};
-ghost use Rattle.ot_terms.specs.Goals.{goal_tree, Same};
+ghost use Rattle.ot_terms.specs.Goals.{goal_tree, If, Same};
 ghost use Rattle.laid_goals.specs.Cells.{is_parted, IsRead};
 ghost use Rattle.laid_goals.specs.Sharing.{StandsAlike, IsKeptRead};
 
-use crate::behind::found_read;
+use crate::behind::{found_read, learnt_read};
 use crate::forms::by_form;
 use crate::kept::Compared;
 use ask_core::NoMemory;
@@ -59,7 +59,30 @@ fn by_ends<'a>(
     }
 }
 
+// Two comparisons by a form, where the left cell is read.
+#[cycle(by_right)]
+fn right_parted<'a>(
+    bump: &'a Bump,
+    rules: &Rules,
+    left: CellT<'a>,
+    form: &Form<'a>,
+    yes: &CellT<'a>,
+    no: &CellT<'a>,
+) -> Result<&'a Goal<'a>, NoMemory>
+    requires goal { (ob : ObName) × IsGoalOf (function_of rules.now) ob (If (form_tree form.now)
+        (Same (cell_tree left) (cell_tree yes.now)) (Same (cell_tree left) (cell_tree no.now))) }
+    requires read { IsRead (cell_tree left) }
+    ensures { IfOk result (λ r. StandsAlike (function_of rules.now) (If (form_tree form.now)
+        (Same (cell_tree left.entry) (cell_tree yes.now)) (Same (cell_tree left.entry) (cell_tree no.now)))
+        (goal_tree r.now)) }
+{
+    let on_no = by_right(bump, rules, left, *no)?;
+    let on_yes = by_right(bump, rules, left, *yes)?;
+    by_form(bump, form, on_yes, on_no)
+}
+
 // The comparison where the left cell is read.
+#[cycle(by_right)]
 fn by_right<'a>(
     bump: &'a Bump,
     rules: &Rules,
@@ -78,9 +101,7 @@ fn by_right<'a>(
     let Some((form, yes, no)) = parts(right) else {
         return by_ends(bump, rules, left, right);
     };
-    let on_no = by_right(bump, rules, left, *no)?;
-    let on_yes = by_right(bump, rules, left, *yes)?;
-    by_form(bump, form, on_yes, on_no)
+    right_parted(bump, rules, left, form, yes, no)
 }
 
 // The comparison where the left cell is read, which is laid out once for each cell that comes of reading.
@@ -103,11 +124,36 @@ fn by_known<'a>(
         return Ok(built);
     }
     let built = by_right(bump, rules, left, right)?;
-    known.push(Compared { left, goal: built })?;
-    Ok(built)
+    learnt_read(known, left, built)
+}
+
+// Two comparisons by a form, where `known` tells what is left of each where its left cell is read.
+#[cycle(by_left)]
+fn left_parted<'a>(
+    bump: &'a Bump,
+    rules: &Rules,
+    known: &mut Vec<Compared<'a>, &'a Bump>,
+    form: &Form<'a>,
+    yes: &CellT<'a>,
+    no: &CellT<'a>,
+    right: CellT<'a>,
+) -> Result<&'a Goal<'a>, NoMemory>
+    requires goal { (ob : ObName) × IsGoalOf (function_of rules.now) ob (If (form_tree form.now)
+        (Same (cell_tree yes.now) (cell_tree right)) (Same (cell_tree no.now) (cell_tree right))) }
+    requires known { All (IsKeptRead (function_of rules.now) (cell_tree right)) known.old.items }
+    ensures alike { IfOk result (λ r. StandsAlike (function_of rules.now) (If (form_tree form.now)
+        (Same (cell_tree yes.now) (cell_tree right.entry)) (Same (cell_tree no.now) (cell_tree right.entry)))
+        (goal_tree r.now)) }
+    ensures known { IfOk result (λ _. All (IsKeptRead (function_of rules.now) (cell_tree right.entry))
+        known.new.items) }
+{
+    let on_no = by_left(bump, rules, known, *no, right)?;
+    let on_yes = by_left(bump, rules, known, *yes, right)?;
+    by_form(bump, form, on_yes, on_no)
 }
 
 // The comparison, where `known` tells what is left of it where the left cell is read.
+#[cycle(by_left)]
 fn by_left<'a>(
     bump: &'a Bump,
     rules: &Rules,
@@ -129,9 +175,7 @@ fn by_left<'a>(
     let Some((form, yes, no)) = parts(left) else {
         return by_known(bump, rules, known, left, right);
     };
-    let on_no = by_left(bump, rules, known, *no, right)?;
-    let on_yes = by_left(bump, rules, known, *yes, right)?;
-    by_form(bump, form, on_yes, on_no)
+    left_parted(bump, rules, known, form, yes, no, right)
 }
 
 /// The comparison of two cells. What is left of it where the left cell is read is laid out once for each cell that

@@ -109,13 +109,47 @@ fn cases_laid<'a>(
             ops,
             progress,
         };
-        let next = next_of(bump, rules, front)?;
-        return laid(bump, rules, known, &next);
+        return next_laid(bump, rules, known, front);
     };
     rules_are_valid(rules);
     let on_no = laid(bump, rules, known, &no)?;
     let on_yes = laid(bump, rules, known, &yes)?;
     by_guard(bump, guard, &ops.a, &ops.b, on_yes, on_no)
+}
+
+// The goal after one rule, laid out.
+#[cycle(laid)]
+#[inline]
+fn next_laid<'a>(
+    bump: &'a Bump,
+    rules: &Rules,
+    known: &mut Vec<Behind<'a>, &'a Bump>,
+    front: Front<'a>,
+) -> Result<&'a Goal<'a>, NoMemory>
+    requires goal { (ob : ObName) × IsGoalOf (function_of rules.now) ob (front_tree front) }
+    requires open { is_at_front (front_tree front) ≡ false }
+    requires known { All (IsKeptGoal (function_of rules.now)) known.old.items }
+    ensures alike { IfOk result (λ r. StandsAlike (function_of rules.now) (front_tree front.entry) (goal_tree r.now)) }
+    ensures known { IfOk result (λ _. All (IsKeptGoal (function_of rules.now)) known.new.items) }
+{
+    let next = next_of(bump, rules, front)?;
+    laid(bump, rules, known, &next)
+}
+
+// What is left behind a result, laid out. Nothing is known within it.
+#[cycle(laid)]
+#[inline]
+fn behind_laid<'a>(
+    bump: &'a Bump,
+    rules: &Rules,
+    op: SymOp,
+    progress: &'a GoalProgress,
+) -> Result<&'a Goal<'a>, NoMemory>
+    requires { (ob : ObName) × IsGoalOf (function_of rules.now) ob (Deliver op progress.now) }
+    ensures { IfOk result (λ r. StandsAlike (function_of rules.now) (Deliver op progress.now) (goal_tree r.now)) }
+{
+    let mut inner = Vec::new(bump);
+    next_laid(bump, rules, &mut inner, Front::Deliver { op, progress })
 }
 
 // What is left behind a result, laid out; the result itself where the arena has no room for more.
@@ -141,9 +175,7 @@ fn rest_laid<'a>(
         let plan = progress;
         return placed(bump, Goal::Deliver { op, plan });
     }
-    let next = next_of(bump, rules, Front::Deliver { op, progress })?;
-    let mut inner = Vec::new(bump);
-    let built = laid(bump, rules, &mut inner, &next)?;
+    let built = behind_laid(bump, rules, op, progress)?;
     learnt(known, op, progress, built)
 }
 

@@ -33,6 +33,12 @@ pub record IsLeastInstance (k l : Kind) (w : List Lit) (cells : ℕ) (a b : Op) 
   pub ops : AreLeastOps k l w a b
   pub length : pos cells ≡ valuation_of ops.values length_name
 
+-- an instance was found, and is the one that the least values name
+abbrev pub IsAtLeast : Kind → Kind → List Lit → Sought → Type 0
+IsAtLeast k l w sought.Nowhere = ⊥
+IsAtLeast k l w (sought.At cells a b) = IsLeastInstance k l w cells a b
+IsAtLeast k l w sought.Spent = ⊥
+
 -- by a list of questions: it is longer than the budget, or has a failing end, whose answers give the length and the
 -- operations, or else has none
 abbrev pub TellsEnd : Kind → Kind → ℕ → Questions Why → Sought → Type 0

@@ -3,13 +3,12 @@ ghost use Rattle.std.specs.Prelude.{◌≡◌, ◌<◌, ◌^◌, ◌≤ℤ◌, p
 ghost use Rattle.diff_tables.specs.Solutions.{valuation_of};
 ghost use Rattle.diff_graph.specs.Limits.{AreNamed, AreSmall};
 ghost use Rattle.fn_rules.specs.declared.function.ObName.TheVariants as obligations;
-ghost use Rattle.fn_rules.specs.Conditions.{IsWithin};
 ghost use Rattle.fn_rules.specs.Rules.{function_of};
 ghost use Rattle.ot_questions.specs.Names.{length_name, name_count};
 ghost use Rattle.ot_questions.specs.Sorts.{AreLike};
 ghost use Rattle.ot_terms.specs.Goals.{goal_tree};
-ghost use Rattle.ot_values.specs.Values.{farthest, IsPossibleAtPositions};
-ghost use Rattle.ot_audit.specs.Findings.{IsFoundIn, IsLeastInstance, IsNearFound, IsNearSought, IsSoughtIn};
+ghost use Rattle.ot_values.specs.Values.{IsPossibleAtPositions};
+ghost use Rattle.ot_audit.specs.Findings.{IsAtLeast, IsFoundIn, IsNearFound, IsNearSought, IsSoughtIn};
 ghost use Rattle.ot_audit.specs.Searchable.{IsSearchable};
 
 use crate::found::{Found, Sought};
@@ -17,7 +16,7 @@ use ask_core::{NoMemory, answers_lead_to_ends};
 use bumpalo::Bump;
 use diff_graph::Lit;
 use fn_rules::{ObName, Rules};
-use ot_model::{Kind, Op};
+use ot_model::Kind;
 use ot_paths::PathAsker;
 use ot_prove::{Outcome, literals_of, prove};
 use ot_questions::{Who, Why, plans_compare_like_with_like};
@@ -40,21 +39,21 @@ fn least_instance(
     first: Kind,
     second: Kind,
     answers: &[Lit],
-) -> Result<(u32, Op, Op), NoMemory>
+) -> Result<Sought, NoMemory>
     requires like { AreLike answers.now }
     requires named { AreNamed (name_count (obligations.Pair first second)) answers.now }
     requires small { AreSmall answers.now }
     requires few { length answers.now < 2 ^ 32 }
     requires possible { IsPossibleAtPositions answers.now }
-    ensures least { IfOk result (λ found. IsLeastInstance first second answers.now found.0 found.1 found.2) }
-    ensures near { IfOk result (λ found. IsWithin farthest found.1 × IsWithin farthest found.2) }
+    ensures least { IfOk result (IsAtLeast first second answers.now) }
+    ensures near { IfOk result IsNearSought }
 {
     let values = least_values(alloc, ObName::Pair(first, second), answers)?;
-    Ok((
-        cells_at(&values),
-        op_at(&values, first, Who::A),
-        op_at(&values, second, Who::B),
-    ))
+    Ok(Sought::At {
+        cells: cells_at(&values),
+        a: op_at(&values, first, Who::A),
+        b: op_at(&values, second, Who::B),
+    })
 }
 
 /// What the search of a goal comes to, by at most `budget` questions.
@@ -81,8 +80,7 @@ pub fn seek<'a>(
         Outcome::Yes { .. } => Ok(Sought::Nowhere),
         Outcome::No { answers, .. } => {
             let literals = literals_of(alloc, &answers)?;
-            let (cells, a, b) = least_instance(alloc, first, second, &literals)?;
-            Ok(Sought::At { cells, a, b })
+            least_instance(alloc, first, second, &literals)
         }
         Outcome::Spent => Ok(Sought::Spent),
     }

@@ -5,7 +5,8 @@ ghost use Rattle.fn_rules.specs.Functions.{case_of, cases_of, is_declared_pair};
 ghost use Rattle.fn_rules.specs.Rules.{function_of};
 ghost use Rattle.ot_questions.specs.Nears.{IsNearCase, IsNearOp};
 ghost use Rattle.ot_questions.specs.Places.{sym_at, sym_kind};
-ghost use Rattle.ot_terms.specs.Goals.{goal_tree, If};
+ghost use Rattle.ot_terms.specs.Forms.{Eq};
+ghost use Rattle.ot_terms.specs.Goals.{goal_tree, Holds, If};
 ghost use Rattle.ot_terms.specs.Placing.{guard_form};
 ghost use Rattle.ot_terms.specs.Starting as starting;
 ghost use Rattle.ot_audit.specs.declared.target.Target.TheVariants as targets;
@@ -30,8 +31,9 @@ fn found<'a>(bump: &'a Bump) -> Result<&'a Goal<'a>, NoMemory>
 fn if_there<'a>(bump: &'a Bump, who: Who, next: &'a Goal<'a>) -> Result<&'a Goal<'a>, NoMemory>
     ensures { IfOk result (λ r. goal_tree r.now ≡ goals.if_there who (goal_tree next.now)) }
 {
+    let holds = Goal::holds(bump)?;
     let there = Form::Le(Place::zero(), Place::named(position_name(who)));
-    Goal::either(bump, there, next, Goal::holds(bump)?)
+    Goal::either(bump, there, next, holds)
 }
 
 // The goal, where the two names stand for different integers.
@@ -49,8 +51,13 @@ fn if_differ<'a>(
     let Some(y) = y else {
         return Ok(next);
     };
-    let equal = Form::Eq(Place::named(x), Place::named(y));
-    Goal::either(bump, equal, Goal::holds(bump)?, next)
+    let holds = Goal::holds(bump)?;
+    Goal::either(
+        bump,
+        Form::Eq(Place::named(x), Place::named(y)),
+        holds,
+        next,
+    )
 }
 
 // The goal, where the two names differ if it is assumed that they do.
@@ -98,8 +105,8 @@ fn if_meant<'a>(
     if_there(bump, Who::A, second)
 }
 
-// By the guard of a case: the first goal where it is true, and the second where it is not.
-fn by_case<'a>(
+/// By the guard of a case: the first goal where it is true, and the second where it is not. The error is want of memory.
+pub fn by_case<'a>(
     bump: &'a Bump,
     case: &Case,
     a: SymOp,
@@ -134,7 +141,8 @@ fn unless_true<'a>(
         [] => Ok(next),
         [case, others @ ..] => {
             let behind = unless_true(bump, others, a, b, next)?;
-            by_case(bump, case, a, b, Goal::holds(bump)?, behind)
+            let holds = Goal::holds(bump)?;
+            by_case(bump, case, a, b, holds, behind)
         }
     }
 }
@@ -146,7 +154,9 @@ fn at_own<'a>(bump: &'a Bump, case: &Case, a: SymOp, b: SymOp) -> Result<&'a Goa
     requires near { IsNearCase (case_of case.now) }
     ensures { IfOk result (λ r. goal_tree r.now ≡ goals.at_own (Some (case_of case.now)) a b) }
 {
-    by_case(bump, case, a, b, found(bump)?, Goal::holds(bump)?)
+    let found = found(bump)?;
+    let holds = Goal::holds(bump)?;
+    by_case(bump, case, a, b, found, holds)
 }
 
 // Where a case is taken: its guard behind all earlier ones.
@@ -209,6 +219,15 @@ fn unless_same<'a>(
     }
 }
 
+// What is sought is that two places differ.
+fn unless_equal<'a>(bump: &'a Bump, x: Place, y: Place) -> Result<&'a Goal<'a>, NoMemory>
+    ensures { IfOk result (λ r. goal_tree r.now ≡ If (Eq x y) Holds goals.found) }
+{
+    let holds = Goal::holds(bump)?;
+    let found = found(bump)?;
+    Goal::either(bump, Form::Eq(x, y), holds, found)
+}
+
 /// The same of two results of one operation that are there: it holds where both are nop, or both stand at one place.
 /// The error is want of memory.
 pub fn unless_one_place<'a>(
@@ -226,10 +245,7 @@ pub fn unless_one_place<'a>(
         },
         Some(_) => match right.kind() {
             None => found(bump),
-            Some(_) => {
-                let equal = Form::Eq(left.at(), right.at());
-                Goal::either(bump, equal, Goal::holds(bump)?, found(bump)?)
-            }
+            Some(_) => unless_equal(bump, left.at(), right.at()),
         },
     }
 }

@@ -26,7 +26,7 @@ pub use auditing::audit_all;
 pub use comparing::same_all;
 pub use finding::seek;
 pub use found::{Agree, Found, Sought};
-pub use goals::{difference_goal, if_allowed, target_goal, unless_one_place};
+pub use goals::{by_case, difference_goal, if_allowed, target_goal, unless_one_place};
 pub use laws::{
     findings_are_one, findings_tell_of_all_operations, functions_that_are_same_agree_everywhere,
     goals_are_searchable, goals_fail_where_it_is_sought, meant_operations_are_not_negative,

@@ -18,8 +18,8 @@ use Rattle.ot_replies.specs.declared.reply.FileKind.TheVariants as files
 use Rattle.ot_replies.specs.declared.reply.Reply.{Reply}
 use Rattle.ot_replies.specs.declared.reply.Reply.TheVariants.{TooLong}
 use Rattle.ot_replies.specs.Limits.{limit_of}
+use Rattle.ot_commands.specs.Given.{ForTold}
 use Rattle.ot_commands.specs.Confirm.{IsReplyBy, IsReplyToConfirmed, TellsJudgement, ends_early, rests_on_more}
-use Rattle.ot_commands.proofs.Given.{long_told}
 
 -- a refusal of bytes that do not end too early stands where more follow
 abbrev pub Stands : Function → Type 0
@@ -152,19 +152,30 @@ by_reading f told bytes (Err reading.Failed) judged r stands is known front few 
     stands_judgement f told bytes judged r stands is front few fixed tells
 by_reading f told bytes (Err reading.NoMemory) judged r stands is known front few long full reply = absurd reply
 
--- the reply to the bytes that were given of a proof is that to those that are told
-pub proof_told :
-    (f : Function) (told : Option (List ℕ)) (given : List ℕ) → ForSome told (λ bytes. bytes ≡ given) → (r : Reply)
-    → IsReplyToConfirmed f (Some given) r → IsReplyToConfirmed f told r
-proof_told f told given agrees r (contents, are, inl long) =
-    (contents, λ bytes known. are given refl ∙ sym (agrees bytes known), inl (long.0, long_told told given agrees files.Proof r long.1))
-proof_told f told given agrees r (contents, are, inr tells) =
-    (contents, λ bytes known. are given refl ∙ sym (agrees bytes known), inr tells)
+-- the same, where the bytes that were judged are those that were read, up to a limit
+module _ (f : Function) (n : ℕ) (limit : n ≡ limit_of files.Proof) (bytes now : List ℕ) (same : now ≡ bytes)
+    (read : Result (Unit {0}) ReadError) (judged : Result Level ConfirmError) (stands : Stands f)
+    (is : (judged ≡ Err confirm.NoMemory) ⊎ (judged ≡ judgement_of f now)) (few : length bytes ≤ n)
+    (full : read ≡ Err reading.TooLong → length bytes ≡ n) where
+  pub reply_told :
+      (told : Option (List ℕ)) → (read ≡ Ok tt → ForSome told (λ known. bytes ≡ known)) → ForSome told (IsFront bytes)
+      → (read ≡ Err reading.TooLong → ForSome told (λ known. n < length known)) → (r : Reply) → IsReplyBy read judged r
+      → IsReplyToConfirmed f told r
+  reply_told told known front long r reply =
+      by_reading f told bytes read judged r stands
+      (subst (λ (l : List ℕ). (judged ≡ Err confirm.NoMemory) ⊎ (judged ≡ judgement_of f l)) same is) known front (omega (arith, few, limit))
+      (λ e. subst (λ (m : ℕ). ForSome told (λ known. m < length known)) limit (long e)) (λ e. full e ∙ limit) reply
+
+  -- whatever is told of a file of which bytes were given
+  pub reply_given :
+      (given : List ℕ) → (read ≡ Ok tt → given ≡ bytes) → IsFront bytes given → (read ≡ Err reading.TooLong → n < length given)
+      → (r : Reply) → IsReplyBy read judged r → ForTold given (λ told. IsReplyToConfirmed f told r)
+  reply_given given whole front long r reply told agrees =
+      reply_told told (λ e known is. sym (whole e) ∙ sym (agrees known is))
+      (λ known is. subst (λ (l : List ℕ). IsFront bytes l) (sym (agrees known is)) front)
+      (λ e known is. subst (λ (l : List ℕ). n < length l) (sym (agrees known is)) (long e)) r reply
 
 -- what holds where reading came to the end
 pub when_ok : {E P : Type 0} (read : Result (Unit {0}) E) → OnOk read P → read ≡ Ok tt → P
 when_ok (Ok u) h is = h
 when_ok (Err e) h is = absurd (cc)
-
-pub some_is : (given known : List ℕ) → Some given ≡ Some known → given ≡ known
-some_is given known is = cc

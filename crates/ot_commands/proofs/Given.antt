@@ -1,5 +1,5 @@
 -- From what the calls on a shelf gave to the replies of commands.
-use Rattle.std.proofs.Common.{◌≡◌, ℕ, suc, List, [], ◌∷◌, length, Option, Some, Result, Ok, Err, refl, sym, ap, ◌∙◌, inl, inr, arith}
+use Rattle.std.proofs.Common.{◌≡◌, ℕ, suc, List, [], ◌∷◌, length, Option, Some, Result, Err, refl, sym, ap, ◌∙◌, inl, inr, arith}
 use Rattle.std.specs.Option.{ForSome}
 use Rattle.fn_rules.specs.Functions.{Function}
 use Rattle.fn_moves.specs.declared.fault.TextFault.{TextFault}
@@ -9,11 +9,10 @@ use Rattle.ot_replies.specs.declared.reply.FileKind.{FileKind}
 use Rattle.ot_replies.specs.declared.reply.FileKind.TheVariants as files
 use Rattle.ot_replies.specs.declared.reply.Reply.{Reply}
 use Rattle.ot_replies.specs.declared.reply.Subject.{Subject}
-use Rattle.ot_replies.specs.declared.reply.Subject.TheVariants.{Second}
 use Rattle.ot_replies.specs.Limits.{IsTooLong}
 use Rattle.ot_commands.specs.Certificate.{IsReplyToCertificate}
-use Rattle.ot_commands.specs.Given.{HaveRead, IsReadFirst, IsReadSecond}
-use Rattle.ot_commands.specs.Load.{Holds, IsFunctionRefusal, IsReadAs, IsReplyToFile, IsReplyToFunction}
+use Rattle.ot_commands.specs.Given.{ForTold, HaveRead, IsReadFirst, IsReadSecond}
+use Rattle.ot_commands.specs.Load.{Holds, IsFunctionRefusal, IsReadAs}
 
 -- two openings are no single one
 twice_is_not_once :
@@ -88,64 +87,24 @@ module _ (told : Option (List ℕ)) (given : List ℕ) (agrees : ForSome told (�
   pub bytes_told : (kind : FileKind) (bytes : List ℕ) → Holds kind bytes (Some given) → Holds kind bytes told
   bytes_told kind bytes (few, are) = (few, λ contents known. are given refl ∙ sym (agrees contents known))
 
--- the reply to the bytes that were given of a certificate is that to those that are told
+-- the reply to the bytes that were given of a certificate, whatever is told of it
 pub certificate_told :
-    {T : Type 0} (Judges : List ℕ → Result T JudgeError → Type 0) (accepts : T → Reply) (told : Option (List ℕ)) (given : List ℕ)
-    → ForSome told (λ bytes. bytes ≡ given) → (r : Reply) → IsReplyToCertificate Judges accepts (Some given) r
-    → IsReplyToCertificate Judges accepts told r
-certificate_told Judges accepts told given agrees r (contents, are, (judgement, judged, inl long)) = (
+    {T : Type 0} (Judges : List ℕ → Result T JudgeError → Type 0) (accepts : T → Reply) (given : List ℕ) (r : Reply)
+    → IsReplyToCertificate Judges accepts (Some given) r → ForTold given (λ told. IsReplyToCertificate Judges accepts told r)
+certificate_told Judges accepts given r (contents, are, (judgement, judged, inl long)) told agrees = (
   contents,
   λ bytes known. are given refl ∙ sym (agrees bytes known),
   (judgement, judged, inl (long.0, long_told told given agrees files.Certificate r long.1)),
 )
-certificate_told Judges accepts told given agrees r (contents, are, (judgement, judged, inr tells)) = (
+certificate_told Judges accepts given r (contents, are, (judgement, judged, inr tells)) told agrees = (
   contents,
   λ bytes known. are given refl ∙ sym (agrees bytes known),
   (judgement, judged, inr tells),
 )
 
--- what is answered behind the first file
-module _ (old new : Reads) (name given : List ℕ) (first : IsReadFirst old new name given) (told : Option (List ℕ))
-    (tells : ForSome told (IsReadFirst old new name)) (r : Reply) (Gets : Function → Type 0) where
-  pub refused_first : (subject : Subject) → IsFunctionRefusal subject (Some given) r → IsReplyToFunction subject told Gets r
-  refused_first subject refused = inl (refusal_told told given (known_first old new name given told first tells) subject r refused)
-
-  pub gets_behind : (subject : Subject) (f : Function) → IsReadAs (Ok f) (Some given) → Gets f → IsReplyToFunction subject told Gets r
-  gets_behind subject f read gets = inr (f, read_told told given (known_first old new name given told first tells) (Ok f) read, gets)
-
+-- both files were opened
 pub have_read_both :
     (old mid new : Reads) (first second : List ℕ) → mid ≡ after_reading first mid.bytes old → new ≡ after_reading second new.bytes mid
     → HaveRead old new first second
 have_read_both old mid new first second opened behind =
     (mid.bytes, inr (new.bytes, behind ∙ ap (λ (r : Reads). after_reading second new.bytes r) opened))
-
--- the reply to the bytes that were given of another file is that to those that are told
-pub file_told :
-    (kind : FileKind) (Gets : List ℕ → Type 0) (told : Option (List ℕ)) (given : List ℕ) → ForSome told (λ bytes. bytes ≡ given)
-    → (r : Reply) → IsReplyToFile kind (Some given) Gets r → IsReplyToFile kind told Gets r
-file_told kind Gets told given agrees r (inl long) = inl (long_told told given agrees kind r long)
-file_told kind Gets told given agrees r (inr (bytes, holds, gets)) =
-    inr (bytes, bytes_told told given agrees kind bytes holds, gets)
-
--- the reply to the bytes that were given of a second function is that to those that are told
-pub second_told :
-    (Gets : Function → Type 0) (told : Option (List ℕ)) (given : List ℕ) → ForSome told (λ bytes. bytes ≡ given) → (r : Reply)
-    → IsReplyToFunction Second (Some given) Gets r → IsReplyToFunction Second told Gets r
-second_told Gets told given agrees r (inl refused) = inl (refusal_told told given agrees Second r refused)
-second_told Gets told given agrees r (inr (g, read, gets)) = inr (g, read_told told given agrees (Ok g) read, gets)
-
--- what is answered behind both files of a command
-module _ (old mid new : Reads) (first second : List ℕ) (opened : mid ≡ after_reading first mid.bytes old)
-    (behind : new ≡ after_reading second new.bytes mid) (told : Option (List ℕ)) (tells : ForSome told (IsReadFirst old new first))
-    (f : Function) (read : IsReadAs (Ok f) (Some mid.bytes)) where
-  pub known_function : IsReadAs (Ok f) told
-  known_function =
-      read_told told mid.bytes
-      (known_first old new first mid.bytes told (first_behind old mid new first mid.bytes second new.bytes opened behind) tells) (Ok f) read
-
-  pub then_given :
-      (subject : Subject) (other : Option (List ℕ)) → ForSome other (IsReadSecond old new second) → (Gets : Option (List ℕ) → Function → Type 0) (r : Reply)
-      → (ForSome other (λ bytes. bytes ≡ new.bytes) → Gets (Some new.bytes) f → Gets other f) → Gets (Some new.bytes) f
-      → IsReplyToFunction subject told (Gets other) r
-  then_given subject other tells_other Gets r told_too gets =
-      inr (f, known_function, told_too (known_second old mid new first mid.bytes second new.bytes other opened behind tells_other) gets)

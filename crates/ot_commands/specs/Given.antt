@@ -2,15 +2,12 @@
 use Rattle.std.specs.Prelude.{◌≡◌, ◌⊎◌, ℕ, List, Option, IfSome}
 use Rattle.std.specs.Option.{ForSome}
 use Rattle.ot_outside.specs.Reads.{Reads, after_reading}
-use Rattle.fn_rules.specs.Functions.{Function}
 use Rattle.ot_replies.specs.declared.reply.Reply.{Reply}
-use Rattle.ot_replies.specs.declared.reply.Subject.TheVariants.{First}
 use Rattle.ot_words.specs.Commands.{Asked}
 use Rattle.ot_words.specs.Words.{asked_by}
 use Rattle.ot_commands.specs.Facts.{FunctionAnd, NoFile, OneFunction, Opens, TwoFunctions}
-use Rattle.ot_commands.specs.Load.{IsReplyToFunction}
-use Rattle.ot_commands.specs.Replies.{IsReply, IsReplyTo, facts_of}
-use Rattle.ot_commands.specs.Steady.{AreSteady, IsSteadyReply}
+use Rattle.ot_commands.specs.Replies.{IsReply, IsReplyToOpened, facts_of}
+use Rattle.ot_commands.specs.Steady.{AreSteady}
 
 -- In what follows `old` and `new` are what the calls had given before a command and behind it, and `holds` says what
 -- names hold.
@@ -49,15 +46,6 @@ abbrev pub TellBoth : Reads → Reads → (List ℕ → Option (List ℕ)) → L
 TellBoth old new holds first second =
     ForSome (holds first) (IsReadFirst old new first) × ForSome (holds second) (IsReadSecond old new second)
 
--- both files were read, the second one only behind a function, and this is the reply to them, whatever is told of what
--- was given; `Gets` is the reply that a function gets, of what is told of the second file
-abbrev pub IsReplyOfBoth :
-    Reads → Reads → List ℕ → List ℕ → (Option (List ℕ) → Function → Reply → Type 0) → Reply → Type 0
-IsReplyOfBoth old new first second Gets r =
-    HaveRead old new first second
-    × ((holds : List ℕ → Option (List ℕ)) → TellBoth old new holds first second
-    → IsReplyToFunction First (holds first) (λ f. Gets (holds second) f r) r)
-
 -- of the files that are opened `holds` tells nothing but the bytes that were given
 abbrev pub TellsOpened : Reads → Reads → (List ℕ → Option (List ℕ)) → Opens → Type 0
 TellsOpened old new holds (NoFile Gets) = Unit {0}
@@ -69,12 +57,22 @@ TellsOpened old new holds (TwoFunctions function other Gets) = TellBoth old new 
 abbrev pub TellsGiven : Reads → Reads → (List ℕ → Option (List ℕ)) → Asked → Type 0
 TellsGiven old new holds asked = TellsOpened old new holds (facts_of asked).opens
 
+-- the files were opened so, and this is the reply to them, whatever is told of what was given; `steady` is what is said
+-- of its status
+abbrev pub IsReplyOfOpened :
+    Reads → Reads → Opens → ((List ℕ → Option (List ℕ)) → Reply → Type 0) → Reply → Type 0
+IsReplyOfOpened old new opens steady r =
+    WereOpened old new opens
+    × ((holds : List ℕ → Option (List ℕ)) → TellsOpened old new holds opens → IsReplyToOpened holds opens r
+    × steady holds r)
+
 -- the command has read its files, and this is the reply to it, whatever is told of what was given
 abbrev pub IsReplyOfGiven : Reads → Reads → Asked → Reply → Type 0
-IsReplyOfGiven old new asked r =
-    HasRead old new asked
-    × ((holds : List ℕ → Option (List ℕ)) → TellsGiven old new holds asked → IsReplyTo holds asked r
-    × IsSteadyReply holds asked r)
+IsReplyOfGiven old new asked r = IsReplyOfOpened old new (facts_of asked).opens (facts_of asked).steady r
+
+-- this holds whatever is told of a file of which these bytes were given
+abbrev pub ForTold : List ℕ → (Option (List ℕ) → Type 0) → Type 0
+ForTold given P = (told : Option (List ℕ)) → ForSome told (λ bytes. bytes ≡ given) → P told
 
 -- the same of words
 abbrev pub TellsGivenOf : List (List ℕ) → Reads → Reads → (List ℕ → Option (List ℕ)) → Type 0

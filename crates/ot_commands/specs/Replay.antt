@@ -34,6 +34,7 @@ use Rattle.ot_words.specs.Commands.{Replay}
 use Rattle.ot_words.specs.Words.{asked_by}
 use Rattle.ot_commands.specs.Facts.{Facts, FunctionAnd, IsSteadyUnder}
 use Rattle.ot_commands.specs.Load.{IsReplyToFile}
+use Rattle.ot_commands.specs.Running.{RunsBy}
 
 -- the sites have integrated the same operations and hold different documents
 pub record SiteEndsDiffer (a b : SiteEnd) : Type 0 where
@@ -100,12 +101,9 @@ IsDone v (Make site op) new =
     (number : ℕ) × HasMade v new site op number × MayMake v.function (data_in v) site op × (length v.made < MAX_MADE)
 IsDone v (Take site number) new = (took : Took) × HasTaken v new site number (Ok took)
 
--- the events are done one after the other, up to the first that is refused, and the session gets this reply; the first
--- of them has this number
+-- what events come to, of which the first has this number
 abbrev pub Runs : View → ℕ → List Event → Reply → Type 0
-Runs v i [] r = TellsSites v r
-Runs v i (event ∷ events) r =
-    IsRefusedEvent v i event r ⊎ ((new : View) × IsDone v event new × Runs new (i + 1) events r)
+Runs v i events r = RunsBy TellsSites IsRefusedEvent IsDone v i events r
 
 -- the reply to what a session's file is read as: its first fault, or what its events come to from a new session on
 abbrev pub IsReplyToScript : Function → Result Script CaseFault → Reply → Type 0

@@ -1,28 +1,34 @@
 //! `audit FUNCTION`: what the guards of a function reach.
 ghost use Rattle.std.specs.Prelude.{IfOk, IsErrOf};
-ghost use Rattle.fn_rules.specs.Rules.{function_of};
 ghost use Rattle.ot_outside.specs.Faults.{Rose};
 ghost use Rattle.ot_outside.specs.Unchanged.{Unchanged};
 ghost use Rattle.ot_words.specs.Commands.{Audit};
-ghost use Rattle.ot_commands.specs.Audit.{IsReplyToAudit};
 ghost use Rattle.ot_commands.specs.Given.{IsReplyOfGiven};
 ghost use Rattle.ot_commands.specs.Replies.{IsReplyTo};
 
-use crate::load::{Stop, load_function, reply_or_stop};
+use crate::load::Stop;
+use crate::one_file::{FunctionCommand, reply_to_one};
 use fn_rules::Rules;
 use ot_audit::audit_all;
 use ot_model::NoMemory;
 use ot_outside::Shelf;
-use ot_replies::{Reply, Subject};
+use ot_replies::Reply;
 use ot_words::MOST_QUESTIONS;
 use std::alloc::Global;
 
-// The reply to a function.
-fn reply_to_function(alloc: Global, rules: &Rules) -> Result<Reply, NoMemory>
-    ensures { IfOk result (IsReplyToAudit (function_of rules.now)) }
-{
-    let audit = audit_all(alloc, rules, MOST_QUESTIONS)?;
-    Ok(Reply::Audited(audit))
+// The guards of a function are looked at, with so many questions as are allowed.
+#[derive(Drop)]
+struct Auditing;
+
+impl FunctionCommand for Auditing {
+    ghost use Rattle.ot_commands.specs.Audit.{IsReplyToAudit};
+
+    ghost gets = { λ _. IsReplyToAudit };
+
+    fn reply(&self, alloc: Global, rules: &Rules) -> Result<Reply, NoMemory> {
+        let audit = audit_all(alloc, rules, MOST_QUESTIONS)?;
+        Ok(Reply::Audited(audit))
+    }
 }
 
 /// The reply to the command.
@@ -34,8 +40,5 @@ pub fn audit<H: Shelf>(alloc: Global, shelf: &mut H, function: &str) -> Result<R
     ensures shelf { IsErrOf result Stop.Shelf → Rose (H.faults shelf.old) (H.faults shelf.new) }
     ensures unchanged { Unchanged H.holds H.offered H.faults shelf.old shelf.new }
 {
-    match load_function(alloc, shelf, Subject::First, function)? {
-        Ok(rules) => reply_or_stop(reply_to_function(alloc, &rules)),
-        Err(reply) => Ok(reply),
-    }
+    reply_to_one(alloc, shelf, function, &Auditing)
 }

@@ -7,20 +7,19 @@ ghost use Rattle.ot_outside.specs.Reads.{IsSameReading, after_reading};
 ghost use Rattle.ot_outside.specs.ShelfFeed.{IsAllOfReads, file_left, gave_by, held_by, room_of, shelf_of};
 ghost use Rattle.ot_outside.specs.Unchanged.{Unchanged};
 ghost use Rattle.ot_commands.specs.Certificate.{IsReplyToCertificate, Tells, is_truncated, rests_on_the_end};
-ghost use Rattle.ot_commands.specs.Given.{IsReplyOfBoth};
-ghost use Rattle.ot_commands.specs.Load.{GoesOnBehind, IsReplyToFunction};
 ghost use Rattle.ot_replies.specs.Limits.{limit_of};
 ghost use Rattle.ot_replies.specs.declared.reply.FileKind.TheVariants as files;
-ghost use Rattle.ot_replies.specs.declared.reply.Subject.TheVariants.{First};
 
-use crate::load::{Stop, limit, load_function};
+use crate::load::{Stop, limit};
+use crate::two_files::FileCommand;
 use fn_rules::{Level, Rules};
 use ot_judge::check_all;
 use ot_least::check_bound;
 use ot_outside::{Feed, Shelf, ShelfFeed};
-use ot_replies::{FileKind, Reply, Subject};
+use ot_replies::{FileKind, Reply};
 use ot_sections::{JudgeError, Refusal};
 use std::alloc::Global;
+use std::marker::PhantomData;
 
 /// What an accepted certificate shows of its function: each kind of certificate has its own such type.
 pub(crate) trait Finding: Copy {
@@ -176,25 +175,20 @@ fn reply_to_certificate<T: Finding, H: Shelf>(
     reply_to_feed::<T, H>(alloc, rules, &mut feed)
 }
 
-/// The reply to a function and a certificate of it, which is opened only behind a function that is read.
-pub(crate) fn reply_to_both<T: Finding, H: Shelf>(
-    alloc: Global,
-    shelf: &mut H,
-    function: &str,
-    certificate: &str,
-) -> Result<Reply, Stop>
-    requires function { H.offered shelf.old function.now }
-    requires certificate { GoesOnBehind (H.holds shelf.old function.now) → H.offered shelf.old certificate.now }
+/// The command on the file of a certificate.
+pub(crate) struct ByCertificate<T>(PhantomData<T>);
 
-    ensures ok { IfOk result (λ reply. IsReplyToFunction First (H.holds shelf.old function.now)
-        (λ f. IsReplyToCertificate (T.judges f) T.accepts (H.holds shelf.old certificate.now) reply) reply) }
-    ensures given { IfOk result (IsReplyOfBoth (H.reads shelf.old) (H.reads shelf.new) function.now certificate.now
-        (λ told f. IsReplyToCertificate (T.judges f) T.accepts told)) }
-    ensures shelf { IsErrOf result Stop.Shelf → Rose (H.faults shelf.old) (H.faults shelf.new) }
-    ensures unchanged { Unchanged H.holds H.offered H.faults shelf.old shelf.new }
-{
-    match load_function(alloc, shelf, Subject::First, function)? {
-        Ok(rules) => reply_to_certificate::<T, H>(alloc, shelf, &rules, certificate),
-        Err(reply) => Ok(reply),
+impl<T: Finding> FileCommand for ByCertificate<T> {
+    ghost gets = { λ f told r. IsReplyToCertificate (T.judges f) T.accepts told r };
+
+    ghost agrees = { λ f. ⊥ };
+
+    fn reply<H: Shelf>(
+        alloc: Global,
+        shelf: &mut H,
+        rules: &Rules,
+        name: &str,
+    ) -> Result<Reply, Stop> {
+        reply_to_certificate::<T, H>(alloc, shelf, rules, name)
     }
 }

@@ -7,8 +7,9 @@ ghost use Rattle.ot_commands.specs.Given.{IsReplyOfGiven};
 ghost use Rattle.ot_commands.specs.Load.{GoesOnBehind};
 ghost use Rattle.ot_commands.specs.Replies.{IsReplyTo};
 
-use crate::certificate::reply_to_both;
+use crate::certificate::ByCertificate;
 use crate::load::Stop;
+use crate::two_files::reply_to_both;
 use fn_rules::Level;
 use ot_outside::Shelf;
 use ot_replies::Reply;
@@ -30,5 +31,5 @@ pub fn check<H: Shelf>(
     ensures shelf { IsErrOf result Stop.Shelf → Rose (H.faults shelf.old) (H.faults shelf.new) }
     ensures unchanged { Unchanged H.holds H.offered H.faults shelf.old shelf.new }
 {
-    reply_to_both::<Level, H>(alloc, shelf, function, certificate)
+    reply_to_both::<ByCertificate<Level>, H>(alloc, shelf, function, certificate)
 }

@@ -1,20 +1,19 @@
 //! `confirm FUNCTION PROOF`: whether the proof with lemmas is one of the function.
 ghost use Rattle.std.specs.Prelude.{◌≡◌, Err, Some, IfOk, IsErrOf};
-ghost use Rattle.fn_rules.specs.Rules.{function_of};
 ghost use Rattle.ot_outside.specs.Faults.{Rose};
-ghost use Rattle.ot_outside.specs.Reads.{after_reading};
 ghost use Rattle.ot_outside.specs.Unchanged.{Unchanged};
 ghost use Rattle.ot_words.specs.Commands.{Confirm};
-ghost use Rattle.ot_commands.specs.Confirm.{IsReplyBy, IsReplyToConfirmed, TellsJudgement, ends_early, rests_on_more};
+ghost use Rattle.ot_commands.specs.Confirm.{IsReplyBy, TellsJudgement, ends_early, rests_on_more};
 ghost use Rattle.ot_commands.specs.Given.{IsReplyOfGiven};
 ghost use Rattle.ot_commands.specs.Load.{GoesOnBehind};
 ghost use Rattle.ot_commands.specs.Replies.{IsReplyTo};
 
-use crate::load::{Stop, limit, load_function};
+use crate::load::{Stop, limit};
+use crate::two_files::{FileCommand, reply_to_both};
 use fn_rules::{Level, Rules};
 use ot_confirm::{judge_proof, refusals_stand};
 use ot_outside::{ReadError, Shelf, read_all};
-use ot_replies::{FileKind, Reply, Subject};
+use ot_replies::{FileKind, Reply};
 use proof_sections::{ConfirmError, ProofRefusal};
 use std::alloc::Global;
 
@@ -70,28 +69,29 @@ fn reply_by(
     }
 }
 
-// The reply to a proof's file, of which no more bytes are judged than it may have. Where it is too long, or a read
-// fails, what was read of it is judged: a refusal that no further byte can change comes first.
-fn reply_to_proof<H: Shelf>(
-    alloc: Global,
-    shelf: &mut H,
-    rules: &Rules,
-    name: &str,
-) -> Result<Reply, Stop>
-    requires { H.offered shelf.old name.now }
+// A proof is judged: no more bytes of its file than it may have. Where it is too long, or a read fails, what was read of
+// it is judged: a refusal that no further byte can change comes first.
+struct Confirming;
 
-    ensures ok { IfOk result (λ reply. IsReplyToConfirmed (function_of rules.now) (H.holds shelf.old name.now) reply) }
-    ensures given { IfOk result (λ reply. IsReplyToConfirmed (function_of rules.now) (Some (H.reads shelf.new).bytes)
-        reply) }
-    ensures read { H.reads shelf.new ≡ after_reading name.now (H.reads shelf.new).bytes (H.reads shelf.old) }
-    ensures shelf { IsErrOf result Stop.Shelf → Rose (H.faults shelf.old) (H.faults shelf.new) }
-    ensures unchanged { Unchanged H.holds H.offered H.faults shelf.old shelf.new }
-{
-    refusals_stand();
-    let mut bytes = Vec::new(alloc);
-    let read = read_all(shelf, name, limit(FileKind::Proof), &mut bytes);
-    let judgement = judge_proof(alloc, rules, &bytes);
-    reply_by(read, judgement)
+impl FileCommand for Confirming {
+    ghost use Rattle.ot_commands.specs.Confirm.{IsReplyToConfirmed};
+
+    ghost gets = { IsReplyToConfirmed };
+
+    ghost agrees = { λ f. ⊥ };
+
+    fn reply<H: Shelf>(
+        alloc: Global,
+        shelf: &mut H,
+        rules: &Rules,
+        name: &str,
+    ) -> Result<Reply, Stop> {
+        refusals_stand();
+        let mut bytes = Vec::new(alloc);
+        let read = read_all(shelf, name, limit(FileKind::Proof), &mut bytes);
+        let judgement = judge_proof(alloc, rules, &bytes);
+        reply_by(read, judgement)
+    }
 }
 
 /// The reply to the command.
@@ -110,8 +110,5 @@ pub fn confirm<H: Shelf>(
     ensures shelf { IsErrOf result Stop.Shelf → Rose (H.faults shelf.old) (H.faults shelf.new) }
     ensures unchanged { Unchanged H.holds H.offered H.faults shelf.old shelf.new }
 {
-    match load_function(alloc, shelf, Subject::First, function)? {
-        Ok(rules) => reply_to_proof(alloc, shelf, &rules, proof),
-        Err(reply) => Ok(reply),
-    }
+    reply_to_both::<Confirming, H>(alloc, shelf, function, proof)
 }

@@ -6,7 +6,8 @@ ghost use Rattle.ot_sections.specs.Certificates.{IsCertificate};
 ghost use Rattle.ot_commands.specs.Drill.{IsDrilled, IsReplyToDrill};
 ghost use Rattle.ot_replies.specs.Texts.{status_of};
 
-use crate::prove::reply_to_function;
+use crate::one_file::FunctionCommand;
+use crate::prove::Proving;
 use crate::replay::first_pair;
 use fn_rules::{Level, Rules};
 use fn_text::read_back;
@@ -79,7 +80,11 @@ pub fn drill(alloc: Global, number: u32) -> Result<Reply, NoMemory>
     ensures steady { IfOk result (λ reply. status_of reply ≢ 1) }
 {
     let rules = function_read(alloc, number)?;
-    match reply_to_function(alloc, &rules, Level::Tp2, MOST_QUESTIONS)? {
+    let proving = Proving {
+        level: Level::Tp2,
+        budget: MOST_QUESTIONS,
+    };
+    match proving.reply(alloc, &rules)? {
         Reply::Proved(certificate) => {
             let drilled = gone_through(alloc, &rules, number, certificate.as_slice())?;
             Ok(Reply::Drilled(drilled))

@@ -7,27 +7,28 @@ ghost use Rattle.case_json.specs.declared.hub.HubEvent.TheVariants as events;
 ghost use Rattle.fn_rules.specs.Rules.{function_of};
 ghost use Rattle.ot_hub.specs.Views.{IsClient, client_of, hub_view_of};
 ghost use Rattle.ot_outside.specs.Faults.{Rose};
-ghost use Rattle.ot_outside.specs.Reads.{after_reading};
 ghost use Rattle.ot_outside.specs.Unchanged.{Unchanged};
 ghost use Rattle.ot_words.specs.Commands as commands;
 ghost use Rattle.ot_replies.specs.Texts.{status_of};
 ghost use Rattle.ot_commands.specs.Given.{IsReplyOfGiven};
-ghost use Rattle.ot_commands.specs.Hub.{IsApartFromServer, IsDone, IsFirstApart, IsRefusedHubEvent, IsReplyToHub};
-ghost use Rattle.ot_commands.specs.Hub.{IsReplyToHubFile, IsReplyToHubScript, MakesClientsAgree, Runs, TellsHub};
+ghost use Rattle.ot_commands.specs.Hub.{IsApartFromServer, IsDone, IsFirstApart, IsRefusedHubEvent};
+ghost use Rattle.ot_commands.specs.Hub.{IsReplyToHubScript, MakesClientsAgree, Runs, TellsHub};
 ghost use Rattle.ot_commands.specs.Hub.{TellsNotEdited, TellsNotMoved, client_end};
 ghost use Rattle.ot_commands.specs.Load.{GoesOnBehind};
 ghost use Rattle.ot_commands.specs.Replies.{IsReplyTo};
 ghost use Rattle.ot_commands.specs.Steady.{IsSteadyReply};
 ghost use Rattle.ot_commands.specs.declared.halt.Halt.TheVariants as halts;
 
+use crate::case_file::{ByCase, CaseCommand};
 use crate::halt::Halt;
-use crate::load::{Stop, load_function, read_file, reply_or_stop};
+use crate::load::Stop;
+use crate::two_files::reply_to_both;
 use case_json::{CaseError, CaseFault, HubEvent, HubScript, Name, hub_read};
 use fn_rules::Rules;
 use ot_hub::{Edit, Hub, Move};
 use ot_model::{Doc, NoMemory, Op};
 use ot_outside::Shelf;
-use ot_replies::{ClientEnd, EventFault, FileKind, HubEnd, Reply, Subject};
+use ot_replies::{ClientEnd, EventFault, HubEnd, Reply};
 use plain_list::List;
 use std::alloc::Global;
 
@@ -212,39 +213,23 @@ fn run_script(alloc: Global, rules: &Rules, script: &HubScript) -> Result<Reply,
     }
 }
 
-// The reply to the bytes of a hub.
-#[tactic(auto, unfolding(crate::specs::Hub::IsReplyToHub))]
-fn reply_to_hub(alloc: Global, rules: &Rules, bytes: &[u8]) -> Result<Reply, NoMemory>
-    ensures reply { IfOk result (λ reply. IsReplyToHub (function_of rules.now) bytes.now reply) }
-    ensures steady { MakesClientsAgree (function_of rules.now) → IfOk result (λ r. status_of r ≢ 1) }
-{
-    match hub_read(alloc, bytes) {
-        Ok(script) => run_script(alloc, rules, &script),
-        Err(CaseError::Fault(fault)) => Ok(Reply::CaseRefused(fault)),
-        Err(CaseError::NoMemory) => Err(NoMemory),
-    }
-}
+// The events of a hub are run.
+struct Serving;
 
-// The reply to a hub's file.
-fn reply_to_hub_file<H: Shelf>(
-    alloc: Global,
-    shelf: &mut H,
-    rules: &Rules,
-    name: &str,
-) -> Result<Reply, Stop>
-    requires { H.offered shelf.old name.now }
+impl CaseCommand for Serving {
+    ghost use Rattle.ot_commands.specs.Hub.{IsReplyToHub};
 
-    ensures ok { IfOk result (λ reply. IsReplyToHubFile (function_of rules.now) (H.holds shelf.old name.now) reply) }
-    ensures steady { MakesClientsAgree (function_of rules.now) → IfOk result (λ reply. status_of reply ≢ 1) }
-    ensures given { IfOk result (λ reply. IsReplyToHubFile (function_of rules.now) (Some (H.reads shelf.new).bytes)
-        reply) }
-    ensures read { H.reads shelf.new ≡ after_reading name.now (H.reads shelf.new).bytes (H.reads shelf.old) }
-    ensures shelf { IsErrOf result Stop.Shelf → Rose (H.faults shelf.old) (H.faults shelf.new) }
-    ensures unchanged { Unchanged H.holds H.offered H.faults shelf.old shelf.new }
-{
-    match read_file(alloc, shelf, name, FileKind::Case)? {
-        Ok(bytes) => reply_or_stop(reply_to_hub(alloc, rules, &bytes)),
-        Err(reply) => Ok(reply),
+    ghost gets = { IsReplyToHub };
+
+    ghost agrees = { MakesClientsAgree };
+
+    #[tactic(auto, unfolding(crate::specs::Hub::IsReplyToHub))]
+    fn reply(alloc: Global, rules: &Rules, bytes: &[u8]) -> Result<Reply, NoMemory> {
+        match hub_read(alloc, bytes) {
+            Ok(script) => run_script(alloc, rules, &script),
+            Err(CaseError::Fault(fault)) => Ok(Reply::CaseRefused(fault)),
+            Err(CaseError::NoMemory) => Err(NoMemory),
+        }
     }
 }
 
@@ -261,8 +246,5 @@ pub fn hub<H: Shelf>(alloc: Global, shelf: &mut H, function: &str, hub: &str) ->
     ensures shelf { IsErrOf result Stop.Shelf → Rose (H.faults shelf.old) (H.faults shelf.new) }
     ensures unchanged { Unchanged H.holds H.offered H.faults shelf.old shelf.new }
 {
-    match load_function(alloc, shelf, Subject::First, function)? {
-        Ok(rules) => reply_to_hub_file(alloc, shelf, &rules, hub),
-        Err(reply) => Ok(reply),
-    }
+    reply_to_both::<ByCase<Serving>, H>(alloc, shelf, function, hub)
 }

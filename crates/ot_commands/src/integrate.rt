@@ -5,23 +5,22 @@ ghost use Rattle.fn_rules.specs.Orders.{integrated, Document};
 ghost use Rattle.fn_rules.specs.Rules.{function_of};
 ghost use Rattle.ot_integrate.specs.Ends.{outcome_of};
 ghost use Rattle.ot_outside.specs.Faults.{Rose};
-ghost use Rattle.ot_outside.specs.Reads.{after_reading};
 ghost use Rattle.ot_outside.specs.Unchanged.{Unchanged};
 ghost use Rattle.ot_words.specs.Commands.{Integrate};
-ghost use Rattle.ot_replies.specs.Limits.{limit_of};
 ghost use Rattle.ot_commands.specs.Given.{IsReplyOfGiven};
-ghost use Rattle.ot_commands.specs.Integrate.{HaveOneEnd, IsReplyToCase, IsReplyToCaseFile, TellsOutcomes, outcomes_of};
+ghost use Rattle.ot_commands.specs.Integrate.{HaveOneEnd, TellsOutcomes, outcomes_of};
 ghost use Rattle.ot_commands.specs.Load.{GoesOnBehind};
 ghost use Rattle.ot_commands.specs.Replies.{IsReplyTo};
-ghost use Rattle.ot_replies.specs.declared.reply.FileKind.TheVariants as files;
 
-use crate::load::{Stop, load_function, read_file, reply_or_stop};
+use crate::case_file::{ByCase, CaseCommand};
+use crate::load::Stop;
+use crate::two_files::reply_to_both;
 use case_json::{CaseError, Trial, trial_read};
 use fn_rules::Rules;
 use ot_integrate::End;
 use ot_model::{Doc, NoMemory};
 use ot_outside::Shelf;
-use ot_replies::{FileKind, Reply, Subject};
+use ot_replies::Reply;
 use plain_list::List;
 use std::alloc::Global;
 
@@ -85,38 +84,23 @@ fn outcomes(alloc: Global, rules: &Rules, trial: &Trial) -> Result<Reply, NoMemo
     Ok(Reply::Integrated(ends, same))
 }
 
-// The reply to a case.
-#[tactic(auto, unfolding(crate::specs::Integrate::IsReplyToCase))]
-fn reply_to_case(alloc: Global, rules: &Rules, bytes: &[u8]) -> Result<Reply, NoMemory>
-    requires { length bytes.now ≤ limit_of files.Case }
-    ensures { IfOk result (λ reply. IsReplyToCase (function_of rules.now) bytes.now reply) }
-{
-    match trial_read(alloc, rules, bytes) {
-        Ok(trial) => outcomes(alloc, rules, &trial),
-        Err(CaseError::Fault(fault)) => Ok(Reply::CaseRefused(fault)),
-        Err(CaseError::NoMemory) => Err(NoMemory),
-    }
-}
+// A case is integrated in each of its orders.
+struct Integrating;
 
-// The reply to a case's file.
-fn reply_to_case_file<H: Shelf>(
-    alloc: Global,
-    shelf: &mut H,
-    rules: &Rules,
-    name: &str,
-) -> Result<Reply, Stop>
-    requires { H.offered shelf.old name.now }
+impl CaseCommand for Integrating {
+    ghost use Rattle.ot_commands.specs.Integrate.{IsReplyToCase};
 
-    ensures ok { IfOk result (λ reply. IsReplyToCaseFile (function_of rules.now) (H.holds shelf.old name.now) reply) }
-    ensures given { IfOk result (λ reply. IsReplyToCaseFile (function_of rules.now) (Some (H.reads shelf.new).bytes)
-        reply) }
-    ensures read { H.reads shelf.new ≡ after_reading name.now (H.reads shelf.new).bytes (H.reads shelf.old) }
-    ensures shelf { IsErrOf result Stop.Shelf → Rose (H.faults shelf.old) (H.faults shelf.new) }
-    ensures unchanged { Unchanged H.holds H.offered H.faults shelf.old shelf.new }
-{
-    match read_file(alloc, shelf, name, FileKind::Case)? {
-        Ok(bytes) => reply_or_stop(reply_to_case(alloc, rules, &bytes)),
-        Err(reply) => Ok(reply),
+    ghost gets = { IsReplyToCase };
+
+    ghost agrees = { λ f. ⊥ };
+
+    #[tactic(auto, unfolding(crate::specs::Integrate::IsReplyToCase))]
+    fn reply(alloc: Global, rules: &Rules, bytes: &[u8]) -> Result<Reply, NoMemory> {
+        match trial_read(alloc, rules, bytes) {
+            Ok(trial) => outcomes(alloc, rules, &trial),
+            Err(CaseError::Fault(fault)) => Ok(Reply::CaseRefused(fault)),
+            Err(CaseError::NoMemory) => Err(NoMemory),
+        }
     }
 }
 
@@ -136,8 +120,5 @@ pub fn integrate<H: Shelf>(
     ensures shelf { IsErrOf result Stop.Shelf → Rose (H.faults shelf.old) (H.faults shelf.new) }
     ensures unchanged { Unchanged H.holds H.offered H.faults shelf.old shelf.new }
 {
-    match load_function(alloc, shelf, Subject::First, function)? {
-        Ok(rules) => reply_to_case_file(alloc, shelf, &rules, case),
-        Err(reply) => Ok(reply),
-    }
+    reply_to_both::<ByCase<Integrating>, H>(alloc, shelf, function, case)
 }

@@ -22,6 +22,7 @@
 
 pub mod audit;
 pub mod bound;
+mod case_file;
 mod certificate;
 pub mod check;
 pub mod confirm;
@@ -31,8 +32,11 @@ pub mod hub;
 pub mod integrate;
 pub mod least;
 pub mod load;
+mod one_file;
 pub mod prove;
 pub mod replay;
 pub mod reverse;
 pub mod same;
 pub mod settle;
+mod two_files;
+mod two_functions;

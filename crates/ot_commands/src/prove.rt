@@ -11,10 +11,11 @@ ghost use Rattle.ot_prove.specs.Outcomes.{AreAnswersTo, answered_by};
 ghost use Rattle.ot_questions.specs.Obligation.{plan_of};
 ghost use Rattle.ot_words.specs.Commands.{Prove};
 ghost use Rattle.ot_commands.specs.Given.{IsReplyOfGiven};
-ghost use Rattle.ot_commands.specs.Prove.{IsReplyToProof, TellsCounter};
+ghost use Rattle.ot_commands.specs.Prove.{TellsCounter};
 ghost use Rattle.ot_commands.specs.Replies.{IsReplyTo};
 
-use crate::load::{Stop, load_function, reply_or_stop};
+use crate::load::Stop;
+use crate::one_file::{FunctionCommand, reply_to_one};
 use fn_rules::{Level, ObName, Rules};
 use ot_counter::{Counter, build};
 use ot_decide::{Verdict, prove_all};
@@ -22,7 +23,7 @@ use ot_model::NoMemory;
 use ot_outside::Shelf;
 use ot_prove::{Answer, literals_of};
 use ot_questions::Why;
-use ot_replies::{Reply, Subject};
+use ot_replies::Reply;
 use plain_list::List;
 use std::alloc::Global;
 
@@ -60,19 +61,24 @@ pub(crate) fn broken_by(
     Ok(Reply::Broken(counter))
 }
 
-/// The reply to a function.
-pub(crate) fn reply_to_function(
-    alloc: Global,
-    rules: &Rules,
-    level: Level,
-    budget: u64,
-) -> Result<Reply, NoMemory>
-    ensures { IfOk result (IsReplyToProof (function_of rules.now) level budget) }
-{
-    match prove_all(alloc, rules, level, budget)? {
-        Verdict::Yes(bytes) => Ok(Reply::Proved(List::from_vec(bytes))),
-        Verdict::No { ob, answers, why } => broken_by(alloc, rules, ob, &answers, why),
-        Verdict::Spent => Ok(Reply::Spent),
+/// A proof of a function at a level, by so many questions at the most.
+#[derive(Drop)]
+pub(crate) struct Proving {
+    pub(crate) level: Level,
+    pub(crate) budget: u64,
+}
+
+impl FunctionCommand for Proving {
+    ghost use Rattle.ot_commands.specs.Prove.{IsReplyToProof};
+
+    ghost gets = { λ s f. IsReplyToProof f s.level s.budget };
+
+    fn reply(&self, alloc: Global, rules: &Rules) -> Result<Reply, NoMemory> {
+        match prove_all(alloc, rules, self.level, self.budget)? {
+            Verdict::Yes(bytes) => Ok(Reply::Proved(List::from_vec(bytes))),
+            Verdict::No { ob, answers, why } => broken_by(alloc, rules, ob, &answers, why),
+            Verdict::Spent => Ok(Reply::Spent),
+        }
     }
 }
 
@@ -92,8 +98,5 @@ pub fn prove<H: Shelf>(
     ensures shelf { IsErrOf result Stop.Shelf → Rose (H.faults shelf.old) (H.faults shelf.new) }
     ensures unchanged { Unchanged H.holds H.offered H.faults shelf.old shelf.new }
 {
-    match load_function(alloc, shelf, Subject::First, function)? {
-        Ok(rules) => reply_or_stop(reply_to_function(alloc, &rules, level, budget)),
-        Err(reply) => Ok(reply),
-    }
+    reply_to_one(alloc, shelf, function, &Proving { level, budget })
 }

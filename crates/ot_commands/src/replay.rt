@@ -8,28 +8,29 @@ ghost use Rattle.case_json.specs.declared.script.Event.TheVariants as events;
 ghost use Rattle.fn_rules.specs.Rules.{function_of};
 ghost use Rattle.ot_causal.specs.Members.{has, have_one_set};
 ghost use Rattle.ot_outside.specs.Faults.{Rose};
-ghost use Rattle.ot_outside.specs.Reads.{after_reading};
 ghost use Rattle.ot_outside.specs.Unchanged.{Unchanged};
 ghost use Rattle.ot_session.specs.Views.{view_of};
 ghost use Rattle.ot_words.specs.Commands.{Replay};
 ghost use Rattle.ot_commands.specs.Given.{IsReplyOfGiven};
 ghost use Rattle.ot_commands.specs.Load.{GoesOnBehind};
 ghost use Rattle.ot_commands.specs.Replay.{IsDone, IsFirstOther, IsFirstPair, IsRefusedEvent, IsReplyToScript};
-ghost use Rattle.ot_commands.specs.Replay.{IsReplyToSession, IsReplyToSessionFile, MakesSitesAgree, Runs};
+ghost use Rattle.ot_commands.specs.Replay.{MakesSitesAgree, Runs};
 ghost use Rattle.ot_commands.specs.Replay.{SiteEndsDiffer, TellsNotMade, TellsNotTaken, TellsSites};
 ghost use Rattle.ot_commands.specs.Replies.{IsReplyTo};
 ghost use Rattle.ot_commands.specs.Steady.{IsSteadyReply};
 ghost use Rattle.ot_replies.specs.Texts.{status_of};
 ghost use Rattle.ot_commands.specs.declared.halt.Halt.TheVariants as halts;
 
+use crate::case_file::{ByCase, CaseCommand};
 use crate::halt::Halt;
-use crate::load::{Stop, load_function, read_file, reply_or_stop};
+use crate::load::Stop;
+use crate::two_files::reply_to_both;
 use case_json::{CaseError, CaseFault, Event, Name, Script, script_read};
 use fn_rules::Rules;
 use ot_causal::closed_lists_are_told_by_their_counts;
 use ot_model::{NoMemory, Op};
 use ot_outside::Shelf;
-use ot_replies::{EventFault, FileKind, Reply, SiteEnd, Subject};
+use ot_replies::{EventFault, Reply, SiteEnd};
 use ot_session::{Make, Session, Take};
 use std::alloc::Global;
 
@@ -204,40 +205,23 @@ fn run_script(alloc: Global, rules: &Rules, script: &Script) -> Result<Reply, No
     }
 }
 
-// The reply to the bytes of a session.
-#[tactic(auto, unfolding(crate::specs::Replay::IsReplyToSession))]
-fn reply_to_session(alloc: Global, rules: &Rules, bytes: &[u8]) -> Result<Reply, NoMemory>
-    ensures reply { IfOk result (λ reply. IsReplyToSession (function_of rules.now) bytes.now reply) }
-    ensures steady { MakesSitesAgree (function_of rules.now) → IfOk result (λ r. status_of r ≢ 1) }
-{
-    match script_read(alloc, bytes) {
-        Ok(script) => run_script(alloc, rules, &script),
-        Err(CaseError::Fault(fault)) => Ok(Reply::CaseRefused(fault)),
-        Err(CaseError::NoMemory) => Err(NoMemory),
-    }
-}
+// The events of a session are run.
+struct Replaying;
 
-// The reply to a session's file.
-fn reply_to_session_file<H: Shelf>(
-    alloc: Global,
-    shelf: &mut H,
-    rules: &Rules,
-    name: &str,
-) -> Result<Reply, Stop>
-    requires { H.offered shelf.old name.now }
+impl CaseCommand for Replaying {
+    ghost use Rattle.ot_commands.specs.Replay.{IsReplyToSession};
 
-    ensures ok { IfOk result (λ reply. IsReplyToSessionFile (function_of rules.now) (H.holds shelf.old name.now)
-        reply) }
-    ensures steady { MakesSitesAgree (function_of rules.now) → IfOk result (λ reply. status_of reply ≢ 1) }
-    ensures given { IfOk result (λ reply. IsReplyToSessionFile (function_of rules.now) (Some (H.reads shelf.new).bytes)
-        reply) }
-    ensures read { H.reads shelf.new ≡ after_reading name.now (H.reads shelf.new).bytes (H.reads shelf.old) }
-    ensures shelf { IsErrOf result Stop.Shelf → Rose (H.faults shelf.old) (H.faults shelf.new) }
-    ensures unchanged { Unchanged H.holds H.offered H.faults shelf.old shelf.new }
-{
-    match read_file(alloc, shelf, name, FileKind::Case)? {
-        Ok(bytes) => reply_or_stop(reply_to_session(alloc, rules, &bytes)),
-        Err(reply) => Ok(reply),
+    ghost gets = { IsReplyToSession };
+
+    ghost agrees = { MakesSitesAgree };
+
+    #[tactic(auto, unfolding(crate::specs::Replay::IsReplyToSession))]
+    fn reply(alloc: Global, rules: &Rules, bytes: &[u8]) -> Result<Reply, NoMemory> {
+        match script_read(alloc, bytes) {
+            Ok(script) => run_script(alloc, rules, &script),
+            Err(CaseError::Fault(fault)) => Ok(Reply::CaseRefused(fault)),
+            Err(CaseError::NoMemory) => Err(NoMemory),
+        }
     }
 }
 
@@ -258,8 +242,5 @@ pub fn replay<H: Shelf>(
     ensures shelf { IsErrOf result Stop.Shelf → Rose (H.faults shelf.old) (H.faults shelf.new) }
     ensures unchanged { Unchanged H.holds H.offered H.faults shelf.old shelf.new }
 {
-    match load_function(alloc, shelf, Subject::First, function)? {
-        Ok(rules) => reply_to_session_file(alloc, shelf, &rules, session),
-        Err(reply) => Ok(reply),
-    }
+    reply_to_both::<ByCase<Replaying>, H>(alloc, shelf, function, session)
 }

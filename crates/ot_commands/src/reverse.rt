@@ -1,54 +1,37 @@
 //! `reverse FUNCTION OTHER`: whether a second function takes back what the first one makes.
-ghost use Rattle.std.specs.Prelude.{◌≡◌, Some, IfOk, IsErrOf};
-ghost use Rattle.fn_rules.specs.Rules.{function_of};
+ghost use Rattle.std.specs.Prelude.{IfOk, IsErrOf};
 ghost use Rattle.ot_outside.specs.Faults.{Rose};
-ghost use Rattle.ot_outside.specs.Reads.{after_reading};
 ghost use Rattle.ot_outside.specs.Unchanged.{Unchanged};
 ghost use Rattle.ot_words.specs.Commands as commands;
 ghost use Rattle.ot_commands.specs.Given.{IsReplyOfGiven};
 ghost use Rattle.ot_commands.specs.Load.{GoesOnBehind};
 ghost use Rattle.ot_commands.specs.Replies.{IsReplyTo};
-ghost use Rattle.ot_commands.specs.Reverse.{IsReplyToReversal, IsReplyToReverser};
 
-use crate::load::{Stop, load_function, reply_or_stop};
+use crate::load::Stop;
+use crate::two_files::reply_to_both;
+use crate::two_functions::{ByPair, PairCommand};
 use fn_rules::Rules;
 use ot_model::NoMemory;
 use ot_outside::Shelf;
-use ot_replies::{Reply, Subject};
+use ot_replies::Reply;
 use ot_reverse::{are_alike, reverses};
 use ot_words::MOST_QUESTIONS;
 use std::alloc::Global;
 
-// The reply to two functions.
-fn reply_to_reversal(alloc: Global, rules: &Rules, others: &Rules) -> Result<Reply, NoMemory>
-    ensures { IfOk result (IsReplyToReversal (function_of rules.now) (function_of others.now)) }
-{
-    if are_alike(rules, others) {
-        let back = reverses(alloc, rules, others, MOST_QUESTIONS)?;
-        return Ok(Reply::Reversed(back));
-    }
-    Ok(Reply::Unlike)
-}
+// A second function takes back what the first one makes, or does not.
+struct Reversing;
 
-// The reply to the second function's file.
-fn reply_to_reverser<H: Shelf>(
-    alloc: Global,
-    shelf: &mut H,
-    rules: &Rules,
-    name: &str,
-) -> Result<Reply, Stop>
-    requires { H.offered shelf.old name.now }
+impl PairCommand for Reversing {
+    ghost use Rattle.ot_commands.specs.Reverse.{IsReplyToReversal};
 
-    ensures ok { IfOk result (λ reply. IsReplyToReverser (function_of rules.now) (H.holds shelf.old name.now) reply) }
-    ensures given { IfOk result (λ reply. IsReplyToReverser (function_of rules.now) (Some (H.reads shelf.new).bytes)
-        reply) }
-    ensures read { H.reads shelf.new ≡ after_reading name.now (H.reads shelf.new).bytes (H.reads shelf.old) }
-    ensures shelf { IsErrOf result Stop.Shelf → Rose (H.faults shelf.old) (H.faults shelf.new) }
-    ensures unchanged { Unchanged H.holds H.offered H.faults shelf.old shelf.new }
-{
-    match load_function(alloc, shelf, Subject::Second, name)? {
-        Ok(others) => reply_or_stop(reply_to_reversal(alloc, rules, &others)),
-        Err(reply) => Ok(reply),
+    ghost gets = { IsReplyToReversal };
+
+    fn reply(alloc: Global, rules: &Rules, others: &Rules) -> Result<Reply, NoMemory> {
+        if are_alike(rules, others) {
+            let back = reverses(alloc, rules, others, MOST_QUESTIONS)?;
+            return Ok(Reply::Reversed(back));
+        }
+        Ok(Reply::Unlike)
     }
 }
 
@@ -68,8 +51,5 @@ pub fn reverse<H: Shelf>(
     ensures shelf { IsErrOf result Stop.Shelf → Rose (H.faults shelf.old) (H.faults shelf.new) }
     ensures unchanged { Unchanged H.holds H.offered H.faults shelf.old shelf.new }
 {
-    match load_function(alloc, shelf, Subject::First, function)? {
-        Ok(rules) => reply_to_reverser(alloc, shelf, &rules, other),
-        Err(reply) => Ok(reply),
-    }
+    reply_to_both::<ByPair<Reversing>, H>(alloc, shelf, function, other)
 }

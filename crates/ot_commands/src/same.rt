@@ -1,51 +1,34 @@
 //! `same FUNCTION OTHER`: whether two functions agree.
-ghost use Rattle.std.specs.Prelude.{◌≡◌, Some, IfOk, IsErrOf};
-ghost use Rattle.fn_rules.specs.Rules.{function_of};
+ghost use Rattle.std.specs.Prelude.{IfOk, IsErrOf};
 ghost use Rattle.ot_outside.specs.Faults.{Rose};
-ghost use Rattle.ot_outside.specs.Reads.{after_reading};
 ghost use Rattle.ot_outside.specs.Unchanged.{Unchanged};
 ghost use Rattle.ot_words.specs.Commands as commands;
 ghost use Rattle.ot_commands.specs.Given.{IsReplyOfGiven};
 ghost use Rattle.ot_commands.specs.Load.{GoesOnBehind};
 ghost use Rattle.ot_commands.specs.Replies.{IsReplyTo};
-ghost use Rattle.ot_commands.specs.Same.{IsReplyToSecond, IsReplyToTwo};
 
-use crate::load::{Stop, load_function, reply_or_stop};
+use crate::load::Stop;
+use crate::two_files::reply_to_both;
+use crate::two_functions::{ByPair, PairCommand};
 use fn_rules::Rules;
 use ot_audit::same_all;
 use ot_model::NoMemory;
 use ot_outside::Shelf;
-use ot_replies::{Reply, Subject};
+use ot_replies::Reply;
 use ot_words::MOST_QUESTIONS;
 use std::alloc::Global;
 
-// The reply to two functions.
-fn reply_to_two(alloc: Global, rules: &Rules, others: &Rules) -> Result<Reply, NoMemory>
-    ensures { IfOk result (IsReplyToTwo (function_of rules.now) (function_of others.now)) }
-{
-    let same = same_all(alloc, rules, others, MOST_QUESTIONS)?;
-    Ok(Reply::Compared(same))
-}
+// Two functions are compared, with so many questions as are allowed.
+struct Comparing;
 
-// The reply to the second function's file.
-fn reply_to_second<H: Shelf>(
-    alloc: Global,
-    shelf: &mut H,
-    rules: &Rules,
-    name: &str,
-) -> Result<Reply, Stop>
-    requires { H.offered shelf.old name.now }
+impl PairCommand for Comparing {
+    ghost use Rattle.ot_commands.specs.Same.{IsReplyToTwo};
 
-    ensures ok { IfOk result (λ reply. IsReplyToSecond (function_of rules.now) (H.holds shelf.old name.now) reply) }
-    ensures given { IfOk result (λ reply. IsReplyToSecond (function_of rules.now) (Some (H.reads shelf.new).bytes)
-        reply) }
-    ensures read { H.reads shelf.new ≡ after_reading name.now (H.reads shelf.new).bytes (H.reads shelf.old) }
-    ensures shelf { IsErrOf result Stop.Shelf → Rose (H.faults shelf.old) (H.faults shelf.new) }
-    ensures unchanged { Unchanged H.holds H.offered H.faults shelf.old shelf.new }
-{
-    match load_function(alloc, shelf, Subject::Second, name)? {
-        Ok(others) => reply_or_stop(reply_to_two(alloc, rules, &others)),
-        Err(reply) => Ok(reply),
+    ghost gets = { IsReplyToTwo };
+
+    fn reply(alloc: Global, rules: &Rules, others: &Rules) -> Result<Reply, NoMemory> {
+        let same = same_all(alloc, rules, others, MOST_QUESTIONS)?;
+        Ok(Reply::Compared(same))
     }
 }
 
@@ -65,8 +48,5 @@ pub fn same<H: Shelf>(
     ensures shelf { IsErrOf result Stop.Shelf → Rose (H.faults shelf.old) (H.faults shelf.new) }
     ensures unchanged { Unchanged H.holds H.offered H.faults shelf.old shelf.new }
 {
-    match load_function(alloc, shelf, Subject::First, function)? {
-        Ok(rules) => reply_to_second(alloc, shelf, &rules, other),
-        Err(reply) => Ok(reply),
-    }
+    reply_to_both::<ByPair<Comparing>, H>(alloc, shelf, function, other)
 }

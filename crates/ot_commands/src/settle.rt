@@ -1,36 +1,40 @@
 //! `settle [--tp1] [--budget N] FUNCTION`: a proof with lemmas of the function, or a counterexample.
 ghost use Rattle.std.specs.Prelude.{IfOk, IsErrOf};
-ghost use Rattle.fn_rules.specs.Rules.{function_of};
 ghost use Rattle.ot_outside.specs.Faults.{Rose};
 ghost use Rattle.ot_outside.specs.Unchanged.{Unchanged};
 ghost use Rattle.ot_words.specs.Commands.{Settle};
 ghost use Rattle.ot_commands.specs.Given.{IsReplyOfGiven};
 ghost use Rattle.ot_commands.specs.Replies.{IsReplyTo};
-ghost use Rattle.ot_commands.specs.Settle.{IsReplyToSettle};
 
-use crate::load::{Stop, load_function, reply_or_stop};
+use crate::load::Stop;
+use crate::one_file::{FunctionCommand, reply_to_one};
 use crate::prove::broken_by;
 use fn_rules::{Level, Rules};
 use ot_model::NoMemory;
 use ot_outside::Shelf;
-use ot_replies::{Reply, Subject};
+use ot_replies::Reply;
 use ot_settle::{Settled, settle_all};
 use plain_list::List;
 use std::alloc::Global;
 
-// The reply to a function.
-fn reply_to_function(
-    alloc: Global,
-    rules: &Rules,
+// A function is settled at a level, by so many questions at the most.
+#[derive(Drop)]
+struct Settling {
     level: Level,
     budget: u64,
-) -> Result<Reply, NoMemory>
-    ensures { IfOk result (IsReplyToSettle (function_of rules.now) level) }
-{
-    match settle_all(alloc, rules, level, budget)? {
-        Settled::Yes(bytes) => Ok(Reply::Proved(List::from_vec(bytes))),
-        Settled::No { ob, answers, why } => broken_by(alloc, rules, ob, &answers, why),
-        Settled::Spent => Ok(Reply::Spent),
+}
+
+impl FunctionCommand for Settling {
+    ghost use Rattle.ot_commands.specs.Settle.{IsReplyToSettle};
+
+    ghost gets = { λ s f. IsReplyToSettle f s.level };
+
+    fn reply(&self, alloc: Global, rules: &Rules) -> Result<Reply, NoMemory> {
+        match settle_all(alloc, rules, self.level, self.budget)? {
+            Settled::Yes(bytes) => Ok(Reply::Proved(List::from_vec(bytes))),
+            Settled::No { ob, answers, why } => broken_by(alloc, rules, ob, &answers, why),
+            Settled::Spent => Ok(Reply::Spent),
+        }
     }
 }
 
@@ -50,8 +54,5 @@ pub fn settle<H: Shelf>(
     ensures shelf { IsErrOf result Stop.Shelf → Rose (H.faults shelf.old) (H.faults shelf.new) }
     ensures unchanged { Unchanged H.holds H.offered H.faults shelf.old shelf.new }
 {
-    match load_function(alloc, shelf, Subject::First, function)? {
-        Ok(rules) => reply_or_stop(reply_to_function(alloc, &rules, level, budget)),
-        Err(reply) => Ok(reply),
-    }
+    reply_to_one(alloc, shelf, function, &Settling { level, budget })
 }

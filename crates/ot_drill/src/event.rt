@@ -69,51 +69,22 @@ fn makes(alloc: Global, rounds: u32) -> Result<Vec<Event>, NoMemory>
     Ok(events)
 }
 
-// A site takes the operations of the others as they were made.
-fn push_in_order(
-    alloc: Global,
-    rounds: u32,
-    site: u32,
-    events: &mut Vec<Event>,
-) -> Result<(), NoMemory>
-    requires rounds { rounds ≤ MOST_ROUNDS }
-    requires site { (1 ≤ site) × (site ≤ SITES) }
-    ensures { OnOk result (events.new.items ≡ events.old.items ++ takes_of site (others_of rounds site)) }
+// A site takes operations in the opposite order.
+fn push_turned(site: u32, numbers: Vec<u32>, events: &mut Vec<Event>) -> Result<(), NoMemory>
+    ensures { OnOk result (events.new.items ≡ events.old.items ++ takes_of site (reverse numbers.items)) }
 {
-    push_takes(site, &others_of(alloc, rounds, site)?, events)
-}
-
-// A site takes the operations of the others in the opposite order.
-fn push_turned(
-    alloc: Global,
-    rounds: u32,
-    site: u32,
-    events: &mut Vec<Event>,
-) -> Result<(), NoMemory>
-    requires rounds { rounds ≤ MOST_ROUNDS }
-    requires site { (1 ≤ site) × (site ≤ SITES) }
-    ensures { OnOk result (events.new.items ≡ events.old.items ++ takes_of site (reverse (others_of rounds site))) }
-{
-    let mut numbers = others_of(alloc, rounds, site)?;
+    let mut numbers = numbers;
     numbers.reverse();
     push_takes(site, &numbers, events)
 }
 
-// A site takes the operations of the others as they were made, and then all of them once more.
-fn push_twice(
-    alloc: Global,
-    rounds: u32,
-    site: u32,
-    events: &mut Vec<Event>,
-) -> Result<(), NoMemory>
-    requires rounds { rounds ≤ MOST_ROUNDS }
-    requires site { (1 ≤ site) × (site ≤ SITES) }
-    ensures { OnOk result (events.new.items ≡ events.old.items ++ takes_of site (others_of rounds site)
-        ++ takes_of site (others_of rounds site)) }
+// A site takes operations, and then all of them once more.
+fn push_twice(site: u32, numbers: &[u32], events: &mut Vec<Event>) -> Result<(), NoMemory>
+    ensures { OnOk result (events.new.items ≡ events.old.items ++ takes_of site numbers.now
+        ++ takes_of site numbers.now) }
 {
-    let numbers = others_of(alloc, rounds, site)?;
-    push_takes(site, &numbers, events)?;
-    push_takes(site, &numbers, events)
+    push_takes(site, numbers, events)?;
+    push_takes(site, numbers, events)
 }
 
 /// The events of the workload with this number: in so many rounds three sites make an operation each; then site 1 takes
@@ -123,8 +94,8 @@ pub fn events(alloc: Global, n: u32) -> Result<Vec<Event>, NoMemory>
     ensures { IfOk result (λ events. events.items ≡ drill_events n) }
 {
     let mut events = makes(alloc, n)?;
-    push_in_order(alloc, n, 1, &mut events)?;
-    push_turned(alloc, n, 2, &mut events)?;
-    push_twice(alloc, n, 3, &mut events)?;
+    push_takes(1, &others_of(alloc, n, 1)?, &mut events)?;
+    push_turned(2, others_of(alloc, n, 2)?, &mut events)?;
+    push_twice(3, &others_of(alloc, n, 3)?, &mut events)?;
     Ok(events)
 }

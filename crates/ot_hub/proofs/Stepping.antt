@@ -13,7 +13,9 @@ use Rattle.ot_hub.specs.declared.client.Client.{Client}
 use Rattle.ot_hub.specs.declared.placed.PlacedOp.{PlacedOp}
 use Rattle.ot_hub.specs.declared.placed.Entry.{Entry}
 use Rattle.ot_hub.specs.Carry.{Carried, carry, from_place, carried_op, carried_list}
+use Rattle.ot_hub.specs.declared.server.Server.{Server}
 use Rattle.ot_hub.specs.Steps.{Step, Nothing, Stuck, To, step_map, IsTo, HasStepped, goes_on, client_after, confirmed, client_step}
+use Rattle.ot_hub.specs.Steps.{ahead_of, server_after, server_step}
 use Rattle.ot_hub.specs.Views.{HubData, closed_hub, IsClient, HasMoved, client_of, up_with, down_with, down_step}
 use Rattle.ot_hub.proofs.Carrying.{from_true}
 
@@ -48,6 +50,30 @@ pub goes_on-leads : {X : Type 0} (carried : Option Carried) (o : Op) (cells : �
     → is_enabled o cells ≡ true → IsTo (goes_on carried cells go)
 goes_on-leads None o cells go is enabled = cc
 goes_on-leads (Some carried) o cells go is enabled = let same : o ≡ carried.op = cc in rw (← same, enabled) tt
+
+-- the server's step, by what its list for the client carries
+module _ (f : Function) (c : ℕ) (message : PlacedOp) (server : Server) (list : List PlacedOp) (there : ahead_of server c ≡ list) where
+  abbrev message_carried : Option Carried
+  message_carried = carry f message.op (from_place message.place list)
+
+  abbrev after : Carried → Server
+  after carried = server_after f.head.mode c carried server
+
+  pub server_step-none : None ≡ carried_op message_carried → server_step f c message server ≡ Stuck
+  server_step-none none = rw there (goes_on-none message_carried (length server.doc) after none)
+
+  pub server_step-refused :
+      (o : Op) → Some o ≡ carried_op message_carried → is_enabled o (length server.doc) ≡ false → server_step f c message server ≡ Stuck
+  server_step-refused o is refused = rw there (goes_on-refused message_carried o (length server.doc) after is refused)
+
+  pub server_step-leads :
+      (o : Op) → Some o ≡ carried_op message_carried → is_enabled o (length server.doc) ≡ true → IsTo (server_step f c message server)
+  server_step-leads o is enabled = rw there (goes_on-leads message_carried o (length server.doc) after is enabled)
+
+  pub server_step-done :
+      (o : Op) (own : List PlacedOp) → Some o ≡ carried_op message_carried → carried_list message_carried ≡ Some own
+      → is_enabled o (length server.doc) ≡ true → server_step f c message server ≡ To (after (record { op = o; list = own }))
+  server_step-done o own is carries enabled = rw there (goes_on-done message_carried o own (length server.doc) after is carries enabled)
 
 -- what was carried over a list, where the operation was
 pub carried_some : (carried : Option Carried) (o : Op) → Some o ≡ carried_op carried → is_some carried ≡ true

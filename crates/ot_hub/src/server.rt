@@ -8,7 +8,7 @@ use crate::answer::Move;
 use crate::carry::{carried, carry_list};
 use crate::placed::{Entry, PlacedOp, execute, pushed};
 use fn_rules::{Rules, enabled_operations_are_near};
-use ot_model::{Doc, NoMemory, enabled};
+use ot_model::{Doc, NoMemory, Op, enabled};
 use plain_list::List;
 use std::alloc::Global;
 
@@ -52,7 +52,8 @@ pub(crate) fn fresh_server(alloc: Global, doc: &Doc, clients: u32) -> Result<Ser
 }
 
 impl Server {
-    ghost use Rattle.ot_hub.specs.Steps.{server_step, HasStepped};
+    ghost use Rattle.ot_model.specs.Effect.{IsEnabled};
+    ghost use Rattle.ot_hub.specs.Steps.{To, server_step, server_after, HasStepped};
     ghost use Rattle.ot_hub.specs.Kept.{IsServerKept};
 
     /// Takes a message of a client. A server that takes none is as it was.
@@ -80,6 +81,26 @@ impl Server {
             return Err(Move::Stuck);
         }
         let own = carry_list(alloc, rules, message.op, ahead, message.place)?;
+        self.take_carried(alloc, rules, client, form, own)
+    }
+
+    /// Takes what a client's message became: executes it, puts it at the end of the log, and tells it to the other clients.
+    /// What it was carried over becomes `own`. A server without memory is as it was.
+    fn take_carried(
+        &mut self,
+        alloc: Global,
+        rules: &Rules,
+        client: u32,
+        form: Op,
+        own: List<PlacedOp>,
+    ) -> Result<(), Move>
+        requires few { length self.old.log < MAX_EDITS }
+        requires low { 1 ≤ client }
+        requires high { client ≤ length self.old.ahead }
+        requires enabled { IsEnabled form (length self.old.doc) }
+        ensures { HasStepped self.old self.new (To (server_after (function_of rules.now).head.mode client
+            (record { op = form; list = own }) self.old)) result }
+    {
         let place = self.log.len() as u32;
         let mut lists = told(alloc, self.ahead.as_slice(), PlacedOp { place, op: form })?;
         lists.set(client as usize - 1, own);

@@ -33,15 +33,14 @@ use Rattle.ot_questions.specs.Obligation.{plan_below, plan_of}
 use Rattle.ot_sections.specs.declared.premise.TheConstants.{MAX_BOUND}
 use Rattle.ot_sections.specs.Certificates.{AreAnswers}
 use Rattle.ot_decide.specs.declared.verdict.SearchVerdict.TheVariants as search
-use Rattle.ot_decide.specs.Proving.{AreSettled}
 use Rattle.ot_decide.specs.Verdicts.{AreAsked, FailingOb, ObQuestions, failing_in}
 use Rattle.ot_least.specs.declared.ending.Ending.{Ending}
 use Rattle.ot_least.specs.declared.short.Short.{Short}
 use Rattle.ot_least.specs.declared.short.Short.TheVariants as short
-use Rattle.ot_least.specs.Endings.{IsEnding, failing_end_of}
+use Rattle.ot_least.specs.Endings.{IsEndedBy, IsEnding, IsTurn, failing_end_of}
 use Rattle.ot_least.specs.Lows.{HasAt, IsBroken, IsLow, low_header_text, parts_of}
 use Rattle.ot_least.proofs.Listed.{end_is_listed}
-use Rattle.ot_least.specs.Shortest.{EndHasCells, Falls, IsLeast, behind_first, end_by}
+use Rattle.ot_least.specs.Shortest.{EndHasCells, Falls, IsLeast, IsShortWithin, IsTrueOf, behind_first, end_by}
 
 -- a property of documents of a length that fails is broken
 pub broken_at : (f : Function) (level : Level) (n : ℕ) → (level ≡ Tp2 → HasTp1 f) → ¬ HasAt f level n → IsBroken f level
@@ -67,67 +66,60 @@ end_is ob other answers others why cause same is are =
     ∙ ap (λ (w : Why). end_by ob (drop 1 answers) w) are
     ∙ ap (λ (l : List Lit). record { ob = ob; end = record { answers = l; why = why } }) (answers_behind answers)
 
-module _ (f : Function) (budget : ℕ) (e : Ending) (obs : List ObName) (are : obs ≡ parts_of f.head (level_of e.ob))
-    (before after : List ℕ) where
+module _ (f : Function) (budget : ℕ) (e : Ending) (bytes : List ℕ) where
   abbrev plan : ObName → Plan Why
   plan = plan_below f (Some e.cells)
+
+  abbrev parts : List ObName
+  parts = parts_of f.head (level_of e.ob)
 
   abbrev pub FallsTo : Short → Type 0
   FallsTo answer = (turns : List (List (ObQuestions Why))) × Falls f budget (failing_end_of e) e.cells turns answer
 
-  asked_there : (lists : List (ObQuestions Why)) → AreAsked plan obs lists → AreAsked plan (parts_of f.head (level_of e.ob)) lists
-  asked_there lists asked = subst (λ (l : List ObName). AreAsked plan l lists) are asked
+  pub falls_spent : IsTurn f budget e bytes search.Spent → FallsTo short.Spent
+  falls_spent (lists, asked, more) = (lists ∷ [], (asked, inl (more, refl)))
 
-  pub falls_spent : AreSettled f.head plan obs budget before after search.Spent → FallsTo short.Spent
-  falls_spent (lists, asked, more) = (lists ∷ [], (asked_there lists asked, inl (more, refl)))
-
-  -- all hold
-  module _ (cert : Vec ℕ Global) (begun : before ≡ low_header_text (level_of e.ob) e.cells) (ended : cert.items ≡ after ++ end_text)
-      (settled : AreSettled f.head plan obs budget before after search.AllHold) where
-    abbrev low_trees : List AnswerTree
-    low_trees = settled.2.trees
-
-    text : cert.items ≡ low_header_text (level_of e.ob) e.cells ++ sections_text (parts_of f.head (level_of e.ob)) low_trees ++ end_text
-    text =
-        ended ∙ ap (λ (x : List ℕ). x ++ end_text) (settled.2.written ∙ ap (λ (x : List ℕ). x ++ sections_text obs low_trees) begun)
-        ∙ ap (λ (l : List ObName). low_header_text (level_of e.ob) e.cells ++ sections_text l low_trees ++ end_text) are
-
-    fit : AreAnswers plan (parts_of f.head (level_of e.ob)) low_trees
-    fit = subst (λ (l : List ObName). AreAnswers plan l low_trees) are settled.2.fit
+  -- all hold: the certificate is whole
+  module _ (turn : IsTurn f budget e bytes search.AllHold) (answer : Short) (ended : IsEndedBy e bytes answer) where
+    text : ended.0.items ≡ low_header_text (level_of e.ob) e.cells ++ sections_text parts turn.2.trees ++ end_text
+    text = ended.1 ∙ ap (λ (x : List ℕ). x ++ end_text) turn.2.written
 
     -- the search ends: the end has a least counterexample
-    pub falls_least : FallsTo (short.Least e.ob e.answers e.why e.cells cert)
-    falls_least = (
-      settled.0 ∷ [],
-      (
-        asked_there settled.0 settled.1,
-        inr
-            (inl (
-              settled.2.within,
-              settled.2.none_fails,
-              (refl, refl, record { trees = low_trees; fit = fit; ask = settled.2.ask; text = text }),
-            )),
-      ),
-    )
+    pub falls_least : FallsTo answer
+    falls_least =
+        subst (λ (s : Short). FallsTo s) (sym ended.2) (
+          turn.0 ∷ [],
+          (
+            turn.1,
+            inr
+                (inl (
+                  turn.2.within,
+                  turn.2.none_fails,
+                  (refl, refl, record { trees = turn.2.trees; fit = turn.2.fit; ask = turn.2.ask; text = text }),
+                )),
+          ),
+        )
 
-    pub is_low : e.cells ≤ MAX_BOUND → IsLow cert.items f (level_of e.ob) e.cells
-    is_low bounded = (bounded, (low_trees, fit, text))
+    pub is_low : e.cells ≤ MAX_BOUND → IsLow ended.0.items f (level_of e.ob) e.cells
+    is_low bounded = (bounded, (turn.2.trees, turn.2.fit, text))
 
-    pub few_bytes : e.cells ≤ MAX_BOUND → length obs ≤ 24 → budget ≤ 1000000 → length cert.items ≤ 83886080
+    few_bytes : e.cells ≤ MAX_BOUND → length parts ≤ 24 → budget ≤ 1000000 → length ended.0.items ≤ 83886080
     few_bytes bounded few limit =
-        let header : length before ≤ 17 = subst (λ (x : List ℕ). length x ≤ 17) (sym begun) (header_few (level_of e.ob) e.cells bounded) in
-        let lines : length after ≡ length before + length (sections_text obs low_trees) =
-        ap length settled.2.written ∙ length-append before (sections_text obs low_trees) in
-        let whole : length cert.items ≡ length after + length end_text = ap length ended ∙ length-append after end_text in
-        omega (arith, settled.2.few_bytes, settled.2.within)
+        let header = header_few (level_of e.ob) e.cells bounded in
+        let lines : length bytes ≡ length (low_header_text (level_of e.ob) e.cells) + length (sections_text parts turn.2.trees) =
+        ap length turn.2.written ∙ length-append (low_header_text (level_of e.ob) e.cells) (sections_text parts turn.2.trees) in
+        let whole : length ended.0.items ≡ length bytes + length end_text = ap length ended.1 ∙ length-append bytes end_text in
+        omega (arith, turn.2.few_bytes, turn.2.within)
+
+    pub short_within : e.cells ≤ MAX_BOUND → length parts ≤ 24 → budget ≤ 1000000 → IsShortWithin 83886080 answer
+    short_within bounded few limit = subst (λ (s : Short). IsShortWithin 83886080 s) (sym ended.2) (few_bytes bounded few limit)
 
   -- one fails: the search goes on from there
   module _ (ob : ObName) (answers : Vec Answer Global) (why : Why)
-      (settled : AreSettled f.head plan obs budget before after (search.Fails ob answers why)) where
-    pub same_level : AllByRecursion (λ o. level_of o ≡ level_of e.ob) (parts_of f.head (level_of e.ob)) → level_of ob ≡ level_of e.ob
+      (turn : IsTurn f budget e bytes (search.Fails ob answers why)) where
+    pub same_level : AllByRecursion (λ o. level_of o ≡ level_of e.ob) parts → level_of ob ≡ level_of e.ob
     same_level all =
-        (end_is_listed (λ o. level_of o ≡ level_of e.ob) plan (end_by ob answers.items why) (parts_of f.head (level_of e.ob)) settled.0 all
-        (asked_there settled.0 settled.1) settled.2.1.first).here
+        (end_is_listed (λ o. level_of o ≡ level_of e.ob) plan (end_by ob answers.items why) parts turn.0 all turn.1 turn.2.1.first).here
 
     -- the search goes on from the shorter end that fails
     pub falls_on :
@@ -136,16 +128,16 @@ module _ (f : Function) (budget : ℕ) (e : Ending) (obs : List ObName) (are : o
     falls_on next answer ending same is because (turns, falls) =
         let there : failing_end_of next ≡ behind_first (end_by ob answers.items why) =
         end_is ob next.ob answers.items next.answers.items why next.why same is because in (
-          settled.0 ∷ turns,
+          turn.0 ∷ turns,
           (
-            asked_there settled.0 settled.1,
+            turn.1,
             inr
                 (inr (
-                  settled.2.0,
+                  turn.2.0,
                   (
                     end_by ob answers.items why,
                     next.cells,
-                    settled.2.1.first,
+                    turn.2.1.first,
                     (
                       subst (λ (x : FailingOb Why). EndHasCells x next.cells) there ending.length,
                       subst (λ (x : FailingOb Why). Falls f budget x next.cells turns answer) there falls,
@@ -165,8 +157,7 @@ module _ (f : Function) (valid : IsTrue (is_valid f))
       breaks e.ob e.why (answered_by e.answers.items) (valuation_of values) e.cells ending.listed
       (literals_lead e.why (plan_of f e.ob) e.answers.items ending.way) least.zero_first is least.met
 
-  -- a failing end with a low certificate of as many cells is a least counterexample
-  pub is_least :
+  is_least :
       ((bytes : List ℕ) (level : Level) (bound n : ℕ) → IsLow bytes f level bound → n < bound → HasAt f level n)
       → (e : Ending) (cert : List ℕ) → IsEnding f e → IsBroken f (level_of e.ob) → IsLow cert f (level_of e.ob) e.cells
       → IsLeast f e.ob e.answers.items e.why e.cells cert
@@ -180,6 +171,14 @@ module _ (f : Function) (valid : IsTrue (is_valid f))
     possible = ending.possible;
     length = ending.length;
   }
+
+  -- so the answer that is ended by the certificate is true
+  pub is_true :
+      ((bytes : List ℕ) (level : Level) (bound n : ℕ) → IsLow bytes f level bound → n < bound → HasAt f level n)
+      → (e : Ending) (bytes : List ℕ) (answer : Short) (ended : IsEndedBy e bytes answer) → IsEnding f e → IsBroken f (level_of e.ob)
+      → IsLow ended.0.items f (level_of e.ob) e.cells → IsTrueOf f answer
+  is_true shows e bytes answer ended ending broken low =
+      subst (λ (s : Short). IsTrueOf f s) (sym ended.2) (is_least shows e ended.0.items ending broken low)
 
 -- where each tree fits its plan, each plan holds
 pub answers_hold :

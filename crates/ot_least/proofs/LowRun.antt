@@ -1,5 +1,5 @@
 -- A low certificate of a feed, from its first line to its last.
-use Rattle.std.proofs.Common.{◌≡◌, ℕ, true, ◌≤◌, List, [], ◌++◌, length, Option, Some, Result, Err, ◌⊎◌, inl, inr, refl, ap, subst, ◌∙◌}
+use Rattle.std.proofs.Common.{◌≡◌, ℕ, true, ◌≤◌, List, [], ◌++◌, length, Option, Some, Result, Ok, Err, IfErr, OnOk, ◌⊎◌, inl, inr, refl, ap, subst, ◌∙◌}
 use Rattle.fn_rules.specs.declared.function.Head.{Head}
 use Rattle.fn_rules.specs.declared.function.Level.{Level}
 use Rattle.fn_rules.specs.declared.function.ObName.{ObName}
@@ -15,8 +15,8 @@ use Rattle.refusals.specs.declared.refusal.JudgeError.TheVariants as judge
 use Rattle.ot_sections.specs.Feeding.{Has, MayGive, MayGiveOf, MayHave, Whole, Yields, fed}
 use Rattle.ot_sections.specs.Parts.{IsJudged, IsRefused, Point}
 use Rattle.ot_sections.specs.Stands.{IsJudgedBehind, point_of, stand}
-use Rattle.ot_least.specs.Judgements.{IsJudgedLow, IsLowJudgement, IsNoHeaderBehind, IsNoJudgement, behind_header}
-use Rattle.ot_least.specs.Lows.{low_header_text, parts_of}
+use Rattle.ot_least.specs.Judgements.{IsJudgedLow, IsJudgedRest, IsLowJudgement, IsNoHeaderBehind, IsNoJudgement, behind_header}
+use Rattle.ot_least.specs.Lows.{IsLow, low_header_text, parts_of}
 
 module _ {F : Type 0} (feeds : Ghosts F) (f : Function) (feed new : F) where
   -- some bytes that the feed might give have the judgement
@@ -35,37 +35,58 @@ module _ {F : Type 0} (feeds : Ghosts F) (f : Function) (feed new : F) where
   header_refused judge.Failed none refused all have = absurd refused
   header_refused judge.NoMemory none refused all have = absurd refused
 
-  -- behind a first line that was read
+  -- a first line that was read, and what is judged behind it
   module _ (level : Level) (bound : ℕ) (bounded : bound ≤ MAX_BOUND) (first : F)
-      (header : (all : Whole) (rest : List ℕ) → Yields feeds first all rest → Yields feeds feed all (low_header_text level bound ++ rest))
-      (reader : ReaderState) (at : point_of {W = Why} (stand (fed reader first) []) ≡ behind_header f level bound) where
-    -- a low certificate is its first line, and what is judged after it
-    pub judged_behind :
-        (end : Result (Unit {0}) JudgeError) → IsJudgedBehind feeds (plan_below f (Some bound)) (stand (fed reader first) []) new end
-        → (all : Whole) → Has feeds new all → (bytes : List ℕ) × Yields feeds feed all bytes × IsJudgedLow f end bytes level bound
-    judged_behind end judged all have =
-        let there = judged all have in (
-          low_header_text level bound ++ there.0,
-          header all there.0 there.1,
-          (
-            bounded,
-            (
-              there.0,
-              refl,
-              subst (λ (p : Point Why). IsJudged (plan_below f (Some bound)) end p there.0) at there.2,
-            ),
-          ),
-        )
+      (header : (all : Whole) (rest : List ℕ) → Yields feeds first all rest → Yields feeds feed all (low_header_text level bound ++ rest)) where
+    abbrev AreJudged : Result (Unit {0}) JudgeError → Type 0
+    AreJudged end = (all : Whole) → Has feeds new all → IsJudgedRest feeds f level bound first all end
 
-    pub refused_behind :
-        (e : JudgeError)
-        → (IsRefused e → IsJudgedBehind feeds (plan_below f (Some bound)) (stand (fed reader first) []) new (Err e))
-        → IsRefused e → HaveJudgement (Err e)
-    refused_behind (judge.Refused offset why) judged refused all have =
-        let there = judged_behind (Err (judge.Refused offset why)) (judged tt) all have in
-        (there.0, there.1, inr (level, bound, there.2))
-    refused_behind judge.Failed judged refused all have = absurd refused
-    refused_behind judge.NoMemory judged refused all have = absurd refused
+    with_header :
+        (end : Result (Unit {0}) JudgeError) (all : Whole) → IsJudgedRest feeds f level bound first all end
+        → (bytes : List ℕ) × Yields feeds feed all bytes × IsJudgedLow f end bytes level bound
+    with_header end all (rest, may, judged) = (low_header_text level bound ++ rest, header all rest may, (bounded, (rest, refl, judged)))
+
+    -- it is refused
+    pub behind_refused :
+        (e : JudgeError) → IsNoJudgement {T = Unit {0}} (Err e) ⊎ AreJudged (Err e)
+        → IsNoJudgement {T = Level × ℕ} (Err e) ⊎ HaveJudgement (Err e)
+    behind_refused (judge.Refused offset why) (inl (inl none)) = absurd (cc)
+    behind_refused (judge.Refused offset why) (inl (inr none)) = absurd (cc)
+    behind_refused (judge.Refused offset why) (inr judged) =
+        inr (λ all have.
+        let there = with_header (Err (judge.Refused offset why)) all (judged all have) in
+        (there.0, there.1, inr (level, bound, there.2)))
+    behind_refused judge.Failed judged = inl (inl refl)
+    behind_refused judge.NoMemory judged = inl (inr refl)
+
+    -- or it is the certificate
+    pub behind_judged :
+        ((bytes : List ℕ) → IsJudgedLow f (Ok tt) bytes level bound → IsLow bytes f level bound)
+        → IsNoJudgement {T = Unit {0}} (Ok tt) ⊎ AreJudged (Ok tt) → HaveJudgement (Ok (level, bound))
+    behind_judged law (inl (inl none)) = absurd (cc)
+    behind_judged law (inl (inr none)) = absurd (cc)
+    behind_judged law (inr judged) = λ all have.
+        let there = with_header (Ok tt) all (judged all have) in
+        (there.0, there.1, law there.0 there.2)
+
+-- the sections behind a first line, as a reader judges them that begins there
+module _ {F : Type 0} (feeds : Ghosts F) (f : Function) (level : Level) (bound : ℕ) (feed new : F) (reader : ReaderState)
+    (at : point_of {W = Why} (stand (fed reader feed) []) ≡ behind_header f level bound) where
+  abbrev Judged : Result (Unit {0}) JudgeError → Type 0
+  Judged end = IsJudgedBehind feeds (plan_below f (Some bound)) (stand (fed reader feed) []) new end
+
+  there : (end : Result (Unit {0}) JudgeError) → Judged end → (all : Whole) → Has feeds new all → IsJudgedRest feeds f level bound feed all end
+  there end judged all have =
+      let (rest, may, is) = judged all have in
+      (rest, may, subst (λ (p : Point Why). IsJudged (plan_below f (Some bound)) end p rest) at is)
+
+  pub sections_judged :
+      (answer : Result (Unit {0}) JudgeError) → OnOk answer (Judged (Ok tt)) → IfErr answer (λ e. IsRefused e → Judged (Err e))
+      → IsNoJudgement answer ⊎ ((all : Whole) → Has feeds new all → IsJudgedRest feeds f level bound feed all answer)
+  sections_judged (Ok done) fit refused = inr (there (Ok tt) fit)
+  sections_judged (Err (judge.Refused offset why)) fit refused = inr (there (Err (judge.Refused offset why)) (refused tt))
+  sections_judged (Err judge.Failed) fit refused = inl (inl refl)
+  sections_judged (Err judge.NoMemory) fit refused = inl (inr refl)
 
 -- the point of a reader that begins behind the first line
 pub point_is :

@@ -1,5 +1,5 @@
 -- What the judgement of bytes is: a low certificate of a function at a level and a bound, or a refusal.
-use Rattle.std.specs.Prelude.{◌≡◌, ℕ, ◌≤◌, List, [], ◌++◌, length, Some, Result, Ok, Err, ◌⊎◌}
+use Rattle.std.specs.Prelude.{◌≡◌, ℕ, ◌+◌, ◌≤◌, List, [], ◌++◌, length, Some, Result, Ok, Err, ◌⊎◌}
 use Rattle.fn_rules.specs.declared.function.Level.{Level}
 use Rattle.fn_rules.specs.Functions.{Function}
 use Rattle.cert_text.specs.Places.{Line}
@@ -46,10 +46,23 @@ IsNoHeaderBehind feeds old new e =
     IsRefused e → (all : Whole) → Has feeds new all → (bytes : List ℕ) × Yields feeds old all bytes
     × HasNoHeaderBy bytes e
 
+-- a first line of a level and a bound was read, of so many bytes: a feed that gave it gives fewer bytes
+pub record IsHeaderRead {F : Type 0} (feeds : Ghosts F) (old new : F) (level : Level) (bound before : ℕ) : Type 0 where
+  pub bounded : bound ≤ MAX_BOUND
+  pub counted : before ≡ length (low_header_text level bound)
+  pub bytes :
+      (all : Whole) (rest : List ℕ) → Yields feeds new all rest → Yields feeds old all (low_header_text level bound ++ rest)
+  pub fewer : feeds.bound new + before ≤ feeds.bound old
+
 -- behind the first line
 abbrev pub behind_header : Function → Level → ℕ → Point Why
 behind_header f level bound =
     record { place = Line 0 (parts_of f.head level); offset = length (low_header_text level bound); branches = [] }
+
+-- some bytes that a feed might give behind that line are judged so
+abbrev pub IsJudgedRest : {F : Type 0} → Ghosts F → Function → Level → ℕ → F → Whole → Result (Unit {0}) JudgeError → Type 0
+IsJudgedRest feeds f level bound feed all end =
+    (rest : List ℕ) × Yields feeds feed all rest × IsJudged (plan_below f (Some bound)) end (behind_header f level bound) rest
 
 -- the bytes begin with the first line of a level and a bound, and what stands behind it is judged so
 abbrev pub IsJudgedLow : Function → Result (Unit {0}) JudgeError → List ℕ → Level → ℕ → Type 0

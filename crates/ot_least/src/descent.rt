@@ -1,11 +1,11 @@
 //! The search of the shortest document, from failing end to shorter failing end.
-ghost use Rattle.std.specs.Prelude.{◌≡◌, ◌≤◌, ℕ, List, IfOk};
+ghost use Rattle.std.specs.Prelude.{◌≡◌, ◌≤◌, ℕ, List, [], IfOk};
 ghost use Rattle.fn_rules.specs.Obligations.{level_of as part_level};
 ghost use Rattle.fn_rules.specs.Rules.{function_of};
 ghost use Rattle.ot_questions.specs.declared.why.Why.{Why};
 ghost use Rattle.ot_sections.specs.declared.premise.TheConstants.{MAX_BOUND};
 ghost use Rattle.ot_decide.specs.Verdicts.{ObQuestions};
-ghost use Rattle.ot_least.specs.Endings.{IsEnding, failing_end_of};
+ghost use Rattle.ot_least.specs.Endings.{IsEndedBy, IsEnding, IsTurn, failing_end_of};
 ghost use Rattle.ot_least.specs.Lows.{IsBroken};
 ghost use Rattle.ot_least.specs.Shortest.{BeginsTurns, Falls, IsShort, IsShortWithin, IsTrueOf};
 
@@ -22,6 +22,46 @@ use ot_questions::{Why, triple_plans_mean_tp2};
 use ot_sections::MAX_BOUND;
 use std::alloc::Global;
 
+// Searches the obligations of a failing end's property on the documents of fewer cells. The bytes are then the first line
+// of a low certificate, and where all hold the sections behind it.
+fn search_shorter(
+    alloc: Global,
+    rules: &Rules,
+    budget: u64,
+    end: &Ending,
+    cert: &mut Vec<u8>,
+) -> Result<SearchVerdict, NoMemory>
+    requires empty { cert.old.items ≡ [] }
+    requires bounded { end.now.cells ≤ MAX_BOUND }
+    ensures { IfOk result (IsTurn (function_of rules.now) budget end.now cert.new.items) }
+{
+    parts_are_obligations();
+    let level = level_of(end.ob);
+    let names = parts(alloc, &rules.head(), level)?;
+    write_low_header(level, end.cells, cert)?;
+    search_all(alloc, rules, Some(end.cells), &names, budget, cert)
+}
+
+// The answer of a failing end below which nothing fails: the last line makes the certificate whole.
+fn least(end: Ending, mut cert: Vec<u8>) -> Result<Short, NoMemory>
+    ensures { IfOk result (IsEndedBy end cert.items) }
+{
+    write_end(&mut cert)?;
+    let Ending {
+        ob,
+        answers,
+        why,
+        cells,
+    } = end;
+    Ok(Short::Least {
+        ob,
+        answers,
+        why,
+        cells,
+        cert,
+    })
+}
+
 // Goes on from a failing end: searches the documents of fewer cells, and where one breaks the property too, goes on
 // from there.
 fn descend(alloc: Global, rules: &Rules, budget: u64, end: Ending) -> Result<Short, NoMemory>
@@ -34,29 +74,13 @@ fn descend(alloc: Global, rules: &Rules, budget: u64, end: Ending) -> Result<Sho
     ensures within { budget ≤ 1000000 → IfOk result (IsShortWithin 83886080) }
 {
     parts_are_obligations();
-    low_certificates_show_shorter_documents();
-    failing_ends_break_at_their_length();
-    let head = rules.head();
-    let level = level_of(end.ob);
-    let names = parts(alloc, &head, level)?;
     let mut cert = Vec::new(alloc);
-    write_low_header(level, end.cells, &mut cert)?;
-    match search_all(alloc, rules, Some(end.cells), &names, budget, &mut cert)? {
+    match search_shorter(alloc, rules, budget, &end, &mut cert)? {
         SearchVerdict::AllHold => {
-            write_end(&mut cert)?;
-            let Ending {
-                ob,
-                answers,
-                why,
-                cells,
-            } = end;
-            Ok(Short::Least {
-                ob,
-                answers,
-                why,
-                cells,
-                cert,
-            })
+            low_certificates_show_shorter_documents();
+            failing_ends_break_at_their_length();
+            rules_are_valid(rules);
+            least(end, cert)
         }
         SearchVerdict::Fails { ob, answers, why } => {
             let next = shorter_ending(alloc, rules, end.cells, ob, answers, why)?;

@@ -1,13 +1,14 @@
 //! The first line of a low certificate, of a feed.
-ghost use Rattle.std.specs.Prelude.{◌≡◌, ◌+◌, ◌≤◌, List, [], ◌∷◌, ◌++◌, length, ℕ, IfErr, IfNone, IfOk, IfSome, OnErr};
+ghost use Rattle.std.specs.Prelude.{◌≡◌, ◌+◌, List, [], ◌∷◌, ◌++◌, ℕ, IfErr, IfNone, IfOk, IfSome, OnErr};
+ghost use Rattle.std.specs.Prelude.{OnOk};
 ghost use Rattle.ot_outside.specs.Faults.{Rose};
 ghost use Rattle.refusals.specs.declared.refusal.JudgeError.{JudgeError};
-ghost use Rattle.ot_sections.specs.declared.premise.TheConstants.{MAX_BOUND};
 ghost use Rattle.ot_sections.specs.Feeding.{Has, IsKeptFeed, IsSpent, IsTruncated, Whole, Yields};
-ghost use Rattle.ot_least.specs.Judgements.{IsNoHeaderBehind};
-ghost use Rattle.ot_least.specs.Lows.{low_header_text};
+ghost use Rattle.ot_least.specs.Headers.{FitsLowHeader};
+ghost use Rattle.ot_least.specs.Judgements.{IsHeaderRead, IsNoHeaderBehind};
 
 use crate::header::{HeaderFit, header_fit};
+use ask_core::NoMemory;
 use fn_rules::Level;
 use ot_outside::{Failed, Feed};
 use ot_sections::{JudgeError, Refusal};
@@ -32,16 +33,21 @@ fn next_byte<F: Feed>(feed: &mut F) -> Result<Option<u8>, Failed>
     Ok(Some(byte))
 }
 
+// Puts the byte behind those that came, and tells how first lines begin with them then.
+fn longer_fit(alloc: Global, line: &mut Vec<u8>, byte: u8) -> Result<HeaderFit, NoMemory>
+    ensures came { OnOk result (line.new.items ≡ line.old.items ++ byte ∷ []) }
+    ensures fits { IfOk result (FitsLowHeader line.new.items) }
+{
+    line.push(byte)?;
+    header_fit(alloc, line)
+}
+
 /// Reads the first line of a low certificate: its level and its bound, and how many bytes it has.
 pub(crate) fn read_low_header<F: Feed>(
     alloc: Global,
     feed: &mut F,
 ) -> Result<(Level, u32, u64), JudgeError>
-    ensures bounded { IfOk result (λ h. h.1 ≤ MAX_BOUND) }
-    ensures counted { IfOk result (λ h. h.2 ≡ length (low_header_text h.0 h.1)) }
-    ensures header { IfOk result (λ h. (all : Whole) (rest : List ℕ) → Yields F.Feed feed.new all rest
-        → Yields F.Feed feed.old all (low_header_text h.0 h.1 ++ rest)) }
-    ensures fewer { IfOk result (λ h. F.bound feed.new + h.2 ≤ F.bound feed.old) }
+    ensures header { IfOk result (λ h. IsHeaderRead F.Feed feed.old feed.new h.0 h.1 h.2) }
     ensures refused { IfErr result (IsNoHeaderBehind F.Feed feed.old feed.new) }
     ensures truncated { IfErr result (λ e. IsTruncated e → IsSpent F.left F.hand feed.new) }
     ensures failed { IfErr result (λ e. e ≡ JudgeError.Failed → Rose (F.faults feed.old) (F.faults feed.new)) }
@@ -49,8 +55,7 @@ pub(crate) fn read_low_header<F: Feed>(
 {
     let mut line = Vec::new(alloc);
     while let Some(byte) = next_byte(feed)? {
-        line.extend_from_slice(&[byte])?;
-        match header_fit(alloc, &line)? {
+        match longer_fit(alloc, &mut line, byte)? {
             HeaderFit::Whole(level, bound) => return Ok((level, bound, line.len() as u64)),
             HeaderFit::Front => {}
             HeaderFit::Other => {

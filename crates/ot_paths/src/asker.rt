@@ -75,7 +75,7 @@ fn laid_obligation<'a>(bump: &'a Bump, rules: &Rules, ob: ObName) -> Result<&'a 
     rules_are_valid(rules);
     let start = start_goal(bump, rules, ob)?;
     let mut known = Vec::new(bump);
-    Ok(laid_out(bump, rules, &mut known, *start)?)
+    laid_out(bump, rules, &mut known, *start)
 }
 
 /// What an obligation of a function asks, or a goal that is given. Its nodes are goals in an arena that stands outside.
@@ -218,7 +218,7 @@ impl<'a> Asker for PathAsker<'a> {
     fn start(&mut self) -> Result<&'a Goal<'a>, NoMemory> {
         match self.goal {
             Some(goal) => Ok(goal),
-            None => Ok(laid_obligation(self.bump, self.rules, self.ob)?),
+            None => laid_obligation(self.bump, self.rules, self.ob),
         }
     }
 

@@ -23,7 +23,10 @@ use Rattle.search_places.specs.declared.split.Room.TheVariants.{Both, OnlyYes, O
 use Rattle.diff_bounds.specs.Kept.{Rows}
 use Rattle.search_places.specs.Sides.{IsTableOf, IsAsked, StandsForSome, AddsAnswer, AreJudged, ClosesCycle, HasRoomForSides, JudgesSides, cycle_along, cycles_of}
 use Rattle.search_places.specs.Sides.{last_rows}
-use Rattle.ot_prove.specs.Searching.{plan_weight, weight_of, HasCome, answers_at, AgreesWithLists, AreShortBranches, LeadsTo, AreReached, IsSearching}
+use Rattle.ot_prove.specs.Searching.{plan_weight, weight_of, HasCome, answers_at, AgreesWithLists, AreShortBranches, LeadsTo, AreReached, IsSearching, IsAsBefore, IsUnderWayOr, HasEnded}
+use Rattle.ot_prove.specs.declared.search.Stepped.{Stepped}
+use Rattle.ot_prove.specs.declared.search.Stepped.TheVariants as step
+use Rattle.search_places.specs.declared.search.PlanSearch.{PlanSearch}
 use Rattle.search_places.specs.Changes.{known_by}
 use Rattle.search_places.specs.Changes.{GoesOnAfterQuestion}
 use Rattle.cert_text.specs.TreeTexts.{Written, with_token}
@@ -97,10 +100,23 @@ module _ {N W : Type 0} where
   SamePlans-refl a p = record { own = λ n. (λ x. x, λ x. x); plans = λ n own. refl }
 
   pub SamePlans-trans :
-      (a b c : N → Type 0) (p q r : N → Plan W) → SamePlans a b p q → SamePlans b c q r → SamePlans a c p r
-  SamePlans-trans a b c p q r first second = record {
+      {a b c : N → Type 0} {p q r : N → Plan W} → SamePlans a b p q → SamePlans b c q r → SamePlans a c p r
+  SamePlans-trans first second = record {
     own = λ n. (λ x. (second.own n).0 ((first.own n).0 x), λ x. (first.own n).1 ((second.own n).1 x));
     plans = λ n own. second.plans n ((first.own n).0 own) ∙ first.plans n own;
+  }
+
+  -- the same of the whole asker
+  pub IsAsBefore-refl : (a : N → Type 0) (p : N → Plan W) (root : Plan W) (count : ℕ) → IsAsBefore a a p p root root count count
+  IsAsBefore-refl a p root count = record { same = SamePlans-refl a p; root_kept = refl; count_kept = refl }
+
+  pub IsAsBefore-trans :
+      {a b c : N → Type 0} {p q r : N → Plan W} {x y z : Plan W} {k m n : ℕ} → IsAsBefore a b p q x y k m
+      → IsAsBefore b c q r y z m n → IsAsBefore a c p r x z k n
+  IsAsBefore-trans first second = record {
+    same = SamePlans-trans first.same second.same;
+    root_kept = second.root_kept ∙ first.root_kept;
+    count_kept = second.count_kept ∙ first.count_kept;
   }
 
   -- a search of the same branches
@@ -451,6 +467,14 @@ module _ {N W : Type 0} where
     AgreesWithLists-done (p ∷ places) cycles tables tree asked is_open closed opened s =
         let some : 0 < length (p ∷ places) = omega arith in
         let e : is_open ≡ true = opened.1 some in absurd (cc)
+
+    -- a step that does not go on ended the search
+    pub HasEnded-stopped :
+        (s : PlanSearch N) (ended : Stepped W) → ended ≢ step.GoesOn → IsUnderWayOr is_own plan root budget s ended
+        → HasEnded root budget s ended
+    HasEnded-stopped s step.GoesOn stopped under_way = absurd (stopped refl)
+    HasEnded-stopped s step.Spent stopped under_way = under_way
+    HasEnded-stopped s (step.Fails why) stopped under_way = under_way
 
 module _ {W : Type 0} where
   -- an outcome that agrees with every list is that of the one there is

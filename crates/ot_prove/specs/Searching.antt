@@ -1,13 +1,13 @@
 -- How far a search of a plan has come: the open branches, the tokens written and the questions asked.
 use Rattle.std.specs.Prelude.{◌≡◌, ◌⊎◌, ℕ, true, false, ◌+◌, ◌<◌, ◌≤◌, List, [], ◌∷◌, ◌++◌, length, map}
-use Rattle.std.specs.Prelude.{reverse, Option, Some, MatchOption}
+use Rattle.std.specs.Prelude.{reverse, Option, Some, None, MatchOption}
 use Rattle.std.specs.List.{AllByRecursion}
 use Rattle.diff_graph.specs.declared.lit.Lit.{Lit}
 use Rattle.diff_graph.specs.Literals.{answered_of}
 use Rattle.ask_core.specs.declared.asker.TheConstants.{MAX_QUESTIONS}
 use Rattle.ask_core.specs.declared.tree.Tok.{Tok}
 use Rattle.ask_core.specs.Plans.{Plan, Ask, Holds, Fails}
-use Rattle.ask_core.specs.Askers.{longest_path}
+use Rattle.ask_core.specs.Askers.{SamePlans, longest_path}
 use Rattle.ask_core.specs.Trees.{AnswerTree, Fits, tokens_of, Branch}
 use Rattle.ask_core.specs.Questions.{Questions, QuestionList, no_questions}
 use Rattle.ask_core.specs.Paths.{OpenPlace, AreOwn, branches_at, first_answers}
@@ -16,6 +16,7 @@ use Rattle.ot_prove.specs.declared.outcome.Outcome.{Outcome}
 use Rattle.ot_prove.specs.declared.outcome.Outcome.TheVariants as outcome
 use Rattle.search_places.specs.declared.search.PlanSearch.{PlanSearch}
 use Rattle.search_places.specs.Changes.{known_of}
+use Rattle.ot_prove.specs.declared.passing.Passing.{Passing}
 use Rattle.ot_prove.specs.declared.search.Stepped.{Stepped}
 use Rattle.ot_prove.specs.declared.search.Stepped.TheVariants as step
 use Rattle.diff_bounds.specs.Kept.{Rows}
@@ -133,9 +134,27 @@ HasEnded root budget s step.GoesOn = AgreesWithLists root budget (outcome.Yes s.
 HasEnded root budget s step.Spent = AgreesWithLists root budget outcome.Spent
 HasEnded root budget s (step.Fails why) = (0 < length s.path) × FailsFirst root budget (first_answers s.path) why
 
--- where it leaves a search, the plans that are open weigh less than before
-abbrev pub WeighsLess : {N W : Type 0} → (N → Plan W) → (N → Plan W) → PlanSearch N → PlanSearch N → Stepped W → Type 0
-WeighsLess old new before after step.GoesOn =
-    weight_of (branches_at new after.path) < weight_of (branches_at old before.path)
-WeighsLess old new before after step.Spent = Unit {0}
-WeighsLess old new before after (step.Fails why) = Unit {0}
+-- where it leaves a search, the branches that are open weigh less than before
+abbrev pub WeighsLess : {W : Type 0} → List (Branch W) → List (Branch W) → Stepped W → Type 0
+WeighsLess before after step.GoesOn = weight_of after < weight_of before
+WeighsLess before after step.Spent = Unit {0}
+WeighsLess before after (step.Fails why) = Unit {0}
+
+-- questions at hand were passed: the search goes on from its old places to new ones that weigh no more, and nothing was
+-- written in front of the tree
+pub record HasPassed {N W : Type 0} (is_own : N → Type 0) (plan : N → Plan W) (root : Plan W) (budget : ℕ)
+    (tables : List Rows) (old new : Passing N) : Type 0 where
+  pub opened : 0 < length new.path
+  pub searching :
+      (cycles : List (Option (List ℕ)))
+      → IsSearching is_own plan root budget old.path (None ∷ cycles) (reverse tables) old.tree.tokens old.asked
+      → IsSearching is_own plan root budget new.path (None ∷ cycles) (reverse tables) new.tree.tokens new.asked
+  pub falls : weight_of (branches_at plan new.path) ≤ weight_of (branches_at plan old.path)
+  pub front : new.tree.front ≡ old.tree.front
+
+-- an asker is as it was
+pub record IsAsBefore {N W : Type 0} (was_own is_own : N → Type 0) (was_plan plan : N → Plan W) (was_root root : Plan W)
+    (was_count count : ℕ) : Type 0 where
+  pub same : SamePlans was_own is_own was_plan plan
+  pub root_kept : root ≡ was_root
+  pub count_kept : count ≡ was_count

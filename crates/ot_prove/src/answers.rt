@@ -1,9 +1,8 @@
 //! The answers on the way to a place.
 ghost use Rattle.std.specs.Prelude.{◌≡◌, IfOk, if◌then◌else◌};
 ghost use Rattle.ask_core.specs.Plans.{Plan};
-ghost use Rattle.ask_core.specs.Askers.{SamePlans};
 ghost use Rattle.ot_prove.specs.Outcomes.{answered_by, AreAnswersTo};
-ghost use Rattle.ot_prove.specs.Searching.{LeadsTo};
+ghost use Rattle.ot_prove.specs.Searching.{IsAsBefore, LeadsTo};
 
 use crate::NoMemory;
 use crate::outcome::Answer;
@@ -29,9 +28,8 @@ pub fn answers_along<A: Asker>(
     ensures literals { IfOk result (λ answers. answered_by answers.items ≡ literals.now) }
     ensures way { IfOk result (λ answers. (end : Plan A.Why) → LeadsTo (A.root asker.old) literals.now end
         → AreAnswersTo (A.root asker.old) answers.items end) }
-    ensures same { SamePlans (A.is_own asker.old) (A.is_own asker.new) (A.plan asker.old) (A.plan asker.new) }
-    ensures root { A.root asker.new ≡ A.root asker.old }
-    ensures count { A.name_count asker.new ≡ A.name_count asker.old }
+    ensures kept { IsAsBefore (A.is_own asker.old) (A.is_own asker.new) (A.plan asker.old) (A.plan asker.new)
+        (A.root asker.old) (A.root asker.new) (A.name_count asker.old) (A.name_count asker.new) }
 {
     let mut answers = Vec::new(alloc);
     let mut node = asker.start()?;
@@ -43,8 +41,7 @@ pub fn answers_along<A: Asker>(
                 answers.push(Answer { lit, yes: said })?;
                 node = side_of(said, yes, no);
             }
-            Turn::Holds => return Ok(answers),
-            Turn::Fails(_) => return Ok(answers),
+            Turn::Holds | Turn::Fails(_) => return Ok(answers),
         }
     }
     Ok(answers)

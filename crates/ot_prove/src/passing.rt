@@ -1,9 +1,9 @@
 //! Questions one after another whose side for yes has no room.
 ghost use Rattle.std.specs.Prelude.{◌≡◌, ℕ, ◌<◌, ◌≤◌, List, ◌∷◌, Option, None, drop, length, reverse, IfOk};
 ghost use Rattle.diff_graph.specs.declared.lit.Lit.{Lit};
-ghost use Rattle.ask_core.specs.Paths.{after_question, branches_at};
+ghost use Rattle.ask_core.specs.Paths.{after_question};
 ghost use Rattle.search_places.specs.declared.split.TheConstants.{MAX_NAMES};
-ghost use Rattle.ot_prove.specs.Searching.{IsSearching, weight_of};
+ghost use Rattle.ot_prove.specs.Searching.{HasPassed, IsSearching};
 
 use crate::NoMemory;
 use ask_core::{Asker, Path, look_at};
@@ -50,15 +50,8 @@ pub fn passed<A: Asker>(
     requires searching { (cycles : List (Option (List ℕ)))
         × IsSearching (A.is_own asker.now) (A.plan asker.now) (A.root asker.now) budget path (None ∷ cycles)
         (reverse tables.now.items) tree.tokens asked }
-    ensures opened { IfOk result (λ r. 0 < length r.path) }
-    ensures searching { IfOk result (λ r. (cycles : List (Option (List ℕ)))
-        → IsSearching (A.is_own asker.now) (A.plan asker.now) (A.root asker.now) budget path (None ∷ cycles)
-        (reverse tables.now.items) tree.tokens asked
-        → IsSearching (A.is_own asker.now) (A.plan asker.now) (A.root asker.now) budget r.path (None ∷ cycles)
-        (reverse tables.now.items) r.tree.tokens r.asked) }
-    ensures falls { IfOk result (λ r. weight_of (branches_at (A.plan asker.now) r.path)
-        ≤ weight_of (branches_at (A.plan asker.now) path)) }
-    ensures front { IfOk result (λ r. r.tree.front ≡ tree.front) }
+    ensures { IfOk result (HasPassed (A.is_own asker.now) (A.plan asker.now) (A.root asker.now) budget
+        tables.now.items (record { path = path; tree = tree; asked = asked })) }
 {
     negative_cycles_are_never_met();
     tables_tell_what_is_possible();

@@ -3,7 +3,7 @@ ghost use Rattle.std.specs.Prelude.{◌≡◌, ℕ, ◌≤◌, [], IfOk, OnOk};
 ghost use Rattle.ask_core.specs.Askers.{SamePlans};
 ghost use Rattle.search_places.specs.declared.split.TheConstants.{MAX_NAMES};
 ghost use Rattle.ot_prove.specs.Outcomes.{IsDecided, StandsBehind};
-ghost use Rattle.ot_prove.specs.Searching.{AgreesWithLists, HasEnded, IsSearchUnderWay};
+ghost use Rattle.ot_prove.specs.Searching.{AgreesWithLists, HasEnded, IsAsBefore, IsSearchUnderWay};
 
 use crate::NoMemory;
 use crate::answers::answers_along;
@@ -71,15 +71,13 @@ fn search_through<A: Asker>(
     requires searching { IsSearchUnderWay (A.is_own asker.old) (A.plan asker.old) (A.root asker.old) budget search.old }
     ensures ended { IfOk result (HasEnded (A.root asker.new) budget search.new) }
     ensures front { OnOk result (search.new.tree.front ≡ search.old.tree.front) }
-    ensures same { SamePlans (A.is_own asker.old) (A.is_own asker.new) (A.plan asker.old) (A.plan asker.new) }
-    ensures root { A.root asker.new ≡ A.root asker.old }
-    ensures count { A.name_count asker.new ≡ A.name_count asker.old }
+    ensures kept { IsAsBefore (A.is_own asker.old) (A.is_own asker.new) (A.plan asker.old) (A.plan asker.new)
+        (A.root asker.old) (A.root asker.new) (A.name_count asker.old) (A.name_count asker.new) }
 {
     'places: while search.path.is_open() {
         match step(asker, search, budget)? {
             Stepped::GoesOn => {}
-            Stepped::Spent => return Ok(Stepped::Spent),
-            Stepped::Fails(why) => return Ok(Stepped::Fails(why)),
+            ended => return Ok(ended),
         }
     }
     Ok(Stepped::GoesOn)
@@ -96,9 +94,8 @@ fn outcome_of<A: Asker>(
     ensures agrees { IfOk result (λ o. (budget : ℕ) → HasEnded (A.root asker.old) budget search ended
         → AgreesWithLists (A.root asker.old) budget o) }
     ensures front { IfOk result (StandsBehind search.tree.front) }
-    ensures same { SamePlans (A.is_own asker.old) (A.is_own asker.new) (A.plan asker.old) (A.plan asker.new) }
-    ensures root { A.root asker.new ≡ A.root asker.old }
-    ensures count { A.name_count asker.new ≡ A.name_count asker.old }
+    ensures kept { IsAsBefore (A.is_own asker.old) (A.is_own asker.new) (A.plan asker.old) (A.plan asker.new)
+        (A.root asker.old) (A.root asker.new) (A.name_count asker.old) (A.name_count asker.new) }
 {
     match ended {
         Stepped::GoesOn => Ok(Outcome::Yes {

@@ -1,11 +1,11 @@
 //! The steps of a search: a question, an end, or a cycle at the first open place.
 ghost use Rattle.std.specs.Prelude.{◌≡◌, ◌<◌, ◌≤◌, true, length};
 ghost use Rattle.std.specs.Prelude.{IfOk, OnOk};
-ghost use Rattle.ask_core.specs.Askers.{SamePlans};
-ghost use Rattle.ask_core.specs.Paths.{branches_at};
+ghost use Rattle.ask_core.specs.Askers.{Begins, IsFine};
+ghost use Rattle.ask_core.specs.Paths.{branches_at, first_plan};
 ghost use Rattle.ask_core.specs.declared.tree.Tok.TheVariants.{Holds};
 ghost use Rattle.search_places.specs.declared.split.TheConstants.{MAX_NAMES};
-ghost use Rattle.ot_prove.specs.Searching.{IsSearchUnderWay, IsUnderWayOr};
+ghost use Rattle.ot_prove.specs.Searching.{IsAsBefore, IsSearchUnderWay, IsUnderWayOr};
 ghost use Rattle.ot_prove.specs.Searching.{WeighsLess, weight_of};
 
 use crate::NoMemory;
@@ -74,24 +74,26 @@ pub enum Stepped<W> {
 /// Goes on at a first place that some integers meet, by the turn of its node.
 #[inline(always)]
 fn take_turn<A: Asker>(
-    asker: &mut A,
+    asker: &A,
     search: &mut PlanSearch<A::Node>,
     budget: u64,
+    turn: Turn<A::Node, A::Why>,
 ) -> Result<Stepped<A::Why>, NoMemory>
-    requires names { A.name_count asker.old ≤ MAX_NAMES }
+    requires names { A.name_count asker.now ≤ MAX_NAMES }
     requires opened { 0 < length search.old.path }
     requires possible { search.old.possible ≡ true }
-    requires searching { IsSearchUnderWay (A.is_own asker.old) (A.plan asker.old) (A.root asker.old) budget search.old }
-    ensures step { IfOk result (λ r. IsUnderWayOr (A.is_own asker.new) (A.plan asker.new) (A.root asker.new) budget
+    requires searching { IsSearchUnderWay (A.is_own asker.now) (A.plan asker.now) (A.root asker.now) budget search.old }
+    requires begins { Begins (A.is_own asker.now) (A.plan asker.now) turn (first_plan (A.plan asker.now)
+        search.old.path) }
+    requires fine { IsFine (A.name_count asker.now) (first_plan (A.plan asker.now) search.old.path) }
+    ensures step { IfOk result (λ r. IsUnderWayOr (A.is_own asker.now) (A.plan asker.now) (A.root asker.now) budget
         search.new r) }
-    ensures falls { IfOk result (λ r. WeighsLess (A.plan asker.old) (A.plan asker.new) search.old search.new r) }
+    ensures falls { IfOk result (λ r. WeighsLess (branches_at (A.plan asker.now) search.old.path)
+        (branches_at (A.plan asker.now) search.new.path) r) }
     ensures front { OnOk result (search.new.tree.front ≡ search.old.tree.front) }
-    ensures same { SamePlans (A.is_own asker.old) (A.is_own asker.new) (A.plan asker.old) (A.plan asker.new) }
-    ensures root { A.root asker.new ≡ A.root asker.old }
-    ensures count { A.name_count asker.new ≡ A.name_count asker.old }
 {
     negative_cycles_are_never_met();
-    match turn_at(asker, &search.path)? {
+    match turn {
         Turn::Ask { lit, yes, no } => {
             if search.asked == budget {
                 return Ok(Stepped::Spent);
@@ -124,15 +126,16 @@ pub fn step<A: Asker>(
     requires searching { IsSearchUnderWay (A.is_own asker.old) (A.plan asker.old) (A.root asker.old) budget search.old }
     ensures step { IfOk result (λ r. IsUnderWayOr (A.is_own asker.new) (A.plan asker.new) (A.root asker.new) budget
         search.new r) }
-    ensures falls { IfOk result (λ r. WeighsLess (A.plan asker.old) (A.plan asker.new) search.old search.new r) }
+    ensures falls { IfOk result (λ r. WeighsLess (branches_at (A.plan asker.old) search.old.path)
+        (branches_at (A.plan asker.new) search.new.path) r) }
     ensures front { OnOk result (search.new.tree.front ≡ search.old.tree.front) }
-    ensures same { SamePlans (A.is_own asker.old) (A.is_own asker.new) (A.plan asker.old) (A.plan asker.new) }
-    ensures root { A.root asker.new ≡ A.root asker.old }
-    ensures count { A.name_count asker.new ≡ A.name_count asker.old }
+    ensures kept { IsAsBefore (A.is_own asker.old) (A.is_own asker.new) (A.plan asker.old) (A.plan asker.new)
+        (A.root asker.old) (A.root asker.new) (A.name_count asker.old) (A.name_count asker.new) }
 {
     negative_cycles_are_never_met();
     if search.close_impossible()? {
         return Ok(Stepped::GoesOn);
     }
-    take_turn(asker, search, budget)
+    let turn = turn_at(asker, &search.path)?;
+    take_turn(asker, search, budget, turn)
 }

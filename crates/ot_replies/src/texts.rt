@@ -12,12 +12,13 @@ mod documents;
 mod drills;
 mod faults;
 mod hubs;
+mod lines;
 mod orders;
 mod reversals;
 mod sessions;
 
 use crate::reply::{FileKind, Reply};
-use appending::{append_bytes, append_text};
+use appending::append_bytes;
 use audits::{audit_status, same_status, write_audit, write_same, write_spent};
 use bounds::{write_at_least, write_shortest};
 use case_json::CaseFault;
@@ -26,6 +27,7 @@ use drills::write_drilled;
 use faults::{write_case_fault, write_proof_refusal, write_refusal, write_text_fault};
 use fn_rules::Level;
 use hubs::write_hub;
+use lines::write_word_line;
 use orders::write_ends;
 use ot_model::NoMemory;
 use reversals::{reversal_status, write_reversal};
@@ -102,8 +104,7 @@ fn write_limit(alloc: Global, kind: FileKind, out: &mut Vec<u8>) -> Result<(), N
     requires { out.old.items ≡ [] }
     ensures { OnOk result (out.new.items ≡ limit_text kind) }
 {
-    let word = limit_word(kind);
-    append_text(format!(in alloc; "limit {word}\n")?, out)
+    write_word_line(alloc, "limit", limit_word(kind), out)
 }
 
 fn level_word(level: Level) -> &'static str
@@ -119,16 +120,14 @@ fn level_word(level: Level) -> &'static str
 fn write_accepted(alloc: Global, level: Level, out: &mut Vec<u8>) -> Result<(), NoMemory>
     ensures { OnOk result (out.new.items ≡ out.old.items ++ accepted_text level) }
 {
-    let word = level_word(level);
-    append_text(format!(in alloc; "accepted {word}\n")?, out)
+    write_word_line(alloc, "accepted", level_word(level), out)
 }
 
 // Writes that a proof is confirmed at a level.
 fn write_confirmed(alloc: Global, level: Level, out: &mut Vec<u8>) -> Result<(), NoMemory>
     ensures { OnOk result (out.new.items ≡ out.old.items ++ confirmed_text level) }
 {
-    let word = level_word(level);
-    append_text(format!(in alloc; "confirmed {word}\n")?, out)
+    write_word_line(alloc, "confirmed", level_word(level), out)
 }
 
 // Writes the text of a reply.

@@ -14,10 +14,10 @@ ghost use Rattle.ot_reverse.specs.Reversal.{AreAlike};
 use ask_core::NoMemory;
 use bumpalo::Bump;
 use fn_rules::{Case, Rules};
-use ot_audit::{if_allowed, unless_one_place};
+use ot_audit::{by_case, if_allowed, unless_one_place};
 use ot_model::Kind;
 use ot_questions::Who;
-use ot_terms::{Form, Goal, Place, SymOp, Why, enabled_form, place_form};
+use ot_terms::{Form, Goal, Place, SymOp, Why, enabled_form};
 
 // There is no result, which is a cause.
 fn undefined<'a>(bump: &'a Bump) -> Result<&'a Goal<'a>, NoMemory>
@@ -31,7 +31,8 @@ fn if_enabled<'a>(bump: &'a Bump, op: SymOp, next: &'a Goal<'a>) -> Result<&'a G
     ensures { IfOk result (λ r. goal_tree r.now ≡ starting.if_enabled op (goal_tree next.now)) }
 {
     let enabled = enabled_form(bump, op, 0)?;
-    Goal::either(bump, *enabled, next, Goal::holds(bump)?)
+    let holds = Goal::holds(bump)?;
+    Goal::either(bump, *enabled, next, holds)
 }
 
 // The goal, where both operations are enabled on a document of some length.
@@ -46,8 +47,9 @@ fn if_both_enabled<'a>(
 {
     let second = if_enabled(bump, b, next)?;
     let first = if_enabled(bump, a, second)?;
+    let holds = Goal::holds(bump)?;
     let length = Form::Le(Place::zero(), Place::length_and(0));
-    Goal::either(bump, length, first, Goal::holds(bump)?)
+    Goal::either(bump, length, first, holds)
 }
 
 // What comes back is to be there, and to be the operation itself.
@@ -75,12 +77,11 @@ fn with_back<'a>(
         (λ back. goals.unless_itself a back)) }
 {
     match cases {
-        [] => Ok(unless_same(bump, a, None)?),
+        [] => unless_same(bump, a, None),
         [case, others @ ..] => {
             let behind = with_back(bump, others, a, b, there)?;
-            let guard = place_form(bump, &case.guard, there, b)?;
             let here = unless_same(bump, a, Some(there.result(case.res, b)))?;
-            Ok(Goal::either(bump, *guard, here, behind)?)
+            by_case(bump, case, there, b, here, behind)
         }
     }
 }
@@ -140,12 +141,11 @@ fn unless_taken_back<'a>(
         (map case_of others.now) a b) }
 {
     match cases {
-        [] => Ok(unless_there(bump, others, a, b, None)?),
+        [] => undefined(bump),
         [case, rest @ ..] => {
             let behind = unless_taken_back(bump, rest, others, a, b)?;
-            let guard = place_form(bump, &case.guard, a, b)?;
             let here = unless_there(bump, others, a, b, Some(a.result(case.res, b)))?;
-            Ok(Goal::either(bump, *guard, here, behind)?)
+            by_case(bump, case, a, b, here, behind)
         }
     }
 }
@@ -170,5 +170,5 @@ pub fn reversal_goal<'a>(
     let other_cases = others.cases(first, second);
     let taken_back = unless_taken_back(bump, cases, other_cases, a, b)?;
     let allowed = if_allowed(bump, &rules.head(), a, b, taken_back)?;
-    Ok(if_both_enabled(bump, a, b, allowed)?)
+    if_both_enabled(bump, a, b, allowed)
 }

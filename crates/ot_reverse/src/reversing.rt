@@ -1,5 +1,5 @@
 //! Whether a function is reversed by another one.
-ghost use Rattle.std.specs.Prelude.{◌≡◌, ◌↔◌, true, IfOk, IsTrue};
+ghost use Rattle.std.specs.Prelude.{◌≡◌, ◌↔◌, true, [], ◌∷◌, IfOk, IsTrue};
 ghost use Rattle.std.specs.List.{AllByRecursion};
 ghost use Rattle.ot_model.specs.Operations.{kind_of};
 ghost use Rattle.fn_rules.specs.Conditions.{IsWithin};
@@ -116,11 +116,10 @@ fn broken_at(
     a: Op,
     b: Op,
 ) -> Result<Back, NoMemory>
-    requires a_declared { IsForKind (function_of rules.now).head (kind_of a) }
-    requires b_declared { IsForKind (function_of rules.now).head (kind_of b) }
+    requires declared { IsForKind (function_of rules.now).head (kind_of a)
+        × IsForKind (function_of rules.now).head (kind_of b) }
     requires alike { AreAlike (function_of rules.now).head (function_of others.now).head }
-    requires a_near { IsWithin farthest a }
-    requires b_near { IsWithin farthest b }
+    requires near { IsWithin farthest a × IsWithin farthest b }
     ensures { IfOk result (λ back. back ≡ No (live_cells cells) a b (transform_of (function_of rules.now) a b)
         (back_of (function_of others.now) b (transform_of (function_of rules.now) a b))) }
 {
@@ -136,7 +135,30 @@ fn broken_at(
     })
 }
 
-// Whether what the first function makes of operations of each of the pairs of kinds is taken back.
+// Whether what the first function makes of operations of the two kinds is taken back.
+fn reverses_pair(
+    alloc: Global,
+    rules: &Rules,
+    others: &Rules,
+    first: Kind,
+    second: Kind,
+    budget: u64,
+) -> Result<Back, NoMemory>
+    requires declared { IsTrue (is_declared_pair (function_of rules.now).head first second) }
+    requires alike { AreAlike (function_of rules.now).head (function_of others.now).head }
+    ensures { IfOk result (AreSearched (function_of rules.now) (function_of others.now) budget ((first, second) ∷ [])) }
+{
+    match seek_pair(alloc, rules, others, first, second, budget)? {
+        Sought::Nowhere => Ok(Back::Yes),
+        Sought::At { cells, a, b } => {
+            answers_tell_of_all_documents();
+            broken_at(alloc, rules, others, cells, a, b)
+        }
+        Sought::Spent => Ok(Back::Spent),
+    }
+}
+
+// The same of each of the pairs of kinds, up to the first at which it is not so.
 fn reverses_pairs(
     alloc: Global,
     rules: &Rules,
@@ -148,14 +170,12 @@ fn reverses_pairs(
     requires alike { AreAlike (function_of rules.now).head (function_of others.now).head }
     ensures { IfOk result (AreSearched (function_of rules.now) (function_of others.now) budget pairs.now) }
 {
-    answers_tell_of_all_documents();
     match pairs {
         [] => Ok(Back::Yes),
         [(first, second), behind @ ..] => {
-            match seek_pair(alloc, rules, others, *first, *second, budget)? {
-                Sought::Nowhere => Ok(reverses_pairs(alloc, rules, others, behind, budget)?),
-                Sought::At { cells, a, b } => Ok(broken_at(alloc, rules, others, cells, a, b)?),
-                Sought::Spent => Ok(Back::Spent),
+            match reverses_pair(alloc, rules, others, *first, *second, budget)? {
+                Back::Yes => reverses_pairs(alloc, rules, others, behind, budget),
+                back => Ok(back),
             }
         }
     }
@@ -174,7 +194,7 @@ pub fn reverses(alloc: Global, rules: &Rules, others: &Rules, budget: u64) -> Re
     requires { AreAlike (function_of rules.now).head (function_of others.now).head }
     ensures { IfOk result (IsReversedAs (function_of rules.now) (function_of others.now) budget) }
 {
-    answers_tell_of_all_documents();
     let pairs = blocks(alloc, &rules.head())?;
-    Ok(reverses_pairs(alloc, rules, others, &pairs, budget)?)
+    answers_tell_of_all_documents();
+    reverses_pairs(alloc, rules, others, &pairs, budget)
 }

@@ -69,5 +69,5 @@ pub fn simplify<'a>(
     ensures weighs { IfOk result (λ r. goal_weight (function_of rules.now) (goal_tree r.now)
         ≤ goal_weight (function_of rules.now) (goal_tree goal.now)) }
 {
-    Ok(front_of(bump, rules, goal)?.placed(bump)?)
+    front_of(bump, rules, goal)?.placed(bump)
 }

@@ -90,7 +90,6 @@ fn split_part<'a>(bump: &'a Bump, form: &'a Form<'a>) -> Result<Split<'a>, NoMem
 
 /// The first question of a form: of its parts from left to right, the first comparison of two different
 /// names. What the rules for a form do, in one call.
-
 pub fn split<'a>(bump: &'a Bump, form: &'a Form<'a>) -> Result<Split<'a>, NoMemory>
     requires { (count : ℕ) × HasPlaces count (form_tree form.now) }
 
@@ -110,5 +109,5 @@ pub fn split<'a>(bump: &'a Bump, form: &'a Form<'a>) -> Result<Split<'a>, NoMemo
     ensures places { IfOk result (λ r. (count : ℕ) → HasPlaces count (form_tree form.now)
         → HasSplitPlaces count (split_tree r)) }
 {
-    Ok(split_part(bump, form)?)
+    split_part(bump, form)
 }

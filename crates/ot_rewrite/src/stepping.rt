@@ -69,7 +69,7 @@ pub fn step_front<'a>(
         (λ next. IsStep (function_of rules.now) (front_tree front.entry) (front_tree next))) }
 {
     rules_are_valid(rules);
-    Ok(rewrite(bump, rules, front)?)
+    rewrite(bump, rules, front)
 }
 
 /// The goal after one rule; none where it holds or fails or asks a question. It asks the same, is true at the
@@ -88,5 +88,5 @@ pub fn step<'a>(
     ensures stops { IfOk result (λ r. IsTrue (is_at_front (goal_tree goal.now)) → r ≡ None) }
 {
     rules_are_valid(rules);
-    Ok(stepped(bump, rules, goal)?)
+    stepped(bump, rules, goal)
 }

@@ -1,5 +1,5 @@
 -- What the clauses of making say of an answer, by the tests that the operation passed.
-use Rattle.std.proofs.Common.{◌≡◌, ◌≢◌, ◌<◌, ℕ, length, Result, Ok, Err, Some, refl}
+use Rattle.std.proofs.Common.{◌≡◌, ◌≢◌, ◌<◌, ℕ, length, Result, Ok, Err, Some, refl, sym, ap, subst}
 use Rattle.std.specs.Prelude.{◌↔◌, IfErr}
 use Rattle.ot_model.specs.declared.op.Op.{Op}
 use Rattle.ot_model.specs.Operations.{kind_of, site_of}
@@ -9,6 +9,7 @@ use Rattle.ot_causal.specs.Sessions.{IsSite, MayMake}
 use Rattle.ot_session.specs.declared.answer.Make.{Make}
 use Rattle.ot_session.specs.declared.answer.Make.TheVariants.{NoSite, WrongSite, WrongKind, NotEnabled, Full, NoMemory}
 use Rattle.ot_session.specs.declared.limits.TheConstants.{MAX_MADE}
+use Rattle.ot_session.specs.Making.{HasRefused}
 use Rattle.ot_session.specs.Views.{View, data_in, closed_session}
 
 module _ (old new : View) (t : ℕ) (o : Op) where
@@ -35,67 +36,32 @@ module _ (old new : View) (t : ℕ) (o : Op) where
     pub unchanged : IfErr answer (λ e. e ≢ NoMemory → new ≡ old)
     pub closed : answer ≡ Err NoMemory → new ≡ closed_session old
 
-  pub no_site-answers : ¬ IsThere → new ≡ old → Answers (Err NoSite)
-  no_site-answers none same = record {
-    no_site = (λ _. none, λ _. refl);
-    wrong_site = λ is. cc;
-    wrong_kind = λ is. cc;
-    not_enabled = λ is. cc;
-    full = λ is. cc;
-    no_memory = λ is. cc;
+  -- the test that refused the operation is the one that is answered
+  refused_as : (e x : Make) → HasRefused old t o e → ◌≡◌ {A = Result ℕ Make} (Err e) (Err x) → HasRefused old t o x
+  refused_as e x refused is = let same : e ≡ x = cc in subst (λ (r : Make). HasRefused old t o r) same refused
+
+  -- the first one, where there is no such site
+  refused_nowhere : (e : Make) → HasRefused old t o e → ¬ IsThere → e ≡ NoSite
+  refused_nowhere NoSite refused none = refl
+  refused_nowhere WrongSite refused none = absurd (none refused.0)
+  refused_nowhere WrongKind refused none = absurd (none refused.0)
+  refused_nowhere NotEnabled refused none = absurd (none refused.0)
+  refused_nowhere Full refused none = absurd (none refused.0.site)
+  refused_nowhere NoMemory refused none = absurd refused
+
+  pub refused-answers : (e : Make) → HasRefused old t o e → new ≡ old → Answers (Err e)
+  refused-answers e refused same = record {
+    no_site = (refused_as e NoSite refused, λ none. ap Err (refused_nowhere e refused none));
+    wrong_site = refused_as e WrongSite refused;
+    wrong_kind = refused_as e WrongKind refused;
+    not_enabled = refused_as e NotEnabled refused;
+    full = refused_as e Full refused;
+    no_memory = λ is. absurd (refused_as e NoMemory refused is);
     unchanged = λ _. same;
-    closed = λ is. cc;
+    closed = λ is. absurd (refused_as e NoMemory refused is);
   }
 
-  pub wrong_site-answers : IsThere → site_of o ≢ Some t → new ≡ old → Answers (Err WrongSite)
-  wrong_site-answers there others same = record {
-    no_site = (λ is. cc, λ none. absurd (none there));
-    wrong_site = λ _. (there, others);
-    wrong_kind = λ is. cc;
-    not_enabled = λ is. cc;
-    full = λ is. cc;
-    no_memory = λ is. cc;
-    unchanged = λ _. same;
-    closed = λ is. cc;
-  }
-
-  pub wrong_kind-answers : IsThere → site_of o ≡ Some t → ¬ IsDeclared → new ≡ old → Answers (Err WrongKind)
-  wrong_kind-answers there own undeclared same = record {
-    no_site = (λ is. cc, λ none. absurd (none there));
-    wrong_site = λ is. cc;
-    wrong_kind = λ _. (there, own, undeclared);
-    not_enabled = λ is. cc;
-    full = λ is. cc;
-    no_memory = λ is. cc;
-    unchanged = λ _. same;
-    closed = λ is. cc;
-  }
-
-  pub not_enabled-answers : IsThere → site_of o ≡ Some t → IsDeclared → ¬ IsEnabledThere → new ≡ old → Answers (Err NotEnabled)
-  not_enabled-answers there own declared disabled same = record {
-    no_site = (λ is. cc, λ none. absurd (none there));
-    wrong_site = λ is. cc;
-    wrong_kind = λ is. cc;
-    not_enabled = λ _. (there, own, declared, disabled);
-    full = λ is. cc;
-    no_memory = λ is. cc;
-    unchanged = λ _. same;
-    closed = λ is. cc;
-  }
-
-  pub full-answers : May → length old.made ≡ MAX_MADE → new ≡ old → Answers (Err Full)
-  full-answers may all same = record {
-    no_site = (λ is. cc, λ none. absurd (none may.site));
-    wrong_site = λ is. cc;
-    wrong_kind = λ is. cc;
-    not_enabled = λ is. cc;
-    full = λ _. (may, all);
-    no_memory = λ is. cc;
-    unchanged = λ _. same;
-    closed = λ is. cc;
-  }
-
-  pub no_memory-answers : May → length old.made < MAX_MADE → new ≡ closed_session old → Answers (Err NoMemory)
+  no_memory-answers : May → length old.made < MAX_MADE → new ≡ closed_session old → Answers (Err NoMemory)
   no_memory-answers may few same = record {
     no_site = (λ is. cc, λ none. absurd (none may.site));
     wrong_site = λ is. cc;
@@ -107,7 +73,7 @@ module _ (old new : View) (t : ℕ) (o : Op) where
     closed = λ _. same;
   }
 
-  pub made-answers : (number : ℕ) → May → Answers (Ok number)
+  made-answers : (number : ℕ) → May → Answers (Ok number)
   made-answers number may = record {
     no_site = (λ is. cc, λ none. absurd (none may.site));
     wrong_site = λ is. cc;
@@ -118,3 +84,10 @@ module _ (old new : View) (t : ℕ) (o : Op) where
     unchanged = tt;
     closed = λ is. cc;
   }
+
+  -- what passed every test is made, or wanted memory
+  pub executed-answers :
+      (answer : Result ℕ Make) → May → length old.made < MAX_MADE → IfErr answer (λ e. (e ≡ NoMemory) × (new ≡ closed_session old))
+      → Answers answer
+  executed-answers (Ok number) may few lacked = made-answers number may
+  executed-answers (Err e) may few lacked = subst (λ (x : Make). Answers (Err x)) (sym lacked.0) (no_memory-answers may few lacked.1)

@@ -5,3 +5,4 @@ pub mod Seeking
 pub mod Sites
 pub mod Taking
 pub mod Views
+pub mod Making

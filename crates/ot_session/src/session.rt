@@ -57,6 +57,7 @@ impl Session {
     ghost use Rattle.ot_causal.specs.Forms.{state};
     ghost use Rattle.ot_causal.specs.Convergence.{HasOneCourse};
     ghost use Rattle.fn_rules.specs.Properties.{HasTp1, HasTp2};
+    ghost use Rattle.ot_session.specs.Making.{HasRefused};
     ghost use Rattle.ot_session.specs.Views.{view_of, data_in, closed_session, IsBegun, HasMade, HasTaken};
     ghost use Rattle.ot_session.specs.declared.answer.Take.TheVariants as takes;
     ghost use Rattle.ot_session.specs.declared.answer.Make.TheVariants as makes;
@@ -149,21 +150,43 @@ impl Session {
         ensures unchanged { IfErr result (λ e. e ≢ makes.NoMemory → view_of self.new ≡ view_of self.old) }
         ensures closed { result ≡ Err makes.NoMemory → view_of self.new ≡ closed_session (view_of self.old) }
     {
+        self.test_make(site, &op)?;
+        self.execute(site, op)
+    }
+
+    /// Tests whether a site can make an operation.
+    fn test_make(&self, site: u32, op: &Op) -> Result<(), Make>
+        ensures ok { OnOk result (MayMake (view_of self.now).function (data_in (view_of self.now)) site op.now
+            × (length (view_of self.now).made < MAX_MADE)) }
+        ensures err { IfErr result (HasRefused (view_of self.now) site op.now) }
+    {
         if !self.has_site(site) {
             return Err(Make::NoSite);
         }
-        if !is_made_at(site, &op) {
+        if !is_made_at(site, op) {
             return Err(Make::WrongSite);
         }
-        if !has_declared_kind(&self.rules, &op) {
+        if !has_declared_kind(&self.rules, op) {
             return Err(Make::WrongKind);
         }
-        if !self.can_execute(site, &op) {
+        if !self.can_execute(site, op) {
             return Err(Make::NotEnabled);
         }
         if self.made.len() == MAX_MADE {
             return Err(Make::Full);
         }
+        Ok(())
+    }
+
+    /// Makes an operation that passed every test.
+    fn execute(&mut self, site: u32, op: Op) -> Result<u32, Make>
+        requires open { (view_of self.old).is_open ≡ true }
+        requires may { MayMake (view_of self.old).function (data_in (view_of self.old)) site op }
+        requires few { length (view_of self.old).made < MAX_MADE }
+        ensures made { IfOk result (λ number. HasMade (view_of self.old) (view_of self.new) site op number) }
+        ensures lacked { IfErr result (λ e. (e ≡ makes.NoMemory)
+            × (view_of self.new ≡ closed_session (view_of self.old))) }
+    {
         steps_keep_sessions_sound();
         steps_count_what_they_seek();
         making_more_changes_nothing();

@@ -1,14 +1,11 @@
 -- A form that is laid out keeps the starts of its two goals.
-use Rattle.std.proofs.Common.{◌≡◌, ◌<◌, ◌≤◌, refl, sym, subst, ap, ◌∙◌, arith}
-use Rattle.fn_rules.specs.declared.function.ObName.{ObName}
+use Rattle.std.proofs.Common.{◌≡◌, ◌<◌, refl, sym, subst, ap, ◌∙◌, arith}
 use Rattle.fn_rules.specs.Functions.{Function}
-use Rattle.ot_terms.specs.Belonging.{IsGoalOf}
 use Rattle.ot_terms.specs.Weights.{goal_weight}
 use Rattle.ot_terms.specs.Forms.{FormTree}
 use Rattle.ot_terms.specs.Goals.{GoalTree, If, order_goal, laid_form}
 use Rattle.ot_terms.proofs.ByForms.{form_through}
-use Rattle.ot_rewrite.specs.Splits.{HasLowOffsets}
-use Rattle.laid_goals.proofs.LaidForms.{alike_laid, low_offsets_of, part_of_yes, part_of_no, yes_is_lighter, no_is_lighter}
+use Rattle.laid_goals.proofs.LaidForms.{alike_laid, yes_is_lighter, no_is_lighter}
 use Rattle.marked_goals.specs.Marking.{marked_places, marked_form, marked_goal}
 use Rattle.marked_goals.specs.Settled.{StandsMarked}
 use Rattle.ot_starts.proofs.Turns.{alike_asks}
@@ -19,7 +16,7 @@ module _ (f : Function) where
   unfolding marked_goal marked_form
   laid_marks = form_through order_goal marked_places (marked_goal f) (λ x y p q differ. rw differ refl)
 
-  pub marked_laid :
+  marked_laid :
       (g : FormTree) (y n p q : GoalTree) → StandsMarked f y p → StandsMarked f n q → StandsMarked f (If g y n) (laid_form g p q)
   unfolding marked_goal
   marked_laid g y n p q hy hn = record {
@@ -30,26 +27,14 @@ module _ (f : Function) where
         (record { asked = alike_asks f n q hn; belongs = hn.belongs })).belongs;
   }
 
-  -- the goals of a form: each weighs less, and is of the obligations of the goal
-  module _ (old : GoalTree) (g : FormTree) (y n : GoalTree) (is : old ≡ If g y n) where
-    no_heavier : goal_weight f (If g y n) ≤ goal_weight f old
-    no_heavier = subst (λ t. goal_weight f (If g y n) ≤ goal_weight f t) (sym is) (omega arith)
+  -- each of the two goals weighs less
+  pub yes_falls : (g : FormTree) (y n : GoalTree) → goal_weight f y < goal_weight f (If g y n)
+  yes_falls g y n = yes_is_lighter f g y n (If g y n) (omega arith)
 
-    pub yes_falls : goal_weight f y < goal_weight f old
-    yes_falls = yes_is_lighter f g y n old no_heavier
+  pub no_falls : (g : FormTree) (y n : GoalTree) → goal_weight f n < goal_weight f (If g y n)
+  no_falls g y n = no_is_lighter f g y n (If g y n) (omega arith)
 
-    pub no_falls : goal_weight f n < goal_weight f old
-    no_falls = no_is_lighter f g y n old no_heavier
-
-    pub yes_belongs : (ob : ObName) → IsGoalOf f ob old → IsGoalOf f ob y
-    yes_belongs ob h = part_of_yes f ob g y n (subst (IsGoalOf f ob) is h)
-
-    pub no_belongs : (ob : ObName) → IsGoalOf f ob old → IsGoalOf f ob n
-    no_belongs ob h = part_of_no f ob g y n (subst (IsGoalOf f ob) is h)
-
-    pub form_low : (ob : ObName) → IsGoalOf f ob old → HasLowOffsets g
-    form_low ob h = low_offsets_of f ob g y n (subst (IsGoalOf f ob) is h)
-
-    pub if_laid : (p q got : GoalTree) → StandsMarked f y p → StandsMarked f n q → got ≡ laid_form g p q → StandsMarked f old got
-    if_laid p q got hy hn e =
-        subst (λ t. StandsMarked f t got) (sym is) (subst (StandsMarked f (If g y n)) (sym e) (marked_laid g y n p q hy hn))
+  pub if_laid :
+      (g : FormTree) (y n p q got : GoalTree) → StandsMarked f y p → StandsMarked f n q → got ≡ laid_form g p q
+      → StandsMarked f (If g y n) got
+  if_laid g y n p q got hy hn e = subst (StandsMarked f (If g y n)) (sym e) (marked_laid g y n p q hy hn)

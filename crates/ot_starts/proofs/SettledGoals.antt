@@ -1,5 +1,5 @@
 -- What is known of a goal after one rule, and after several.
-use Rattle.std.proofs.Common.{◌≡◌, ℕ, zero, suc, Option, Some, None, MatchOption, option_map, Bool, true, false, ◌||◌, IsTrue, sym, ap, refl, subst, ◌∙◌}
+use Rattle.std.proofs.Common.{◌≡◌, ℕ, zero, suc, Option, Some, None, MatchOption, option_map, Result, Ok, Err, IfOk, Bool, true, false, ◌||◌, IsTrue, sym, ap, refl, subst, ◌∙◌}
 use Rattle.std.specs.Option.{option_and_then}
 use Rattle.fn_rules.specs.declared.function.ObName.{ObName}
 use Rattle.fn_rules.specs.Functions.{Function}
@@ -10,6 +10,11 @@ use Rattle.ot_rewrite.specs.Fronts.{is_at_front}
 use Rattle.ot_rewrite.specs.Reaching.{after_rules, Reaches, IsStep}
 use Rattle.marked_goals.specs.Marking.{marked_goal, with_start}
 use Rattle.marked_goals.specs.Settled.{is_begun, is_settled, OpensStart, StandsMarked}
+
+pub of_both :
+    {X Y : Type 0} (r : Result X Y) (P Q R : X → Type 0) → ((x : X) → P x → Q x → R x) → IfOk r P → IfOk r Q → IfOk r R
+of_both (Ok x) P Q R both p q = both x p q
+of_both (Err e) P Q R both p q = tt
 
 pub settled_on : (f : Function) (g h i : GoalTree) → StandsMarked f g h → StandsMarked f h i → StandsMarked f g i
 settled_on f g h i first next = record {

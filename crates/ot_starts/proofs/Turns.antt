@@ -29,6 +29,7 @@ use Rattle.marked_goals.specs.Marking.{Marked, marked_form, marked_goal, with_st
 use Rattle.marked_goals.specs.Settled.{is_settled, StandsMarked, OpensStart}
 use Rattle.marked_goals.proofs.Unmarked.{unmarked-goal, unmarked-with_start}
 use Rattle.ot_starts.specs.Nodes.{IsStop}
+use Rattle.ot_starts.specs.Turns.{TurnsAs}
 
 -- a plan that is a question, or an end, but for its start
 asks_but_start :
@@ -130,7 +131,7 @@ module _ (f : Function) where
     question_begins t is = subst AsksOn (sym is) asks_at
 
   -- a node after rules is one
-  pub opened_node : (ob : ObName) (g h : GoalTree) → OpensStart f g h → IsNode f ob g → IsNode f ob h
+  opened_node : (ob : ObName) (g h : GoalTree) → OpensStart f g h → IsNode f ob g → IsNode f ob h
   opened_node ob g h opens node = record {
     goal = opens.belongs ob node.goal;
     fine = subst (IsFine (name_count ob))
@@ -138,6 +139,10 @@ module _ (f : Function) where
         ∙ unmarked-with_start None (marked_goal f h) ∙ unmarked-goal f h)
         node.fine;
   }
+
+  -- a turn of a node after rules is one of the node
+  pub turns_behind : (g h : GoalTree) → OpensStart f g h → (t : Turn (Bor Goal) Why) → TurnsAs f h t → TurnsAs f g t
+  turns_behind g h opens t turns = λ ob p node e. turns ob p (opened_node ob g h opens node) (e ∙ sym opens.marked)
 
   -- a turn that is right with starts is right without them
   pub begins_plain :
@@ -156,9 +161,9 @@ module _ (f : Function) where
 
   -- the goal that the obligation begins with
   pub first_is_stop :
-      (ob : ObName) (start g : GoalTree) → StandsMarked f start g → IsTrue (is_settled g) → IsGoalOf f ob start
-      → ask_goal f start ≡ plan_of f ob → IsFine (name_count ob) (plan_of f ob) → IsStop f ob g
-  first_is_stop ob start g alike settled of asks fine =
+      (ob : ObName) (start g : GoalTree) → IsGoalOf f ob start → ask_goal f start ≡ plan_of f ob
+      → IsFine (name_count ob) (plan_of f ob) → StandsMarked f start g → IsTrue (is_settled g) → IsStop f ob g
+  first_is_stop ob start g of asks fine alike settled =
       stop_of ob start g alike settled of (subst (IsFine (name_count ob)) (sym (unmarked-goal f start ∙ asks)) fine)
 
   pub alike_asks : (g h : GoalTree) → StandsMarked f g h → ask_goal f h ≡ ask_goal f g

@@ -21,7 +21,7 @@ use ask_core::{Asker, NoMemory, Turn};
 use bumpalo::Bump;
 use diff_graph::Lit;
 use fn_rules::{ObName, Rules};
-use marked_goals::{marked_plans_are_plans, rules_keep_starts};
+use marked_goals::rules_keep_starts;
 use ot_terms::{Goal, Why};
 use plain_list::List;
 use proof_trees::Starter;
@@ -78,8 +78,7 @@ impl<'a> StartAsker<'a> {
         ensures laid { self.new.laid ≡ self.old.laid }
         ensures ob { self.new.ob ≡ self.old.ob }
     {
-        marked_plans_are_plans();
-        Ok(self.laid.turn(node)?)
+        self.laid.turn(node)
     }
 }
 

@@ -19,6 +19,13 @@ pub struct Kept<'a> {
     pub goal: &'a Goal<'a>,
 }
 
+/// An arena, and what is laid out in it where last results are delivered.
+#[derive(Drop)]
+pub struct Ends<'a> {
+    pub bump: &'a Bump,
+    pub kept: Vec<Kept<'a>, &'a Bump>,
+}
+
 fn are_same_two(a: SymOp, b: SymOp, c: SymOp, d: SymOp) -> bool
     ensures first { IsTrue result → a ≡ c }
     ensures second { IsTrue result → b ≡ d }

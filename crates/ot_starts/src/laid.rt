@@ -11,7 +11,7 @@ ghost use Rattle.marked_goals.specs.Marking.{marked_goal, marked_plan};
 ghost use Rattle.ot_starts.specs.Nodes.{IsStop};
 ghost use Rattle.ot_starts.specs.Turns.{TurnsAs};
 
-use crate::kept::Kept;
+use crate::kept::{Ends, Kept};
 use crate::settling::first_stop;
 use crate::walking::turn_of;
 use ask_core::{NoMemory, Turn};
@@ -23,10 +23,9 @@ use std::marker::Model;
 /// The rules of a function, and what was laid out by them in an arena so far.
 #[derive(Drop)]
 pub struct Laid<'a> {
-    bump: &'a Bump,
     rules: &'a Rules,
     starts: Vec<Kept<'a>, &'a Bump>,
-    ends: Vec<Kept<'a>, &'a Bump>,
+    ends: Ends<'a>,
 }
 
 impl<'a> Model for Laid<'a> {
@@ -44,7 +43,7 @@ impl<'a> Model for Laid<'a> {
     ghost view = { λ s. s.rules.now };
 
     ghost invariant = { λ s. All (IsKeptStart (function_of s.rules.now)) s.starts.items
-        × All (IsKeptEnd (function_of s.rules.now)) s.ends.items };
+        × All (IsKeptEnd (function_of s.rules.now)) s.ends.kept.items };
 }
 
 impl<'a> Laid<'a> {
@@ -53,10 +52,12 @@ impl<'a> Laid<'a> {
         ensures { result ≡ rules.now }
     {
         Laid {
-            bump,
             rules,
             starts: Vec::new(bump),
-            ends: Vec::new(bump),
+            ends: Ends {
+                bump,
+                kept: Vec::new(bump),
+            },
         }
     }
 
@@ -76,7 +77,7 @@ impl<'a> Laid<'a> {
         ensures marked { IfOk result (λ g. marked_goal (function_of self.now) (goal_tree g.now)
             ≡ marked_plan (function_of self.now) ob) }
     {
-        first_stop(self.bump, self.rules, ob)
+        first_stop(self.ends.bump, self.rules, ob)
     }
 
     /// How the plan of a goal begins.
@@ -86,12 +87,6 @@ impl<'a> Laid<'a> {
         ensures turns { IfOk result (λ t. TurnsAs (function_of self.old) (goal_tree goal.now) t) }
         ensures same { self.new ≡ self.old }
     {
-        turn_of(
-            self.bump,
-            self.rules,
-            &mut self.starts,
-            &mut self.ends,
-            goal,
-        )
+        turn_of(self.rules, &mut self.starts, &mut self.ends, goal)
     }
 }

@@ -97,9 +97,9 @@ pub(crate) fn first_stop<'a>(
     ensures marked { IfOk result (λ g. marked_goal (function_of rules.now) (goal_tree g.now)
         ≡ marked_plan (function_of rules.now) ob) }
 {
+    let start = start_goal(bump, rules, ob)?;
     plans_keep_limits();
     first_goals_stand_for_obligations();
     rules_are_valid(rules);
-    let start = start_goal(bump, rules, ob)?;
-    Ok(settled(bump, rules, start)?)
+    settled(bump, rules, start)
 }

@@ -9,7 +9,7 @@ ghost use Rattle.marked_goals.specs.Settled.{OpensStart};
 ghost use Rattle.ot_starts.specs.Kept.{IsKeptStart, IsKeptEnd};
 
 use crate::fronts::is_begun;
-use crate::kept::{Kept, found, learnt};
+use crate::kept::{Ends, Kept, found, learnt};
 use crate::laying::laid;
 use ask_core::NoMemory;
 use bumpalo::Bump;
@@ -23,20 +23,19 @@ const ROOM: usize = 134_217_728;
 
 // The goal after one rule, laid out.
 fn laid_behind<'a>(
-    bump: &'a Bump,
     rules: &Rules,
-    ends: &mut Vec<Kept<'a>, &'a Bump>,
+    ends: &mut Ends<'a>,
     goal: &'a Goal<'a>,
 ) -> Result<&'a Goal<'a>, NoMemory>
     requires goal { (ob : ObName) × IsGoalOf (function_of rules.now) ob (goal_tree goal.now) }
-    requires ends { All (IsKeptEnd (function_of rules.now)) ends.old.items }
+    requires ends { All (IsKeptEnd (function_of rules.now)) ends.old.kept.items }
     ensures opens { IfOk result (λ r. OpensStart (function_of rules.now) (goal_tree goal.now) (goal_tree r.now)) }
-    ensures ends { All (IsKeptEnd (function_of rules.now)) ends.new.items }
+    ensures ends { All (IsKeptEnd (function_of rules.now)) ends.new.kept.items }
 {
     rules_keep_starts();
     rules_are_valid(rules);
-    match step(bump, rules, goal)? {
-        Some(next) => laid(bump, rules, ends, next),
+    match step(ends.bump, rules, goal)? {
+        Some(next) => laid(rules, ends, next),
         None => Ok(goal),
     }
 }
@@ -44,49 +43,47 @@ fn laid_behind<'a>(
 // What is laid out where a transformation begins, which is kept then. A goal for which the arena has no room is the
 // answer itself.
 fn laid_at<'a>(
-    bump: &'a Bump,
     rules: &Rules,
     starts: &mut Vec<Kept<'a>, &'a Bump>,
-    ends: &mut Vec<Kept<'a>, &'a Bump>,
+    ends: &mut Ends<'a>,
     goal: &'a Goal<'a>,
 ) -> Result<&'a Goal<'a>, NoMemory>
     requires goal { (ob : ObName) × IsGoalOf (function_of rules.now) ob (goal_tree goal.now) }
     requires starts { All (IsKeptStart (function_of rules.now)) starts.old.items }
-    requires ends { All (IsKeptEnd (function_of rules.now)) ends.old.items }
+    requires ends { All (IsKeptEnd (function_of rules.now)) ends.old.kept.items }
     ensures opens { IfOk result (λ r. OpensStart (function_of rules.now) (goal_tree goal.now) (goal_tree r.now)) }
     ensures starts { All (IsKeptStart (function_of rules.now)) starts.new.items }
-    ensures ends { All (IsKeptEnd (function_of rules.now)) ends.new.items }
+    ensures ends { All (IsKeptEnd (function_of rules.now)) ends.new.kept.items }
 {
     if let Some(known) = found(starts, goal) {
         return Ok(known);
     }
-    if bump.allocated_bytes() > ROOM {
+    if ends.bump.allocated_bytes() > ROOM {
         return Ok(goal);
     }
-    let built = laid_behind(bump, rules, ends, goal)?;
+    let built = laid_behind(rules, ends, goal)?;
     learnt(starts, goal, built)
 }
 
 /// The goal after what is laid out where transformations begin, as long as another one begins there and at most so
 /// often.
 pub(crate) fn laid_on<'a>(
-    bump: &'a Bump,
     rules: &Rules,
     starts: &mut Vec<Kept<'a>, &'a Bump>,
-    ends: &mut Vec<Kept<'a>, &'a Bump>,
+    ends: &mut Ends<'a>,
     goal: &'a Goal<'a>,
     most: u32,
 ) -> Result<&'a Goal<'a>, NoMemory>
     requires goal { (ob : ObName) × IsGoalOf (function_of rules.now) ob (goal_tree goal.now) }
     requires starts { All (IsKeptStart (function_of rules.now)) starts.old.items }
-    requires ends { All (IsKeptEnd (function_of rules.now)) ends.old.items }
+    requires ends { All (IsKeptEnd (function_of rules.now)) ends.old.kept.items }
     ensures opens { IfOk result (λ r. OpensStart (function_of rules.now) (goal_tree goal.now) (goal_tree r.now)) }
     ensures starts { All (IsKeptStart (function_of rules.now)) starts.new.items }
-    ensures ends { All (IsKeptEnd (function_of rules.now)) ends.new.items }
+    ensures ends { All (IsKeptEnd (function_of rules.now)) ends.new.kept.items }
 {
     if most == 0 || !is_begun(goal) {
         return Ok(goal);
     }
-    let next = laid_at(bump, rules, starts, ends, goal)?;
-    laid_on(bump, rules, starts, ends, next, most - 1)
+    let next = laid_at(rules, starts, ends, goal)?;
+    laid_on(rules, starts, ends, next, most - 1)
 }

@@ -10,12 +10,11 @@ ghost use Rattle.ot_terms.specs.Goals.{goal_tree, If};
 ghost use Rattle.ot_rewrite.specs.Fronts as fronts;
 ghost use Rattle.goal_rules.specs.Steps.{front_tree};
 ghost use Rattle.ot_paths.specs.Nodes as nodes;
-ghost use Rattle.marked_goals.specs.Settled.{OpensStart};
 ghost use Rattle.ot_starts.specs.Kept.{IsKeptStart, IsKeptEnd};
 ghost use Rattle.ot_starts.specs.Turns.{TurnsAs};
 
 use crate::fronts::question;
-use crate::kept::Kept;
+use crate::kept::{Ends, Kept};
 use crate::settling::settled;
 use crate::table::laid_on;
 use ask_core::{NoMemory, Turn};
@@ -91,58 +90,59 @@ pub(crate) fn turn_at<'a>(
     }
 }
 
-// The goal after rules until a question or an end stands at its front.
-fn opened<'a>(bump: &'a Bump, rules: &Rules, goal: &'a Goal<'a>) -> Result<Front<'a>, NoMemory>
+// How the plan of a goal begins, found by rules until a question or an end stands at its front.
+fn turn_behind<'a>(
+    bump: &'a Bump,
+    rules: &Rules,
+    goal: &'a Goal<'a>,
+) -> Result<Turn<&'a Goal<'a>, Why>, NoMemory>
     requires { (ob : ObName) × IsGoalOf (function_of rules.now) ob (goal_tree goal.now) }
-    ensures opens { IfOk result (λ r. OpensStart (function_of rules.now) (goal_tree goal.now) (front_tree r)) }
-    ensures at_front { IfOk result (λ r. IsTrue (fronts.is_at_front (front_tree r))) }
+    ensures { IfOk result (λ t. TurnsAs (function_of rules.now) (goal_tree goal.now) t) }
 {
+    let front = front_of(bump, rules, goal)?;
     rules_keep_what_is_asked();
     rules_keep_starts();
     rules_are_valid(rules);
-    Ok(front_of(bump, rules, goal)?)
+    turn_at(bump, rules, front)
 }
 
 // How the plan of any goal begins.
 fn turn_on<'a>(
-    bump: &'a Bump,
     rules: &Rules,
     starts: &mut Vec<Kept<'a>, &'a Bump>,
-    ends: &mut Vec<Kept<'a>, &'a Bump>,
+    ends: &mut Ends<'a>,
     goal: &'a Goal<'a>,
 ) -> Result<Turn<&'a Goal<'a>, Why>, NoMemory>
     requires goal { (ob : ObName) × IsGoalOf (function_of rules.now) ob (goal_tree goal.now) }
     requires starts { All (IsKeptStart (function_of rules.now)) starts.old.items }
-    requires ends { All (IsKeptEnd (function_of rules.now)) ends.old.items }
+    requires ends { All (IsKeptEnd (function_of rules.now)) ends.old.kept.items }
     ensures turns { IfOk result (λ t. TurnsAs (function_of rules.now) (goal_tree goal.now) t) }
     ensures starts { All (IsKeptStart (function_of rules.now)) starts.new.items }
-    ensures ends { All (IsKeptEnd (function_of rules.now)) ends.new.items }
+    ensures ends { All (IsKeptEnd (function_of rules.now)) ends.new.kept.items }
 {
-    let near = laid_on(bump, rules, starts, ends, goal, MOST_TRANSFORMS)?;
-    let front = opened(bump, rules, near)?;
-    turn_at(bump, rules, front)
+    let near = laid_on(rules, starts, ends, goal, MOST_TRANSFORMS)?;
+    turn_behind(ends.bump, rules, near)
 }
 
 /// How the plan of a goal begins. Most goals have a question at their front already.
 #[inline(always)]
 pub(crate) fn turn_of<'a>(
-    bump: &'a Bump,
     rules: &Rules,
     starts: &mut Vec<Kept<'a>, &'a Bump>,
-    ends: &mut Vec<Kept<'a>, &'a Bump>,
+    ends: &mut Ends<'a>,
     goal: &'a Goal<'a>,
 ) -> Result<Turn<&'a Goal<'a>, Why>, NoMemory>
     requires goal { (ob : ObName) × IsGoalOf (function_of rules.now) ob (goal_tree goal.now) }
     requires starts { All (IsKeptStart (function_of rules.now)) starts.old.items }
-    requires ends { All (IsKeptEnd (function_of rules.now)) ends.old.items }
+    requires ends { All (IsKeptEnd (function_of rules.now)) ends.old.kept.items }
     ensures turns { IfOk result (λ t. TurnsAs (function_of rules.now) (goal_tree goal.now) t) }
     ensures starts { All (IsKeptStart (function_of rules.now)) starts.new.items }
-    ensures ends { All (IsKeptEnd (function_of rules.now)) ends.new.items }
+    ensures ends { All (IsKeptEnd (function_of rules.now)) ends.new.kept.items }
 {
     if let Goal::Ask { order, yes, no } = *goal {
         if question(order.form()).is_some() {
-            return asked(bump, rules, order.form(), yes, no);
+            return asked(ends.bump, rules, order.form(), yes, no);
         }
     }
-    turn_on(bump, rules, starts, ends, goal)
+    turn_on(rules, starts, ends, goal)
 }

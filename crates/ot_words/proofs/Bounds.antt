@@ -12,9 +12,8 @@ use Rattle.fn_rules.specs.declared.limits.TheConstants.{MOST_ROUNDS}
 use Rattle.ot_words.specs.Commands.{Asked, Prove, Settle, Check, Integrate, Replay, Hub, Audit, Same, Reverse, Least, Bound, Confirm}
 use Rattle.ot_words.specs.Commands.{Drill}
 use Rattle.clap_words.specs.Found.{found_by}
-use Rattle.ot_words.specs.Words.{IsWithinBounds, asked_by, audit_in, bound_in, check_in, confirm_in, deciding_app, decision_by, decision_in, drill_app}
-use Rattle.ot_words.specs.Words.{drill_by, drill_in, hub_in, integrate_in, is_given, least_app, least_by, least_in, level_by, most_questions}
-use Rattle.ot_words.specs.Words.{most_settling_questions, name_by, names_by, number_by, prove_in, replay_in, reverse_in, same_in, settle_in}
+use Rattle.ot_words.specs.Words.{IsWithinBounds, asked_by, audit_in, deciding_app, decision_by, decision_in, drill_app, drill_by, drill_in, is_given, least_app}
+use Rattle.ot_words.specs.Words.{least_by, least_in, level_by, most_questions, most_settling_questions, name_by, names_by, number_by, of_two, prove_in, settle_in, two_in}
 
 number_within : (most : ℕ) (text : List ℕ) (n : ℕ) → number_by most text ≡ Some n → n ≤ most
 number_within most text n is = go (is_unsigned_in 1 most text) refl is
@@ -66,6 +65,10 @@ IsWithin found = (asked : Asked) → found ≡ Some asked → IsWithinBounds ask
 none_is_within : IsWithin None
 none_is_within asked is = absurd (cc)
 
+some_is_within : (asked : Asked) → IsWithinBounds asked → IsWithin (Some asked)
+some_is_within asked within other is =
+    let same : asked ≡ other = cc in subst (λ (a : Asked). IsWithinBounds a) same within
+
 one_of : (test : Bool) (one other : Option Asked) → IsWithin one → IsWithin other → IsWithin (cond test one other)
 one_of true one other first second = first
 one_of false one other first second = second
@@ -73,9 +76,27 @@ one_of false one other first second = second
 names_are_within :
     {X : Type 0} (command : X → Asked) → ((x : X) → IsWithinBounds (command x)) → (names : Option X)
     → IsWithin (option_map command names)
-names_are_within command free None asked is = absurd (cc)
-names_are_within command free (Some n) asked is =
-    let same : command n ≡ asked = cc in subst (λ (a : Asked). IsWithinBounds a) same (free n)
+names_are_within command free None = none_is_within
+names_are_within command free (Some n) = some_is_within (command n) (free n)
+
+-- a command of two files has no number
+module _ (name : List ℕ) where
+  named :
+      (command : List ℕ) (asked : Asked) (other : Option Asked) → IsWithinBounds asked → IsWithin other
+      → IsWithin (cond (bytes_eq name command) (Some asked) other)
+  named command asked other free = one_of (bytes_eq name command) (Some asked) other (some_is_within asked free)
+
+  twos_are_within : (files : Option (List ℕ × List ℕ)) → IsWithin (option_and_then (of_two name) files)
+  twos_are_within None = none_is_within
+  twos_are_within (Some f) =
+      named (codes "check") (Check f.0 f.1) _ tt
+      (named (codes "integrate") (Integrate f.0 f.1) _ tt
+      (named (codes "replay") (Replay f.0 f.1) _ tt
+      (named (codes "hub") (Hub f.0 f.1) _ tt
+      (named (codes "same") (Same f.0 f.1) _ tt
+      (named (codes "reverse") (Reverse f.0 f.1) _ tt
+      (named (codes "bound") (Bound f.0 f.1) _ tt
+      (named (codes "confirm") (Confirm f.0 f.1) None tt none_is_within)))))))
 
 -- a command that decides a function is within its bounds where the budget that is found is
 module _ (most : ℕ) (Asks : Level → ℕ → List ℕ → Asked)
@@ -84,11 +105,9 @@ module _ (most : ℕ) (Asks : Level → ℕ → List ℕ → Asked)
       (level : Level) (budget : Option ℕ) (file : Option (List ℕ)) → ((b : ℕ) → budget ≡ Some b → b ≤ most)
       → IsWithin (option_map (λ (found : Level × ℕ × List ℕ). Asks found.0 found.1 found.2)
       (option_and_then (λ b. option_map (λ name. (level, b, name)) file) budget))
-  asked_is_within level None file few asked is = absurd (cc)
-  asked_is_within level (Some b) None few asked is = absurd (cc)
-  asked_is_within level (Some b) (Some name) few asked is =
-      let same : Asks level b name ≡ asked = cc in
-      subst (λ (a : Asked). IsWithinBounds a) same (within level b name (few b refl))
+  asked_is_within level None file few = none_is_within
+  asked_is_within level (Some b) None few = none_is_within
+  asked_is_within level (Some b) (Some name) few = some_is_within (Asks level b name) (within level b name (few b refl))
 
   -- what a deciding command asks for is within its bounds
   decisions_are_within :
@@ -114,9 +133,8 @@ leasts_are_within words = go (found_by least_app words)
         names_are_within (Least (is_given (first_of (codes "cert") rows))) (λ n. tt) (first_of (codes "function") rows)
 
 drill_is_within : (number : Option ℕ) → ((n : ℕ) → number ≡ Some n → n ≤ MOST_ROUNDS) → IsWithin (option_map Drill number)
-drill_is_within None few asked is = absurd (cc)
-drill_is_within (Some n) few asked is =
-    let same : Drill n ≡ asked = cc in subst (λ (a : Asked). IsWithinBounds a) same (few n refl)
+drill_is_within None few = none_is_within
+drill_is_within (Some n) few = some_is_within (Drill n) (few n refl)
 
 drills_are_within : (words : List (List ℕ)) → IsWithin (drill_in words)
 unfolding drill_in
@@ -136,22 +154,7 @@ within_bounds (word ∷ words) =
     (decisions_are_within most_questions Prove (λ level b name few. few) (codes "prove") (codes "1000000") words)
     (one_of (bytes_eq word (codes "settle")) (settle_in words) _
     (decisions_are_within most_settling_questions Settle (λ level b name few. few) (codes "settle") (codes "30000000") words)
-    (one_of (bytes_eq word (codes "check")) (check_in words) _
-    (names_are_within (λ n. Check n.0 n.1) (λ n. tt) (names_by (codes "check") words))
-    (one_of (bytes_eq word (codes "integrate")) (integrate_in words) _
-    (names_are_within (λ n. Integrate n.0 n.1) (λ n. tt) (names_by (codes "integrate") words))
-    (one_of (bytes_eq word (codes "replay")) (replay_in words) _
-    (names_are_within (λ n. Replay n.0 n.1) (λ n. tt) (names_by (codes "replay") words))
-    (one_of (bytes_eq word (codes "hub")) (hub_in words) _
-    (names_are_within (λ n. Hub n.0 n.1) (λ n. tt) (names_by (codes "hub") words))
     (one_of (bytes_eq word (codes "audit")) (audit_in words) _ (names_are_within Audit (λ n. tt) (name_by (codes "audit") words))
-    (one_of (bytes_eq word (codes "same")) (same_in words) _
-    (names_are_within (λ n. Same n.0 n.1) (λ n. tt) (names_by (codes "same") words))
-    (one_of (bytes_eq word (codes "reverse")) (reverse_in words) _
-    (names_are_within (λ n. Reverse n.0 n.1) (λ n. tt) (names_by (codes "reverse") words))
     (one_of (bytes_eq word (codes "least")) (least_in words) _ (leasts_are_within words)
-    (one_of (bytes_eq word (codes "bound")) (bound_in words) _
-    (names_are_within (λ n. Bound n.0 n.1) (λ n. tt) (names_by (codes "bound") words))
-    (one_of (bytes_eq word (codes "confirm")) (confirm_in words) _
-    (names_are_within (λ n. Confirm n.0 n.1) (λ n. tt) (names_by (codes "confirm") words))
-    (one_of (bytes_eq word (codes "drill")) (drill_in words) None (drills_are_within words) none_is_within))))))))))))
+    (one_of (bytes_eq word (codes "drill")) (drill_in words) (two_in word words) (drills_are_within words)
+    (twos_are_within word (names_by word words))))))

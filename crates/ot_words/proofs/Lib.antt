@@ -1,4 +1,5 @@
 mod Apps
 pub mod Bounds
 mod Examples
+mod Naming
 mod PlainNames

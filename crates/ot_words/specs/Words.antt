@@ -135,32 +135,24 @@ drill_by rows = option_map Drill (option_and_then (number_by MOST_ROUNDS) (first
 unfoldable pub drill_in : List (List ℕ) → Option Asked
 drill_in words = option_and_then drill_by (found_by drill_app words)
 
-abbrev pub check_in : List (List ℕ) → Option Asked
-check_in words = option_map (λ names. Check names.0 names.1) (names_by (codes "check") words)
-
-abbrev pub integrate_in : List (List ℕ) → Option Asked
-integrate_in words = option_map (λ names. Integrate names.0 names.1) (names_by (codes "integrate") words)
-
-abbrev pub replay_in : List (List ℕ) → Option Asked
-replay_in words = option_map (λ names. Replay names.0 names.1) (names_by (codes "replay") words)
-
-abbrev pub hub_in : List (List ℕ) → Option Asked
-hub_in words = option_map (λ names. Hub names.0 names.1) (names_by (codes "hub") words)
-
 abbrev pub audit_in : List (List ℕ) → Option Asked
 audit_in words = option_map Audit (name_by (codes "audit") words)
 
-abbrev pub same_in : List (List ℕ) → Option Asked
-same_in words = option_map (λ names. Same names.0 names.1) (names_by (codes "same") words)
+-- the command of two files that has a name
+abbrev pub of_two : List ℕ → List ℕ × List ℕ → Option Asked
+of_two name files =
+    if bytes_eq name (codes "check") then Some (Check files.0 files.1)
+    else (if bytes_eq name (codes "integrate") then Some (Integrate files.0 files.1)
+    else (if bytes_eq name (codes "replay") then Some (Replay files.0 files.1)
+    else (if bytes_eq name (codes "hub") then Some (Hub files.0 files.1)
+    else (if bytes_eq name (codes "same") then Some (Same files.0 files.1)
+    else (if bytes_eq name (codes "reverse") then Some (Reverse files.0 files.1)
+    else (if bytes_eq name (codes "bound") then Some (Bound files.0 files.1)
+    else (if bytes_eq name (codes "confirm") then Some (Confirm files.0 files.1)
+    else None)))))))
 
-abbrev pub reverse_in : List (List ℕ) → Option Asked
-reverse_in words = option_map (λ names. Reverse names.0 names.1) (names_by (codes "reverse") words)
-
-abbrev pub bound_in : List (List ℕ) → Option Asked
-bound_in words = option_map (λ names. Bound names.0 names.1) (names_by (codes "bound") words)
-
-abbrev pub confirm_in : List (List ℕ) → Option Asked
-confirm_in words = option_map (λ names. Confirm names.0 names.1) (names_by (codes "confirm") words)
+abbrev pub two_in : List ℕ → List (List ℕ) → Option Asked
+two_in name words = option_and_then (of_two name) (names_by name words)
 
 -- the command that words name: the first word says which, and the others are its arguments
 abbrev pub asked_by : List (List ℕ) → Option Asked
@@ -168,18 +160,10 @@ asked_by [] = None
 asked_by (word ∷ words) =
     if bytes_eq word (codes "prove") then prove_in words
     else (if bytes_eq word (codes "settle") then settle_in words
-    else (if bytes_eq word (codes "check") then check_in words
-    else (if bytes_eq word (codes "integrate") then integrate_in words
-    else (if bytes_eq word (codes "replay") then replay_in words
-    else (if bytes_eq word (codes "hub") then hub_in words
     else (if bytes_eq word (codes "audit") then audit_in words
-    else (if bytes_eq word (codes "same") then same_in words
-    else (if bytes_eq word (codes "reverse") then reverse_in words
     else (if bytes_eq word (codes "least") then least_in words
-    else (if bytes_eq word (codes "bound") then bound_in words
-    else (if bytes_eq word (codes "confirm") then confirm_in words
     else (if bytes_eq word (codes "drill") then drill_in words
-    else None))))))))))))
+    else two_in word words))))
 
 -- the number that is asked for is within its bounds
 abbrev pub IsWithinBounds : Asked → Type 0

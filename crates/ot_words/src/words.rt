@@ -1,14 +1,13 @@
 //! The words of a command. The first one says which command it is, and clap reads the others.
-ghost use Rattle.std.specs.Prelude.{◌≡◌, ◌≤◌, codes, map, false, true, IfOk, IfSome, string_bytes, option_map};
+ghost use Rattle.std.specs.Prelude.{◌≡◌, ◌≤◌, codes, map, false, true, IfOk, IfSome, string_bytes};
+ghost use Rattle.std.specs.Prelude.{option_and_then, option_map};
 ghost use Rattle.clap.specs.Words.{app_of, first_of, found_of, rows_of, rule_of};
 ghost use Rattle.fn_rules.specs.declared.limits.TheConstants.{MOST_ROUNDS};
-ghost use Rattle.ot_words.specs.Commands.{asked_of};
-ghost use Rattle.ot_words.specs.Words.{asked_by, audit_in, bare_app, bound_in, budget_rule, check_in, confirm_in};
-ghost use Rattle.ot_words.specs.Words.{deciding_app, decision_by, decision_in, drill_app, drill_by, drill_in};
-ghost use Rattle.ot_words.specs.Words.{flag_rule, hub_in, integrate_in, is_given, least_app, least_by, least_in};
-ghost use Rattle.ot_words.specs.Words.{level_by, name_by, names_by, number_by, number_rule, one_file, prove_in};
-ghost use Rattle.ot_words.specs.Words.{replay_in, required_rule, reverse_in, same_in, settle_in, two_files};
-ghost use Rattle.ot_words.specs.Words.{values_in};
+ghost use Rattle.ot_words.specs.Commands.{asked_of, Audit};
+ghost use Rattle.ot_words.specs.Words.{asked_by, audit_in, bare_app, budget_rule, deciding_app, decision_by};
+ghost use Rattle.ot_words.specs.Words.{decision_in, drill_app, drill_by, drill_in, flag_rule, is_given, least_app};
+ghost use Rattle.ot_words.specs.Words.{least_by, least_in, level_by, number_by, number_rule, of_two, one_file};
+ghost use Rattle.ot_words.specs.Words.{prove_in, required_rule, settle_in, two_files, two_in, values_in};
 
 use crate::command::Command;
 use clap::builder::ValueParser;
@@ -121,45 +120,6 @@ fn value_of<'a>(matches: &ArgMatches<'a>, id: &str) -> Option<&'a str>
     matches.get_str(id)
 }
 
-// The values of both arguments, if they are there.
-fn values_in<'a>(matches: &ArgMatches<'a>) -> Option<(&'a str, &'a str)>
-    ensures { option_map (λ v. (v.0.now, v.1.now)) result ≡ values_in (rows_of (found_of matches.now)) }
-{
-    Some((value_of(matches, "first")?, value_of(matches, "second")?))
-}
-
-// The file name in the words behind a command's name.
-#[tactic(auto, unfolding(crate::specs::Words::name_by))]
-fn one_name<'a>(
-    alloc: Global,
-    name: &'a str,
-    words: &'a [String],
-) -> Result<Option<&'a str>, NoMemory>
-    ensures { IfOk result (λ found. option_map (λ s. s.now) found
-        ≡ name_by name.entry.now (map string_bytes words.entry.now)) }
-{
-    match matches_in(one_file(alloc, name)?, words)? {
-        Some(matches) => Ok(value_of(&matches, "function")),
-        None => Ok(None),
-    }
-}
-
-// The two file names in the words behind a command's name.
-#[tactic(auto, unfolding(crate::specs::Words::names_by))]
-fn two_names<'a>(
-    alloc: Global,
-    name: &'a str,
-    words: &'a [String],
-) -> Result<Option<(&'a str, &'a str)>, NoMemory>
-    ensures { IfOk result (λ names. option_map (λ v. (v.0.now, v.1.now)) names
-        ≡ names_by name.entry.now (map string_bytes words.entry.now)) }
-{
-    match matches_in(two_files(alloc, name)?, words)? {
-        Some(matches) => Ok(values_in(&matches)),
-        None => Ok(None),
-    }
-}
-
 // Whether the option is given.
 fn is_given(flag: Option<&str>) -> bool
     ensures { result ≡ is_given (option_map (λ s. s.now) flag.entry) }
@@ -248,75 +208,21 @@ fn settle_in<'a>(alloc: Global, words: &'a [String]) -> Result<Option<Command<'a
     }
 }
 
-// `check FUNCTION CERTIFICATE`
-fn check_in<'a>(alloc: Global, words: &'a [String]) -> Result<Option<Command<'a>>, NoMemory>
-    ensures { IfOk result (λ command. option_map asked_of command ≡ check_in (map string_bytes words.entry.now)) }
+// The name that clap finds.
+fn audit_by<'a>(matches: &ArgMatches<'a>) -> Option<Command<'a>>
+    ensures { option_map asked_of result ≡ option_map Audit (first_of (codes "function") (rows_of (found_of matches.now))) }
 {
-    match two_names(alloc, "check", words)? {
-        Some((function, certificate)) => Ok(Some(Command::Check {
-            function,
-            certificate,
-        })),
-        None => Ok(None),
-    }
-}
-
-// `integrate FUNCTION CASE`
-fn integrate_in<'a>(alloc: Global, words: &'a [String]) -> Result<Option<Command<'a>>, NoMemory>
-    ensures { IfOk result (λ command. option_map asked_of command ≡ integrate_in (map string_bytes words.entry.now)) }
-{
-    match two_names(alloc, "integrate", words)? {
-        Some((function, case)) => Ok(Some(Command::Integrate { function, case })),
-        None => Ok(None),
-    }
-}
-
-// `replay FUNCTION SESSION`
-fn replay_in<'a>(alloc: Global, words: &'a [String]) -> Result<Option<Command<'a>>, NoMemory>
-    ensures { IfOk result (λ command. option_map asked_of command ≡ replay_in (map string_bytes words.entry.now)) }
-{
-    match two_names(alloc, "replay", words)? {
-        Some((function, session)) => Ok(Some(Command::Replay { function, session })),
-        None => Ok(None),
-    }
-}
-
-// `hub FUNCTION HUB`
-fn hub_in<'a>(alloc: Global, words: &'a [String]) -> Result<Option<Command<'a>>, NoMemory>
-    ensures { IfOk result (λ command. option_map asked_of command ≡ hub_in (map string_bytes words.entry.now)) }
-{
-    match two_names(alloc, "hub", words)? {
-        Some((function, hub)) => Ok(Some(Command::Hub { function, hub })),
-        None => Ok(None),
-    }
+    let function = value_of(matches, "function")?;
+    Some(Command::Audit { function })
 }
 
 // `audit FUNCTION`
+#[tactic(auto, unfolding(crate::specs::Words::name_by))]
 fn audit_in<'a>(alloc: Global, words: &'a [String]) -> Result<Option<Command<'a>>, NoMemory>
     ensures { IfOk result (λ command. option_map asked_of command ≡ audit_in (map string_bytes words.entry.now)) }
 {
-    match one_name(alloc, "audit", words)? {
-        Some(function) => Ok(Some(Command::Audit { function })),
-        None => Ok(None),
-    }
-}
-
-// `same FUNCTION OTHER`
-fn same_in<'a>(alloc: Global, words: &'a [String]) -> Result<Option<Command<'a>>, NoMemory>
-    ensures { IfOk result (λ command. option_map asked_of command ≡ same_in (map string_bytes words.entry.now)) }
-{
-    match two_names(alloc, "same", words)? {
-        Some((function, other)) => Ok(Some(Command::Same { function, other })),
-        None => Ok(None),
-    }
-}
-
-// `reverse FUNCTION OTHER`
-fn reverse_in<'a>(alloc: Global, words: &'a [String]) -> Result<Option<Command<'a>>, NoMemory>
-    ensures { IfOk result (λ command. option_map asked_of command ≡ reverse_in (map string_bytes words.entry.now)) }
-{
-    match two_names(alloc, "reverse", words)? {
-        Some((function, other)) => Ok(Some(Command::Reverse { function, other })),
+    match matches_in(one_file(alloc, "audit")?, words)? {
+        Some(matches) => Ok(audit_by(&matches)),
         None => Ok(None),
     }
 }
@@ -337,29 +243,6 @@ fn least_in<'a>(alloc: Global, words: &'a [String]) -> Result<Option<Command<'a>
 {
     match matches_in(least_app(alloc)?, words)? {
         Some(matches) => Ok(least_by(&matches)),
-        None => Ok(None),
-    }
-}
-
-// `bound FUNCTION CERTIFICATE`
-fn bound_in<'a>(alloc: Global, words: &'a [String]) -> Result<Option<Command<'a>>, NoMemory>
-    ensures { IfOk result (λ command. option_map asked_of command ≡ bound_in (map string_bytes words.entry.now)) }
-{
-    match two_names(alloc, "bound", words)? {
-        Some((function, certificate)) => Ok(Some(Command::Bound {
-            function,
-            certificate,
-        })),
-        None => Ok(None),
-    }
-}
-
-// `confirm FUNCTION PROOF`
-fn confirm_in<'a>(alloc: Global, words: &'a [String]) -> Result<Option<Command<'a>>, NoMemory>
-    ensures { IfOk result (λ command. option_map asked_of command ≡ confirm_in (map string_bytes words.entry.now)) }
-{
-    match two_names(alloc, "confirm", words)? {
-        Some((function, proof)) => Ok(Some(Command::Confirm { function, proof })),
         None => Ok(None),
     }
 }
@@ -385,6 +268,66 @@ fn drill_in<'a>(alloc: Global, words: &'a [String]) -> Result<Option<Command<'a>
     }
 }
 
+// The command of two files that has the name; none where no such command has it.
+fn of_two<'a>(name: &str, function: &'a str, other: &'a str) -> Option<Command<'a>>
+    ensures { option_map asked_of result ≡ of_two name.now (function.now, other.now) }
+{
+    match name {
+        "check" => Some(Command::Check {
+            function,
+            certificate: other,
+        }),
+        "integrate" => Some(Command::Integrate {
+            function,
+            case: other,
+        }),
+        "replay" => Some(Command::Replay {
+            function,
+            session: other,
+        }),
+        "hub" => Some(Command::Hub {
+            function,
+            hub: other,
+        }),
+        "same" => Some(Command::Same { function, other }),
+        "reverse" => Some(Command::Reverse { function, other }),
+        "bound" => Some(Command::Bound {
+            function,
+            certificate: other,
+        }),
+        "confirm" => Some(Command::Confirm {
+            function,
+            proof: other,
+        }),
+        _ => None,
+    }
+}
+
+// The command of two files that has the name, by what clap finds.
+fn two_by<'a>(name: &str, matches: &ArgMatches<'a>) -> Option<Command<'a>>
+    ensures { option_map asked_of result ≡ option_and_then (of_two name.now) (values_in (rows_of (found_of matches.now))) }
+{
+    let function = value_of(matches, "first")?;
+    let other = value_of(matches, "second")?;
+    of_two(name, function, other)
+}
+
+// `check FUNCTION CERTIFICATE`, or another command of two files, by its name
+#[tactic(auto, unfolding(crate::specs::Words::names_by))]
+fn two_in<'a>(
+    alloc: Global,
+    name: &'a str,
+    words: &'a [String],
+) -> Result<Option<Command<'a>>, NoMemory>
+    ensures { IfOk result (λ command. option_map asked_of command
+        ≡ two_in name.entry.now (map string_bytes words.entry.now)) }
+{
+    match matches_in(two_files(alloc, name)?, words)? {
+        Some(matches) => Ok(two_by(name, &matches)),
+        None => Ok(None),
+    }
+}
+
 /// Reads the words behind the program's name; none where they are not those of a command.
 pub fn read_words<'a>(alloc: Global, words: &'a [String]) -> Result<Option<Command<'a>>, NoMemory>
     ensures { IfOk result (λ command. option_map asked_of command ≡ asked_by (map string_bytes words.entry.now)) }
@@ -395,17 +338,9 @@ pub fn read_words<'a>(alloc: Global, words: &'a [String]) -> Result<Option<Comma
     match name.as_str() {
         "prove" => prove_in(alloc, arguments),
         "settle" => settle_in(alloc, arguments),
-        "check" => check_in(alloc, arguments),
-        "integrate" => integrate_in(alloc, arguments),
-        "replay" => replay_in(alloc, arguments),
-        "hub" => hub_in(alloc, arguments),
         "audit" => audit_in(alloc, arguments),
-        "same" => same_in(alloc, arguments),
-        "reverse" => reverse_in(alloc, arguments),
         "least" => least_in(alloc, arguments),
-        "bound" => bound_in(alloc, arguments),
-        "confirm" => confirm_in(alloc, arguments),
         "drill" => drill_in(alloc, arguments),
-        _ => Ok(None),
+        other => two_in(alloc, other, arguments),
     }
 }

@@ -4,7 +4,9 @@ ghost use Rattle.fn_rules.specs.Obligations.{is_obligation};
 ghost use Rattle.fn_rules.specs.Rules.{function_of};
 ghost use Rattle.ot_questions.specs.Names as names;
 ghost use Rattle.ot_questions.specs.Obligation.{plan_of};
+ghost use Rattle.ot_terms.specs.Goals.{goal_tree};
 ghost use Rattle.start_laws.specs.Begun.{IsBegunProgress};
+ghost use Rattle.ot_starts.specs.Nodes.{IsStop};
 
 use crate::numbers::{Numbers, Read};
 use ask_core::{Asker, NoMemory, Turn};
@@ -27,6 +29,22 @@ fn read_of(start: &StartAt<'_>, facts: Option<&Facts>) -> Read
     let results = start.results();
     let got = results.as_slice();
     Read::new(got.len(), still_read(start.progress.ob, got), facts)
+}
+
+// The number of what is read of the start at a node, and 0 where no transformation begins.
+#[inline]
+fn number_at<'a>(
+    asker: &StartAsker<'a>,
+    numbers: &mut Numbers,
+    node: &'a Goal<'a>,
+    facts: Option<&Facts>,
+) -> Result<usize, NoMemory>
+    requires { IsStop (function_of asker.now.laid) asker.now.ob (goal_tree node.now) }
+{
+    match asker.start_at(node) {
+        Some(start) => numbers.number(read_of(&start, facts)),
+        None => Ok(0),
+    }
 }
 
 /// What an obligation of a function asks, with a start wherever a transformation begins, and a number for each of these
@@ -113,16 +131,10 @@ impl<'a> Starter for FindingStarts<'a> {
 
 impl<'a> Finder for FindingStarts<'a> {
     fn number(&mut self, node: &'a Goal<'a>) -> Result<usize, NoMemory> {
-        match self.inner.start_at(node) {
-            Some(start) => self.numbers.number(read_of(&start, None)),
-            None => Ok(0),
-        }
+        number_at(&self.inner, &mut self.numbers, node, None)
     }
 
     fn number_alike(&mut self, node: &'a Goal<'a>, facts: &Facts) -> Result<usize, NoMemory> {
-        match self.inner.start_at(node) {
-            Some(start) => self.numbers.number(read_of(&start, Some(facts))),
-            None => Ok(0),
-        }
+        number_at(&self.inner, &mut self.numbers, node, Some(facts))
     }
 }

@@ -158,9 +158,9 @@ module _ {N : Type 0} (is_own : N → Type 0) (old new : Search N) (own : IsOwnS
   own_opened opens =
       let parts : IfSome new.at is_own × All (λ w. is_own w.node) new.waiting.items =
       ⊎_elim
-      (λ (e : (new.waiting.items ≡ old.waiting.items) × (new.at ≡ old.at)). (
-        subst (λ (o : Option N). IfSome o is_own) (sym e.1) own.at,
-        subst (λ (parts : List (WaitingPart N)). All (λ w. is_own w.node) parts) (sym e.0) own.waiting,
+      (λ (e : (old.waiting.items ≡ []) × (new.waiting.items ≡ old.waiting.items) × (new.at ≡ old.at)). (
+        subst (λ (o : Option N). IfSome o is_own) (sym e.2) own.at,
+        subst (λ (parts : List (WaitingPart N)). All (λ w. is_own w.node) parts) (sym e.1) own.waiting,
       ))
       own_taken opens.taken in
       record {

@@ -86,9 +86,9 @@ pub record TakesPart {N : Type 0} (old new : Search N) : Type 0 where
   pub parts : old.waiting.items ≡ new.waiting.items ++ part ∷ []
   pub at : (new.at ≡ Some part.node) ⊎ (new.at ≡ old.at)
 
--- a part is taken, or none is; the rest stays
+-- a part is taken, or none waits; the rest stays
 pub record OpensPart {N : Type 0} (old new : Search N) : Type 0 where
-  pub taken : ((new.waiting.items ≡ old.waiting.items) × (new.at ≡ old.at)) ⊎ TakesPart old new
+  pub taken : ((old.waiting.items ≡ []) × (new.waiting.items ≡ old.waiting.items) × (new.at ≡ old.at)) ⊎ TakesPart old new
   pub levels : new.levels.items ≡ old.levels.items
   pub lemmas : new.lemmas ≡ old.lemmas
   pub asked : new.asked ≡ old.asked

@@ -1,5 +1,5 @@
 //! The turns of a search: each goes on at the open place, or to the next one where that was closed.
-ghost use Rattle.std.specs.Prelude.{◌≡◌, ◌≤◌, OnOk};
+ghost use Rattle.std.specs.Prelude.{◌≡◌, ◌≤◌, IfOk, None, OnOk};
 ghost use Rattle.proof_trees.specs.Starters.{KeepsStarts};
 ghost use Rattle.proof_search.specs.Owning.{AddsLemma, AreOwnLemmas, IsOwnSearch, KeepsPlaces, OpensPart, closed_search};
 
@@ -103,7 +103,8 @@ fn arrive<A: Finder>(
 
 /// Opens the innermost part that waits, if some integers lead there. The search has not ended.
 fn go_on<N: Copy>(search: &mut Search<N>) -> Result<Option<SearchEnd>, NoMemory>
-    ensures { OnOk result (OpensPart search.old search.new) }
+    ensures opens { OnOk result (OpensPart search.old search.new) }
+    ensures goes_on { IfOk result (λ ending. ending ≡ None) }
 {
     let Some(part) = search.waiting.pop() else {
         return Ok(None);
@@ -121,7 +122,8 @@ fn end_level<N: Copy>(
     level: LemmaLevel<N>,
     number: usize,
 ) -> Result<Option<SearchEnd>, NoMemory>
-    ensures { OnOk result (AddsLemma level.node search.old search.new) }
+    ensures adds { OnOk result (AddsLemma level.node search.old search.new) }
+    ensures goes_on { IfOk result (λ ending. ending ≡ None) }
 {
     search.answers.truncate(level.answers);
     let lemma = Lemma {

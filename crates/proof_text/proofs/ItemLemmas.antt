@@ -1,7 +1,7 @@
 -- Lists are found exactly where their items stand with a byte between two of them and one that ends them.
-use Rattle.std.proofs.Common.{◌≡◌, ◌≢◌, ⊎_elim, ℕ, zero, suc, ◌-◌, ◌<◌, ◌≤◌, true, false, List, [], ◌∷◌, ◌++◌, length, refl, sym, ap, ◌∙◌, arith, subst}
+use Rattle.std.proofs.Common.{◌≡◌, ◌≢◌, ⊎_elim, ℕ, zero, suc, ◌+◌, ◌-◌, ◌<◌, ◌≤◌, true, false, List, [], ◌∷◌, ◌++◌, length, refl, sym, ap, ◌∙◌, arith, subst}
 use Rattle.std.proofs.Common.{append_assoc}
-use Rattle.std.proofs.lemmas.List.{append-nil}
+use Rattle.std.proofs.lemmas.List.{append-nil, length_push}
 use Rattle.std.specs.List.{AllByRecursion}
 use Rattle.std.specs.Prelude.{nat_eq}
 use Rattle.proof_text.specs.declared.unread.Unread.{Unread}
@@ -274,6 +274,10 @@ found_step :
 found_step {A} item between stop room bytes rest a some is =
     room_step item between stop room bytes some
     ∙ ap (λ (x : Parsed A). and_then x (after_item between stop (items_front item between stop (room - 1)))) is
+
+-- a list with an item behind it is longer by one
+pub one_more : {A : Type 0} (old new : List A) (a : A) → new ≡ old ++ a ∷ [] → length new ≡ length old + 1
+one_more old new a is = ap length is ∙ length_push old a
 
 -- no item is found
 pub item_missing :

@@ -1,5 +1,5 @@
 -- Lines are found exactly where they stand.
-use Rattle.std.proofs.Common.{◌≡◌, ◌⊎◌, inl, inr, ⊎_elim, ℕ, ◌-◌, ◌<◌, ◌≤◌, List, ◌++◌, length, drop, refl, sym, ap, ◌∙◌}
+use Rattle.std.proofs.Common.{◌≡◌, ◌⊎◌, inl, inr, ⊎_elim, ℕ, ◌-◌, ◌<◌, ◌≤◌, List, [], ◌∷◌, ◌++◌, length, drop, refl, sym, ap, ◌∙◌, arith, lit≤}
 use Rattle.fn_rules.specs.declared.function.Level.{Level}
 use Rattle.fn_rules.specs.declared.function.Level.TheVariants.{Tp1, Tp2}
 use Rattle.proof_text.specs.declared.unread.Unread.TheVariants.{Misspelt, Cut}
@@ -91,3 +91,19 @@ pub fixed_behind :
     → (length rest ≤ length all) × (at < length all - length rest) × (length all - length rest ≤ length all)
     × (drop (length all - length rest) all ≡ rest)
 fixed_behind all at text rest some within is = found_behind all at text rest within (fixed_read text (drop at all) rest tt is) some
+
+-- what stands behind the header of some bytes
+pub header_behind :
+    (level : Level) (all rest : List ℕ) → header_front all ≡ Found level rest
+    → (length rest ≤ length all) × (0 < length all - length rest) × (length all - length rest ≤ length all)
+    × (drop (length all - length rest) all ≡ rest)
+header_behind level all rest is =
+    found_behind all 0 (proof_header_text level) rest (omega arith) (from_first all ∙ (headers_spelled.read level all rest is).2) (some level)
+  where
+    from_first : (bytes : List ℕ) → drop 0 bytes ≡ bytes
+    from_first [] = refl
+    from_first (b ∷ bytes) = refl
+
+    some : (l : Level) → 0 < length (proof_header_text l)
+    some Tp1 = lit≤ tt
+    some Tp2 = lit≤ tt

@@ -3,6 +3,7 @@ use Rattle.std.proofs.Common.{◌≡◌, ℕ, ◌+◌, ◌-◌, ◌<◌, ◌≤�
 use Rattle.std.proofs.Common.{length-append, length-drop}
 use Rattle.std.proofs.lemmas.List.{length-take-le, take-append-drop, take_all}
 use Rattle.std.proofs.Math.Seq.{drop-append_seam}
+use Rattle.proof_text.specs.Fronts.{Parsed, Found}
 
 -- what stands behind a text that stands at a place
 pub found_behind :
@@ -24,8 +25,14 @@ found_behind all at text rest within is some =
     )
 
 -- the bytes from a place on
-pub from_place : (all : List ℕ) (at : ℕ) → take (length all - at) (drop at all) ≡ drop at all
+from_place : (all : List ℕ) (at : ℕ) → take (length all - at) (drop at all) ≡ drop at all
 from_place all at = take_all (length all - at) (drop at all) (omega (arith, length-drop at all))
+
+-- what is found in the bytes from a place on is found at the place
+pub from_there :
+    {A : Type 0} (front : List ℕ → Parsed A) (all rest : List ℕ) (at : ℕ) (a : A)
+    → front (take (length all - at) (drop at all)) ≡ Found a rest → front (drop at all) ≡ Found a rest
+from_there front all rest at a is = ap front (sym (from_place all at)) ∙ is
 
 pub map_ok : {T E : Type 0} {P Q : T → Type 0} (r : Result T E) → ((x : T) → P x → Q x) → IfOk r P → IfOk r Q
 map_ok {T} {E} {P} {Q} (Ok x) f h = f x h

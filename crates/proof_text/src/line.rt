@@ -1,105 +1,14 @@
 //! The lines of a proof, each by its one spelling.
-ghost use Rattle.std.specs.Prelude.{◌≡◌, ◌+◌, ◌<◌, ◌≤◌, [], ◌∷◌, ◌++◌, drop, length, IfOk, IfErr};
-ghost use Rattle.cert_text.specs.Spelling.{kind_text, ob_text};
+ghost use Rattle.std.specs.Prelude.{◌≡◌, ◌<◌, ◌≤◌, drop, length, IfOk, IfErr};
 ghost use Rattle.proof_text.specs.Answers.{Answers};
 ghost use Rattle.proof_text.specs.Fronts.{Found, Missing, fixed_front};
 ghost use Rattle.proof_text.specs.Lines.{end_front, header_front, line_end_front, ob_front};
 ghost use Rattle.proof_text.specs.Spelling.{proof_header_text};
 
 use crate::Unread;
+use cert_text::ob_line;
 use fn_rules::{Level, ObName};
-use ot_model::Kind;
-use smallvec::SmallVec;
 use std::alloc::Global;
-use std::marker::Model;
-
-/// The most bytes of the line of an obligation.
-pub(crate) const LINE_ROOM: usize = 15;
-
-/// Bytes of a line, in place, so that no call takes memory.
-#[derive(Drop)]
-pub(crate) struct ProofLine {
-    bytes: SmallVec<u8, LINE_ROOM>,
-}
-
-impl Model for ProofLine {
-    ghost use Rattle.std.specs.Prelude.{◌≡◌, ◌≤◌, ℕ, List, length};
-    ghost use Rattle.proof_text.specs.declared.line.TheConstants.{LINE_ROOM};
-
-    ghost Value = { List ℕ };
-
-    ghost view = { λ l. l.bytes.items };
-
-    ghost invariant = { λ l. (length l.bytes.items ≤ LINE_ROOM) × (l.bytes.capacity ≡ LINE_ROOM) };
-}
-
-impl ProofLine {
-    fn new(alloc: Global) -> ProofLine
-        ensures { result ≡ [] }
-    {
-        ProofLine {
-            bytes: SmallVec::new(alloc),
-        }
-    }
-
-    fn push(&mut self, byte: u8)
-        requires { length self.old < LINE_ROOM }
-        ensures { self.new ≡ self.old ++ byte ∷ [] }
-    {
-        self.bytes.push_reserved(byte);
-    }
-
-    pub(crate) fn as_slice(&self) -> &[u8]
-        ensures value { result.now ≡ self.now }
-    {
-        self.bytes.as_slice()
-    }
-
-    fn extend(&mut self, bytes: &[u8])
-        requires { length self.old + length bytes.now ≤ LINE_ROOM }
-        ensures value { self.new ≡ self.old ++ bytes.now }
-        ensures len { length self.new ≡ length self.old + length bytes.now }
-    {
-        for byte in bytes {
-            self.push(*byte);
-        }
-    }
-}
-
-fn kind_word(kind: Kind) -> &'static [u8]
-    ensures value { result.now ≡ kind_text kind }
-    ensures len { length result.now ≡ 3 }
-{
-    match kind {
-        Kind::Ins => b"ins",
-        Kind::Del => b"del",
-        Kind::Upd => b"upd",
-    }
-}
-
-/// The line before the tree of an obligation.
-pub(crate) fn ob_line(alloc: Global, name: ObName) -> ProofLine
-    ensures { result ≡ ob_text name }
-{
-    let mut line = ProofLine::new(alloc);
-    line.extend(b"ob ");
-    match name {
-        ObName::Pair(k, l) => {
-            line.extend(kind_word(k));
-            line.push(b' ');
-            line.extend(kind_word(l));
-        }
-        ObName::Triple(k, l, m) => {
-            line.extend(kind_word(k));
-            line.push(b' ');
-            line.extend(kind_word(l));
-            line.push(b' ');
-            line.extend(kind_word(m));
-        }
-    }
-    line.push(b'\n');
-    line
-}
 
 /// The first line of a proof of a level.
 pub(crate) fn header_line(level: Level) -> &'static [u8]

@@ -8,8 +8,9 @@ ghost use Rattle.proof_text.specs.Spelling.{literal_name_text};
 ghost use Rattle.proof_text.specs.Spelling.{newline_text, offset_text, proof_token_text};
 ghost use Rattle.ot_outside.specs.Whole.{AppendsFront};
 
-use crate::line::{header_line, ob_line};
+use crate::line::header_line;
 use ask_core::NoMemory;
+use cert_text::ob_line;
 use diff_graph::Lit;
 use fn_rules::{Level, ObName};
 use itoa::Buffer;

@@ -9,6 +9,7 @@ use proof_trees::{Literals, MAX_LITERALS, ProofTok};
 use std::alloc::Global;
 
 /// Appends a token.
+#[inline(always)]
 pub fn put(tok: ProofTok, out: &mut Vec<u8>) -> Result<(), NoMemory>
     ensures { ExtendsText out.old.items out.new.items }
 {

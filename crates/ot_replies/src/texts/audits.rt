@@ -6,7 +6,7 @@ ghost use Rattle.ot_counter.specs.Ways.{operation_result};
 ghost use Rattle.ot_replies.specs.AuditTexts.{audit_status, audit_text, block_text, case_line, case_lines};
 ghost use Rattle.ot_replies.specs.AuditTexts.{difference_text, found_text, is_total, open_line};
 ghost use Rattle.ot_replies.specs.AuditTexts.{same_status, same_text, spent_text};
-ghost use Rattle.ot_replies.specs.CounterTexts.{op_text};
+ghost use Rattle.ot_replies.specs.CounterTexts.{line_of, op_text, way_text};
 
 use super::appending::{append_bytes, append_text};
 use super::counters::{write_op, write_ops, write_way_line};
@@ -186,14 +186,27 @@ pub(crate) fn write_audit(alloc: Global, audit: &Audit, out: &mut Vec<u8>) -> Re
     }
 }
 
-/// What a function gives.
-pub(crate) fn way_of(form: Option<Op>) -> WayResult
+// What a function gives.
+fn way_of(form: Option<Op>) -> WayResult
     ensures { result ≡ operation_result form }
 {
     match form {
         None => WayResult::Undefined,
         Some(op) => WayResult::Op(op),
     }
+}
+
+/// Writes the line of what a function gives, behind its name.
+pub(crate) fn write_form_line(
+    alloc: Global,
+    name: &str,
+    form: Option<Op>,
+    out: &mut Vec<u8>,
+) -> Result<(), NoMemory>
+    ensures { OnOk result (out.new.items ≡ out.old.items
+        ++ line_of (name.now ++ way_text (operation_result form))) }
+{
+    write_way_line(alloc, name, &way_of(form), out)
 }
 
 // Writes on which block two functions differ, at which operations, and what each gives.
@@ -213,8 +226,8 @@ fn write_difference(
     let other = kind_word(second);
     append_text(format!(in alloc; "differ {one} {other}\n")?, out)?;
     write_ops(alloc, ops, out)?;
-    write_way_line(alloc, "left ", &way_of(left), out)?;
-    write_way_line(alloc, "right ", &way_of(right), out)
+    write_form_line(alloc, "left ", left, out)?;
+    write_form_line(alloc, "right ", right, out)
 }
 
 /// Writes whether two functions agree, or where they do not.

@@ -1,23 +1,14 @@
 //! The lines of the shortest documents that break a function, and of a certificate that none is shorter.
-ghost use Rattle.std.specs.Prelude.{◌≡◌, ◌++◌, [], codes, OnOk};
-ghost use Rattle.std.specs.Fmt.{decimal};
+ghost use Rattle.std.specs.Prelude.{◌≡◌, [], OnOk};
 ghost use Rattle.ot_replies.specs.BoundTexts.{at_least_text, shortest_text};
-ghost use Rattle.ot_replies.specs.CounterTexts.{line_of};
 
-use super::appending::append_text;
 use super::counters::write_counter;
 use super::level_word;
+use super::lines::{write_cause_line, write_number_line};
 use fn_rules::Level;
 use ot_counter::Counter;
 use ot_model::NoMemory;
 use std::alloc::Global;
-
-// The line that says how many cells the document has.
-fn write_cells(alloc: Global, cells: u32, out: &mut Vec<u8>) -> Result<(), NoMemory>
-    ensures { OnOk result (out.new.items ≡ out.old.items ++ line_of (codes "least " ++ decimal cells)) }
-{
-    append_text(format!(in alloc; "least {cells}\n")?, out)
-}
 
 /// Writes the lines of a counterexample, and how many cells its document has.
 pub(crate) fn write_shortest(
@@ -30,7 +21,7 @@ pub(crate) fn write_shortest(
     ensures { OnOk result (out.new.items ≡ shortest_text counter.now cells) }
 {
     write_counter(alloc, counter, out)?;
-    write_cells(alloc, cells, out)
+    write_number_line(alloc, "least", cells as u64, out)
 }
 
 /// Writes that no document of fewer cells breaks a property.
@@ -43,6 +34,5 @@ pub(crate) fn write_at_least(
     requires { out.old.items ≡ [] }
     ensures { OnOk result (out.new.items ≡ at_least_text level cells) }
 {
-    let property = level_word(level);
-    append_text(format!(in alloc; "at least {cells} {property}\n")?, out)
+    write_cause_line(alloc, "at least", cells as u64, level_word(level), out)
 }

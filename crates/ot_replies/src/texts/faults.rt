@@ -1,13 +1,12 @@
 //! The lines of faults.
-ghost use Rattle.std.specs.Prelude.{◌≡◌, ◌++◌, [], codes, OnOk};
-ghost use Rattle.std.specs.Fmt.{decimal};
+ghost use Rattle.std.specs.Prelude.{◌≡◌, [], OnOk};
 ghost use Rattle.case_json.specs.declared.fault.CaseFault.TheVariants.{Pair};
-ghost use Rattle.ot_replies.specs.CounterTexts.{line_of};
 ghost use Rattle.ot_replies.specs.FaultTexts.{case_fault_text, kind_word, name_word, proof_refusal_text};
 ghost use Rattle.ot_replies.specs.FaultTexts.{proof_refusal_word, refusal_text, refusal_word, subject_word};
 ghost use Rattle.ot_replies.specs.FaultTexts.{text_fault_text};
 
 use super::appending::{append_bytes, append_text};
+use super::lines::{write_cause_line, write_number_line, write_word_line};
 use crate::reply::Subject;
 use case_json::{CaseFault, Name};
 use fn_text::{FaultKind, TextFault};
@@ -75,8 +74,7 @@ pub(crate) fn write_refusal(
     requires { out.old.items ≡ [] }
     ensures { OnOk result (out.new.items ≡ refusal_text offset why) }
 {
-    let word = refusal_word(why);
-    append_text(format!(in alloc; "certificate {offset} {word}\n")?, out)
+    write_cause_line(alloc, "certificate", offset, refusal_word(why), out)
 }
 
 fn proof_refusal_word(why: ProofRefusal) -> &'static str
@@ -109,8 +107,7 @@ pub(crate) fn write_proof_refusal(
     requires { out.old.items ≡ [] }
     ensures { OnOk result (out.new.items ≡ proof_refusal_text offset why) }
 {
-    let word = proof_refusal_word(why);
-    append_text(format!(in alloc; "proof {offset} {word}\n")?, out)
+    write_cause_line(alloc, "proof", offset, proof_refusal_word(why), out)
 }
 
 fn subject_word(subject: Subject) -> &'static str
@@ -139,32 +136,6 @@ pub(crate) fn write_text_fault(
     append_text(format!(in alloc; "{file} {line}:{column} {word}\n")?, out)
 }
 
-// Writes a line of some words and one word behind them.
-fn write_word_line(
-    alloc: Global,
-    front: &str,
-    word: &str,
-    out: &mut Vec<u8>,
-) -> Result<(), NoMemory>
-    requires { out.old.items ≡ [] }
-    ensures { OnOk result (out.new.items ≡ line_of (front.now ++ codes " " ++ word.now)) }
-{
-    append_text(format!(in alloc; "{front} {word}\n")?, out)
-}
-
-// Writes a line of some words and a number behind them.
-fn write_number_line(
-    alloc: Global,
-    front: &str,
-    number: u32,
-    out: &mut Vec<u8>,
-) -> Result<(), NoMemory>
-    requires { out.old.items ≡ [] }
-    ensures { OnOk result (out.new.items ≡ line_of (front.now ++ codes " " ++ decimal number)) }
-{
-    append_text(format!(in alloc; "{front} {number}\n")?, out)
-}
-
 // Writes the line of two operations that are not allowed together.
 fn write_pair_line(alloc: Global, i: u32, j: u32, out: &mut Vec<u8>) -> Result<(), NoMemory>
     requires { out.old.items ≡ [] }
@@ -185,10 +156,10 @@ pub(crate) fn write_case_fault(
     match fault {
         CaseFault::Json => append_bytes(b"case json\n", out),
         CaseFault::Field(name) => write_word_line(alloc, "case field", name_word(*name), out),
-        CaseFault::Kind(i) => write_number_line(alloc, "case kind", *i, out),
-        CaseFault::Enabled(i) => write_number_line(alloc, "case enabled", *i, out),
+        CaseFault::Kind(i) => write_number_line(alloc, "case kind", *i as u64, out),
+        CaseFault::Enabled(i) => write_number_line(alloc, "case enabled", *i as u64, out),
         CaseFault::Pair(i, j) => write_pair_line(alloc, *i, *j, out),
-        CaseFault::Order(i) => write_number_line(alloc, "case order", *i, out),
+        CaseFault::Order(i) => write_number_line(alloc, "case order", *i as u64, out),
         CaseFault::Limit(name) => write_word_line(alloc, "limit", name_word(*name), out),
     }
 }

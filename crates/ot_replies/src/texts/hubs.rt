@@ -3,7 +3,7 @@ ghost use Rattle.std.specs.Prelude.{◌≡◌, ◌++◌, [], OnOk};
 ghost use Rattle.ot_replies.specs.HubTexts.{client_line, client_lines, hub_text, server_line, verdict_line};
 
 use super::appending::{append_bytes, append_text};
-use super::documents::write_document;
+use super::documents::write_document_line;
 use crate::reply::{ClientEnd, HubEnd};
 use ot_model::NoMemory;
 use std::alloc::Global;
@@ -13,9 +13,7 @@ fn write_server(alloc: Global, end: &HubEnd, out: &mut Vec<u8>) -> Result<(), No
     ensures { OnOk result (out.new.items ≡ server_line end.now) }
 {
     let logged = end.logged;
-    append_text(format!(in alloc; "server {logged} ")?, out)?;
-    write_document(&end.doc, out)?;
-    append_bytes(b"\n", out)
+    write_document_line(format!(in alloc; "server {logged} ")?, &end.doc, out)
 }
 
 fn write_client(
@@ -28,12 +26,11 @@ fn write_client(
 {
     let received = end.received;
     let pending = end.pending;
-    append_text(
+    write_document_line(
         format!(in alloc; "client {number} {received} {pending} ")?,
+        &end.doc,
         out,
-    )?;
-    write_document(&end.doc, out)?;
-    append_bytes(b"\n", out)
+    )
 }
 
 fn write_clients(alloc: Global, ends: &[ClientEnd], out: &mut Vec<u8>) -> Result<(), NoMemory>

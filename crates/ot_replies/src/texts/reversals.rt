@@ -3,9 +3,10 @@ ghost use Rattle.std.specs.Prelude.{◌≡◌, ◌++◌, [], codes, OnOk};
 ghost use Rattle.ot_replies.specs.CounterTexts.{line_of};
 ghost use Rattle.ot_replies.specs.ReversalTexts.{loss_text, loss_word, reversal_status, reversal_text};
 
-use super::appending::{append_bytes, append_text};
-use super::audits::{way_of, write_spent};
-use super::counters::{write_doc_line, write_ops, write_way_line};
+use super::appending::append_bytes;
+use super::audits::{write_form_line, write_spent};
+use super::counters::{write_doc_line, write_ops};
+use super::lines::write_word_line;
 use audit_answers::Back;
 use ot_model::{Doc, NoMemory, Op};
 use std::alloc::Global;
@@ -43,8 +44,7 @@ fn write_loss(
 ) -> Result<(), NoMemory>
     ensures { OnOk result (out.new.items ≡ out.old.items ++ line_of (codes "no reverse " ++ loss_word there back)) }
 {
-    let cause = loss_word(there, back);
-    append_text(format!(in alloc; "no reverse {cause}\n")?, out)
+    write_word_line(alloc, "no reverse", loss_word(there, back), out)
 }
 
 // Writes where an operation is not taken back.
@@ -62,8 +62,8 @@ fn write_instance(
     write_loss(alloc, there, back, out)?;
     write_doc_line(doc, out)?;
     write_ops(alloc, ops, out)?;
-    write_way_line(alloc, "there ", &way_of(there), out)?;
-    write_way_line(alloc, "back ", &way_of(back), out)
+    write_form_line(alloc, "there ", there, out)?;
+    write_form_line(alloc, "back ", back, out)
 }
 
 /// Writes whether one function takes back what another one makes, or where it does not.

@@ -4,7 +4,8 @@ ghost use Rattle.ot_replies.specs.SessionTexts.{event_fault_text, event_fault_wo
 ghost use Rattle.ot_replies.specs.SessionTexts.{sites_text, stuck_text};
 
 use super::appending::{append_bytes, append_text};
-use super::documents::write_document;
+use super::documents::write_document_line;
+use super::lines::{write_cause_line, write_number_line};
 use crate::reply::EventFault;
 use ot_model::NoMemory;
 use ot_session::SiteEnd;
@@ -32,8 +33,13 @@ pub(crate) fn write_event_fault(
     requires { out.old.items ≡ [] }
     ensures { OnOk result (out.new.items ≡ event_fault_text number fault) }
 {
-    let word = event_fault_word(fault);
-    append_text(format!(in alloc; "case event {number} {word}\n")?, out)
+    write_cause_line(
+        alloc,
+        "case event",
+        number as u64,
+        event_fault_word(fault),
+        out,
+    )
 }
 
 /// Writes the line of an event at which a site is stuck.
@@ -41,7 +47,7 @@ pub(crate) fn write_stuck(alloc: Global, number: u32, out: &mut Vec<u8>) -> Resu
     requires { out.old.items ≡ [] }
     ensures { OnOk result (out.new.items ≡ stuck_text number) }
 {
-    append_text(format!(in alloc; "stuck event {number}\n")?, out)
+    write_number_line(alloc, "stuck event", number as u64, out)
 }
 
 fn write_site(
@@ -53,9 +59,7 @@ fn write_site(
     ensures { OnOk result (out.new.items ≡ out.old.items ++ site_line number end.now) }
 {
     let count = end.seen.len();
-    append_text(format!(in alloc; "site {number} {count} ")?, out)?;
-    write_document(&end.doc, out)?;
-    append_bytes(b"\n", out)
+    write_document_line(format!(in alloc; "site {number} {count} ")?, &end.doc, out)
 }
 
 fn write_ends(alloc: Global, ends: &[SiteEnd], out: &mut Vec<u8>) -> Result<(), NoMemory>

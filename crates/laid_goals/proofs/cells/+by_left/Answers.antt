@@ -1,67 +1,50 @@
-use Rattle.std.proofs.Common.{◌≡◌, ◌<◌, rules, sym}
-use Rattle.std.proofs.lemmas.Result.{IfOk-weaker}
-use Rattle.fn_rules.specs.Rules.{function_of}
-use Rattle.ot_terms.specs.Cells.{cell_tree}
-use Rattle.ot_terms.specs.Forms.{form_tree}
-use Rattle.ot_terms.specs.Goals.{goal_tree, laid_form, Same}
-use Rattle.ot_terms.specs.Weights.{goal_weight}
-use Rattle.ot_rewrite.proofs.Stepped.{rule_steps}
-use Rattle.laid_goals.specs.Sharing.{StandsAlike}
-use Rattle.laid_goals.proofs.LaidCells.{readable, rule_left, rule_left_parted}
-use Rattle.laid_goals.proofs.LaidGoals.{form_low, laid_alike, leads_by_rule, step_alike}
+use Rattle.std.proofs.Common.{rules, refl, sym}
+use Rattle.laid_goals.proofs.LaidCells.{left_parted_step, left_readable, left_step}
+use Rattle.laid_goals.proofs.LaidGoals.{behind_step, form_low, laid_behind, laid_by_form, leads_same, no_behind, yes_behind}
 use Rattle.laid_goals.proofs.cells.+by_left.Goals as goal
 
-pub read_step-requires : goal.read_step-requires
-read_step-requires t c =
-    (readable (function_of c.args.rules.now) c.requires.goal.0 (cell_tree c.args.left) (cell_tree c.args.right) c.requires.goal.1).0
+pub by_left-read_step-requires : goal.by_left-read_step-requires
+by_left-read_step-requires t c = left_readable _ _ c.rules_are_valid.ensures _ _ c.requires.goal.1
 
 -- the comparison of a cell that is read further is lighter, and of the obligation
-pub by_left-requires : goal.by_left-requires
-by_left-requires t c =
-    let f = function_of c.args.rules.now in
-    let old = Same (cell_tree c.args.left) (cell_tree c.args.right) in
-    let next = Same (cell_tree c.in-Some.read) (cell_tree c.args.right) in
-    let step =
-    rule_steps f c.requires.goal.0 c.rules_are_valid.ensures old c.requires.goal.1 next
-    (rule_left f (cell_tree c.args.left) (cell_tree c.args.right) (cell_tree c.in-Some.read)
-    (sym (rw c.in-Some.is at c.in_ok-read.ensures))) in
-    let falls : goal_weight f next < goal_weight f old = step.lighter in
-    (search (rules, falls), ((c.requires.goal.0, step.belongs c.requires.goal.0 c.requires.goal.1), c.requires.known))
+pub by_left-by_left-requires : goal.by_left-by_left-requires
+by_left-by_left-requires t c =
+    let is_read = sym (rw c.in-Some.is at c.in_ok-read.ensures) in
+    let next = behind_step _ _ _ _ c.requires.goal.1 (left_step _ _ c.rules_are_valid.ensures _ _ c.requires.goal.1 _ is_read) in
+    (search (rules, next.lighter), (next.goal, c.requires.known))
 
-pub returns-in-Some-clause-alike : goal.returns-in-Some-clause-alike
-returns-in-Some-clause-alike t c =
-    let f = function_of c.args.rules.now in
-    let old = Same (cell_tree c.args.left) (cell_tree c.args.right) in
-    let next = Same (cell_tree c.in-Some.read) (cell_tree c.args.right) in
-    IfOk-weaker c.by_left.result (λ r. StandsAlike f next (goal_tree r.now)) (λ r. StandsAlike f old (goal_tree r.now))
-    (λ r. step_alike f old next (goal_tree r.now)
-    (rule_steps f c.requires.goal.0 c.rules_are_valid.ensures old c.requires.goal.1 next
-    (rule_left f (cell_tree c.args.left) (cell_tree c.args.right) (cell_tree c.in-Some.read)
-    (sym (rw c.in-Some.is at c.in_ok-read.ensures)))))
+pub by_left-returns-in-Some-clause-alike : goal.by_left-returns-in-Some-clause-alike
+by_left-returns-in-Some-clause-alike t c =
+    let is_read = sym (rw c.in-Some.is at c.in_ok-read.ensures) in
+    laid_behind _ _ _ c.by_left.result (left_step _ _ c.rules_are_valid.ensures _ _ c.requires.goal.1 _ is_read)
     c.by_left.ensures.alike
 
-pub by_form-requires : goal.by_form-requires
-by_form-requires t c =
-    let f = function_of c.args.rules.now in
-    let right = cell_tree c.args.right in
-    form_low f c.requires.goal.0 (Same (cell_tree c.args.left) right) c.requires.goal.1 (form_tree c.in-Some-parts.form.now)
-    (Same (cell_tree c.in-Some-parts.yes.now) right) (Same (cell_tree c.in-Some-parts.no.now) right)
-    (leads_by_rule f c.requires.goal.0 (Same (cell_tree c.args.left) right) _ c.rules_are_valid.ensures c.requires.goal.1
-    (rule_left_parted f (cell_tree c.args.left) right (form_tree c.in-Some-parts.form.now)
-    (cell_tree c.in-Some-parts.yes.now) (cell_tree c.in-Some-parts.no.now) c.in-Some-parts.ensures))
-
 -- a question comes before the cell
-pub returns-clause-alike : goal.returns-clause-alike
-returns-clause-alike t c =
-    let f = function_of c.args.rules.now in
-    let right = cell_tree c.args.right in
-    let on_yes = goal_tree c.in_ok-on_yes.on_yes.now in
-    let on_no = goal_tree c.in_ok-on_no.on_no.now in
-    IfOk-weaker c.by_form.result (λ r. goal_tree r.now ≡ laid_form (form_tree c.in-Some-parts.form.now) on_yes on_no)
-    (λ r. StandsAlike f (Same (cell_tree c.args.left) right) (goal_tree r.now))
-    (λ r. laid_alike f c.requires.goal.0 (Same (cell_tree c.args.left) right) c.requires.goal.1 (form_tree c.in-Some-parts.form.now)
-    (Same (cell_tree c.in-Some-parts.yes.now) right) (Same (cell_tree c.in-Some-parts.no.now) right)
-    (leads_by_rule f c.requires.goal.0 (Same (cell_tree c.args.left) right) _ c.rules_are_valid.ensures c.requires.goal.1
-    (rule_left_parted f (cell_tree c.args.left) right (form_tree c.in-Some-parts.form.now)
-    (cell_tree c.in-Some-parts.yes.now) (cell_tree c.in-Some-parts.no.now) c.in-Some-parts.ensures))
-    on_yes on_no (goal_tree r.now) c.in_ok-on_yes.ensures.alike c.in_ok-on_no.ensures.alike) c.by_form.ensures
+pub by_left-left_parted-requires : goal.by_left-left_parted-requires
+by_left-left_parted-requires t c =
+    let rule = left_parted_step _ _ c.rules_are_valid.ensures _ _ c.requires.goal.1 _ _ _ c.in-Some-parts.ensures in
+    let next = behind_step _ _ _ _ c.requires.goal.1 rule in
+    (search (rules, next.lighter), (next.goal, c.requires.known))
+
+pub by_left-returns-clause-alike : goal.by_left-returns-clause-alike
+by_left-returns-clause-alike t c =
+    laid_behind _ _ _ c.left_parted.result
+    (left_parted_step _ _ c.rules_are_valid.ensures _ _ c.requires.goal.1 _ _ _ c.in-Some-parts.ensures)
+    c.left_parted.ensures.alike
+
+-- two comparisons by a form
+pub left_parted-by_left-requires : goal.left_parted-by_left-requires
+left_parted-by_left-requires t c =
+    let no = no_behind _ _ _ c.requires.goal.1 _ _ _ (leads_same _ _ _ refl) in (search (rules, no.lighter), (no.goal, c.requires.known))
+
+pub left_parted-by_left-requires-2 : goal.left_parted-by_left-requires-2
+left_parted-by_left-requires-2 t c =
+    let yes = yes_behind _ _ _ c.requires.goal.1 _ _ _ (leads_same _ _ _ refl) in (search (rules, yes.lighter), (yes.goal, c.in_ok-on_no.ensures.known))
+
+pub left_parted-by_form-requires : goal.left_parted-by_form-requires
+left_parted-by_form-requires t c = form_low _ _ _ c.requires.goal.1 _ _ _ (leads_same _ _ _ refl)
+
+pub left_parted-returns-clause-alike : goal.left_parted-returns-clause-alike
+left_parted-returns-clause-alike t c =
+    laid_by_form _ _ _ c.requires.goal.1 _ _ _ (leads_same _ _ _ refl) _ _ c.by_form.result c.in_ok-on_yes.ensures.alike
+    c.in_ok-on_no.ensures.alike c.by_form.ensures

@@ -1,10 +1,11 @@
 use Rattle.std.proofs.Common.{sym, subst, List}
 use Rattle.std.specs.List.{All}
-use Rattle.std.proofs.lemmas.List.Elements.{All-push}
+use Rattle.std.proofs.lemmas.Result.{IfOk-weaker}
 use Rattle.fn_rules.specs.Rules.{function_of}
 use Rattle.ot_terms.specs.Cells.{cell_tree}
 use Rattle.laid_goals.specs.declared.kept.Compared.{Compared}
 use Rattle.laid_goals.specs.Sharing.{IsKeptRead}
+use Rattle.laid_goals.proofs.LaidGoals.{laid_known}
 use Rattle.laid_goals.proofs.cells.by_known.Goals as goal
 
 -- what is left of the comparison is known
@@ -26,11 +27,10 @@ by_right-requires-clause-read c = c.requires.read
 
 -- and so it is from now on
 pub returns-clause-alike : goal.returns-clause-alike
-returns-clause-alike c = c.in_ok-built.ensures
+returns-clause-alike c = laid_known _ _ c.in_ok-built.built.now c.learnt_read.result c.in_ok-built.ensures c.learnt_read.ensures.same
 
 pub returns-clause-known : goal.returns-clause-known
 returns-clause-known c =
-    let f = function_of c.args.rules.now in
-    let right = cell_tree c.args.right in
-    subst (λ (kept : List Compared). All (IsKeptRead f right) kept) (sym c.in_ok-push.ensures.items)
-    (All-push (IsKeptRead f right) _ _ c.requires.known c.in_ok-built.ensures)
+    IfOk-weaker c.learnt_read.result _ _
+    (λ r told. told (function_of c.args.rules.now) (cell_tree c.args.right) c.requires.known c.in_ok-built.ensures)
+    c.learnt_read.ensures.known

@@ -1,31 +1,8 @@
--- What is answered of the bytes that were given of the function's file.
-use Rattle.std.proofs.Common.{inl}
-use Rattle.std.proofs.lemmas.Result.{IfErr-at_err, IfOk-at_ok}
-use Rattle.fn_rules.specs.Rules.{function_of}
-use Rattle.ot_replies.specs.declared.reply.Subject.TheVariants.{First}
-use Rattle.ot_commands.specs.Audit.{IsReplyToAudit}
-use Rattle.ot_commands.proofs.Called.{function_given, function_replies}
-use Rattle.ot_commands.proofs.Given.{refused_first}
+-- What one file gets is the reply to the command.
 use Rattle.ot_commands.proofs.audit.audit.Goals as goal
 
-pub returns-in-Err-clause-given : goal.returns-in-Err-clause-given
-returns-in-Err-clause-given g c = (
-  c.load_function.ensures.read,
-  λ holds tells. (
-    refused_first (g.H.Shelf.reads c.args.shelf.now) (g.H.Shelf.reads c.load_function.new.shelf) c.args.function.now
-        (g.H.Shelf.reads c.load_function.new.shelf).bytes (inl c.load_function.ensures.read) (holds c.args.function.now) tells c.in-Err.reply
-        (λ f. IsReplyToAudit f c.in-Err.reply) First (IfErr-at_err _ c.in-Err.is c.in_ok-rules.ensures.given_replied),
-    tt,
-  ),
-)
+pub returns-clause-ok : goal.returns-clause-ok
+returns-clause-ok g c = c.reply_to_one.ensures.ok
 
-pub returns-in-Ok-clause-ok : goal.returns-in-Ok-clause-ok
-returns-in-Ok-clause-ok g c =
-    function_replies First (g.H.Shelf.holds c.args.shelf.now c.args.function.now) (function_of c.in-Ok.rules) (IfOk-at_ok _ c.in-Ok.is c.in_ok-rules.ensures.ok) IsReplyToAudit
-    c.reply_to_function.result c.reply_or_stop.result c.reply_to_function.ensures c.reply_or_stop.ensures.ok
-
-pub returns-in-Ok-clause-given : goal.returns-in-Ok-clause-given
-returns-in-Ok-clause-given g c =
-    function_given (g.H.Shelf.reads c.args.shelf.now) (g.H.Shelf.reads c.load_function.new.shelf) c.args.function.now c.load_function.ensures.read
-    (function_of c.in-Ok.rules) (IfOk-at_ok _ c.in-Ok.is c.in_ok-rules.ensures.given) IsReplyToAudit
-    c.reply_to_function.result c.reply_or_stop.result c.reply_to_function.ensures c.reply_or_stop.ensures.ok
+pub returns-clause-given : goal.returns-clause-given
+returns-clause-given g c = c.reply_to_one.ensures.given

@@ -1,5 +1,5 @@
 -- What both files get is the reply to the command.
-use Rattle.ot_commands.specs.Bound.{IsReplyToBound}
+use Rattle.ot_commands.specs.Bound.{bound_facts}
 use Rattle.ot_commands.proofs.Called.{nothing_more}
 use Rattle.ot_commands.proofs.bound.bound.Goals as goal
 
@@ -8,5 +8,5 @@ returns-clause-ok g c = c.reply_to_both.ensures.ok
 
 pub returns-clause-given : goal.returns-clause-given
 returns-clause-given g c =
-    nothing_more (g.H.Shelf.reads c.args.shelf.now) (g.H.Shelf.reads c.reply_to_both.new.shelf) c.args.function.now c.args.certificate.now
-    (λ told f r. IsReplyToBound f told r) c.reply_to_both.result c.reply_to_both.ensures.given
+    nothing_more (g.H.Shelf.reads c.args.shelf.now) (g.H.Shelf.reads c.reply_to_both.new.shelf)
+    (bound_facts c.args.function.now c.args.certificate.now).opens _ c.reply_to_both.result c.reply_to_both.ensures.given

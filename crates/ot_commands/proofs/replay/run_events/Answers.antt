@@ -3,10 +3,11 @@ use Rattle.std.proofs.lemmas.List.{drop_all, drop_more}
 use Rattle.case_json.specs.declared.script.Event.{Event}
 use Rattle.fn_rules.specs.Functions.{Function}
 use Rattle.ot_session.specs.Views.{view_of}
-use Rattle.ot_commands.specs.Replay.{MakesSitesAgree, Runs}
+use Rattle.ot_commands.specs.Replay.{IsDone, IsRefusedEvent, MakesSitesAgree, Runs, TellsSites}
 use Rattle.ot_commands.specs.declared.halt.Halt.TheVariants.{Refused}
 use Rattle.ot_commands.proofs.PassedOn.{passed_on}
-use Rattle.ot_commands.proofs.Running.{done_is_open, done_keeps_function, done_keeps_sites, goes_on, stops}
+use Rattle.ot_commands.proofs.RunsBy.{goes_on, stops}
+use Rattle.ot_commands.proofs.Running.{done_is_open, done_keeps_function, done_keeps_sites}
 use Rattle.ot_commands.proofs.replay.run_events.Goals as goal
 
 pub loop-number-init : goal.loop-number-init
@@ -19,7 +20,7 @@ run_event-requires c = c.loop-number.invariant.is_open
 pub returns-in_err-run_event-clause-refused : goal.returns-in_err-run_event-clause-refused
 returns-in_err-run_event-clause-refused c r is =
     c.loop-number.invariant.rest r
-    (stops (view_of c.loop-number.session) c.loop-number.number c.args.events.now _ r
+    (stops TellsSites IsRefusedEvent IsDone (view_of c.loop-number.session) c.loop-number.number c.args.events.now _ r
     (drop_more c.args.events.now c.loop-number.number _ c.loop-number-test.true)
     (c.in_err-run_event.ensures.refused r
     (passed_on c.from_residual.result c.in_err-run_event.field-0.0 (Refused r) c.from_residual.ensures.1 is)))
@@ -37,7 +38,7 @@ loop-number-preserved c =
     let done = c.in_ok-run_event.ensures.ok in record {
       is_open = done_is_open old new _ done c.loop-number.invariant.is_open;
       rest = λ r runs. c.loop-number.invariant.rest r
-          (goes_on old new c.loop-number.number c.args.events.now _ r
+          (goes_on TellsSites IsRefusedEvent IsDone old new c.loop-number.number c.args.events.now _ r
           (drop_more c.args.events.now c.loop-number.number _ c.loop-number-test.true) done runs);
       sites = done_keeps_sites old new _ done ∙ c.loop-number.invariant.sites;
       function = done_keeps_function old new _ done ∙ c.loop-number.invariant.function;

@@ -1,8 +1,7 @@
 use Rattle.std.proofs.Common.{◌≡◌, ℕ, List, [], ◌∷◌, ◌++◌, length, length-append, refl, sym, ap, subst, ◌∙◌, arith, append_assoc}
 use Rattle.std.proofs.lemmas.List.{append-nil}
 use Rattle.ot_sections.specs.Feeding.{Yields}
-use Rattle.ot_least.specs.declared.header.HeaderFit.{HeaderFit}
-use Rattle.ot_least.specs.declared.header.HeaderFit.TheVariants as fits_other
+use Rattle.ot_least.specs.declared.header.HeaderFit.TheVariants.{Other}
 use Rattle.ot_least.specs.Headers.{FitsLowHeader, IsFrontOfHeader}
 use Rattle.ot_least.specs.Lows.{low_header_text}
 use Rattle.ot_least.proofs.Fronts.{no_header_there, none_is_front}
@@ -24,23 +23,31 @@ pub returns-in-Whole-clause-header : goal.returns-in-Whole-clause-header
 returns-in-Whole-clause-header g c =
     let line = c.loop-line.line.items in
     let byte = c.in-Some.byte in
-    let came : c.extend_from_slice.new.self.items ≡ line ++ byte ∷ [] = c.in_ok-extend_from_slice.ensures.items in
-    let fits = subst (λ (f : HeaderFit). FitsLowHeader c.deref.result.now f) c.in-Whole.is c.in_ok-level.ensures in
-    let text : low_header_text c.in-Whole.level c.in-Whole.bound ≡ line ++ byte ∷ [] = fits.1 ∙ c.deref.ensures.value ∙ came in
+    let came = c.in_ok-level.ensures.came in
+    let fits = rw c.in-Whole.is at c.in_ok-level.ensures.fits in
+    let text : low_header_text c.in-Whole.level c.in-Whole.bound ≡ line ++ byte ∷ [] = fits.1 ∙ came in
     let next = rw c.in-Some.is at c.in_ok-byte.ensures.byte in
-    λ all rest may.
-    subst (λ (l : List ℕ). Yields g.F.Feed c.args.feed.now all l)
-    (sym (append_assoc line (byte ∷ []) rest) ∙ ap (λ (l : List ℕ). l ++ rest) (sym text))
-    (c.loop-line.invariant.bytes all (byte ∷ rest) (next all rest may))
+    let less = rw c.in-Some.is at c.in_ok-byte.ensures.fewer in
+    let count = c.len.ensures ∙ c.longer_fit.new.line.ok.0 in
+    let more = ap (λ (l : List ℕ). length l) came ∙ length-append line (byte ∷ []) in
+    record {
+      bounded = fits.0;
+      counted = count ∙ ap (λ (l : List ℕ). length l) (sym fits.1);
+      bytes = λ all rest may.
+          subst (λ (l : List ℕ). Yields g.F.Feed c.args.feed.now all l)
+          (sym (append_assoc line (byte ∷ []) rest) ∙ ap (λ (l : List ℕ). l ++ rest) (sym text))
+          (c.loop-line.invariant.bytes all (byte ∷ rest) (next all rest may));
+      fewer = omega (arith, c.loop-line.invariant.fewer, less, count, more);
+    }
 
 -- no first line begins with the bytes that came
 pub returns-in-Other-clause-refused : goal.returns-in-Other-clause-refused
 returns-in-Other-clause-refused g c =
     let line = c.loop-line.line.items in
     let byte = c.in-Some.byte in
-    let came : c.extend_from_slice.new.self.items ≡ line ++ byte ∷ [] = c.in_ok-extend_from_slice.ensures.items in
-    let fits = subst (λ (f : HeaderFit). FitsLowHeader c.deref.result.now f) c.in-Other.is c.in_ok-level.ensures in
-    let here = subst (λ (l : List ℕ). FitsLowHeader l fits_other.Other) (c.deref.ensures.value ∙ came) fits in
+    let came = c.in_ok-level.ensures.came in
+    let fits = rw c.in-Other.is at c.in_ok-level.ensures.fits in
+    let here = subst (λ (l : List ℕ). FitsLowHeader l Other) came fits in
     let next = rw c.in-Some.is at c.in_ok-byte.ensures.byte in
     λ refused all have.
     let rest = have.0 in (
@@ -66,50 +73,32 @@ pub loop-line-preserved : goal.loop-line-preserved
 loop-line-preserved g c =
     let line = c.loop-line.line.items in
     let byte = c.in-Some.byte in
-    let came : c.extend_from_slice.new.self.items ≡ line ++ byte ∷ [] = c.in_ok-extend_from_slice.ensures.items in
-    let fits = subst (λ (f : HeaderFit). FitsLowHeader c.deref.result.now f) c.in-Front.is c.in_ok-level.ensures in
+    let came = c.in_ok-level.ensures.came in
     let next = rw c.in-Some.is at c.in_ok-byte.ensures.byte in
     let less = rw c.in-Some.is at c.in_ok-byte.ensures.fewer in
     let count = ap (λ (l : List ℕ). length l) came ∙ length-append line (byte ∷ []) in
     record {
-      front = subst IsFrontOfHeader c.deref.ensures.value fits;
+      front = rw c.in-Front.is at c.in_ok-level.ensures.fits;
       bytes = λ all rest may.
           subst (λ (l : List ℕ). Yields g.F.Feed c.args.feed.now all l)
           (sym (append_assoc line (byte ∷ []) rest) ∙ ap (λ (l : List ℕ). l ++ rest) (sym came))
           (c.loop-line.invariant.bytes all (byte ∷ rest) (next all rest may));
       fewer = omega (arith, c.loop-line.invariant.fewer, less, count);
-      kept =
-          kept_on g.F.Feed.faults g.F.Feed.bound g.F.Feed.held g.F.Feed.keeps c.args.feed.now c.loop-line.feed c.next_byte.new.feed
-          c.loop-line.invariant.kept c.next_byte.ensures.kept;
+      kept = kept_on c.loop-line.invariant.kept c.next_byte.ensures.kept;
     }
 
 -- the feed is kept, whatever is returned
 pub returns-in_err-byte-clause-kept : goal.returns-in_err-byte-clause-kept
-returns-in_err-byte-clause-kept g c =
-    kept_on g.F.Feed.faults g.F.Feed.bound g.F.Feed.held g.F.Feed.keeps c.args.feed.now c.loop-line.feed c.next_byte.new.feed
-    c.loop-line.invariant.kept c.next_byte.ensures.kept
-
-pub returns-in_err-extend_from_slice-clause-kept : goal.returns-in_err-extend_from_slice-clause-kept
-returns-in_err-extend_from_slice-clause-kept g c =
-    kept_on g.F.Feed.faults g.F.Feed.bound g.F.Feed.held g.F.Feed.keeps c.args.feed.now c.loop-line.feed c.next_byte.new.feed
-    c.loop-line.invariant.kept c.next_byte.ensures.kept
+returns-in_err-byte-clause-kept g c = kept_on c.loop-line.invariant.kept c.next_byte.ensures.kept
 
 pub returns-in_err-level-clause-kept : goal.returns-in_err-level-clause-kept
-returns-in_err-level-clause-kept g c =
-    kept_on g.F.Feed.faults g.F.Feed.bound g.F.Feed.held g.F.Feed.keeps c.args.feed.now c.loop-line.feed c.next_byte.new.feed
-    c.loop-line.invariant.kept c.next_byte.ensures.kept
+returns-in_err-level-clause-kept g c = kept_on c.loop-line.invariant.kept c.next_byte.ensures.kept
 
 pub returns-in-Whole-clause-kept : goal.returns-in-Whole-clause-kept
-returns-in-Whole-clause-kept g c =
-    kept_on g.F.Feed.faults g.F.Feed.bound g.F.Feed.held g.F.Feed.keeps c.args.feed.now c.loop-line.feed c.next_byte.new.feed
-    c.loop-line.invariant.kept c.next_byte.ensures.kept
+returns-in-Whole-clause-kept g c = kept_on c.loop-line.invariant.kept c.next_byte.ensures.kept
 
 pub returns-in-Other-clause-kept : goal.returns-in-Other-clause-kept
-returns-in-Other-clause-kept g c =
-    kept_on g.F.Feed.faults g.F.Feed.bound g.F.Feed.held g.F.Feed.keeps c.args.feed.now c.loop-line.feed c.next_byte.new.feed
-    c.loop-line.invariant.kept c.next_byte.ensures.kept
+returns-in-Other-clause-kept g c = kept_on c.loop-line.invariant.kept c.next_byte.ensures.kept
 
 pub returns-clause-kept : goal.returns-clause-kept
-returns-clause-kept g c =
-    kept_on g.F.Feed.faults g.F.Feed.bound g.F.Feed.held g.F.Feed.keeps c.args.feed.now c.loop-line.feed c.next_byte.new.feed
-    c.loop-line.invariant.kept c.next_byte.ensures.kept
+returns-clause-kept g c = kept_on c.loop-line.invariant.kept c.next_byte.ensures.kept

@@ -1,12 +1,50 @@
-use Rattle.std.proofs.Common.{◌≡◌, pos, nat_eq, drop, get_or, refl, inl, inr, sym, ◌∙◌, subst, arith}
+use Rattle.std.proofs.Common.{◌≡◌, ◌≤◌, ◌⊎◌, length, pos, nat_eq, drop, get_or, refl, inl, inr, sym, ◌∙◌, subst, arith}
 use Rattle.std.proofs.lemmas.List.{take_all}
 use Rattle.diff_graph.specs.declared.lit.Lit.{Lit}
-use Rattle.ask_core.specs.Plans.{Plan}
+use Rattle.ask_core.specs.Askers.{Begins}
+use Rattle.ask_core.specs.declared.turn.Turn.{Turn}
+use Rattle.ask_core.specs.declared.turn.Turn.TheVariants as turn
+use Rattle.ask_core.specs.Plans.{Plan, Holds, Fails}
 use Rattle.ot_prove.specs.Outcomes.{AreAnswersTo}
-use Rattle.ot_prove.specs.Searching.{LeadsTo}
-use Rattle.ot_prove.proofs.Steps.{SamePlans-trans}
+use Rattle.ot_prove.specs.Searching.{IsAsBefore, LeadsTo}
+use Rattle.ot_prove.proofs.Steps.{IsAsBefore-trans}
 use Rattle.ot_prove.proofs.Ways.{side_has, way_on, left_on, said_on, ended_way, whole_way}
+use Rattle.ot_prove.proofs.answers.answers_along.Given.{Over}
+use Rattle.ot_prove.proofs.answers.answers_along.Goals.{After-turn, In-Holds}
 use Rattle.ot_prove.proofs.answers.answers_along.Goals as goal
+
+-- the asker is as it was behind one turn more
+kept_on :
+    (g : Over) (c : After-turn g)
+    → IsAsBefore (g.A.Asker.is_own c.args.asker.now) (g.A.Asker.is_own c.turn.new.self) (g.A.Asker.plan c.args.asker.now)
+    (g.A.Asker.plan c.turn.new.self) (g.A.Asker.root c.args.asker.now) (g.A.Asker.root c.turn.new.self)
+    (g.A.Asker.name_count c.args.asker.now) (g.A.Asker.name_count c.turn.new.self)
+kept_on g c =
+    let turned = c.turn.ensures in
+    IsAsBefore-trans c.loop-literal.invariant.kept
+    (record { same = turned.same; root_kept = turned.root_kept; count_kept = turned.count_kept })
+
+-- a turn that asks nothing tells the end of the plan
+at_end :
+    {N W : Type 0} (is_own : N → Type 0) (plan : N → Plan W) (t : Turn N W) (p : Plan W) → Begins is_own plan t p
+    → (t ≡ turn.Holds) ⊎ ((why : W) × (t ≡ turn.Fails why)) → (p ≡ Holds) ⊎ ((why : W) × (p ≡ Fails why))
+at_end is_own plan (turn.Ask l on_yes on_no) p begins (inl is) = cc
+at_end is_own plan (turn.Ask l on_yes on_no) p begins (inr is) = let wrong = is.1 in cc
+at_end is_own plan turn.Holds p begins is = inl begins
+at_end is_own plan (turn.Fails why) p begins is = inr (why, begins)
+
+-- where the plan has come to its end, so have the literals
+walked : (g : Over) (c : In-Holds g) → length c.args.literals.now ≤ c.loop-literal.literal-index
+walked g c =
+    let A = g.A.Asker in
+    let now = c.turn.new.self in
+    let n = c.loop-literal.node in
+    let known = c.loop-literal.invariant in
+    let begins =
+    subst (λ (p : Plan g.row.A-Why.Denot). Begins (A.is_own now) (A.plan now) c.in_ok-lit.field-0 p) (c.turn.ensures.same.plans n known.own)
+    c.in_ok-lit.ensures.begins in
+    ended_way (A.plan c.loop-literal.asker n) c.args.literals.now c.loop-literal.literal-index c.requires.0
+    (known.left c.requires.0 c.requires.1) (at_end (A.is_own now) (A.plan now) c.in_ok-lit.field-0 _ begins c.in-Holds.is)
 
 -- one literal more is answered, and the walk goes on by its answer
 pub loop-literal-preserved : goal.loop-literal-preserved
@@ -45,108 +83,30 @@ loop-literal-preserved g c =
           (λ end way.
           left_on (A.plan now) n c.in-Ask.yes c.in-Ask.no c.in-Ask.lit begins.2 (A.name_count now) w at none said
           c.loop-literal-test.true fine refl end (leads end way));
-      same =
-          SamePlans-trans (A.is_own c.args.asker.now) (A.is_own before) (A.is_own now) (A.plan c.args.asker.now) (A.plan before)
-          (A.plan now) known.same c.turn.ensures.same;
-      root = c.turn.ensures.root_kept ∙ known.root;
-      count = c.turn.ensures.count_kept ∙ known.count;
+      kept = kept_on g (goal.at.loop-literal-preserved g c).After-turn;
     }
 
--- the plan has come to its end, and so have the literals
 pub returns-in-Holds-clause-literals : goal.returns-in-Holds-clause-literals
 returns-in-Holds-clause-literals g c =
-    let known = c.loop-literal.invariant in
-    let at = c.loop-literal.literal-index in
-    let w = c.args.literals.now in
-    let before = g.A.Asker.plan c.loop-literal.asker c.loop-literal.node in
-    let begins = rw c.in-Holds.is at c.in_ok-lit.ensures.begins in
-    let kept = c.turn.ensures.same.plans c.loop-literal.node known.own in
-    let walked = ended_way before w at c.requires.0 (known.left c.requires.0 c.requires.1) (inl (sym kept ∙ begins)) in
-    known.said ∙ take_all at w walked
+    c.loop-literal.invariant.said
+    ∙ take_all c.loop-literal.literal-index c.args.literals.now (walked g (goal.at.returns-in-Holds-clause-literals g c).In-Holds)
 
 pub returns-in-Holds-clause-way : goal.returns-in-Holds-clause-way
 returns-in-Holds-clause-way g c end leads =
     let known = c.loop-literal.invariant in
-    let at = c.loop-literal.literal-index in
-    let w = c.args.literals.now in
-    let before = g.A.Asker.plan c.loop-literal.asker c.loop-literal.node in
-    let begins = rw c.in-Holds.is at c.in_ok-lit.ensures.begins in
-    let kept = c.turn.ensures.same.plans c.loop-literal.node known.own in
-    let walked = ended_way before w at c.requires.0 (known.left c.requires.0 c.requires.1) (inl (sym kept ∙ begins)) in
     subst (λ (p : Plan g.row.A-Why.Denot). AreAnswersTo (g.A.Asker.root c.args.asker.now) c.loop-literal.answers.items p)
-    (whole_way before w at end walked (known.left end leads)) known.way
+    (whole_way (g.A.Asker.plan c.loop-literal.asker c.loop-literal.node) c.args.literals.now c.loop-literal.literal-index end
+    (walked g (goal.at.returns-in-Holds-clause-way g c).In-Holds) (known.left end leads)) known.way
 
--- the plan has come to its end, and so have the literals
-pub returns-in-Fails-clause-literals : goal.returns-in-Fails-clause-literals
-returns-in-Fails-clause-literals g c =
-    let known = c.loop-literal.invariant in
-    let at = c.loop-literal.literal-index in
-    let w = c.args.literals.now in
-    let before = g.A.Asker.plan c.loop-literal.asker c.loop-literal.node in
-    let begins = rw c.in-Fails.is at c.in_ok-lit.ensures.begins in
-    let kept = c.turn.ensures.same.plans c.loop-literal.node known.own in
-    let walked = ended_way before w at c.requires.0 (known.left c.requires.0 c.requires.1) (inr (c.in-Fails.field-0, sym kept ∙ begins)) in
-    known.said ∙ take_all at w walked
+-- the asker is as it was
+pub returns-in_err-lit-clause-kept : goal.returns-in_err-lit-clause-kept
+returns-in_err-lit-clause-kept g c = kept_on g (goal.at.returns-in_err-lit-clause-kept g c).After-turn
 
-pub returns-in-Fails-clause-way : goal.returns-in-Fails-clause-way
-returns-in-Fails-clause-way g c end leads =
-    let known = c.loop-literal.invariant in
-    let at = c.loop-literal.literal-index in
-    let w = c.args.literals.now in
-    let before = g.A.Asker.plan c.loop-literal.asker c.loop-literal.node in
-    let begins = rw c.in-Fails.is at c.in_ok-lit.ensures.begins in
-    let kept = c.turn.ensures.same.plans c.loop-literal.node known.own in
-    let walked = ended_way before w at c.requires.0 (known.left c.requires.0 c.requires.1) (inr (c.in-Fails.field-0, sym kept ∙ begins)) in
-    subst (λ (p : Plan g.row.A-Why.Denot). AreAnswersTo (g.A.Asker.root c.args.asker.now) c.loop-literal.answers.items p)
-    (whole_way before w at end walked (known.left end leads)) known.way
+pub returns-in-Holds-clause-kept : goal.returns-in-Holds-clause-kept
+returns-in-Holds-clause-kept g c = kept_on g (goal.at.returns-in-Holds-clause-kept g c).After-turn
 
-pub returns-in_err-lit-clause-same : goal.returns-in_err-lit-clause-same
-returns-in_err-lit-clause-same g c =
-    SamePlans-trans (g.A.Asker.is_own c.args.asker.now) (g.A.Asker.is_own c.loop-literal.asker) (g.A.Asker.is_own c.turn.new.self)
-    (g.A.Asker.plan c.args.asker.now) (g.A.Asker.plan c.loop-literal.asker) (g.A.Asker.plan c.turn.new.self)
-    c.loop-literal.invariant.same c.turn.ensures.same
-
-pub returns-in_err-lit-clause-root : goal.returns-in_err-lit-clause-root
-returns-in_err-lit-clause-root g c = c.turn.ensures.root_kept ∙ c.loop-literal.invariant.root
-
-pub returns-in_err-lit-clause-count : goal.returns-in_err-lit-clause-count
-returns-in_err-lit-clause-count g c = c.turn.ensures.count_kept ∙ c.loop-literal.invariant.count
-
-pub returns-in-Holds-clause-same : goal.returns-in-Holds-clause-same
-returns-in-Holds-clause-same g c =
-    SamePlans-trans (g.A.Asker.is_own c.args.asker.now) (g.A.Asker.is_own c.loop-literal.asker) (g.A.Asker.is_own c.turn.new.self)
-    (g.A.Asker.plan c.args.asker.now) (g.A.Asker.plan c.loop-literal.asker) (g.A.Asker.plan c.turn.new.self)
-    c.loop-literal.invariant.same c.turn.ensures.same
-
-pub returns-in-Holds-clause-root : goal.returns-in-Holds-clause-root
-returns-in-Holds-clause-root g c = c.turn.ensures.root_kept ∙ c.loop-literal.invariant.root
-
-pub returns-in-Holds-clause-count : goal.returns-in-Holds-clause-count
-returns-in-Holds-clause-count g c = c.turn.ensures.count_kept ∙ c.loop-literal.invariant.count
-
-pub returns-in-Fails-clause-same : goal.returns-in-Fails-clause-same
-returns-in-Fails-clause-same g c =
-    SamePlans-trans (g.A.Asker.is_own c.args.asker.now) (g.A.Asker.is_own c.loop-literal.asker) (g.A.Asker.is_own c.turn.new.self)
-    (g.A.Asker.plan c.args.asker.now) (g.A.Asker.plan c.loop-literal.asker) (g.A.Asker.plan c.turn.new.self)
-    c.loop-literal.invariant.same c.turn.ensures.same
-
-pub returns-in-Fails-clause-root : goal.returns-in-Fails-clause-root
-returns-in-Fails-clause-root g c = c.turn.ensures.root_kept ∙ c.loop-literal.invariant.root
-
-pub returns-in-Fails-clause-count : goal.returns-in-Fails-clause-count
-returns-in-Fails-clause-count g c = c.turn.ensures.count_kept ∙ c.loop-literal.invariant.count
-
-pub returns-in_err-push-in-Ask-clause-same : goal.returns-in_err-push-in-Ask-clause-same
-returns-in_err-push-in-Ask-clause-same g c =
-    SamePlans-trans (g.A.Asker.is_own c.args.asker.now) (g.A.Asker.is_own c.loop-literal.asker) (g.A.Asker.is_own c.turn.new.self)
-    (g.A.Asker.plan c.args.asker.now) (g.A.Asker.plan c.loop-literal.asker) (g.A.Asker.plan c.turn.new.self)
-    c.loop-literal.invariant.same c.turn.ensures.same
-
-pub returns-in_err-push-in-Ask-clause-root : goal.returns-in_err-push-in-Ask-clause-root
-returns-in_err-push-in-Ask-clause-root g c = c.turn.ensures.root_kept ∙ c.loop-literal.invariant.root
-
-pub returns-in_err-push-in-Ask-clause-count : goal.returns-in_err-push-in-Ask-clause-count
-returns-in_err-push-in-Ask-clause-count g c = c.turn.ensures.count_kept ∙ c.loop-literal.invariant.count
+pub returns-in_err-push-in-Ask-clause-kept : goal.returns-in_err-push-in-Ask-clause-kept
+returns-in_err-push-in-Ask-clause-kept g c = kept_on g (goal.at.returns-in_err-push-in-Ask-clause-kept g c).After-turn
 
 pub returns-clause-literals : goal.returns-clause-literals
 returns-clause-literals g c =
@@ -161,11 +121,5 @@ returns-clause-way g c end leads =
     (whole_way (g.A.Asker.plan c.loop-literal.asker c.loop-literal.node) w c.loop-literal.literal-index end
     (omega (arith, c.loop-literal-test.false)) (known.left end leads)) known.way
 
-pub returns-clause-same : goal.returns-clause-same
-returns-clause-same g c = c.loop-literal.invariant.same
-
-pub returns-clause-root : goal.returns-clause-root
-returns-clause-root g c = c.loop-literal.invariant.root
-
-pub returns-clause-count : goal.returns-clause-count
-returns-clause-count g c = c.loop-literal.invariant.count
+pub returns-clause-kept : goal.returns-clause-kept
+returns-clause-kept g c = c.loop-literal.invariant.kept

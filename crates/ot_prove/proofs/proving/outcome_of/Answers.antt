@@ -2,7 +2,7 @@ use Rattle.std.proofs.Common.{sym, subst, List}
 use Rattle.diff_graph.specs.declared.lit.Lit.{Lit}
 use Rattle.ask_core.specs.Plans.{Fails}
 use Rattle.ot_prove.specs.Searching.{LeadsTo}
-use Rattle.ot_prove.proofs.Steps.{SamePlans-refl}
+use Rattle.ot_prove.proofs.Steps.{IsAsBefore-refl}
 use Rattle.ot_prove.proofs.proving.outcome_of.Goals as goal
 
 pub returns-in-GoesOn-clause-agrees : goal.returns-in-GoesOn-clause-agrees
@@ -33,26 +33,21 @@ returns-in_ok-answers-in-Fails-clause-agrees g c budget ended q list =
           fails.leads),
     )
 
-pub returns-in-GoesOn-clause-same : goal.returns-in-GoesOn-clause-same
-returns-in-GoesOn-clause-same g c = SamePlans-refl (g.A.Asker.is_own c.args.asker.now) (g.A.Asker.plan c.args.asker.now)
+-- the asker is as it was
+pub returns-in-GoesOn-clause-kept : goal.returns-in-GoesOn-clause-kept
+returns-in-GoesOn-clause-kept g c =
+    let A = g.A.Asker in
+    let was = c.args.asker.now in
+    IsAsBefore-refl (A.is_own was) (A.plan was) (A.root was) (A.name_count was)
 
-pub returns-in-Spent-clause-same : goal.returns-in-Spent-clause-same
-returns-in-Spent-clause-same g c = SamePlans-refl (g.A.Asker.is_own c.args.asker.now) (g.A.Asker.plan c.args.asker.now)
+pub returns-in-Spent-clause-kept : goal.returns-in-Spent-clause-kept
+returns-in-Spent-clause-kept g c =
+    let A = g.A.Asker in
+    let was = c.args.asker.now in
+    IsAsBefore-refl (A.is_own was) (A.plan was) (A.root was) (A.name_count was)
 
-pub returns-in_err-answers-in-Fails-clause-same : goal.returns-in_err-answers-in-Fails-clause-same
-returns-in_err-answers-in-Fails-clause-same g c = c.answers_along.ensures.same
+pub returns-in_err-answers-in-Fails-clause-kept : goal.returns-in_err-answers-in-Fails-clause-kept
+returns-in_err-answers-in-Fails-clause-kept g c = c.answers_along.ensures.kept
 
-pub returns-in_err-answers-in-Fails-clause-root : goal.returns-in_err-answers-in-Fails-clause-root
-returns-in_err-answers-in-Fails-clause-root g c = c.answers_along.ensures.root
-
-pub returns-in_err-answers-in-Fails-clause-count : goal.returns-in_err-answers-in-Fails-clause-count
-returns-in_err-answers-in-Fails-clause-count g c = c.answers_along.ensures.count
-
-pub returns-in_ok-answers-in-Fails-clause-same : goal.returns-in_ok-answers-in-Fails-clause-same
-returns-in_ok-answers-in-Fails-clause-same g c = c.answers_along.ensures.same
-
-pub returns-in_ok-answers-in-Fails-clause-root : goal.returns-in_ok-answers-in-Fails-clause-root
-returns-in_ok-answers-in-Fails-clause-root g c = c.answers_along.ensures.root
-
-pub returns-in_ok-answers-in-Fails-clause-count : goal.returns-in_ok-answers-in-Fails-clause-count
-returns-in_ok-answers-in-Fails-clause-count g c = c.answers_along.ensures.count
+pub returns-in_ok-answers-in-Fails-clause-kept : goal.returns-in_ok-answers-in-Fails-clause-kept
+returns-in_ok-answers-in-Fails-clause-kept g c = c.answers_along.ensures.kept

@@ -31,16 +31,13 @@ search_through-requires-clause-searching g c =
     search.tables.items begins (g.met.A.Asker.fine now first begins.0) at.cycles at.tables)
 
 pub returns-in_err-ended-clause-same : goal.returns-in_err-ended-clause-same
-returns-in_err-ended-clause-same g c =
-    SamePlans-trans (g.A.Asker.is_own c.args.asker.now) (g.A.Asker.is_own c.start.new.self) (g.A.Asker.is_own c.search_through.new.asker)
-    (g.A.Asker.plan c.args.asker.now) (g.A.Asker.plan c.start.new.self) (g.A.Asker.plan c.search_through.new.asker)
-    c.start.ensures.same c.search_through.ensures.same
+returns-in_err-ended-clause-same g c = SamePlans-trans c.start.ensures.same c.search_through.ensures.kept.same
 
 pub returns-in_err-ended-clause-root_kept : goal.returns-in_err-ended-clause-root_kept
-returns-in_err-ended-clause-root_kept g c = c.search_through.ensures.root ∙ c.start.ensures.root_kept
+returns-in_err-ended-clause-root_kept g c = c.search_through.ensures.kept.root_kept ∙ c.start.ensures.root_kept
 
 pub returns-in_err-ended-clause-count_kept : goal.returns-in_err-ended-clause-count_kept
-returns-in_err-ended-clause-count_kept g c = c.search_through.ensures.count ∙ c.start.ensures.count_kept
+returns-in_err-ended-clause-count_kept g c = c.search_through.ensures.kept.count_kept ∙ c.start.ensures.count_kept
 
 pub outcome_of-requires : goal.outcome_of-requires
 outcome_of-requires g c = (c.args.budget, c.in_ok-ended.ensures.ended)
@@ -62,7 +59,7 @@ returns-clause-decides g c =
     (λ o agrees.
     IsDecided-by_list root c.args.budget o c.question_lists_are_possible.ensures found
     (subst (λ (p : Plan W). AgreesWithLists p c.args.budget o)
-    (c.search_through.ensures.root ∙ c.start.ensures.root_kept) (agrees c.args.budget c.in_ok-ended.ensures.ended))) agreed
+    (c.search_through.ensures.kept.root_kept ∙ c.start.ensures.root_kept) (agrees c.args.budget c.in_ok-ended.ensures.ended))) agreed
 
 pub returns-clause-front : goal.returns-clause-front
 returns-clause-front g c =
@@ -71,19 +68,12 @@ returns-clause-front g c =
 
 pub returns-clause-same : goal.returns-clause-same
 returns-clause-same g c =
-    let A = g.A.Asker in
-    let was = c.args.asker.now in
-    let begun = c.start.new.self in
-    let now = c.search_through.new.asker in
-    let last = c.outcome_of.new.asker in
-    SamePlans-trans (A.is_own was) (A.is_own begun) (A.is_own last) (A.plan was) (A.plan begun) (A.plan last) c.start.ensures.same
-    (SamePlans-trans (A.is_own begun) (A.is_own now) (A.is_own last) (A.plan begun) (A.plan now) (A.plan last)
-    c.search_through.ensures.same c.outcome_of.ensures.same)
+    SamePlans-trans c.start.ensures.same (SamePlans-trans c.search_through.ensures.kept.same c.outcome_of.ensures.kept.same)
 
 pub returns-clause-root_kept : goal.returns-clause-root_kept
 returns-clause-root_kept g c =
-    c.outcome_of.ensures.root ∙ c.search_through.ensures.root ∙ c.start.ensures.root_kept
+    c.outcome_of.ensures.kept.root_kept ∙ c.search_through.ensures.kept.root_kept ∙ c.start.ensures.root_kept
 
 pub returns-clause-count_kept : goal.returns-clause-count_kept
 returns-clause-count_kept g c =
-    c.outcome_of.ensures.count ∙ c.search_through.ensures.count ∙ c.start.ensures.count_kept
+    c.outcome_of.ensures.kept.count_kept ∙ c.search_through.ensures.kept.count_kept ∙ c.start.ensures.count_kept

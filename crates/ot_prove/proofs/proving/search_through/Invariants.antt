@@ -1,16 +1,12 @@
-use Rattle.std.proofs.Common.{◌≡◌, ◌≤◌}
-use Rattle.ask_core.specs.Askers.{SamePlans}
+use Rattle.std.proofs.Common.{◌≡◌}
 use Rattle.ask_core.specs.Paths.{branches_at}
-use Rattle.search_places.specs.declared.split.TheConstants.{MAX_NAMES}
-use Rattle.ot_prove.specs.Searching.{IsSearchUnderWay, weight_of}
+use Rattle.ot_prove.specs.Searching.{IsAsBefore, IsSearchUnderWay, weight_of}
 use Rattle.ot_prove.proofs.proving.search_through.Given as goal
 
 abbrev pub invariant-places : goal.invariant-places
 invariant-places g l = record {
-  few : g.A.Asker.name_count l.asker ≤ MAX_NAMES;
-  count : g.A.Asker.name_count l.asker ≡ g.A.Asker.name_count l.fn.asker;
-  root : g.A.Asker.root l.asker ≡ g.A.Asker.root l.fn.asker;
-  same : SamePlans (g.A.Asker.is_own l.fn.asker) (g.A.Asker.is_own l.asker) (g.A.Asker.plan l.fn.asker) (g.A.Asker.plan l.asker);
+  kept : IsAsBefore (g.A.Asker.is_own l.fn.asker) (g.A.Asker.is_own l.asker) (g.A.Asker.plan l.fn.asker) (g.A.Asker.plan l.asker)
+      (g.A.Asker.root l.fn.asker) (g.A.Asker.root l.asker) (g.A.Asker.name_count l.fn.asker) (g.A.Asker.name_count l.asker);
   front : l.search.tree.front ≡ l.fn.search.tree.front;
   searching : IsSearchUnderWay (g.A.Asker.is_own l.asker) (g.A.Asker.plan l.asker) (g.A.Asker.root l.asker) l.budget l.search;
 }

@@ -1,5 +1,6 @@
 -- The pairs that are gone through are the declared ones.
 use Rattle.std.proofs.Common.{◌≡◌, true, List, ap, subst, sym, ◌∙◌}
+use Rattle.std.proofs.lemmas.Result.{IfOk-weaker}
 use Rattle.std.specs.List.{AllByRecursion}
 use Rattle.ot_model.specs.declared.op.Kind.{Kind}
 use Rattle.ot_model.specs.Kinds.{kind_pairs}
@@ -7,7 +8,7 @@ use Rattle.fn_rules.specs.declared.function.Head.{Head}
 use Rattle.fn_rules.specs.Functions.{is_declared_of}
 use Rattle.fn_rules.specs.Obligations.{declared_pairs}
 use Rattle.fn_rules.specs.Rules.{function_of}
-use Rattle.ot_reverse.specs.Answers.{AreSearched}
+use Rattle.ot_reverse.specs.Answers.{AreSearched, IsReversedAs}
 use Rattle.ot_reverse.proofs.Telling.{all_kept}
 use Rattle.ot_reverse.proofs.reversing.reverses.Goals as goal
 
@@ -25,9 +26,9 @@ pub returns : goal.returns
 returns c =
     let f = function_of c.args.rules.now in
     let e = function_of c.args.others.now in
-    let answer = c.in_ok-reverses_pairs.field-0 in
-    let searched =
-    subst (λ (pairs : List (Kind × Kind)). AreSearched f e c.args.budget pairs answer)
-    (c.deref.ensures.value ∙ c.in_ok-pairs.ensures ∙ ap (λ (h : Head). declared_pairs h) c.head.ensures.head)
-    c.in_ok-reverses_pairs.ensures in
-    record { searched = searched; tells = c.answers_tell_of_all_documents.ensures.whole f e c.args.budget answer searched }
+    let pairs = c.deref.ensures.value ∙ c.in_ok-pairs.ensures ∙ ap (λ (h : Head). declared_pairs h) c.head.ensures.head in
+    IfOk-weaker c.reverses_pairs.result (AreSearched f e c.args.budget c.deref.result.now) (IsReversedAs f e c.args.budget)
+    (λ answer are.
+    let searched = subst (λ (l : List (Kind × Kind)). AreSearched f e c.args.budget l answer) pairs are in
+    record { searched = searched; tells = c.answers_tell_of_all_documents.ensures.whole f e c.args.budget answer searched })
+    c.reverses_pairs.ensures

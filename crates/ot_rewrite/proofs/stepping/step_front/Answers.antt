@@ -1,3 +1,4 @@
+use Rattle.std.proofs.lemmas.Result.{IfOk-weaker}
 use Rattle.fn_rules.specs.Rules.{function_of}
 use Rattle.goal_rules.specs.Steps.{front_tree}
 use Rattle.ot_rewrite.proofs.Ready.{ready}
@@ -9,5 +10,6 @@ rewrite-requires c = ready (function_of c.args.rules.now) c.requires.0 (front_tr
 
 pub returns : goal.returns
 returns c =
-    step_kept (function_of c.args.rules.now) c.requires.0 c.rules_are_valid.ensures (front_tree c.args.front) c.requires.1
-    front_tree _ c.in_ok-rewrite.ensures
+    IfOk-weaker c.rewrite.result _ _
+    (step_kept (function_of c.args.rules.now) c.requires.0 c.rules_are_valid.ensures (front_tree c.args.front) c.requires.1
+    front_tree) c.rewrite.ensures

@@ -5,7 +5,9 @@ use Rattle.std.proofs.Props.{props}
 use Rattle.std.proofs.lemmas.Result.{IfOk-weaker}
 use Rattle.ot_model.specs.declared.op.Op.{Op}
 use Rattle.fn_rules.specs.Rules.{function_of}
-use Rattle.fn_rules.specs.Functions.{Function}
+use Rattle.ot_model.specs.Operations.{kind_of}
+use Rattle.fn_rules.specs.Conditions.{IsInRange}
+use Rattle.fn_rules.specs.Functions.{Function, IsForKind}
 use Rattle.fn_rules.specs.Transformation.{transform_of}
 use Rattle.ot_causal.specs.Members.{without}
 use Rattle.ot_causal.specs.Past.{Past, maker, IsOpening}
@@ -24,6 +26,7 @@ use Rattle.ot_session.proofs.Seeking.{obstacle_code, first_obstacle-counted}
 use Rattle.ot_session.proofs.Tables.{form_under-form}
 use Rattle.ot_session.proofs.Reaches.{form-usable}
 use Rattle.ot_session.proofs.Sought.{form_code, MaySeek-own, MaySeek-member, HasSought-own, HasSought-by}
+use Rattle.ot_session.proofs.form.+form_behind.Goals.{After-with_one_less-fewer, In_ok-own, In_ok-by}
 use Rattle.ot_session.proofs.form.+form_behind.Goals as goal
 
 -- a form by those of its two parts
@@ -48,6 +51,46 @@ last_sought f past seen names others o l entries total (Ok p) ok none spent = ok
 last_sought f past seen names others o l entries total (Err NoForm) ok none spent = none refl
 last_sought f past seen names others o l entries total (Err Spent) ok none spent = spent refl
 last_sought f past seen names others o l entries total (Err NoMemory) ok none spent = tt
+
+-- the shorter list, and its counts
+shorter :
+    (t : ℕ) (c : After-with_one_less-fewer t) (older : List ℕ) → older ≡ without c.in-Some.other c.args.list.now
+    → (length older < length c.args.list.now) × (c.with_one_less-fewer.result ≡ clock (past_of c.args.seeking.made.now) older)
+shorter t c older is =
+    let past : Past = past_of c.args.seeking.made.now in
+    let l : List ℕ = c.args.list.now in
+    let x : ℕ = c.in-Some.other in
+    let both : ∥ MaySeek (function_of c.args.seeking.rules.now) past c.args.seeking.seen.now c.args.number l × IsOpening past c.args.number l x ∥₁ =
+    ∥∥₁_map c.requires.may (λ m.
+    (m, c.open_members_may_be_taken_out.ensures.opening past c.args.number l x m.orderly m.sought.ready (sym c.in-Some.ensures))) in (
+      ∥∥₁_elim both le_prop (λ b. omega (arith, ap length is, b.1.shorter)),
+      ∥∥₁_elim both (Coded-set (coded_list coded_ℕ) _ _) (λ b.
+          let site = b.0.usable.makers x b.1.made in
+          c.with_one_less-fewer.ensures
+          ∙ rw (c.maker.ensures, c.requires.counts, is) (clock-without past x l
+          (λ s y m. c.closed_lists_are_told_by_their_counts.ensures.taken_out past s y m)
+          (λ s y m. c.closed_lists_are_told_by_their_counts.ensures.others past s y m)
+          b.1.member site.0 site.1)),
+    )
+
+-- a form behind it is of a declared kind and in range
+usable :
+    (t : ℕ) (c : After-with_one_less-fewer t) (k : ℕ) (p : Op)
+    → form (function_of c.args.seeking.rules.now) (past_of c.args.seeking.made.now) k (without c.in-Some.other c.args.list.now) ≡ Some p
+    → (IsOpening (past_of c.args.seeking.made.now) c.args.number c.args.list.now c.in-Some.other → k < (past_of c.args.seeking.made.now).count)
+    → IsForKind (function_of c.args.seeking.rules.now).head (kind_of p) × IsInRange p
+usable t c k p is made =
+    let f : Function = function_of c.args.seeking.rules.now in
+    let past : Past = past_of c.args.seeking.made.now in
+    let l : List ℕ = c.args.list.now in
+    let x : ℕ = c.in-Some.other in
+    ∥∥₁_elim c.requires.may (hlevel props) (λ m.
+    let opening : IsOpening past c.args.number l x =
+    c.open_members_may_be_taken_out.ensures.opening past c.args.number l x m.orderly m.sought.ready (sym c.in-Some.ensures) in
+    form-usable f past k (without x l) p m.usable (made opening) (omega (arith, opening.shorter, c.requires.few)) is
+    (c.forms_keep_all_but_the_position.ensures.kept f past k (without x l) p is)
+    (c.forms_keep_all_but_the_position.ensures.near f past most_session_cells k (without x l) p c.rules_are_valid.ensures
+    (λ y _. m.usable.near y) (made opening) (c.members_were_made.ensures.made past (without x l) opening.closed) is))
 
 -- a form that is found in the table is the one that is sought
 pub returns-in-Some-find-clause-ok : goal.returns-in-Some-find-clause-ok
@@ -125,24 +168,14 @@ form_behind-requires t c =
     let o : ℕ = c.args.number in
     let l : List ℕ = c.args.list.now in
     let x : ℕ = c.in-Some.other in
-    let both : ∥ MaySeek f past seen o l × IsOpening past o l x ∥₁ =
-    ∥∥₁_map c.requires.may (λ m.
-    (m, c.open_members_may_be_taken_out.ensures.opening past o l x m.orderly m.sought.ready (sym c.in-Some.ensures))) in
     let older : c.deref.result.now ≡ without x l = c.deref.ensures.value ∙ c.in_ok-older.ensures in
-    let shorter : length c.deref.result.now < length l =
-    ∥∥₁_elim both le_prop (λ b. omega (arith, ap length older, b.1.shorter)) in
-    let fewer : c.with_one_less-fewer.result ≡ clock past c.deref.result.now =
-    ∥∥₁_elim both (Coded-set (coded_list coded_ℕ) _ _) (λ b.
-    let site = b.0.usable.makers x b.1.made in
-    c.with_one_less-fewer.ensures
-    ∙ rw (c.maker.ensures, c.requires.counts, older) (clock-without past x l
-    (λ s y m. c.closed_lists_are_told_by_their_counts.ensures.taken_out past s y m)
-    (λ s y m. c.closed_lists_are_told_by_their_counts.ensures.others past s y m)
-    b.1.member site.0 site.1)) in
+    let less = shorter t (goal.at.form_behind-requires t c).After-with_one_less-fewer c.deref.result.now older in
+    let below : length c.deref.result.now < length l = less.0 in
     let may : ∥ MaySeek f past seen o c.deref.result.now ∥₁ =
-    ∥∥₁_map both (λ b. subst (λ (m : List ℕ). MaySeek f past seen o m) (sym older)
-    (MaySeek-own f past seen o x l (λ k m. c.sublists_are_told_by_their_sets.ensures.without x k m) b.0 b.1)) in
-    (search (rules, shorter), (may, (fewer, (omega (arith, shorter, c.requires.few), (c.requires.table, c.requires.counted)))))
+    ∥∥₁_map c.requires.may (λ m. subst (λ (k : List ℕ). MaySeek f past seen o k) (sym older)
+    (MaySeek-own f past seen o x l (λ k n. c.sublists_are_told_by_their_sets.ensures.without x k n) m
+    (c.open_members_may_be_taken_out.ensures.opening past o l x m.orderly m.sought.ready (sym c.in-Some.ensures)))) in
+    (search (rules, below), (may, (less.1, (omega (arith, below, c.requires.few), (c.requires.table, c.requires.counted)))))
 
 -- the search of the operation's own form stopped
 pub returns-in_err-own-clause-sought : goal.returns-in_err-own-clause-sought
@@ -172,23 +205,13 @@ form_behind-requires-2 t c =
     let o : ℕ = c.args.number in
     let l : List ℕ = c.args.list.now in
     let x : ℕ = c.in-Some.other in
-    let both : ∥ MaySeek f past seen o l × IsOpening past o l x ∥₁ =
-    ∥∥₁_map c.requires.may (λ m.
-    (m, c.open_members_may_be_taken_out.ensures.opening past o l x m.orderly m.sought.ready (sym c.in-Some.ensures))) in
     let older : c.deref-2.result.now ≡ without x l = c.deref-2.ensures.value ∙ c.in_ok-older.ensures in
-    let shorter : length c.deref-2.result.now < length l =
-    ∥∥₁_elim both le_prop (λ b. omega (arith, ap length older, b.1.shorter)) in
-    let fewer : c.with_one_less-fewer.result ≡ clock past c.deref-2.result.now =
-    ∥∥₁_elim both (Coded-set (coded_list coded_ℕ) _ _) (λ b.
-    let site = b.0.usable.makers x b.1.made in
-    c.with_one_less-fewer.ensures
-    ∙ rw (c.maker.ensures, c.requires.counts, older) (clock-without past x l
-    (λ s y m. c.closed_lists_are_told_by_their_counts.ensures.taken_out past s y m)
-    (λ s y m. c.closed_lists_are_told_by_their_counts.ensures.others past s y m)
-    b.1.member site.0 site.1)) in
+    let less = shorter t (goal.at.form_behind-requires-2 t c).After-with_one_less-fewer c.deref-2.result.now older in
+    let below : length c.deref-2.result.now < length l = less.0 in
     let may : ∥ MaySeek f past seen x c.deref-2.result.now ∥₁ =
-    ∥∥₁_map both (λ b. subst (λ (m : List ℕ). MaySeek f past seen x m) (sym older)
-    (MaySeek-member f past seen o x l (λ k m. c.sublists_are_told_by_their_sets.ensures.without x k m) b.0 b.1)) in
+    ∥∥₁_map c.requires.may (λ m. subst (λ (k : List ℕ). MaySeek f past seen x k) (sym older)
+    (MaySeek-member f past seen o x l (λ k n. c.sublists_are_told_by_their_sets.ensures.without x k n) m
+    (c.open_members_may_be_taken_out.ensures.opening past o l x m.orderly m.sought.ready (sym c.in-Some.ensures)))) in
     let table : ∥ IsTable f past seen c.form_behind.new.table c.form_behind.new.counted ∥₁ =
     ∥∥₁_elim c.requires.table ∥∥₁_prop (λ old.
     let own : Seeks f past seen old.names old.others o c.deref.result.now c.form_behind.new.table c.form_behind.new.counted =
@@ -199,77 +222,36 @@ form_behind-requires-2 t c =
       has = h;
       count = own.count;
     })) in
-    (search (rules, shorter), (may, (fewer, (omega (arith, shorter, c.requires.few), (table, c.in_ok-own.ensures.counted)))))
+    (search (rules, below), (may, (less.1, (omega (arith, below, c.requires.few), (table, c.in_ok-own.ensures.counted)))))
 
--- the operation's own form is of a declared kind
+-- the operation's own form, and that of the member that is taken out
+own_usable :
+    (t : ℕ) (c : In_ok-own t)
+    → IsForKind (function_of c.args.seeking.rules.now).head (kind_of c.in_ok-own.own) × IsInRange c.in_ok-own.own
+own_usable t c =
+    usable t (goal.at.In_ok-own t c).After-with_one_less-fewer c.args.number c.in_ok-own.own
+    (subst (λ (m : List ℕ). form (function_of c.args.seeking.rules.now) (past_of c.args.seeking.made.now) c.args.number m ≡ Some c.in_ok-own.own)
+    (c.deref.ensures.value ∙ c.in_ok-older.ensures) c.in_ok-own.ensures.ok) (λ opening. opening.next.made)
+
+by_usable :
+    (t : ℕ) (c : In_ok-by t)
+    → IsForKind (function_of c.args.seeking.rules.now).head (kind_of c.in_ok-by.by) × IsInRange c.in_ok-by.by
+by_usable t c =
+    usable t (goal.at.In_ok-by t c).After-with_one_less-fewer c.in-Some.other c.in_ok-by.by
+    (subst (λ (m : List ℕ). form (function_of c.args.seeking.rules.now) (past_of c.args.seeking.made.now) c.in-Some.other m ≡ Some c.in_ok-by.by)
+    (c.deref-2.ensures.value ∙ c.in_ok-older.ensures) c.in_ok-by.ensures.ok) (λ opening. opening.made)
+
 pub store_moved-requires-clause-own_declared : goal.store_moved-requires-clause-own_declared
-store_moved-requires-clause-own_declared t c =
-    let f : Function = function_of c.args.seeking.rules.now in
-    let past : Past = past_of c.args.seeking.made.now in
-    let o : ℕ = c.args.number in
-    let l : List ℕ = c.args.list.now in
-    let x : ℕ = c.in-Some.other in
-    let is : form f past o (without x l) ≡ Some c.in_ok-own.own =
-    subst (λ (m : List ℕ). form f past o m ≡ Some c.in_ok-own.own) (c.deref.ensures.value ∙ c.in_ok-older.ensures) c.in_ok-own.ensures.ok in
-    ∥∥₁_elim c.requires.may (hlevel props) (λ m.
-    let opening : IsOpening past o l x =
-    c.open_members_may_be_taken_out.ensures.opening past o l x m.orderly m.sought.ready (sym c.in-Some.ensures) in
-    (form-usable f past o (without x l) c.in_ok-own.own m.usable opening.next.made (omega (arith, opening.shorter, c.requires.few)) is
-    (c.forms_keep_all_but_the_position.ensures.kept f past o (without x l) c.in_ok-own.own is)
-    (c.forms_keep_all_but_the_position.ensures.near f past most_session_cells o (without x l) c.in_ok-own.own c.rules_are_valid.ensures
-    (λ y _. m.usable.near y) opening.next.made (c.members_were_made.ensures.made past (without x l) opening.closed) is)).0)
+store_moved-requires-clause-own_declared t c = (own_usable t (goal.at.store_moved-requires-clause-own_declared t c).In_ok-own).0
 
--- the operation's own form is in range
 pub store_moved-requires-clause-own_in_range : goal.store_moved-requires-clause-own_in_range
-store_moved-requires-clause-own_in_range t c =
-    let f : Function = function_of c.args.seeking.rules.now in
-    let past : Past = past_of c.args.seeking.made.now in
-    let o : ℕ = c.args.number in
-    let l : List ℕ = c.args.list.now in
-    let x : ℕ = c.in-Some.other in
-    let is : form f past o (without x l) ≡ Some c.in_ok-own.own =
-    subst (λ (m : List ℕ). form f past o m ≡ Some c.in_ok-own.own) (c.deref.ensures.value ∙ c.in_ok-older.ensures) c.in_ok-own.ensures.ok in
-    ∥∥₁_elim c.requires.may (hlevel props) (λ m.
-    let opening : IsOpening past o l x =
-    c.open_members_may_be_taken_out.ensures.opening past o l x m.orderly m.sought.ready (sym c.in-Some.ensures) in
-    (form-usable f past o (without x l) c.in_ok-own.own m.usable opening.next.made (omega (arith, opening.shorter, c.requires.few)) is
-    (c.forms_keep_all_but_the_position.ensures.kept f past o (without x l) c.in_ok-own.own is)
-    (c.forms_keep_all_but_the_position.ensures.near f past most_session_cells o (without x l) c.in_ok-own.own c.rules_are_valid.ensures
-    (λ y _. m.usable.near y) opening.next.made (c.members_were_made.ensures.made past (without x l) opening.closed) is)).1)
+store_moved-requires-clause-own_in_range t c = (own_usable t (goal.at.store_moved-requires-clause-own_in_range t c).In_ok-own).1
 
--- the form of the member that is taken out is of a declared kind
 pub store_moved-requires-clause-by_declared : goal.store_moved-requires-clause-by_declared
-store_moved-requires-clause-by_declared t c =
-    let f : Function = function_of c.args.seeking.rules.now in
-    let past : Past = past_of c.args.seeking.made.now in
-    let l : List ℕ = c.args.list.now in
-    let x : ℕ = c.in-Some.other in
-    let is : form f past x (without x l) ≡ Some c.in_ok-by.by =
-    subst (λ (m : List ℕ). form f past x m ≡ Some c.in_ok-by.by) (c.deref-2.ensures.value ∙ c.in_ok-older.ensures) c.in_ok-by.ensures.ok in
-    ∥∥₁_elim c.requires.may (hlevel props) (λ m.
-    let opening : IsOpening past c.args.number l x =
-    c.open_members_may_be_taken_out.ensures.opening past c.args.number l x m.orderly m.sought.ready (sym c.in-Some.ensures) in
-    (form-usable f past x (without x l) c.in_ok-by.by m.usable opening.made (omega (arith, opening.shorter, c.requires.few)) is
-    (c.forms_keep_all_but_the_position.ensures.kept f past x (without x l) c.in_ok-by.by is)
-    (c.forms_keep_all_but_the_position.ensures.near f past most_session_cells x (without x l) c.in_ok-by.by c.rules_are_valid.ensures
-    (λ y _. m.usable.near y) opening.made (c.members_were_made.ensures.made past (without x l) opening.closed) is)).0)
+store_moved-requires-clause-by_declared t c = (by_usable t (goal.at.store_moved-requires-clause-by_declared t c).In_ok-by).0
 
--- the form of the member that is taken out is in range
 pub store_moved-requires-clause-by_in_range : goal.store_moved-requires-clause-by_in_range
-store_moved-requires-clause-by_in_range t c =
-    let f : Function = function_of c.args.seeking.rules.now in
-    let past : Past = past_of c.args.seeking.made.now in
-    let l : List ℕ = c.args.list.now in
-    let x : ℕ = c.in-Some.other in
-    let is : form f past x (without x l) ≡ Some c.in_ok-by.by =
-    subst (λ (m : List ℕ). form f past x m ≡ Some c.in_ok-by.by) (c.deref-2.ensures.value ∙ c.in_ok-older.ensures) c.in_ok-by.ensures.ok in
-    ∥∥₁_elim c.requires.may (hlevel props) (λ m.
-    let opening : IsOpening past c.args.number l x =
-    c.open_members_may_be_taken_out.ensures.opening past c.args.number l x m.orderly m.sought.ready (sym c.in-Some.ensures) in
-    (form-usable f past x (without x l) c.in_ok-by.by m.usable opening.made (omega (arith, opening.shorter, c.requires.few)) is
-    (c.forms_keep_all_but_the_position.ensures.kept f past x (without x l) c.in_ok-by.by is)
-    (c.forms_keep_all_but_the_position.ensures.near f past most_session_cells x (without x l) c.in_ok-by.by c.rules_are_valid.ensures
-    (λ y _. m.usable.near y) opening.made (c.members_were_made.ensures.made past (without x l) opening.closed) is)).1)
+store_moved-requires-clause-by_in_range t c = (by_usable t (goal.at.store_moved-requires-clause-by_in_range t c).In_ok-by).1
 
 -- the search of the form of the member that is taken out stopped
 pub returns-in_err-by-clause-sought : goal.returns-in_err-by-clause-sought

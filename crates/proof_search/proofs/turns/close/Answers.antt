@@ -7,12 +7,12 @@ use Rattle.proof_search.proofs.turns.close.Goals as goal
 -- a part waits within the level
 pub returns-then-len-waiting_before-clause-asked : goal.returns-then-len-waiting_before-clause-asked
 returns-then-len-waiting_before-clause-asked g c =
-    on_ok_weaker c.go_on.result (λ (opens : OpensPart c.args.search.now c.go_on.new.search). opens.asked) c.go_on.ensures
+    on_ok_weaker c.go_on.result (λ (opens : OpensPart c.args.search.now c.go_on.new.search). opens.asked) c.go_on.ensures.opens
 
 pub returns-then-len-waiting_before-clause-own : goal.returns-then-len-waiting_before-clause-own
 returns-then-len-waiting_before-clause-own g c =
     on_ok_weaker c.go_on.result
-    (own_opened (g.A.Asker.is_own c.args.asker.now) c.args.search.now c.go_on.new.search c.requires) c.go_on.ensures
+    (own_opened (g.A.Asker.is_own c.args.asker.now) c.args.search.now c.go_on.new.search c.requires) c.go_on.ensures.opens
 
 pub returns-then-len-waiting_before-clause-same : goal.returns-then-len-waiting_before-clause-same
 returns-then-len-waiting_before-clause-same g c =
@@ -33,7 +33,7 @@ returns-in_err-number-in-Some-clause-same g c = c.number.ensures
 
 pub returns-in_ok-number-in-Some-clause-asked : goal.returns-in_ok-number-in-Some-clause-asked
 returns-in_ok-number-in-Some-clause-asked g c =
-    on_ok_weaker c.end_level.result (λ (added : AddsLemma c.in-Some.level.node _ c.end_level.new.search). added.asked) c.end_level.ensures
+    on_ok_weaker c.end_level.result (λ (added : AddsLemma c.in-Some.level.node _ c.end_level.new.search). added.asked) c.end_level.ensures.adds
 
 pub returns-in_ok-number-in-Some-clause-same : goal.returns-in_ok-number-in-Some-clause-same
 returns-in_ok-number-in-Some-clause-same g c = c.number.ensures
@@ -50,4 +50,4 @@ returns-in_ok-number-in-Some-clause-own g c =
     (search_kept c.number.ensures before
     (record { at = own.at; waiting = own.waiting; levels = popped.1; lemmas = own.lemmas }))
     c.in-Some.level.node ((c.number.ensures.own c.in-Some.level.node).0 popped.0))
-    c.end_level.ensures
+    c.end_level.ensures.adds

@@ -1,8 +1,8 @@
 use Rattle.std.proofs.Common.{refl}
 use Rattle.proof_search.proofs.turns.end_level.Goals as goal
 
-pub returns : goal.returns
-returns g c = record {
+pub returns-clause-adds : goal.returns-clause-adds
+returns-clause-adds g c = record {
   lemma =
       record { item = record { node = c.args.level.node; literals = c.from_vec.result }; at_node = refl; items = c.in_ok-add.ensures };
   at = refl;

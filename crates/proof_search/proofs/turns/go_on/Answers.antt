@@ -3,8 +3,8 @@ use Rattle.lemma_levels.specs.declared.open.Search.{Search}
 use Rattle.proof_search.proofs.turns.go_on.Goals as goal
 
 -- the innermost part was taken out, and is open
-pub returns-then-branch : goal.returns-then-branch
-returns-then-branch g c =
+pub returns-then-branch-clause-opens : goal.returns-then-branch-clause-opens
+returns-then-branch-clause-opens g c =
     let kept = c.answer.ensures in
     record {
       taken =
@@ -20,8 +20,8 @@ returns-then-branch g c =
     }
 
 -- the innermost part was taken out, and what was open stays
-pub returns : goal.returns
-returns g c =
+pub returns-clause-opens : goal.returns-clause-opens
+returns-clause-opens g c =
     let kept = c.answer.ensures in
     record {
       taken =

@@ -1,13 +1,10 @@
-use Rattle.std.proofs.Common.{◌≡◌, ◌+◌, ◌-◌, List, [], ◌∷◌, ◌++◌, length, arith, ap, ◌∙◌, append_assoc, length-append}
+use Rattle.std.proofs.Common.{◌≡◌, ◌-◌, List, [], ◌∷◌, ◌++◌, length, arith, ap, ◌∙◌, append_assoc}
 use Rattle.diff_graph.specs.declared.lit.Lit.{Lit}
 use Rattle.proof_trees.specs.declared.limits.TheConstants.{MAX_LITERALS}
 use Rattle.proof_text.specs.Tokens.{literal_front}
-use Rattle.proof_text.proofs.ItemLemmas.{item_alone, item_last, item_missing, item_more_found, item_more_missing, item_over, item_wrong}
+use Rattle.proof_text.proofs.ItemLemmas.{item_alone, item_last, item_missing, item_more_found, item_more_missing, item_over, item_wrong, one_more}
 use Rattle.proof_text.proofs.Places.{map_err, map_ok}
 use Rattle.proof_text.proofs.token.+some_literals.Goals as goal
-
-one_more : (old new : List Lit) (a : Lit) → new ≡ old ++ a ∷ [] → length new ≡ length old + 1
-one_more old new a is = omega (arith, ap length is, length-append old (a ∷ []))
 
 pub returns-in-Err-clause-missing : goal.returns-in-Err-clause-missing
 returns-in-Err-clause-missing t c =

@@ -25,7 +25,47 @@ use Rattle.ot_hub.specs.Views.{HubData, hub_view_of, IsClient, HasMoved}
 use Rattle.ot_hub.proofs.Stepping.{up_with-first, up_with-none, some_first, HasMoved-refused, refused-same}
 use Rattle.ot_hub.proofs.Acting.{done-not_stuck, no_site-not_stuck, refusal-stuck, inside_of, client_read, items_set}
 use Rattle.ot_hub.proofs.Together.{led_to, not_stuck, AreCountedEdits-up, AreInStep-up}
+use Rattle.ot_hub.proofs.hub.Hub.up.Goals.{In-Some, After-sent_at}
 use Rattle.ot_hub.proofs.hub.Hub.up.Goals as goal
+
+-- the client of the call
+abbrev client_of : In-Some → Client
+client_of c = client_at c.args.self.now.clients.items (c.args.client - 1)
+
+there : (c : In-Some) → IsClient (length c.args.self.now.clients.items) c.args.client
+there c = c.if-not-has_client.ensures.0 refl
+
+inside : (c : In-Some) → c.args.client - 1 < length c.args.self.now.clients.items
+inside c = inside_of c.args.self.now.clients.items c.args.client (there c)
+
+-- its oldest message
+first : (c : In-Some) → Some c.in-Some.message ≡ slice_get (client_of c).messages 0
+first c = rw (client_read c.args.self.now.clients.items c.args.client c.index.result.now (there c) c.index.ensures) c.in-Some.ensures
+
+some : (c : In-Some) → 0 < length (client_of c).messages
+some c = some_first (client_of c).messages c.in-Some.message (first c)
+
+-- it can be taken
+usable : (c : In-Some) → IsUsable (function_of c.args.self.now.rules) most_hub_cells c.in-Some.message.op
+usable c =
+    let s = c.args.self.now in
+    All-at (λ b. IsUsable (function_of s.rules) most_hub_cells b.op) (client_of c).messages 0 c.in-Some.message
+    (one-kept (function_of s.rules) s.made s.server s.clients.items s.kept (c.args.client - 1) (inside c)).messages (sym (first c))
+
+few : (c : In-Some) → length c.args.self.now.server.log < MAX_EDITS
+few c =
+    let s = c.args.self.now in
+    omega (arith, some c, s.kept.few, one-messages (function_of s.rules) s.made s.server s.clients.items s.kept (c.args.client - 1) (inside c))
+
+-- the client has sent it, and is set in the list of all
+items_sent :
+    (c : After-sent_at)
+    → (with_items c.args.self.now.clients c.sent_at.new.clients).items
+    ≡ slice_set c.args.self.now.clients.items (c.args.client - 1) (sent (client_at c.args.self.now.clients.items (c.args.client - 1)))
+items_sent c =
+    let s = c.args.self.now in
+    let place : ℕ = c.args.client - 1 in
+    items_set s.clients place (sent (client_at s.clients.items place)) c.sent_at.new.clients (rw (← c.deref_mut.ensures.value) c.sent_at.ensures)
 
 -- there is no such client
 pub returns-then-not-has_client-clause-moved : goal.returns-then-not-has_client-clause-moved
@@ -53,17 +93,7 @@ pub take-requires-clause-kept : goal.take-requires-clause-kept
 take-requires-clause-kept c = c.args.self.now.kept.server
 
 pub take-requires-clause-few : goal.take-requires-clause-few
-take-requires-clause-few c =
-    let s = c.args.self.now in
-    let all : List Client = s.clients.items in
-    let place : ℕ = c.args.client - 1 in
-    let one : Client = client_at all place in
-    let message : PlacedOp = c.in-Some.message in
-    let there : IsClient (length all) c.args.client = c.if-not-has_client.ensures.0 refl in
-    let inside : place < length all = inside_of all c.args.client there in
-    let client_is : one ≡ c.index.result.now = client_read all c.args.client c.index.result.now there c.index.ensures in
-    let some : 0 < length one.messages = some_first one.messages message (rw client_is c.in-Some.ensures) in
-    omega (arith, some, s.kept.few, one-messages (function_of s.rules) s.made s.server all s.kept place inside)
+take-requires-clause-few c = few (goal.at.take-requires-clause-few c).In-Some
 
 pub take-requires-clause-low : goal.take-requires-clause-low
 take-requires-clause-low c = let there = c.if-not-has_client.ensures.0 refl in there.low
@@ -74,18 +104,7 @@ take-requires-clause-high c =
     omega (arith, there.high, c.args.self.now.kept.sides)
 
 pub take-requires-clause-usable : goal.take-requires-clause-usable
-take-requires-clause-usable c =
-    let s = c.args.self.now in
-    let f : Function = function_of s.rules in
-    let all : List Client = s.clients.items in
-    let place : ℕ = c.args.client - 1 in
-    let one : Client = client_at all place in
-    let there : IsClient (length all) c.args.client = c.if-not-has_client.ensures.0 refl in
-    let inside : place < length all = inside_of all c.args.client there in
-    let client_is : one ≡ c.index.result.now = client_read all c.args.client c.index.result.now there c.index.ensures in
-    let first : slice_get one.messages 0 ≡ Some c.in-Some.message = rw client_is (sym c.in-Some.ensures) in
-    All-at (λ b. IsUsable f most_hub_cells b.op) one.messages 0 c.in-Some.message
-    (one-kept f s.made s.server all s.kept place inside).messages first
+take-requires-clause-usable c = usable (goal.at.take-requires-clause-usable c).In-Some
 
 -- a server that refused is as it was, and so is what is kept
 pub invariant_of-self-in-Err : goal.invariant_of-self-in-Err
@@ -103,17 +122,14 @@ returns-in-Ok-clause-never_stuck c tp1 chars = done-not_stuck _
 -- the hub stays kept, counted and in step where the server took the message
 pub invariant_of-self : goal.invariant_of-self
 invariant_of-self c =
+    let at = goal.at.invariant_of-self c in
+    let m : In-Some = at.In-Some in
     let s = c.args.self.now in
     let f : Function = function_of s.rules in
     let all : List Client = s.clients.items in
     let place : ℕ = c.args.client - 1 in
     let one : Client = client_at all place in
     let message : PlacedOp = c.in-Some.message in
-    let there : IsClient (length all) c.args.client = c.if-not-has_client.ensures.0 refl in
-    let inside : place < length all = inside_of all c.args.client there in
-    let client_is : one ≡ c.index.result.now = client_read all c.args.client c.index.result.now there c.index.ensures in
-    let first : Some message ≡ slice_get one.messages 0 = rw client_is c.in-Some.ensures in
-    let some : 0 < length one.messages = some_first one.messages message first in
     let has : KeepsNear f =
     keeps_near f c.functions_keep_forms.ensures c.transform_stays_near.ensures c.enabled_operations_are_near.ensures.wider c.rules_are_valid.ensures in
     let new : Server = c.take.new.self in
@@ -122,89 +138,75 @@ invariant_of-self c =
     (λ carried. server_after mode c.args.client carried s.server) new =
     goes_on-to (carry f message.op (from_place message.place (ahead_of s.server c.args.client))) (length s.server.doc)
     (λ carried. server_after mode c.args.client carried s.server) new c.in-Ok.ensures in
-    let usable : IsUsable f most_hub_cells message.op =
-    All-at (λ b. IsUsable f most_hub_cells b.op) one.messages 0 message (one-kept f s.made s.server all s.kept place inside).messages (sym first) in
-    let few : length s.server.log < MAX_EDITS = omega (arith, some, s.kept.few, one-messages f s.made s.server all s.kept place inside) in
     let new_kept : IsServerKept f new = subst (λ (server : Server). IsServerKept f server) went.new_is
-    (IsServerKept-after f has c.documents_grow_by_one_cell_at_most.ensures mode c.args.client went.it s.server s.kept.server few message.place message.op usable
-    (omega (arith, inside, s.kept.sides)) went.is) in
+    (IsServerKept-after f has c.documents_grow_by_one_cell_at_most.ensures mode c.args.client went.it s.server s.kept.server (few m) message.place message.op (usable m)
+    (omega (arith, inside m, s.kept.sides)) went.is) in
     let longer : length new.log ≡ length s.server.log + 1 =
     ap (λ (server : Server). length server.log) (sym went.new_is) ∙ length-append s.server.log (record { client = c.args.client; op = went.it.op } ∷ []) in
     let told : List (List PlacedOp) = map (λ list. list ++ record { place = length s.server.log; op = went.it.op } ∷ []) s.server.ahead in
     let sides : length new.ahead ≡ length s.server.ahead =
     ap (λ (server : Server). length server.ahead) (sym went.new_is) ∙ length-set told place went.it.list
     ∙ length-map s.server.ahead (λ list. list ++ record { place = length s.server.log; op = went.it.op } ∷ []) in
-    let clients : List Client = c.sent_at.new.clients in
-    let is : clients ≡ slice_set all place (sent one) = rw (← c.deref_mut.ensures.value) c.sent_at.ensures in
-    let items : (with_items s.clients clients).items ≡ slice_set all place (sent one) =
-    items_set s.clients place (sent one) clients is in
+    let items = items_sent at.After-sent_at in
     record {
       small = s.small;
-      kept = rw items (IsHubKept-up f has.wider s.made s.server new all s.kept place inside some new_kept longer sides);
+      kept = rw items (IsHubKept-up f has.wider s.made s.server new all s.kept place (inside m) (some m) new_kept longer sides);
       counted = rw items (subst (λ (log : List Entry). AreCountedEdits log (slice_set all place (sent one)))
           (ap (λ (server : Server). server.log) went.new_is)
-          (AreCountedEdits-up s.server.log all s.counted c.args.client there went.it.op some));
+          (AreCountedEdits-up s.server.log all s.counted c.args.client (there m) went.it.op (some m)));
       in_step = λ tp1 chars. rw items (∥∥₁_map (s.in_step tp1 chars) (λ k.
           led_to (λ (server : Server). AreInStep f s.first server (slice_set all place (sent one))) (server_step f c.args.client message s.server) new
           (AreInStep-up f (c.functions_keep_forms.ensures f) (c.tp1_holds_of_forms.ensures f tp1) chars (c.transform_keeps_all_but_the_position.ensures f)
-          s.first s.server all k c.args.client there message first s.kept.sides) c.in-Ok.ensures));
+          s.first s.server all k c.args.client (there m) message (first m) s.kept.sides) c.in-Ok.ensures));
     }
 
 -- the server's step is done, the message is gone, and so the hub's step is done
 pub returns-in-Ok-clause-moved : goal.returns-in-Ok-clause-moved
 returns-in-Ok-clause-moved c =
+    let at = goal.at.returns-in-Ok-clause-moved c in
+    let m : In-Some = at.In-Some in
     let s = c.args.self.now in
     let all : List Client = s.clients.items in
     let place : ℕ = c.args.client - 1 in
     let one : Client = client_at all place in
     let message : PlacedOp = c.in-Some.message in
-    let there : IsClient (length all) c.args.client = c.if-not-has_client.ensures.0 refl in
-    let client_is : one ≡ c.index.result.now = client_read all c.args.client c.index.result.now there c.index.ensures in
-    let first : Some message ≡ slice_get one.messages 0 = rw client_is c.in-Some.ensures in
-    let clients : List Client = c.sent_at.new.clients in
-    let is : clients ≡ slice_set all place (sent one) = rw (← c.deref_mut.ensures.value) c.sent_at.ensures in
-    let items : (with_items s.clients clients).items ≡ slice_set all place (sent one) =
-    items_set s.clients place (sent one) clients is in
+    let items = items_sent at.After-sent_at in
     let hub : HubData = hub_view_of s in
     let whole : Server → HubData = λ server. record hub { server = server; clients = slice_set all place (sent one) } in
-    (there, up_with-first hub c.args.client one.messages message first ∙ rw items (ap (step_map whole) c.in-Ok.ensures))
+    (there m, up_with-first hub c.args.client one.messages message (first m) ∙ rw items (ap (step_map whole) c.in-Ok.ensures))
 
 -- the server's step was refused, and so was that of the hub
 pub returns-in-Err-clause-moved : goal.returns-in-Err-clause-moved
 returns-in-Err-clause-moved c =
+    let m : In-Some = (goal.at.returns-in-Err-clause-moved c).In-Some in
     let s = c.args.self.now in
     let f : Function = function_of s.rules in
     let all : List Client = s.clients.items in
     let place : ℕ = c.args.client - 1 in
     let one : Client = client_at all place in
     let message : PlacedOp = c.in-Some.message in
-    let there : IsClient (length all) c.args.client = c.if-not-has_client.ensures.0 refl in
-    let client_is : one ≡ c.index.result.now = client_read all c.args.client c.index.result.now there c.index.ensures in
-    let first : Some message ≡ slice_get one.messages 0 = rw client_is c.in-Some.ensures in
     let hub : HubData = hub_view_of s in
     let after : HubData = record hub { server = c.take.new.self; is_open = false } in
     let whole : Server → HubData = λ server. record hub { server = server; clients = slice_set all place (sent one) } in
     subst (λ (step : Step HubData). HasMoved hub after c.args.client step (Err c.in-Err.refusal))
-    (sym (up_with-first hub c.args.client one.messages message first))
-    (HasMoved-refused hub after c.args.client there s.server c.take.new.self
+    (sym (up_with-first hub c.args.client one.messages message (first m)))
+    (HasMoved-refused hub after c.args.client (there m) s.server c.take.new.self
     (server_step f c.args.client message s.server) whole c.in-Err.refusal c.in-Err.ensures
     (ap (λ (server : Server). record hub { server = server; is_open = false })))
 
 -- a server in step is not stuck
 pub returns-in-Err-clause-never_stuck : goal.returns-in-Err-clause-never_stuck
 returns-in-Err-clause-never_stuck c tp1 chars is =
+    let m : In-Some = (goal.at.returns-in-Err-clause-never_stuck c).In-Some in
     let s = c.args.self.now in
     let f : Function = function_of s.rules in
     let all : List Client = s.clients.items in
     let place : ℕ = c.args.client - 1 in
     let one : Client = client_at all place in
     let message : PlacedOp = c.in-Some.message in
-    let there : IsClient (length all) c.args.client = c.if-not-has_client.ensures.0 refl in
-    let client_is : one ≡ c.index.result.now = client_read all c.args.client c.index.result.now there c.index.ensures in
-    let first : Some message ≡ slice_get one.messages 0 = rw client_is c.in-Some.ensures in
     let stuck : c.in-Err.refusal ≡ moves.Stuck = refusal-stuck c.in-Err.refusal is in
     ∥∥₁_elim (s.in_step tp1 chars) (hlevel) (λ k.
     not_stuck (λ (server : Server). AreInStep f s.first server (slice_set all place (sent one))) s.server c.take.new.self
     (server_step f c.args.client message s.server) c.in-Err.refusal
     (AreInStep-up f (c.functions_keep_forms.ensures f) (c.tp1_holds_of_forms.ensures f tp1) chars (c.transform_keeps_all_but_the_position.ensures f)
-    s.first s.server all k c.args.client there message first s.kept.sides) c.in-Err.ensures stuck)
+    s.first s.server all k c.args.client (there m) message (first m) s.kept.sides) c.in-Err.ensures stuck)
