@@ -14,7 +14,7 @@ import tempfile
 
 from measure import REFERENCE, TOP, measure
 
-PROGRAM = os.path.join(TOP, "crates/otp/out/otp")
+from program import PROGRAM, make_ready
 
 
 def many_cases():
@@ -32,8 +32,7 @@ def report(name, function, certificate):
 
 
 def main():
-    # Builds the program where that is needed, so that it is not measured.
-    subprocess.run([os.path.join(TOP, "otp")], stdout=subprocess.DEVNULL, check=False)
+    make_ready()
     with tempfile.TemporaryDirectory() as folder:
         many = os.path.join(folder, "many.ot")
         with open(many, "w") as file:

@@ -5,8 +5,9 @@ usage: families.py NAME CASES > FN
        families.py                  the names, and the numbers of cases that are usual
 
 Each function transforms as a small one does, whose cases are cut into many: `plain` as sites.ot, which has TP1 alone;
-`upd` as ttfu.ot; and all others as ttf.ot. The last three have both properties. `function_of(name, cases)` gives the
-text of a function.
+`upd`, `mixed`, `pinned` and `random` as ttfu.ot; and all others as ttf.ot. All but `plain` have both properties.
+`function_of(name, cases)` gives the text of a function; a number after `random`, as in `random-7`, is the seed that it is
+drawn by.
 
 | name | its cases |
 |---|---|
@@ -18,8 +19,15 @@ text of a function.
 | sitecut | cut by p1 - p2, at other offsets for each order of the sites |
 | charcut | cut by p1 - p2, at other offsets for each order of the characters, where both have one |
 | rules | the drill's: so many further cases in front of the block of two insertions, which a later one implies |
+| cover | cut by p1 - p2 into pieces that overlap nowhere, shuffled, with no last `case true`; of one point by p2 |
+| alias | cut into points next to 0, the results there told by p2; the usual cases stand behind them |
+| mixed | cut by p1 - p2 beside the characters, where both have one, and the sites in one guard |
+| deep | cut by p1 - p2 in guards that nest 32 deep |
+| pinned | points that two comparisons pin, the results told by p2; the usual cases stand behind them |
+| random | cut by guards of up to 16 atoms that are drawn, some results at points told by p2 |
 """
 import os
+import random
 import sys
 from collections import namedtuple
 
@@ -111,6 +119,21 @@ def by_characters(kinds, number, place, count, sign):
     return (ordered("c1 < c2", "c2 < c1") if both else by_sites)(kinds, number, place, count, sign)
 
 
+def mixed(kinds, number, place, count, sign):
+    both = "del" not in kinds
+    near_by, far = split(kinds, number, place, count, sign), split(kinds, number, max(place - 1, 0), count, sign)
+    order = ["c1 < c2", "c2 < c1", "c1 = c2"][place % 3] if both else "s2 < s1"
+    return f"{order} and {near_by} or not ({order} or s2 < s1) and ({far} or s1 < s2 and {near_by})"
+
+
+def deep(kinds, number, place, count, sign):
+    guard = split(kinds, number, place, count, sign)
+    for depth in range(14):
+        part = ["s1 < s2", split(kinds, number, (place + depth) % count, count, sign)][depth % 2]
+        guard = f"not ({part} and {guard})" if depth % 2 else f"({part} or {guard})"
+    return "not " * (32 - guard.count("(") - guard.count("not") - 2) + guard
+
+
 FAMILIES = {
     "split": ("tomb", TOMB, split),
     "near": ("tomb", TOMB, near),
@@ -120,6 +143,8 @@ FAMILIES = {
     "upd": ("tomb", UPDATES, split),
     "sitecut": ("tomb", TOMB, by_sites),
     "charcut": ("tomb", TOMB, by_characters),
+    "mixed": ("tomb", UPDATES, mixed),
+    "deep": ("tomb", TOMB, deep),
 }
 
 
@@ -142,13 +167,141 @@ def block_of(kinds, number, block, cases, cut):
     return lines + [f"case true : {block.behind}"]
 
 
+# Blocks whose results are told by p2 at points.
+
+def plus(offset):
+    return f" {'-' if offset < 0 else '+'} {abs(offset)}" if offset else ""
+
+
+def told_by_second(result, distance):
+    """A result where p1 is p2 plus the distance, told by p2."""
+    if result == "nop":
+        return result
+    kind, _, *offset = result.split(" ")
+    return f"{kind} p2{plus(distance + int(''.join(offset) or 0))}"
+
+
+def at_point(block, guard, distance):
+    return f"case {guard} : {told_by_second(block.front if distance < 0 else block.behind, distance)}"
+
+
+def usual(block):
+    """The cases of the small function."""
+    ties = [f"case p1 = p2{'' if guard == 'true' else f' and {guard}'} : {result}" for guard, result in block.tie]
+    return [f"case p1 < p2 : {block.front}", *ties, f"case true : {block.behind}"]
+
+
+def points(cases):
+    """The distances of so many cases but for the usual ones, next to 0."""
+    most = max(cases - 4, 0) // 2
+    return [*range(-most, 0), *range(1, most + 1)]
+
+
+def alias_block(draw, kinds, number, block, cases):
+    return [at_point(block, f"p1 = p2{plus(distance)}", distance) for distance in points(cases)] + usual(block)
+
+
+def pinned_block(draw, kinds, number, block, cases):
+    lines = []
+    for place in points(cases):
+        distance = (-1 if place < 0 else 1) * spread(number, abs(place) - 1, 30)
+        guard = f"p1 <= p2{plus(distance)} and p2 <= p1{plus(-distance)}"
+        lines.append(at_point(block, guard, distance))
+    return lines + usual(block)
+
+
+def negation_of(guard):
+    return {"s1 < s2": "s2 < s1", "s2 < s1": "s1 < s2"}[guard]
+
+
+def cover_block(draw, kinds, number, block, cases):
+    """Pieces between cuts at distances that are drawn. Each third piece is one point."""
+    pieces = max(cases - 1 - len(block.tie), 2)
+    lines = [f"case p1 = p2 and {guard} : {result}" for guard, result in block.tie]
+    lines += [f"case p1 = p2{f' and {negation_of(block.tie[0][0])}' if block.tie else ''} : {block.behind}"]
+    for sign, count in ((-1, (pieces + 1) // 2), (1, pieces // 2)):
+        ends = sorted(draw.sample(range(2, 99), count - 1))
+        begun = 1
+        for place, end in enumerate([*ends, None]):
+            # The distances from `begun` on, up to the one before `end`.
+            lines += piece_of(block, sign, begun, end, place)
+            begun = end
+    draw.shuffle(lines)
+    return lines
+
+
+def piece_of(block, sign, begun, end, place):
+    result = block.front if sign < 0 else block.behind
+    if end is not None and end - begun == 1:
+        return [at_point(block, f"p1 = p2{plus(sign * begun)}", sign * begun)]
+    first = f"p1 <= p2{plus(-begun)}" if sign < 0 else f"p2 <= p1{plus(-begun)}"
+    if end is None:
+        return [f"case {first} : {result}"]
+    last = f"p2 < p1{plus(end)}" if sign < 0 else f"p1 < p2{plus(end)}"
+    return [f"case {first} and {last} : {result}"]
+
+
+# Guards that are drawn.
+
+def drawn_atom(draw, both):
+    sort = draw.choice("pps" + "c" * both)
+    first, second = draw.sample([f"{sort}1", f"{sort}2"], 2)
+    return f"{first} {draw.choice(['<', '<='])} {second}{plus(draw.randint(-99, 99)) if sort == 'p' else ''}"
+
+
+def drawn_guard(draw, both, atoms):
+    """A guard of so many atoms."""
+    if atoms == 1:
+        return f"{'not ' * (draw.random() < 0.2)}{drawn_atom(draw, both)}"
+    first = draw.randint(1, atoms - 1)
+    left, right = drawn_guard(draw, both, first), drawn_guard(draw, both, atoms - first)
+    return f"{'not ' * (draw.random() < 0.2)}({left} {draw.choice(['and', 'or'])} {right})"
+
+
+def random_block(draw, kinds, number, block, cases):
+    both, lines = "del" not in kinds, []
+    for _ in range(max(cases - len(block.tie) - 2, 0)):
+        distance, guard = draw.choice([-1, 1]) * draw.randint(1, 98), drawn_guard(draw, both, draw.randint(1, 14))
+        if draw.random() < 0.2:
+            lines.append(at_point(block, f"p1 = p2{plus(distance)} and {guard}", distance))
+        else:
+            half, result = draw.choice([("p1 < p2", block.front), ("p2 < p1", block.behind)])
+            lines.append(f"case {half} and {guard} : {result}")
+    return lines + usual(block)
+
+
+# Families whose blocks are made as a whole.
+BLOCKS = {
+    "cover": (TOMB, cover_block),
+    "alias": (TOMB, alias_block),
+    "pinned": (UPDATES, pinned_block),
+    "random": (UPDATES, random_block),
+}
+NAMES = [*FAMILIES, "rules", *BLOCKS]
+
+
+def members(family):
+    """The names and the numbers of cases that are usual of a family: of the drawn one ten seeds at the most cases."""
+    return [(f"random-{seed}", 64) for seed in range(1, 11)] if family == "random" else [(family, cases) for cases in SIZES]
+
+
 def function_of(name, cases):
-    if name == "rules":
+    family, *seed = name.split("-")
+    if family == "rules":
         return rules(min(cases, 61))
-    text, blocks, cut = FAMILIES[name]
+    if family in BLOCKS:
+        (blocks, made), text, draw = BLOCKS[family], "tomb", random.Random(f"{name} {cases}")
+
+        def of(kinds, number, block):
+            return [f"block {kinds}", *made(draw, kinds, number, block, cases)]
+    else:
+        text, blocks, cut = FAMILIES[family]
+
+        def of(kinds, number, block):
+            return block_of(kinds, number, block, cases, cut)
     kinds = [kind for kind in ("ins", "del", "upd") if f"{kind} {kind}" in blocks]
     head = [f"otfn {2 if 'upd' in kinds else 1}", f"text {text}", "kinds " + " ".join(kinds), "assume sites differ"]
-    lines = [line for number, item in enumerate(blocks.items()) for line in block_of(item[0], number, item[1], cases, cut)]
+    lines = [line for number, (pair, block) in enumerate(blocks.items()) for line in of(pair, number, block)]
     return "\n".join([*head, *lines, "end", ""])
 
 
@@ -156,7 +309,7 @@ def main():
     if len(sys.argv) == 3:
         sys.stdout.write(function_of(sys.argv[1], int(sys.argv[2])))
     else:
-        print(*FAMILIES, "rules")
+        print(*NAMES)
         print(*SIZES)
 
 

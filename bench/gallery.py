@@ -15,11 +15,11 @@ import sys
 import textwrap
 
 TOP = os.path.dirname(os.path.dirname(os.path.abspath(__file__)))
-sys.path.insert(0, os.path.join(TOP, "reference"))
+sys.path[:0] = [os.path.join(TOP, "reference"), os.path.join(TOP, "tools")]
 
 import brute  # noqa: E402
+from program import PROGRAM  # noqa: E402
 
-PROGRAM = os.environ.get("OTP") or os.path.join(TOP, "crates/otp/out/otp")
 GALLERY = os.path.join(TOP, "examples/gallery")
 PAGE = os.path.join(GALLERY, "README.md")
 BEGIN, END = "<!-- begin: made by bench/gallery.py -->\n", "<!-- end: made by bench/gallery.py -->\n"

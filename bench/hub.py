@@ -12,14 +12,14 @@ many events as one can have.
 import json
 import os
 import random
-import subprocess
 import tempfile
 
 from measure import measure
 
+from program import PROGRAM, make_ready
+
 HERE = os.path.dirname(os.path.abspath(__file__))
 TOP = os.path.dirname(HERE)
-PROGRAM = os.path.join(TOP, "crates/otp/out/otp")
 FUNCTION = os.path.join(TOP, "examples/functions/sites.ot")
 DOCUMENT = "y" * 1_024
 
@@ -70,8 +70,7 @@ def report(name, hub):
 
 
 def main():
-    # Builds the program where that is needed, so that it is not measured.
-    subprocess.run([os.path.join(TOP, "otp")], stdout=subprocess.DEVNULL, check=False)
+    make_ready()
     report("all up, then all down", up_then_down(16, 64))
     report("interleaved", interleaved(16, 64))
     report("as many events as there can be", longest())

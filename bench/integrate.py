@@ -10,14 +10,14 @@ document, and once all stand at its front, where each insertion moves every cell
 import json
 import os
 import random
-import subprocess
 import tempfile
 
 from measure import measure
 
+from program import PROGRAM, make_ready
+
 HERE = os.path.dirname(os.path.abspath(__file__))
 TOP = os.path.dirname(HERE)
-PROGRAM = os.path.join(TOP, "crates/otp/out/otp")
 CELLS = 1_000_000
 OPERATIONS = 1_000
 ORDERS = 16
@@ -46,8 +46,7 @@ def report(name, written):
 
 
 def main():
-    # Builds the program where that is needed, so that it is not measured.
-    subprocess.run([os.path.join(TOP, "otp")], stdout=subprocess.DEVNULL, check=False)
+    make_ready()
     random.seed(1)
     report("spread", case(lambda site: random.randrange(CELLS)))
     report("at the front", case(lambda site: 0))

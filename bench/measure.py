@@ -14,9 +14,9 @@ import time
 from collections import namedtuple
 
 TOP = os.path.dirname(os.path.dirname(os.path.abspath(__file__)))
-# Programs that share no code with otp; who measures imports them behind this module.
+# Programs that share no code with otp; who measures imports them behind this module, and where the program stands.
 REFERENCE = os.path.join(TOP, "reference")
-sys.path.insert(1, REFERENCE)
+sys.path[1:1] = [REFERENCE, os.path.join(TOP, "tools")]
 
 
 def run_under_time(words, wanted):

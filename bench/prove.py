@@ -1,9 +1,9 @@
 #!/usr/bin/env python3
 """Measures `otp prove` and then `otp check` of what it wrote, and gives the same obligations to z3 and cvc5.
 
-usage: prove.py [RUNS]      (after `otp`, or `rt run` in crates/otp; the least of RUNS runs is shown, 60 where none is
-                            given, and of ten times as many for short processes; they take turns, the short ones among
-                            themselves; OTP=PROGRAM in the environment names another program to measure)
+usage: prove.py [RUNS]      (the least of RUNS runs is shown, 60 where none is given, and of ten times as many for short
+                            processes; they take turns, the short ones among themselves; OTP=PROGRAM in the environment
+                            names another program to measure)
 
 Shown are questions a second of `prove`, its peak memory a question beside the certificate, which it holds whole before it
 writes it, MB a second of `check`, and how often as long the faster of the solvers takes as `prove`. Each is the time of a
@@ -14,16 +14,15 @@ functions in examples/functions. A solver that is not installed is named.
 import glob
 import os
 import shutil
-import subprocess
 import sys
 import tempfile
 
 from measure import TOP, measure, quickest
 
 from certificate import read_function
+from program import PROGRAM, make_ready
 from smt import script
 
-PROGRAM = os.environ.get("OTP") or os.path.join(TOP, "crates/otp/out/otp")
 SHIPPED = os.path.join(TOP, "examples/functions")
 # So many runs of each command, the least of which is shown, and so many times as many of short processes.
 RUNS, SHORT = 60, 10
@@ -131,9 +130,7 @@ def report(folder, solvers, name, text, proved, checked):
 
 def main():
     runs = int(sys.argv[1]) if len(sys.argv) > 1 else RUNS
-    # Builds the program where that is needed, so that it is not measured.
-    if "OTP" not in os.environ:
-        subprocess.run([os.path.join(TOP, "otp")], stdout=subprocess.DEVNULL, check=False)
+    make_ready()
     solvers = installed()
     great = {
         "16 further cases": with_tombstones([16, 0, 0, 0]),

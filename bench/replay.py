@@ -19,8 +19,8 @@ import tempfile
 from measure import REFERENCE, TOP, measure
 
 from drill import make, takes
+from program import PROGRAM, make_ready
 
-PROGRAM = os.path.join(TOP, "crates/otp/out/otp")
 FUNCTION = os.path.join(TOP, "examples/functions/ttf.ot")
 
 
@@ -58,8 +58,7 @@ def report(name, session):
 
 
 def main():
-    # Builds the program where that is needed, so that it is not measured.
-    subprocess.run([os.path.join(TOP, "otp")], stdout=subprocess.DEVNULL, check=False)
+    make_ready()
     report("two sites, 488 takes", two_sites(488))
     report("two sites, 489 takes", two_sites(489))
     report("three sites of 100 operations each", three_sites(100))

@@ -6,13 +6,13 @@ usage: shortest.py [RUNS]      (after `otp`, or `rt run` in crates/otp; the leas
                                 given; OTP=PROGRAM in the environment names another program to measure)
 """
 import os
-import subprocess
 import sys
 import tempfile
 
-from prove import PROGRAM, SHIPPED, TOP, least
+from prove import PROGRAM, SHIPPED, least
 
 from drill import MOST, function_of
+from program import make_ready
 
 
 def with_a_fault():
@@ -32,9 +32,7 @@ def report(runs, name, path):
 
 def main():
     runs = int(sys.argv[1]) if len(sys.argv) > 1 else 5
-    # Builds the program where that is needed, so that it is not measured.
-    if "OTP" not in os.environ:
-        subprocess.run([os.path.join(TOP, "otp")], stdout=subprocess.DEVNULL, check=False)
+    make_ready()
     for file in sorted(os.listdir(SHIPPED)):
         if file.endswith(".ot"):
             report(runs, file, os.path.join(SHIPPED, file))

@@ -6,7 +6,10 @@ import sys
 import tempfile
 
 TOP = os.path.dirname(os.path.dirname(os.path.abspath(__file__)))
-PROGRAM = os.path.join(TOP, "crates/otp/out/otp")
+sys.path.insert(0, os.path.join(TOP, "tools"))
+
+from program import PROGRAM, make_ready  # noqa: E402
+
 DOCUMENTS = ["", "x", "x~yz", "~x\\~\\\\"]
 
 
@@ -36,8 +39,7 @@ class Comparison:
     def __init__(self, command, answer, folder):
         self.command, self.answer, self.folder = command, answer, folder
         self.count, self.wrong, self.statuses = 0, 0, {}
-        # Builds the program where that is needed.
-        subprocess.run([os.path.join(TOP, "otp")], stdout=subprocess.DEVNULL, check=False)
+        make_ready()
 
     def file(self, name, content):
         path = os.path.join(self.folder, name)

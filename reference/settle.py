@@ -5,9 +5,11 @@ usage: settle.py [--tp1] [--questions] FN > PROOF
 
 It searches an obligation depth first. Where a transformation begins it tries to show what follows under no literals at
 all, as a lemma; each end that fails there, and cannot be reached from around the lemma, adds a literal to it that shuts
-the end out, and so does each lemma that was shown and would serve by what is known around. A second walk writes the
-proof. It ends with status 1 where an obligation fails at answers that some
-integers meet, and tells these. With --questions it writes how many questions the search asked to the standard error.
+the end out, and so does each lemma that was shown and would serve by what is known around. Where a result is told by
+another position than its own, since a guard pins the two, it first shows what follows far from there, where the result
+is told by its own position: that serves at each such place then. A second walk writes the proof. It ends with status 1
+where an obligation fails at answers that some integers meet, and tells these. With --questions it writes how many
+questions the search asked to the standard error.
 Nothing of the program is used, and nothing of the program rests on it.
 """
 import sys
@@ -18,6 +20,8 @@ from least import values_of
 from proof import READ, conditions, marked_plan, negated, reached
 
 NEWEST, MOST_LITERALS, MOST_OFFSET = 64, 24, 1000
+# How far from one another two positions are where a scout goes, and how many literals it begins with at most.
+FAR, MOST_KNOWN = 250, 23
 BUDGET = 30_000_000
 
 
@@ -51,6 +55,25 @@ def with_literal(table, lit, number):
     return (table, None) if implies(table, lit) else closed(table, *lit, number)
 
 
+def all_of(table):
+    """What a table gives of each two names, but for what is too far."""
+    found = [(x, y, entry[0]) for x, row in enumerate(table) for y, entry in enumerate(row) if entry and x != y]
+    return [lit for lit in found if abs(lit[2]) <= MOST_OFFSET + 1]
+
+
+def distance(table, x, y):
+    """The constant k for which x = y + k follows; or None."""
+    there, back = table[x][y], table[y][x]
+    return there[0] if there and back and there[0] + back[0] == 0 else None
+
+
+def with_possible(table, literals):
+    """The table with those literals that some integers meet, one after another."""
+    for lit in literals:
+        table = with_literal(table, lit, None)[0] or table
+    return table
+
+
 def why(table, lit, number):
     """The negative cycle that shows a literal which the table implies, by its negation under this number. It begins at
     its least number."""
@@ -70,10 +93,8 @@ def alike(results, table):
 
     def moved(op):
         own = op.site - 1
-        there, back = table[op.at[0]][own], table[own][op.at[0]]
-        if there is None or back is None or there[0] + back[0] != 0:
-            return op
-        return op._replace(at=(own, op.at[1] + there[0]))
+        apart = distance(table, op.at[0], own)
+        return op if apart is None else op._replace(at=(own, op.at[1] + apart))
 
     return tuple(op and moved(op) for op in results)
 
@@ -83,40 +104,59 @@ Lemma = namedtuple("Lemma", "results literals")
 
 class Lemmas:
     def __init__(self, count):
-        self.count, self.kept = count, {}
+        self.count, self.kept, self.scouts = count, {}, {}
 
     def add(self, lemma):
         self.kept.setdefault(key_of(self.count, lemma.results), []).append(lemma)
+
+    def add_scout(self, lemma):
+        """A lemma that serves nowhere, and is written for those that are shown within it."""
+        self.scouts.setdefault(key_of(self.count, lemma.results), []).append(lemma)
+
+    def scouts_of(self, results):
+        return self.scouts.get(key_of(self.count, results), [])
 
     def of(self, results):
         """The newest lemmas of a start, newest first, but for those of too many literals."""
         newest = self.kept.get(key_of(self.count, results), [])[: -NEWEST - 1 : -1]
         return [lemma for lemma in newest if len(lemma.literals) <= MOST_LITERALS]
 
-    def serving(self, results, table):
-        """Those lemmas of a start and of the start alike whose literals and conditions follow."""
-        for lemma in self.of(results) + self.of(alike(results, table)):
-            under = conditions(self.count, lemma.results, results)
-            if all(implies(table, lit) for lit in [*lemma.literals, *under]):
+    def wanted(self, lemma, results):
+        """What has to follow where a lemma serves at a start."""
+        return [*lemma.literals, *conditions(self.count, lemma.results, results)]
+
+    def serving(self, results, table, follows):
+        """Those lemmas of a start, and of the start alike by a table, whose literals and conditions follow."""
+        told = alike(results, table)
+        is_other = key_of(self.count, told) != key_of(self.count, results)
+        for lemma in self.of(results) + (self.of(told) if is_other else []):
+            if all(map(follows, self.wanted(lemma, results))):
                 yield lemma
+
+    def serving_by(self, results, table):
+        return self.serving(results, table, lambda lit: implies(table, lit))
 
 
 # The search.
 
 class Level:
-    """A lemma that is being shown: its literals so far, how much waited and was answered when it began, and what
-    followed there, with what is assumed around it since."""
+    """A lemma that is being shown at a place: its literals so far, how much waited and was answered when it began, and
+    what followed there, with what is assumed around it since; whether it is a scout; and which scouts were sent there."""
 
-    def __init__(self, results, waiting, answers, outer):
-        self.results, self.waiting, self.answers, self.outer, self.offsets = results, waiting, answers, outer, {}
+    def __init__(self, go, results, waiting, answers, outer, sent=()):
+        self.go, self.results, self.waiting, self.answers, self.outer, self.sent = go, results, waiting, answers, outer, sent
+        self.assumed, self.is_scout = [], False
 
     def literals(self):
-        return [(x, y, k) for (x, y), k in self.offsets.items()]
+        return list(self.assumed)
 
     def assume(self, lit):
-        """One more literal. Of two on the same names the stronger one stays."""
-        x, y, k = lit
-        self.offsets[x, y] = min(k, self.offsets.get((x, y), k))
+        """One more literal. The first one on the same names is made as strong, if there is one."""
+        for number, (x, y, k) in enumerate(self.assumed):
+            if (x, y) == lit[:2]:
+                self.assumed[number] = (x, y, min(k, lit[2]))
+                return
+        self.assumed.append(lit)
 
 
 def shutting(inner, outer):
@@ -135,28 +175,45 @@ def shutting(inner, outer):
     return best
 
 
+# A place that is open, whether its lemma was just begun, and which scouts were sent from there.
+Open = namedtuple("Open", "go begun sent", defaults=(False, ()))
+
+
 class Search:
     def __init__(self, plan, count, budget):
         self.plan, self.count, self.names, self.left = plan, count, 3 + 3 * count, budget
         # what the innermost level's literals and the answers since it began give
         self.table = empty_table(self.names)
-        self.lemmas, self.levels, self.waiting, self.answers = Lemmas(count), [Level(None, 0, 0, self.table)], [], []
+        self.levels = [Level(plan, None, 0, 0, self.table)]
+        self.lemmas, self.waiting, self.answers = Lemmas(count), [], []
 
     def run(self):
         """Whether the plan holds. Where it does not, `answers` lead to an end that fails."""
-        go = self.plan
-        while go:
-            results, plan = reached(go)
-            if isinstance(plan, Fails) and not self.blame():
-                return False
-            if not isinstance(plan, Ask) or results is not None and self.is_shown(results):
-                go = self.close()
+        at = Open(self.plan)
+        while at:
+            results, plan = reached(at.go)
+            results = None if at.begun else results
+            if results is not None and self.is_shown(results):
+                at = self.close()
                 continue
-            if results is not None:
-                self.levels.append(Level(results, len(self.waiting), len(self.answers), self.table))
-                self.table = empty_table(self.names)
-            go = self.ask(plan)
+            if results is not None and (sent := self.scout(results)):
+                at = sent
+                continue
+            if isinstance(plan, Ask):
+                at = self.begin(at, results, plan)
+            elif isinstance(plan, Fails) and not self.blame():
+                at = self.without_scout()
+                if not at:
+                    return False
+            else:
+                at = self.close()
         return True
+
+    def begin(self, at, results, plan):
+        if results is not None:
+            self.levels.append(Level(at.go, results, len(self.waiting), len(self.answers), self.table, at.sent))
+            self.table = empty_table(self.names)
+        return Open(self.ask(plan))
 
     def ask(self, plan):
         if self.left == 0:
@@ -180,12 +237,14 @@ class Search:
                 self.answers[answers:] = [lit]
                 self.table = table_of(self.names, level.literals() + self.answers[level.answers:])
                 if self.table:
-                    return go
+                    return Open(go)
             elif len(self.levels) == 1:
                 return None
             else:
                 self.levels.pop()
                 del self.answers[level.answers:]
+                if level.is_scout:
+                    return self.come_back(level)
                 self.lemmas.add(Lemma(level.results, level.literals()))
 
     # Lemmas that serve.
@@ -193,14 +252,20 @@ class Search:
     def is_shown(self, results):
         """Whether a lemma serves at a start: by what the innermost level assumes and the answers since it began, or
         else by what is known around it too, which is assumed then."""
-        if any(self.lemmas.serving(results, self.table)):
+        if any(self.lemmas.serving_by(results, self.table)):
             return True
-        for lemma in self.lemmas.of(results):
-            under = [*lemma.literals, *conditions(self.count, lemma.results, results)]
-            if all(self.follows_around(lit) for lit in under):
-                self.take(under)
-                return True
+        for lemma in self.lemmas.serving(results, self.pinned(), self.follows_around):
+            self.take(self.lemmas.wanted(lemma, results))
+            return True
         return False
+
+    def pinned(self):
+        """The table of the open place, with each two names that are equal up to a constant somewhere around."""
+        table = self.table
+        for level in self.levels[:0:-1]:
+            apart = [(x, y, distance(level.outer, x, y)) for x in range(self.names) for y in range(self.names) if x != y]
+            table = with_possible(table, [lit for lit in apart if lit[2] is not None])
+        return table
 
     def follows_around(self, lit):
         """Whether a literal follows from the innermost one of what is known around that says something of it."""
@@ -228,6 +293,59 @@ class Search:
             self.table = with_literal(self.table, lit, None)[0]
             if self.table is None:
                 return
+
+    # Scouts: lemmas of the start around a place, that are shown under literals which lead far from there.
+
+    def scout(self, results):
+        """Sends a scout, where the last result is told by another position than its own, which a guard pins to it. The
+        level around is begun anew after it. The place that is open then; or None."""
+        level, last = self.levels[-1], results[-1] if results else None
+        if len(self.levels) == 1 or level.is_scout or last is None:
+            return None
+        own, other = last.site - 1, last.at[0]
+        apart = None if own == other else distance(self.table, own, other)
+        if apart is None or (apart < 0) in level.sent:
+            return None
+        level.sent = (*level.sent, apart < 0)
+        literals = self.far_from(level, (own, other, -FAR) if apart < 0 else (other, own, -FAR))
+        if literals is None:
+            return None
+        del self.waiting[level.waiting:], self.answers[level.answers:]
+        level.is_scout, level.assumed = True, literals
+        self.table = table_of(self.names, literals)
+        return Open(level.go, True)
+
+    def far_from(self, level, far):
+        """The literals that a scout begins with: one that leads far away, and what is known around; or None where no
+        integers meet it with that."""
+        known = empty_table(self.names)
+        for outer in self.levels[1:]:
+            known = with_possible(known, all_of(outer.outer))
+        table, literals = with_literal(empty_table(self.names), far, None)[0], [far]
+        if with_literal(known, far, None)[0] is None:
+            return None
+        for lit in all_of(known):
+            if len(literals) < MOST_KNOWN and not implies(table, lit):
+                literals.append(lit)
+                table = with_literal(table, lit, None)[0]
+        return literals
+
+    def come_back(self, scout):
+        """The place of a scout that has shown its lemma."""
+        literals = scout.literals()
+        if len(literals) <= MOST_LITERALS and table_of(self.names, literals):
+            self.lemmas.add_scout(Lemma(scout.results, literals))
+        self.table = scout.outer
+        return Open(scout.go, False, scout.sent)
+
+    def without_scout(self):
+        """Gives the outermost scout up, and goes back to its place; or None where there is none."""
+        for number, level in enumerate(self.levels):
+            if level.is_scout:
+                self.drop(number)
+                self.table = level.outer
+                return Open(level.go, False, level.sent)
+        return None
 
     # Ends that fail.
 
@@ -319,7 +437,7 @@ def cycle_text(cycle):
 
 class Writer:
     def __init__(self, search):
-        self.search, self.tokens, self.written = search, [], {}
+        self.search, self.tokens, self.written, self.begun = search, [], {}, set()
         self.left = BUDGET
 
     def write(self):
@@ -342,14 +460,15 @@ class Writer:
         """Writes what stands at a place, and gives the places that it leaves, the next one last."""
         results, plan = reached(place.go)
         if results is not None and not place.opened:
-            serving = list(self.search.lemmas.serving(results, place.table))
+            lemmas = self.search.lemmas
+            serving = list(lemmas.serving_by(results, place.table))
             for lemma in serving:
                 if id(lemma) in self.written:
                     self.cite(lemma, results, place)
                     return []
-            own = {id(lemma) for lemma in self.search.lemmas.of(results)}
-            for lemma in serving:
-                if id(lemma) in own:
+            own = {id(lemma) for lemma in lemmas.of(results)}
+            for lemma in lemmas.scouts_of(results) + [lemma for lemma in serving if id(lemma) in own]:
+                if id(lemma) not in self.begun:
                     return self.begin(lemma, place)
         if not isinstance(plan, Ask):
             self.end(plan)
@@ -372,6 +491,7 @@ class Writer:
             self.tokens.append(cycle_text(why(place.table, lit, place.length)))
 
     def begin(self, lemma, place):
+        self.begun.add(id(lemma))
         self.tokens.append("l" + "/".join(f"{x},{y},{k}" for x, y, k in lemma.literals) + ";")
         table = table_of(self.search.names, lemma.literals)
         return [place, lemma, Place(place.go, table, len(lemma.literals), None, True)]

@@ -1,8 +1,11 @@
 """The toolchain's command `rt` as a module, whose libraries hold their statements and not their proofs.
 
 What stands on such a library loads little. But it fits only the very files of the libraries below that it was made
-over, so it stands in a folder of its own, `out/statements` of its crate, where `rt` itself does not look, beside what it
-was made of: its stamp, which is a sum of all sources, and a sum of each library below.
+over, so it stands in a folder of its own, `out/statements` of its crate, where `rt` itself does not look, beside what
+it was made of: which toolchain made it and which handles were allowed, its stamp, which is a sum of all sources, and a
+sum of each library below.
+
+A crate is held to what the gate holds it to: its text before it is proved, and what the prover says of it.
 
 For a stamp `rt` goes along each way from a crate down to another: from `ot_top` there are more than 30,000, and some
 kits ask for the stamps of all that stands below a crate, several times, before they check anything there. Here a stamp
@@ -18,7 +21,7 @@ import sys
 import tempfile
 import threading
 
-
+TOP = os.path.dirname(os.path.dirname(os.path.abspath(__file__)))
 # What a check may take, in bytes, and what all together may write while they run.
 MEMORY = 3_000_000_000
 ROOM = 6_000_000_000
@@ -64,8 +67,33 @@ def looking_once(stamp):
     return stamp_of
 
 
-def with_statements(rtlib):
-    """Has libraries stand in `out/statements`, made over those that stand there."""
+def stop_at_text(rt, crate):
+    """Stops at a text that the gate refuses before it proves anything."""
+    rt.rtlib.stop_on_links(crate.folder)
+    rt.rtlib.stop_on_text(crate, "verdict")
+    rt.stop_on_words(crate)
+    code = rt.rtlib.code_of(crate.folder)
+    for handle, words in rt.REACHES.items():
+        if handle not in crate.allowed and re.search(words, code):
+            rt.rtlib.stop(f"{crate.name} names what only the handle {handle} reaches, and HANDLES does not allow it")
+    if re.search(rt.RENAMES, code):
+        rt.rtlib.stop(f"{crate.name} renames std, or takes it whole: name what it uses of std by its path")
+    if re.search(rt.IGNORED, code):
+        rt.rtlib.stop(f"{crate.name} has a test under #[ignore], which nothing would run: remove one of them")
+    if rt.rtlib.fmt(crate.folder, "--check", crate.out):
+        rt.rtlib.stop(f"{crate.name} is not in the layout: run rt fmt in its folder")
+
+
+def held_to_the_gate(rt, crate, proved):
+    """The status of a call that proves a crate, once its text passes too. No flag of a command lets anything pass."""
+    crate.may_hide = crate.may_have_bugs = crate.may_be_empty = crate.may_call_c = crate.may_expand = False
+    stop_at_text(rt, crate)
+    return proved()
+
+
+def with_statements(rt):
+    """Has libraries stand in `out/statements`, made over those that stand there, and held to what the gate asks."""
+    rtlib, made_by = rt.rtlib, told_by("rt", "version")
     begin = rtlib.Crate.__init__
 
     def folder_of(crate):
@@ -74,7 +102,7 @@ def with_statements(rtlib):
     def made_of(crate):
         # The file `format` of a library holds a sum of its other files.
         below = [(it.name, rtlib.sum_of(os.path.join(it.rlib, "format"))) for it in crate.below()]
-        return repr((crate.stamp(), below))
+        return repr((made_by, crate.allowed, crate.stamp(), below))
 
     def begin_crate(crate, *given, **named):
         begin(crate, *given, **named)
@@ -83,63 +111,78 @@ def with_statements(rtlib):
     def is_built(crate):
         return os.path.isdir(crate.rlib) and rtlib.text_of(os.path.join(folder_of(crate), "made_of")) == made_of(crate)
 
+    def note(crate):
+        with open(os.path.join(folder_of(crate), "made_of"), "w", encoding="utf-8") as kept:
+            kept.write(made_of(crate))
+
     def build_rlib(crate, flags, anew):
         """Proves a library and builds it. The status is 0 if it is built, and what it was made of stood still."""
         if not anew and is_built(crate):
             return 0
-        sources = made_of(crate)
+        before = made_of(crate), rt.touched(crate)
         shutil.rmtree(folder_of(crate), ignore_errors=True)
         os.makedirs(folder_of(crate))
         words = crate.words([*flags, "--statements", "-o", crate.rlib], keeps=False)
-        if status := crate.call(rtlib.RATTLE, "build", *words):
+        if status := held_to_the_gate(rt, crate, lambda: crate.prove(["build", *words])):
             return status
-        if made_of(crate) != sources:
+        if (made_of(crate), rt.touched(crate)) != before:
             print(f"{crate.name} was changed while it was proved", file=crate.out)
             return 1
-        with open(os.path.join(folder_of(crate), "made_of"), "w", encoding="utf-8") as kept:
-            kept.write(sources)
+        note(crate)
         return 0
 
+    def take(crate, rlib):
+        """Takes a library as built that the gate made of what stands there now, over those that are built here."""
+        shutil.rmtree(folder_of(crate), ignore_errors=True)
+        shutil.copytree(rlib, crate.rlib, copy_function=rt.link_or_copy)
+        note(crate)
+
     rtlib.Crate.__init__, rtlib.Crate.is_built, rtlib.Crate.build_rlib = begin_crate, is_built, build_rlib
+    rtlib.Crate.take = take
 
 
-# What is used of the module `rtlib` in it, and of the crates there.
-USED = ("RATTLE", "Crate", "crates_below", "guarded", "lock", "sum_of", "text_of")
-USED_OF_CRATES = ("below", "build_rlib", "call", "count", "is_built", "run", "stamp", "words")
+# What is used of the module `rt`, of `rtlib` in it, and of the crates there.
+USED = ("Crate", "IGNORED", "REACHES", "RENAMES", "handles_of", "link_or_copy", "main", "rtlib", "stop_on_words",
+        "touched")
+USED_OF_LIBRARIES = ("Crate", "code_of", "crates_below", "fmt", "guarded", "lock", "stop", "stop_on_links",
+                     "stop_on_text", "sum_of", "text_of")
+USED_OF_CRATES = ("below", "build_rlib", "ci", "compile_by", "count", "is_built", "prove", "stamp", "words")
+
+
+def told_by(*words):
+    """What a command prints."""
+    return subprocess.run(words, stdout=subprocess.PIPE, text=True, check=True).stdout.strip()
 
 
 def loaded(name):
     """The file of this name in the toolchain's folder of programs, as a module."""
-    first_page = subprocess.run(["rt", "doc"], stdout=subprocess.PIPE, text=True, check=True).stdout.strip()
     # Nothing is written beside the toolchain.
     sys.dont_write_bytecode = True
-    loader = importlib.machinery.SourceFileLoader(name, os.path.join(os.path.dirname(first_page), "bin", name))
+    place = os.path.join(os.path.dirname(told_by("rt", "doc")), "bin", name)
+    loader = importlib.machinery.SourceFileLoader(name, place)
     module = importlib.util.module_from_spec(importlib.util.spec_from_loader(name, loader))
     loader.exec_module(module)
     return module
 
 
-def over_statements(rtlib):
-    """Has what `rtlib` calls stand on libraries that hold their statements."""
-    rtlib.Crate.stamp = looking_once(rtlib.Crate.stamp)
-    with_statements(rtlib)
-
-
 def load():
-    """The module; in it `rtlib` has the crates, and what a check of one is called with.
+    """The module. In it `rtlib` has the crates, as the gate has them, over libraries that hold their statements.
 
     An `AttributeError` or an `OSError` says that this toolchain's `rt` is made otherwise.
     """
     rt = loaded("rt")
-    for owner, names in ((rt, ("main", "read_files")), (rt.rtlib, USED), (rt.rtlib.Crate, USED_OF_CRATES)):
+    for owner, names in ((rt, USED), (rt.rtlib, USED_OF_LIBRARIES), (rt.Crate, USED_OF_CRATES)):
         for name in names:
             getattr(owner, name)
-    over_statements(rt.rtlib)
+    rt.rtlib.Crate.stamp = looking_once(rt.rtlib.Crate.stamp)
+    rt.Crate.allowed = rt.handles_of(TOP)
+    rt.rtlib.Crate = rt.Crate
+    with_statements(rt)
     return rt
 
 
 def plant(words):
     """What `rt plant` does with these words."""
     planter = loaded("rt-plant")
-    over_statements(planter.rt)
+    planter.rt = load().rtlib
     return planter.main(*words)

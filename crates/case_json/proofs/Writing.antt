@@ -1,6 +1,6 @@
 -- The writing of a document's text, cell by cell.
 use Rattle.std.proofs.Common.{◌≡◌, ℕ, ◌+◌, ◌<◌, List, [], ◌∷◌, ◌++◌, length, take, drop, sym, ap, ◌∙◌, append_assoc, append-nil, arith}
-use Rattle.std.proofs.Common.{get_or, length-append, Some, Result, Ok, Err, OnErr}
+use Rattle.std.proofs.Common.{get_or, length-append, Result, Ok, Err, OnErr}
 use Rattle.std.specs.Prelude.{encode_utf8_all}
 use Rattle.std.proofs.lemmas.List.{take_more, drop_more, take-append-drop, take-append-le}
 use Rattle.std.proofs.lemmas.Grind.{flat_map-append}
@@ -42,24 +42,21 @@ doc_bytes-around doc i other inside =
 
 -- a front behind what was written before
 pub front_behind :
-    (old front new text : List ℕ) → AppendsFront (Some (old ++ front)) text (Some new)
-    → AppendsFront (Some old) (front ++ text) (Some new)
+    (old front new text : List ℕ) → AppendsFront (old ++ front) text new → AppendsFront old (front ++ text) new
 front_behind old front new text behind =
     let taken = sym (take-append-add front text behind.0) in (
       length front + behind.0,
       omega (arith, behind.1, length-append front text),
-      behind.2
-          ∙ ap Some (append_assoc old front (take behind.0 text) ∙ ap (λ (written : List ℕ). old ++ written) taken),
+      behind.2 ∙ append_assoc old front (take behind.0 text) ∙ ap (λ (written : List ℕ). old ++ written) taken,
     )
 
 -- a front of a front
 pub front_longer :
-    (old new text more : List ℕ) → AppendsFront (Some old) text (Some new)
-    → AppendsFront (Some old) (text ++ more) (Some new)
+    (old new text more : List ℕ) → AppendsFront old text new → AppendsFront old (text ++ more) new
 front_longer old new text more front = (
   front.0,
   omega (arith, front.1, length-append text more),
-  front.2 ∙ ap (λ (written : List ℕ). Some (old ++ written)) (sym (take-append-le front.0 text more front.1)),
+  front.2 ∙ ap (λ (written : List ℕ). old ++ written) (sym (take-append-le front.0 text more front.1)),
 )
 
 -- what holds is a clause on failure
@@ -69,6 +66,6 @@ on_err (Err error) fact = fact
 
 -- a front of a text whose first part was written before
 pub front_of_rest : (old new whole written text more : List ℕ) → whole ≡ written ++ (text ++ more)
-    → AppendsFront (Some (old ++ written)) text (Some new) → AppendsFront (Some old) whole (Some new)
+    → AppendsFront (old ++ written) text new → AppendsFront old whole new
 front_of_rest old new whole written text more is front =
     rw is (front_behind old written new (text ++ more) (front_longer (old ++ written) new text more front))

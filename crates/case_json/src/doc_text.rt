@@ -1,6 +1,6 @@
 //! The text of a document: each cell is its character, behind a `~` if it is dead.
 ghost use Rattle.std.specs.Prelude.{◌≡◌, ◌≤◌, ◌<◌, [], ◌∷◌, ◌++◌, List, length, encode_utf8_all, IsUtf8};
-ghost use Rattle.std.specs.Prelude.{OnOk, OnErr, Ok, IfSome, IfNone, Some};
+ghost use Rattle.std.specs.Prelude.{OnOk, OnErr, Ok, IfSome, IfNone};
 ghost use Rattle.std.specs.Option.{option_map};
 ghost use Rattle.std.specs.Str.{chars};
 ghost use Rattle.ot_model.specs.declared.cell.Cell.{Cell as CellValue};
@@ -39,8 +39,7 @@ pub fn doc_read(alloc: Global, text: &str) -> Result<Doc, CaseError>
 /// Writes the text of a document behind what is there. Where memory is wanting, a front of it.
 pub fn doc_write(doc: &Doc, out: &mut Vec<u8>) -> Result<(), NoMemory>
     ensures ok { OnOk result (out.new.items ≡ out.old.items ++ encode_utf8_all (doc_text doc.now)) }
-    ensures err { OnErr result
-        (AppendsFront (Some out.old.items) (encode_utf8_all (doc_text doc.now)) (Some out.new.items)) }
+    ensures err { OnErr result (AppendsFront out.old.items (encode_utf8_all (doc_text doc.now)) out.new.items) }
 {
     for cell in doc.cells() {
         write_cell(*cell, out)?;
@@ -51,8 +50,7 @@ pub fn doc_write(doc: &Doc, out: &mut Vec<u8>) -> Result<(), NoMemory>
 /// Writes a cell.
 fn write_cell(cell: Cell, out: &mut Vec<u8>) -> Result<(), NoMemory>
     ensures ok { OnOk result (out.new.items ≡ out.old.items ++ encode_utf8_all (cell_text cell)) }
-    ensures err { OnErr result
-        (AppendsFront (Some out.old.items) (encode_utf8_all (cell_text cell)) (Some out.new.items)) }
+    ensures err { OnErr result (AppendsFront out.old.items (encode_utf8_all (cell_text cell)) out.new.items) }
 {
     if cell.live {
         return char_write(cell.ch, out);
@@ -131,8 +129,7 @@ pub(crate) fn split_char(text: &str) -> Option<(char, &str)>
 /// own. Where memory is wanting, a front of it.
 pub fn char_write(ch: char, out: &mut Vec<u8>) -> Result<(), NoMemory>
     ensures ok { OnOk result (out.new.items ≡ out.old.items ++ encode_utf8_all (char_text ch)) }
-    ensures err { OnErr result
-        (AppendsFront (Some out.old.items) (encode_utf8_all (char_text ch)) (Some out.new.items)) }
+    ensures err { OnErr result (AppendsFront out.old.items (encode_utf8_all (char_text ch)) out.new.items) }
 {
     match ch {
         '\\' => out.extend_from_slice(b"\\\\"),

@@ -1,6 +1,6 @@
 //! Certificates, written part by part.
 ghost use Rattle.std.specs.Prelude.{◌≡◌, ◌+◌, ◌*◌, ◌^◌, ◌<◌, ◌≤◌, ◌∷◌, ◌++◌, [], length, vec_len, vec_capacity};
-ghost use Rattle.std.specs.Prelude.{IfOk, OnOk, OnErr, Some, IsTrue, false};
+ghost use Rattle.std.specs.Prelude.{IfOk, OnOk, OnErr, IsTrue, false};
 ghost use Rattle.std.specs.Fmt.{decimal};
 ghost use Rattle.std.specs.List.{AllByRecursion};
 ghost use Rattle.ask_core.specs.declared.picks.TheConstants.{MAX_PICKS};
@@ -26,7 +26,7 @@ const ASKED_ROOM: usize = 3 + 11 * MAX_PICKS;
 /// front of it was appended.
 pub fn write_header(names: &[ObName], level: Level, out: &mut Vec<u8>) -> Result<(), NoMemory>
     ensures ok { OnOk result (out.new.items ≡ out.old.items ++ header_text names.now level) }
-    ensures err { OnErr result (AppendsFront (Some out.old.items) (header_text names.now level) (Some out.new.items)) }
+    ensures err { OnErr result (AppendsFront out.old.items (header_text names.now level) out.new.items) }
 {
     let line = header_line(*out.allocator(), names, level);
     append(line.as_slice(), out)
@@ -56,14 +56,14 @@ pub fn end_ob(tree: Tree) -> Result<Vec<u8>, NoMemory>
 /// Appends the last line. After `NoMemory` a front of it was appended.
 pub fn write_end(out: &mut Vec<u8>) -> Result<(), NoMemory>
     ensures ok { OnOk result (out.new.items ≡ out.old.items ++ end_text) }
-    ensures err { OnErr result (AppendsFront (Some out.old.items) end_text (Some out.new.items)) }
+    ensures err { OnErr result (AppendsFront out.old.items end_text out.new.items) }
 {
     append(b"end\n", out)
 }
 
 fn append(bytes: &[u8], out: &mut Vec<u8>) -> Result<(), NoMemory>
     ensures ok { OnOk result (out.new.items ≡ out.old.items ++ bytes.now) }
-    ensures err { OnErr result (AppendsFront (Some out.old.items) bytes.now (Some out.new.items)) }
+    ensures err { OnErr result (AppendsFront out.old.items bytes.now out.new.items) }
 {
     out.extend_from_slice(bytes)
 }

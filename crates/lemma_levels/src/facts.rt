@@ -165,11 +165,33 @@ impl Facts {
 
     /// The least `k` for which `x <= y + k` follows, if there is one.
     #[inline(always)]
-    fn least(&self, x: u8, y: u8) -> Option<i32> {
+    pub fn least(&self, x: u8, y: u8) -> Option<i32> {
         if x as usize >= MAX_NAMES || y as usize >= MAX_NAMES {
             return None;
         }
         self.table.tightest(x, y)
+    }
+
+    /// Adds what other facts say of each two names, as far as some integers meet it.
+    pub fn add_possible(&mut self, other: &Facts) {
+        for x in 0..MAX_NAMES as u8 {
+            for y in 0..MAX_NAMES as u8 {
+                if let Some(k) = other.least(x, y) {
+                    self.try_add(Lit { x, y, k }, 0);
+                }
+            }
+        }
+    }
+
+    /// The same of each two names that are equal up to a constant by the other facts.
+    pub fn add_fixed(&mut self, other: &Facts) {
+        for x in 0..MAX_NAMES as u8 {
+            for y in 0..MAX_NAMES as u8 {
+                if let Some(k) = other.distance(x, y) {
+                    self.try_add(Lit { x, y, k }, 0);
+                }
+            }
+        }
     }
 
     /// A literal that follows from the facts around and that no integers meet with these, if one of two names does.

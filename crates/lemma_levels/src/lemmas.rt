@@ -18,12 +18,13 @@ pub struct Lemma<N: Copy> {
 }
 
 /// All lemmas that were shown of one plan, in the order in which they were. It is seen as their list; the place of a
-/// lemma counts from 0. Beside it stand the places of the lemmas of each start, by its number.
+/// lemma counts from 0. Beside it stand the places of the lemmas of each start, by its number, and those of scouts.
 #[derive(Drop)]
 pub struct Lemmas<N: Copy> {
     alloc: Global,
     shown: Vec<Lemma<N>>,
     of_starts: Vec<Vec<usize>>,
+    scouts: Vec<Vec<usize>>,
 }
 
 impl<N: Copy> Model for Lemmas<N> {
@@ -58,6 +59,7 @@ impl<N: Copy> Lemmas<N> {
             alloc,
             shown: Vec::new(alloc),
             of_starts: Vec::new(alloc),
+            scouts: Vec::new(alloc),
         }
     }
 
@@ -83,6 +85,24 @@ impl<N: Copy> Lemmas<N> {
         add_place(self.alloc, &mut self.of_starts, number, place)?;
         self.shown.push(lemma)?;
         Ok(())
+    }
+
+    /// Adds the lemma of a scout, whose start has this number. It is none of the newest lemmas of the start.
+    pub fn add_scout(&mut self, number: usize, lemma: Lemma<N>) -> Result<(), NoMemory>
+        ensures { OnOk result (self.new ≡ self.old ++ lemma ∷ []) }
+    {
+        let place = self.shown.len();
+        add_place(self.alloc, &mut self.scouts, number, place)?;
+        self.shown.push(lemma)?;
+        Ok(())
+    }
+
+    /// The places of the lemmas of scouts of the start with this number, in the order in which they were shown.
+    pub fn scouts(&self, number: usize) -> &[usize] {
+        match self.scouts.get(number) {
+            None => &[],
+            Some(places) => places.as_slice(),
+        }
     }
 
     /// The places of the newest lemmas of the start with this number, the newest one last.

@@ -16,4 +16,4 @@ mod open;
 pub use ask_core::NoMemory;
 pub use facts::{Added, Facts, MAX_NAMES};
 pub use lemmas::{Lemma, Lemmas, NEWEST};
-pub use open::{LemmaLevel, Search, WaitingPart};
+pub use open::{LemmaLevel, Search, Sent, WaitingPart};

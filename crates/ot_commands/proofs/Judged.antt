@@ -13,7 +13,7 @@ use Rattle.refusals.specs.declared.refusal.JudgeError.TheVariants as judge
 use Rattle.refusals.specs.declared.refusal.Refusal.{Refusal}
 use Rattle.refusals.specs.declared.refusal.Refusal.TheVariants as why
 use Rattle.ot_sections.specs.Feeding.{IsTruncated, MayGive}
-use Rattle.ot_least.specs.Judgements.{IsNoJudgement}
+use Rattle.ot_bound.specs.Judgements.{IsNoJudgement}
 use Rattle.ot_replies.specs.declared.reply.FileKind.TheVariants as files
 use Rattle.ot_replies.specs.declared.reply.Reply.{Reply}
 use Rattle.ot_replies.specs.declared.reply.Reply.TheVariants.{TooLong}

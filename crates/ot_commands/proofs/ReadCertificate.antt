@@ -8,7 +8,7 @@ use Rattle.ot_outside.specs.Reads.{Reads, after_reading}
 use Rattle.ot_outside.specs.ShelfFeed.{IsAllOfReads, KeepsShelf, feed_left, gave_by, hand_of, room_of, shelf_of, unread_of}
 use Rattle.refusals.specs.declared.refusal.JudgeError.{JudgeError}
 use Rattle.ot_sections.specs.Feeding.{IsSpent, MayGiveOf, MayHave, Whole}
-use Rattle.ot_least.specs.Judgements.{IsNoJudgement}
+use Rattle.ot_bound.specs.Judgements.{IsNoJudgement}
 use Rattle.ot_replies.specs.declared.reply.FileKind.TheVariants as files
 use Rattle.ot_replies.specs.declared.reply.Reply.{Reply}
 use Rattle.ot_replies.specs.declared.reply.Reply.TheVariants.{TooLong}

@@ -2,7 +2,7 @@
 use Rattle.std.specs.Prelude.{ℕ, List, Option}
 use Rattle.fn_rules.specs.declared.function.Level.{Level}
 use Rattle.fn_rules.specs.Functions.{Function}
-use Rattle.ot_least.specs.Judgements.{IsLowJudgement}
+use Rattle.ot_bound.specs.Judgements.{IsLowJudgement}
 use Rattle.ot_replies.specs.declared.reply.Reply.{Reply}
 use Rattle.ot_replies.specs.declared.reply.Reply.TheVariants.{AtLeast}
 use Rattle.ot_commands.specs.Certificate.{IsReplyToCertificate}

@@ -14,6 +14,7 @@ pub mod Audit
 pub mod Same
 pub mod Reverse
 pub mod Least
+pub mod Template
 pub mod Drill
 pub mod Replies
 pub mod Steady

@@ -5,7 +5,7 @@ use Rattle.ot_replies.specs.declared.reply.Reply.{Reply}
 use Rattle.ot_replies.specs.declared.reply.Reply.TheVariants.{Usage}
 use Rattle.ot_replies.specs.declared.reply.Subject.TheVariants.{First, Second}
 use Rattle.ot_words.specs.Commands.{Asked, Prove, Settle, Check, Integrate, Replay, Hub, Audit, Same, Reverse, Least}
-use Rattle.ot_words.specs.Commands.{Bound, Confirm, Drill}
+use Rattle.ot_words.specs.Commands.{Bound, Confirm, Template, Drill}
 use Rattle.ot_words.specs.Words.{asked_by}
 use Rattle.ot_commands.specs.Audit.{audit_facts}
 use Rattle.ot_commands.specs.Bound.{bound_facts}
@@ -22,6 +22,7 @@ use Rattle.ot_commands.specs.Replay.{replay_facts}
 use Rattle.ot_commands.specs.Reverse.{reverse_facts}
 use Rattle.ot_commands.specs.Same.{same_facts}
 use Rattle.ot_commands.specs.Settle.{settle_facts}
+use Rattle.ot_commands.specs.Template.{template_facts}
 
 -- the facts of each command
 abbrev pub facts_of : Asked → Facts
@@ -37,6 +38,7 @@ facts_of (Reverse function other) = reverse_facts function other
 facts_of (Least cert function) = least_facts cert function
 facts_of (Bound function certificate) = bound_facts function certificate
 facts_of (Confirm function proof) = confirm_facts function proof
+facts_of (Template level head) = template_facts level head
 facts_of (Drill number) = drill_facts number
 
 -- In what follows `holds` says what each name holds.

@@ -14,7 +14,7 @@ use Rattle.ot_commands.specs.Prove.{TellsCounter}
 abbrev pub TellsSettled : Function → Settled → Reply → Type 0
 TellsSettled f (outcomes.Yes bytes) r = r ≡ Proved bytes.items
 TellsSettled f (outcomes.No ob answers why) r = TellsCounter f ob answers.items why r
-TellsSettled f outcomes.Spent r = r ≡ Spent
+TellsSettled f (outcomes.Spent cause) r = r ≡ Spent
 
 -- the reply to a function at a level that is to be settled; how many questions are allowed says nothing of it
 abbrev pub IsReplyToSettle : Function → Level → Reply → Type 0

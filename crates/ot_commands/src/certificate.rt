@@ -13,8 +13,8 @@ ghost use Rattle.ot_replies.specs.declared.reply.FileKind.TheVariants as files;
 use crate::load::{Stop, limit};
 use crate::two_files::FileCommand;
 use fn_rules::{Level, Rules};
+use ot_bound::check_bound;
 use ot_judge::check_all;
-use ot_least::check_bound;
 use ot_outside::{Feed, Shelf, ShelfFeed};
 use ot_replies::{FileKind, Reply};
 use ot_sections::{JudgeError, Refusal};
@@ -26,7 +26,7 @@ pub(crate) trait Finding: Copy {
     ghost use Rattle.std.specs.Prelude.{◌⊎◌, ◌^◌, ◌<◌, Result, IfErr};
     ghost use Rattle.fn_rules.specs.Functions.{Function};
     ghost use Rattle.ot_sections.specs.Feeding.{IsKeptFeed, IsSpent, IsTruncated, MayGive, MayGiveOf, MayHave, Whole};
-    ghost use Rattle.ot_least.specs.Judgements.{IsNoJudgement};
+    ghost use Rattle.ot_bound.specs.Judgements.{IsNoJudgement};
     ghost use Rattle.ot_replies.specs.declared.reply.Reply.{Reply};
 
     /// What the judgement of bytes is.
@@ -73,7 +73,7 @@ impl Finding for Level {
 
 // A low certificate shows the property of its level on every document of fewer cells than its bound.
 impl Finding for (Level, u32) {
-    ghost use Rattle.ot_least.specs.Judgements.{IsLowJudgement};
+    ghost use Rattle.ot_bound.specs.Judgements.{IsLowJudgement};
     ghost use Rattle.ot_commands.specs.Bound.{at_least};
 
     ghost judges = { IsLowJudgement };

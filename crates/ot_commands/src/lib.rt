@@ -13,7 +13,8 @@
 //! `reverse F E` tells whether a second function takes back what the first one makes, or where it does not.
 //! `least FN` looks for the shortest document on which a function breaks a property, and certifies that none is
 //! shorter. `bound FN CERT` says whether a certificate shows that no document of fewer cells breaks a property.
-//! `confirm FN PROOF` says the same as `check` of a proof with lemmas. `drill N` generates a workload, and goes the
+//! `confirm FN PROOF` says the same as `check` of a proof with lemmas. `template MODE KIND..` prints a function to begin
+//! with, or says that none has both properties. `drill N` generates a workload, and goes the
 //! whole way from its function to its sites.
 //!
 //! The crate above relies on one call a command, whose clauses say which reply comes, of what the shelf tells and of
@@ -38,5 +39,6 @@ pub mod replay;
 pub mod reverse;
 pub mod same;
 pub mod settle;
+pub mod template;
 mod two_files;
 mod two_functions;

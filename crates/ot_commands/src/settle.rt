@@ -30,10 +30,10 @@ impl FunctionCommand for Settling {
     ghost gets = { λ s f. IsReplyToSettle f s.level };
 
     fn reply(&self, alloc: Global, rules: &Rules) -> Result<Reply, NoMemory> {
-        match settle_all(alloc, rules, self.level, self.budget)? {
+        match settle_all(alloc, rules, self.level, self.budget)?.settled {
             Settled::Yes(bytes) => Ok(Reply::Proved(List::from_vec(bytes))),
             Settled::No { ob, answers, why } => broken_by(alloc, rules, ob, &answers, why),
-            Settled::Spent => Ok(Reply::Spent),
+            Settled::Spent(_) => Ok(Reply::Spent),
         }
     }
 }

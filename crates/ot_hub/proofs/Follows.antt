@@ -19,9 +19,8 @@ document_code = coded_list cell_code
 
 module _ (hub : HubData) where
   -- in a hub in step a client that received all and made nothing has the server's document
-  follows : AreInStep hub.function hub.first hub.server hub.clients → FollowsLog hub
+  pub follows : AreInStep hub.function hub.first hub.server hub.clients → FollowsLog hub
   follows s = record {
-    server = s.log.doc;
     clients = λ c there. (s.each c there).doc;
     one_document = λ c there received nothing.
         (s.each c there).doc
@@ -35,7 +34,6 @@ module _ (hub : HubData) where
   -- each of them is an equation of documents
   pub FollowsLog-in_step : ∥ AreInStep hub.function hub.first hub.server hub.clients ∥₁ → FollowsLog hub
   FollowsLog-in_step s = record {
-    server = ∥∥₁_elim s (Coded-set document_code _ _) (λ kept. (follows kept).server);
     clients = λ c there. ∥∥₁_elim s (Coded-set document_code _ _) (λ kept. (follows kept).clients c there);
     one_document = λ c there received nothing. ∥∥₁_elim s (Coded-set document_code _ _) (λ kept. (follows kept).one_document c there received nothing);
   }

@@ -6,6 +6,7 @@ mod Examples
 pub mod Follows
 pub mod Keeping
 pub mod Kept
+pub mod Leading
 pub mod Making
 pub mod Meetings
 pub mod Near

@@ -26,6 +26,18 @@ use Rattle.ot_hub.proofs.Carrying.{op-kept, list-kept}
 use Rattle.ot_hub.proofs.Meetings.{item, all-push, all-weaker, from_place-push, ups-more_ahead, downs-more_own, downs-more_others}
 use Rattle.ot_hub.proofs.Ways.{document_after_all-push, IsChain-push, own-push, FirstUp, of_other, of-kept, others-kept, allowed_with_own}
 
+-- the operation at the end of a list of entries
+operations-push : (log : List Entry) (entry : Entry) → operations (log ++ entry ∷ []) ≡ operations log ++ item 0 entry.op ∷ []
+operations-push log entry = map-append (λ (e : Entry). item 0 e.op) log (entry ∷ [])
+
+-- where the server's document is the first one after the log, it is so after what a message became
+pub follows-after : (mode : Mode) (first : List Cell) (c : ℕ) (k : Carried) (server : Server)
+    → server.doc ≡ document_after_all mode (operations server.log) first
+    → (server_after mode c k server).doc ≡ document_after_all mode (operations (server_after mode c k server).log) first
+follows-after mode first c k server follows =
+    ap (document_after mode k.op) follows ∙ sym (document_after_all-push mode (operations server.log) (item 0 k.op) first)
+    ∙ ap (λ (l : List PlacedOp). document_after_all mode l first) (sym (operations-push server.log (record { client = c; op = k.op })))
+
 module _ (f : Function) (keeps : KeepsForms f) (converging : ConvergesOnForms f) (any_chars : f.head.chars_differ ≡ false)
     (is_form : (a b form : Op) → transform_of f a b ≡ Some form → IsFormOf a form) (first : List Cell) where
   abbrev mode : Mode
@@ -45,15 +57,11 @@ module _ (f : Function) (keeps : KeepsForms f) (converging : ConvergesOnForms f)
 
     pub IsServerInStep-after : IsServerInStep f first new
     IsServerInStep-after = record {
-      chain = subst (IsChain f first) (sym pushed) (IsChain-push f first (operations server.log) (item 0 k.op) in_step.chain
+      chain = subst (IsChain f first) (sym (operations-push server.log logged)) (IsChain-push f first (operations server.log) (item 0 k.op) in_step.chain
           (subst (λ (d : List Cell). IsIntegrable f (length d) k.op) in_step.doc integrable));
       own = own-push server.log logged in_step.own of;
-      doc = ap (document_after mode k.op) in_step.doc ∙ sym (document_after_all-push mode (operations server.log) (item 0 k.op) first)
-          ∙ ap (λ (l : List PlacedOp). document_after_all mode l first) (sym pushed);
+      doc = follows-after mode first c k server in_step.doc;
     }
-      where
-        pushed : operations (server.log ++ logged ∷ []) ≡ operations server.log ++ item 0 k.op ∷ []
-        pushed = map-append (λ (entry : Entry). item 0 entry.op) server.log (logged ∷ [])
 
     module _ (d : ℕ) (client : Client) (ahead : List PlacedOp) (s : IsClientInStep f first server d client ahead) where
       abbrev r : ℕ

@@ -3,7 +3,8 @@ ghost use Rattle.std.specs.Prelude.{◌≡◌, ◌≢◌, ◌≤◌, length, IfO
 ghost use Rattle.ot_model.specs.declared.limits.TheConstants.{MAX_CELLS};
 ghost use Rattle.fn_rules.specs.Rules.{function_of};
 ghost use Rattle.fn_rules.specs.Properties.{HasTp1};
-ghost use Rattle.ot_hub.specs.InStep.{AreInStep, AreCountedEdits};
+ghost use Rattle.ot_hub.specs.Chains.{document_after_all};
+ghost use Rattle.ot_hub.specs.InStep.{AreInStep, AreCountedEdits, operations};
 ghost use Rattle.ot_hub.specs.Kept.{IsHubKept};
 ghost use Rattle.ot_hub.specs.declared.limits.TheConstants.{MAX_CLIENTS};
 
@@ -30,6 +31,7 @@ pub struct Hub {
     is_open: bool,
     ghost small: { length first ≤ MAX_CELLS },
     ghost kept: { IsHubKept (function_of rules) made server clients.items },
+    ghost followed: { server.doc ≡ document_after_all (function_of rules).head.mode (operations server.log) first },
     ghost counted: { AreCountedEdits server.log clients.items },
     ghost in_step: { HasTp1 (function_of rules) → (function_of rules).head.chars_differ ≡ false
         → ∥ AreInStep (function_of rules) first server clients.items ∥₁ },
@@ -37,7 +39,7 @@ pub struct Hub {
 
 impl Hub {
     ghost use Rattle.ot_hub.specs.declared.answer.Move.TheVariants as moves;
-    ghost use Rattle.ot_hub.specs.Theorem.{FollowsLog};
+    ghost use Rattle.ot_hub.specs.Theorem.{FollowsLog, ServerFollowsLog};
     ghost use Rattle.ot_hub.specs.Views.{hub_view_of, IsClient, begun_hub, client_of, HasEdited, up_step, down_step};
     ghost use Rattle.ot_hub.specs.Views.{HasMoved};
 
@@ -224,9 +226,14 @@ impl Hub {
         }
     }
 
-    /// A law: where the function has the first property and characters need not differ, the server's document is the
-    /// first one after the log, a client's is the first one after the entries that it received and then what is pending
-    /// there, and one that received the whole log and has nothing pending holds the server's.
+    /// A law: whatever the function, the server's document is the first one after the log.
+    pub fn server_follows_the_log(&self)
+        ensures { ServerFollowsLog (hub_view_of self.now) }
+    {}
+
+    /// A law: where the function has the first property and characters need not differ, a client's document is the
+    /// first one after the entries that it received and then what is pending there, and one that received the whole log
+    /// and has nothing pending holds the server's.
     pub fn clients_follow_the_log(&self)
         ensures { HasTp1 (hub_view_of self.now).function → (hub_view_of self.now).function.head.chars_differ ≡ false
             → FollowsLog (hub_view_of self.now) }

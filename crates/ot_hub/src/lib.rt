@@ -12,6 +12,6 @@ mod server;
 
 pub use answer::{Edit, Move, Moved};
 pub use hub::Hub;
-pub use laws::tp1_carries_across;
+pub use laws::{hubs_follow_their_logs, tp1_carries_across};
 pub use limits::{MAX_CLIENTS, MAX_EDITS};
 pub use ot_model::NoMemory;

@@ -18,7 +18,7 @@ use Rattle.ot_questions.specs.declared.why.Why.{Why}
 use Rattle.ot_questions.specs.Meaning.{HasPair, HasTriple, HoldsAtLength}
 use Rattle.ot_questions.specs.Obligation.{plan_of}
 use Rattle.ot_values.specs.Values.{live_cells}
-use Rattle.ot_least.specs.Lows.{HasAt}
+use Rattle.ot_bound.specs.Lows.{HasAt}
 
 declared_from : (head : Head) (o : Option Kind) (k : Kind) → o ≡ Some k → is_declared head k ≡ true → HasDeclaredKind head o
 declared_from head o k is declared = subst (λ (x : Option Kind). HasDeclaredKind head x) (sym is) declared

@@ -6,17 +6,15 @@ use Rattle.std.proofs.Common.{arith, length-append}
 use Rattle.std.specs.Fmt.{decimal}
 use Rattle.std.proofs.lemmas.Fmt.{length-decimal-le}
 use Rattle.diff_graph.specs.declared.lit.Lit.{Lit}
-use Rattle.diff_graph.specs.Literals.{AreMet}
-use Rattle.diff_tables.specs.Solutions.{valuation_of}
 use Rattle.ot_model.specs.declared.op.Kind.{Kind}
+use Rattle.ot_model.specs.declared.op.Op.{Op}
 use Rattle.fn_rules.specs.declared.function.Level.{Level}
 use Rattle.fn_rules.specs.declared.function.Level.TheVariants.{Tp1, Tp2}
 use Rattle.fn_rules.specs.declared.function.ObName.{ObName}
 use Rattle.fn_rules.specs.declared.function.ObName.TheVariants.{Pair, Triple}
 use Rattle.fn_rules.specs.Functions.{Function}
 use Rattle.fn_rules.specs.Obligations.{level_of, is_obligation, obligations_of}
-use Rattle.fn_rules.specs.Properties.{HasTp1}
-use Rattle.fn_rules.specs.Validity.{is_valid}
+use Rattle.fn_rules.specs.Properties.{AreConcurrent, HasTp1}
 use Rattle.ask_core.specs.Leading.{LeadTo}
 use Rattle.ask_core.specs.Plans.{Plan, value}
 use Rattle.ask_core.specs.Questions.{FailingEnd}
@@ -28,7 +26,6 @@ use Rattle.ot_prove.specs.Outcomes.{answered_by}
 use Rattle.ot_prove.proofs.Leads.{literals_lead}
 use Rattle.ot_questions.specs.declared.why.Why.{Why}
 use Rattle.ot_questions.specs.Meaning.{AllHold}
-use Rattle.ot_questions.specs.Names.{length_name, zero_name}
 use Rattle.ot_questions.specs.Obligation.{plan_below, plan_of}
 use Rattle.ot_sections.specs.declared.premise.TheConstants.{MAX_BOUND}
 use Rattle.ot_sections.specs.Certificates.{AreAnswers}
@@ -38,14 +35,19 @@ use Rattle.ot_least.specs.declared.ending.Ending.{Ending}
 use Rattle.ot_least.specs.declared.short.Short.{Short}
 use Rattle.ot_least.specs.declared.short.Short.TheVariants as short
 use Rattle.ot_least.specs.Endings.{IsEndedBy, IsEnding, IsTurn, failing_end_of}
-use Rattle.ot_least.specs.Lows.{HasAt, IsBroken, IsLow, low_header_text, parts_of}
+use Rattle.ot_bound.specs.Lows.{HasAt, IsLow, low_header_text, parts_of}
 use Rattle.ot_least.proofs.Listed.{end_is_listed}
-use Rattle.ot_least.specs.Shortest.{EndHasCells, Falls, IsLeast, IsShortWithin, IsTrueOf, behind_first, end_by}
+use Rattle.ot_least.specs.Shortest.{EndHasCells, Falls, HasCells, IsBroken, IsBrokenAt, IsLeast, IsShortWithin, IsTrueOf, behind_first, end_by}
 
--- a property of documents of a length that fails is broken
-pub broken_at : (f : Function) (level : Level) (n : ℕ) → (level ≡ Tp2 → HasTp1 f) → ¬ HasAt f level n → IsBroken f level
-broken_at f Tp1 n first fails = λ has. fails (λ d a b len both. has d a b both)
-broken_at f Tp2 n first fails = (first refl, λ has. fails (λ d a b c len all. has d a b c all))
+-- a property that fails at an instance is broken
+pub broken_at :
+    (f : Function) (level : Level) (cells : ℕ) → (level ≡ Tp2 → HasTp1 f) → IsBrokenAt f level cells → IsBroken f level
+broken_at f Tp1 cells first at =
+    let (a, b, are, both, fails) = at.breaks in
+    λ has. fails (has at.doc a b (subst (λ (ops : List Op). AreConcurrent f at.doc ops) are both))
+broken_at f Tp2 cells first at =
+    let (a, b, c, are, all, fails) = at.breaks in
+    (first refl, λ has. fails (has at.doc a b c (subst (λ (ops : List Op). AreConcurrent f at.doc ops) are all)))
 
 -- a first line is short
 pub header_few : (level : Level) (bound : ℕ) → bound ≤ MAX_BOUND → length (low_header_text level bound) ≤ 17
@@ -148,14 +150,13 @@ module _ (f : Function) (budget : ℕ) (e : Ending) (bytes : List ℕ) where
         )
 
 -- a failing end with a low certificate of as many cells is a least one
-module _ (f : Function) (valid : IsTrue (is_valid f))
-    (breaks : (ob : ObName) (why : Why) (w : List Lit) (v : ℕ → ℤ) (n : ℕ) → IsTrue (is_obligation f.head ob) → LeadTo why (plan_of f ob) w
-    → v zero_name ≡ pos 0 → v length_name ≡ pos n → AreMet v w → ¬ HasAt f (level_of ob) n) where
-  pub breaks_at : (e : Ending) → IsEnding f e → ¬ HasAt f (level_of e.ob) e.cells
+module _ (f : Function)
+    (breaks : (ob : ObName) (why : Why) (w : List Lit) (cells : ℕ) → IsTrue (is_obligation f.head ob) → LeadTo why (plan_of f ob) w
+    → HasCells ob w cells → IsBrokenAt f (level_of ob) cells) where
+  pub breaks_at : (e : Ending) → IsEnding f e → IsBrokenAt f (level_of e.ob) e.cells
   breaks_at e ending =
-      let (values, least, is) = ending.length in
-      breaks e.ob e.why (answered_by e.answers.items) (valuation_of values) e.cells ending.listed
-      (literals_lead e.why (plan_of f e.ob) e.answers.items ending.way) least.zero_first is least.met
+      breaks e.ob e.why (answered_by e.answers.items) e.cells ending.listed
+      (literals_lead e.why (plan_of f e.ob) e.answers.items ending.way) ending.length
 
   is_least :
       ((bytes : List ℕ) (level : Level) (bound n : ℕ) → IsLow bytes f level bound → n < bound → HasAt f level n)

@@ -1,16 +1,8 @@
 mod Breaking
 mod Descents
 mod Endings
-mod FirstBytes
 mod FirstEnds
-mod Fronts
-mod HeaderFits
-mod KeptFeeds
+pub mod Instances
 mod Listed
-mod LowRun
-mod LowShows
-mod OneHeader
-mod OneLow
 mod OneShort
-mod PartsListed
 mod Shorter

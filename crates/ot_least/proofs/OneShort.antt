@@ -13,7 +13,7 @@ use Rattle.ot_questions.specs.Obligation.{plan_below, plan_of}
 use Rattle.ot_decide.specs.Verdicts.{AreAsked, FailingOb, ObQuestions, failing_in}
 use Rattle.ot_least.specs.declared.short.Short.{Short}
 use Rattle.ot_least.specs.declared.short.Short.TheVariants.{Fine, Least, TooLong, Spent}
-use Rattle.ot_least.specs.Lows.{parts_of}
+use Rattle.ot_bound.specs.Lows.{parts_of}
 use Rattle.ot_least.proofs.Shorter.{has_length}
 use Rattle.ot_least.specs.Shortest.{AreAlikeAnswers, BeginsTurns, Comes, EndHasCells, Falls, HasCells, IsShort, TellsLeast, behind_first}
 

@@ -15,7 +15,7 @@ use Rattle.ot_questions.specs.Obligation.{plan_below, plan_of}
 use Rattle.ot_least.specs.declared.ending.Ending.{Ending}
 use Rattle.ot_least.specs.declared.short.Short.{Short}
 use Rattle.ot_least.specs.declared.short.Short.TheVariants.{Least}
-use Rattle.ot_least.specs.Lows.{low_header_text, parts_of}
+use Rattle.ot_bound.specs.Lows.{low_header_text, parts_of}
 use Rattle.ot_least.specs.Shortest.{HasCells, end_by}
 
 -- the answers lead through the plan of an obligation to an end that fails, some integers meet them, and the least of

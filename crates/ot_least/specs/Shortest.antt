@@ -3,8 +3,10 @@ use Rattle.std.specs.Prelude.{◌≡◌, ℕ, ℤ, pos, ◌<◌, ◌≤◌, IsTr
 use Rattle.diff_graph.specs.declared.lit.Lit.{Lit}
 use Rattle.diff_graph.specs.Literals.{IsPossible}
 use Rattle.diff_tables.specs.Solutions.{AreLeast, valuation_of}
+use Rattle.ot_model.specs.declared.cell.Cell.{Cell}
+use Rattle.ot_model.specs.declared.op.Op.{Op}
 use Rattle.fn_rules.specs.declared.function.Level.{Level}
-use Rattle.fn_rules.specs.declared.function.Level.TheVariants.{Tp2}
+use Rattle.fn_rules.specs.declared.function.Level.TheVariants.{Tp1, Tp2}
 use Rattle.fn_rules.specs.declared.function.ObName.{ObName}
 use Rattle.fn_rules.specs.Functions.{Function}
 use Rattle.fn_rules.specs.Obligations.{level_of, is_obligation, obligations_of}
@@ -22,9 +24,22 @@ use Rattle.ot_sections.specs.declared.premise.TheConstants.{MAX_BOUND}
 use Rattle.ot_sections.specs.Certificates.{AreAnswers}
 use Rattle.ot_decide.specs.Verdicts.{AreAsked, AskTheQuestions, FailingOb, ObQuestions, count_in, failing_in}
 use Rattle.ot_values.specs.Values.{floors_of}
+use Rattle.ot_counter.specs.Counters.{Breaks}
 use Rattle.ot_least.specs.declared.short.Short.{Short}
 use Rattle.ot_least.specs.declared.short.Short.TheVariants.{Fine, Least, TooLong, Spent}
-use Rattle.ot_least.specs.Lows.{HasAt, IsBroken, IsLow, low_header_text, parts_of}
+use Rattle.ot_bound.specs.Lows.{HasAt, IsLow, low_header_text, parts_of}
+
+-- the property that the function breaks: the first, or else the second
+abbrev pub IsBroken : Function → Level → Type 0
+IsBroken f Tp1 = ¬ HasTp1 f
+IsBroken f Tp2 = HasTp1 f × ¬ HasTp2 f
+
+-- a document of so many cells, and operations on it at which the interpreter breaks the level's property
+pub record IsBrokenAt (f : Function) (level : Level) (cells : ℕ) : Type 0 where
+  pub doc : List Cell
+  pub ops : List Op
+  pub count : length doc ≡ cells
+  pub breaks : Breaks f level doc ops
 
 -- the least values that meet the answers give so many cells to the document
 abbrev pub HasCells : ObName → List Lit → ℕ → Type 0
@@ -91,13 +106,13 @@ IsShort f budget short =
     × Comes budget lists (short ≡ Spent) (short ≡ Fine)
     (λ end cells. EndHasCells end cells × BeginsTurns f budget end cells short)
 
--- the property that an obligation is a part of is broken on a document of so many cells and on none of fewer, as the
--- bytes certify; and the answers lead through the plan of the obligation, without the question whether the document is
--- short, to a failing end whose document has so many cells
+-- the property that an obligation is a part of is broken at operations on a document of so many cells, and holds on all
+-- of fewer, as the bytes certify; and the answers lead through the plan of the obligation, without the question whether
+-- the document is short, to a failing end whose document has so many cells
 pub record IsLeast (f : Function) (ob : ObName) (answers : List Answer) (why : Why) (cells : ℕ) (cert : List ℕ) : Type 0
   where
     pub broken : IsBroken f (level_of ob)
-    pub breaks : ¬ HasAt f (level_of ob) cells
+    pub breaks : IsBrokenAt f (level_of ob) cells
     pub holds_below : (n : ℕ) → n < cells → HasAt f (level_of ob) n
     pub low : IsLow cert f (level_of ob) cells
     pub listed : IsTrue (is_obligation f.head ob)

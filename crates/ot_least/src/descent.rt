@@ -6,24 +6,34 @@ ghost use Rattle.ot_questions.specs.declared.why.Why.{Why};
 ghost use Rattle.ot_sections.specs.declared.premise.TheConstants.{MAX_BOUND};
 ghost use Rattle.ot_decide.specs.Verdicts.{ObQuestions};
 ghost use Rattle.ot_least.specs.Endings.{IsEndedBy, IsEnding, IsTurn, failing_end_of};
-ghost use Rattle.ot_least.specs.Lows.{IsBroken};
-ghost use Rattle.ot_least.specs.Shortest.{BeginsTurns, Falls, IsShort, IsShortWithin, IsTrueOf};
+ghost use Rattle.ot_least.specs.Shortest.{BeginsTurns, Falls, IsBroken, IsShort, IsShortWithin, IsTrueOf};
 
 use crate::ending::{Ending, ending_at, shorter_ending};
-use crate::header::write_low_header;
-use crate::laws::{failing_ends_break_at_their_length, low_certificates_show_shorter_documents};
-use crate::parts::{level_of, parts, parts_are_obligations};
+use crate::laws::failing_ends_break_at_their_length;
 use crate::short::Short;
 use ask_core::{NoMemory, fitting_trees_hold};
 use cert_text::write_end;
-use fn_rules::{Level, Rules, rules_are_valid};
+use fn_rules::{Level, ObName, Rules, rules_are_valid};
+use ot_bound::{
+    low_certificates_show_shorter_documents, parts, parts_are_obligations, write_low_header,
+};
 use ot_decide::{SearchVerdict, Verdict, failing_triples_show_tp1, prove_all, search_all};
 use ot_questions::{Why, triple_plans_mean_tp2};
 use ot_sections::MAX_BOUND;
 use std::alloc::Global;
 
-// Searches the obligations of a failing end's property on the documents of fewer cells. The bytes are then the first line
-// of a low certificate, and where all hold the sections behind it.
+// The level whose property an obligation is a part of.
+fn level_of(ob: ObName) -> Level
+    ensures { result ≡ part_level ob }
+{
+    match ob {
+        ObName::Pair(_, _) => Level::Tp1,
+        ObName::Triple(_, _, _) => Level::Tp2,
+    }
+}
+
+// Searches the obligations of a failing end's property on the documents of fewer cells. The bytes are then the first
+// line of a low certificate, and where all hold the sections behind it.
 fn search_shorter(
     alloc: Global,
     rules: &Rules,

@@ -1,10 +1,9 @@
-//! What low certificates show, and what the length of a failing end is. These functions work nothing out: their
+//! What the length of a failing end is, and that the search has one answer. These functions work nothing out: their
 //! contracts are the laws.
-ghost use Rattle.std.specs.Prelude.{◌≡◌, ◌≢◌, ◌<◌, ◌≤ℤ◌, ◌-ℤ◌, ◌∷◌, ℕ, ℤ, pos, IsTrue, List, Ok, Result, Some};
+ghost use Rattle.std.specs.Prelude.{◌≡◌, ◌≢◌, ◌≤ℤ◌, ◌-ℤ◌, ◌∷◌, ℕ, ℤ, pos, IsTrue, List, Some};
 ghost use Rattle.diff_graph.specs.declared.lit.Lit.{Lit};
 ghost use Rattle.diff_graph.specs.Literals.{AreMet, IsPossible};
 ghost use Rattle.diff_tables.specs.Solutions.{AreLeast, valuation_of};
-ghost use Rattle.fn_rules.specs.declared.function.Level.{Level};
 ghost use Rattle.fn_rules.specs.declared.function.ObName.{ObName};
 ghost use Rattle.fn_rules.specs.Functions.{Function};
 ghost use Rattle.fn_rules.specs.Obligations.{level_of, is_obligation};
@@ -14,42 +13,30 @@ ghost use Rattle.ot_questions.specs.declared.why.Why.{Why};
 ghost use Rattle.ot_questions.specs.Names.{length_name, zero_name};
 ghost use Rattle.ot_questions.specs.Obligation.{plan_below, plan_of};
 ghost use Rattle.ot_values.specs.Values.{floors_of};
-ghost use Rattle.refusals.specs.declared.refusal.JudgeError.{JudgeError};
+ghost use Rattle.ot_bound.specs.Lows.{HasAt};
 ghost use Rattle.ot_least.specs.declared.short.Short.{Short};
 ghost use Rattle.ot_least.specs.declared.short.Short.TheVariants.{TooLong};
-ghost use Rattle.ot_least.specs.Judgements.{IsJudgedLow, IsLowJudgement};
-ghost use Rattle.ot_least.specs.Lows.{HasAt, IsLow};
-ghost use Rattle.ot_least.specs.Shortest.{AreAlikeAnswers, IsShort};
+ghost use Rattle.ot_least.specs.Shortest.{AreAlikeAnswers, HasCells, IsBrokenAt, IsShort};
 
-use ask_core::{answers_lead_to_ends, fitting_trees_hold};
+use ask_core::answers_lead_to_ends;
+use ot_counter::failing_ends_have_counterexamples;
 use ot_decide::obligations_have_one_question_list;
 use ot_lengths::first_documents_have_at_most_1000_cells;
-use ot_questions::{
-    Why, bounded_plans_mean_shorter_documents, pair_plans_mean_tp1, plans_compare_like_with_like,
-    triple_plans_mean_tp2,
-};
-use ot_sections::{bytes_are_judged_once, sections_are_parts_that_fit};
+use ot_questions::{Why, pair_plans_mean_tp1, plans_compare_like_with_like, triple_plans_mean_tp2};
 use ot_values::answers_have_least_values;
 
-/// A function that has a low certificate at a level has the level's property on every document of fewer cells than the
-/// bound: at level tp1 the first one, and at level tp2 the second one, which says nothing of the first.
-pub fn low_certificates_show_shorter_documents()
-    ensures { (bytes : List ℕ) (f : Function) (level : Level) (bound n : ℕ) → IsLow bytes f level bound → n < bound
-        → HasAt f level n }
-{
-    fitting_trees_hold::<Why>();
-    bounded_plans_mean_shorter_documents();
-    pair_plans_mean_tp1();
-    triple_plans_mean_tp2();
-}
-
-/// Where answers lead to an end of an obligation that fails, the property is broken on a document of so many cells as
-/// integers that meet the answers give to the length.
+/// Where answers lead to an end of an obligation that fails, the property does not hold on the documents of as many
+/// cells as any integers that meet the answers give to the length. The least such values name a document of so many
+/// cells, and operations on it at which the interpreter breaks the property.
 pub fn failing_ends_break_at_their_length()
-    ensures { (f : Function) (ob : ObName) (why : Why) (w : List Lit) (v : ℕ → ℤ) (n : ℕ) → IsTrue (is_valid f)
+    ensures fails { (f : Function) (ob : ObName) (why : Why) (w : List Lit) (v : ℕ → ℤ) (n : ℕ) → IsTrue (is_valid f)
         → IsTrue (is_obligation f.head ob) → LeadTo why (plan_of f ob) w → v zero_name ≡ pos 0 → v length_name ≡ pos n
         → AreMet v w → ¬ HasAt f (level_of ob) n }
+    ensures instance { (f : Function) (ob : ObName) (why : Why) (w : List Lit) (cells : ℕ) → IsTrue (is_valid f)
+        → IsTrue (is_obligation f.head ob) → LeadTo why (plan_of f ob) w → HasCells ob w cells
+        → IsBrokenAt f (level_of ob) cells }
 {
+    failing_ends_have_counterexamples();
     answers_lead_to_ends::<Why>();
     pair_plans_mean_tp1();
     triple_plans_mean_tp2();
@@ -68,28 +55,6 @@ pub fn failing_ends_below_a_bound_are_shorter()
 {
     plans_compare_like_with_like();
     answers_have_least_values();
-}
-
-/// Bytes are a low certificate of a function at a level and a bound exactly where they begin with the first line of
-/// these, and what stands behind it is made of parts that fit up to the end.
-pub fn low_certificates_are_sections()
-    ensures parts { (f : Function) (level : Level) (bound : ℕ) (bytes : List ℕ) → IsLow bytes f level bound
-        → IsJudgedLow f (Ok tt) bytes level bound }
-    ensures certificate { (f : Function) (level : Level) (bound : ℕ) (bytes : List ℕ)
-        → IsJudgedLow f (Ok tt) bytes level bound
-        → IsLow bytes f level bound }
-{
-    sections_are_parts_that_fit::<Why>();
-}
-
-/// Bytes have at most one judgement: they are a low certificate of a function at one level and one bound, or are
-/// refused at one offset for one cause, and never both.
-pub fn bytes_have_one_low_judgement()
-    ensures { (f : Function) (bytes : List ℕ) (one other : Result (Level × ℕ) JudgeError) → IsLowJudgement f bytes one
-        → IsLowJudgement f bytes other → one ≡ other }
-{
-    low_certificates_are_sections();
-    bytes_are_judged_once::<Why>();
 }
 
 /// Any two answers of the search for the shortest document, of one function and one budget, are one but for their

@@ -1,6 +1,5 @@
 -- The definitions on small cases.
-use Rattle.std.proofs.Common.{◌≡◌, ℕ, ◌-◌, ◌^◌, ◌≤◌, [], ◌∷◌, Some, None, refl, arith}
-use Rattle.std.specs.Io.KnownBytes.{append_known}
+use Rattle.std.proofs.Common.{◌≡◌, ℕ, ◌-◌, ◌^◌, ◌≤◌, [], ◌∷◌, refl, arith}
 use Rattle.ot_outside.specs.Faults.{Rose, next_count}
 use Rattle.ot_outside.specs.Whole.{AppendsFront, IsFront}
 
@@ -29,8 +28,5 @@ two_of_three = refl
 another_front : IsFront (2 ∷ []) (1 ∷ 2 ∷ 3 ∷ []) → ⊥
 another_front h = cc
 
-one_of_two_appended : AppendsFront (Some (9 ∷ [])) (1 ∷ 2 ∷ []) (Some (9 ∷ 1 ∷ []))
+one_of_two_appended : AppendsFront (9 ∷ []) (1 ∷ 2 ∷ []) (9 ∷ 1 ∷ [])
 one_of_two_appended = (1, omega arith, refl)
-
-untold_stays_untold : append_known None (1 ∷ []) ≡ None
-untold_stays_untold = refl

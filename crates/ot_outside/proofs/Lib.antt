@@ -1,5 +1,5 @@
+pub mod Appended
 mod Examples
 pub mod FilesLemmas
 mod Keeping
-pub mod Known
 pub mod Pieces

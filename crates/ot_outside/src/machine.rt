@@ -1,9 +1,9 @@
 // The files and the standard output of the machine.
-ghost use Rattle.std.specs.Prelude.{◌≡◌, ◌<◌, ◌≤◌, ◌↔◌, ℕ, List, [], take, length, Some, if◌then◌else◌, is_err, IfOk};
+ghost use Rattle.std.specs.Prelude.{◌≡◌, ◌<◌, ◌≤◌, ◌↔◌, ◌++◌, ℕ, List, [], take, length, Some, if◌then◌else◌, is_err, IfOk};
 ghost use Rattle.std.specs.Prelude.{OnOk, OnErr};
-ghost use Rattle.std.specs.Io.KnownBytes.{IsAtEnd, append_known, prepend_known};
+ghost use Rattle.std.specs.Io.KnownBytes.{IsAtEnd, prepend_known};
 ghost use Rattle.ot_outside.specs.Faults.{Rose, next_count};
-ghost use Rattle.ot_outside.specs.Machine.{left_of, machine_holds, machine_written};
+ghost use Rattle.ot_outside.specs.Machine.{left_of, machine_holds};
 ghost use Rattle.ot_outside.specs.Reads.{after_reading, gone_on, no_reads, reads_of};
 
 use crate::record::Record;
@@ -125,26 +125,33 @@ impl<R: Files> Shelf for FileShelf<'_, R> {
     }
 }
 
-/// The standard output of the machine. It tells nothing of what was written.
+/// The standard output of the machine.
 ///
-/// An error of the machine, from any cause, and a write that takes nothing are faults that count.
+/// An error of the machine, from any cause, and a write that takes nothing are faults that count. What its calls took
+/// it notes, and no proof says that the machine was handed these bytes and no others.
 #[derive(Drop)]
 pub struct StdSink<'a, R: Print> {
     rt: &'a R,
     faults: u64,
+    noted: Record,
 }
 
 impl<'a, R: Print> StdSink<'a, R> {
-    /// It takes no memory.
+    /// Nothing was taken. It takes no memory.
     pub fn new(rt: &'a R) -> StdSink<'a, R>
         ensures faults { ⟦<StdSink<'a, R> as Sink>⟧.faults result ≡ 0 }
+        ensures took { ⟦<StdSink<'a, R> as Sink>⟧.took result ≡ [] }
     {
-        StdSink { rt, faults: 0 }
+        StdSink {
+            rt,
+            faults: 0,
+            noted: Record::new(),
+        }
     }
 }
 
 impl<R: Print> Sink for StdSink<'_, R> {
-    ghost written = { λ _. machine_written };
+    ghost took = { λ sink. sink.noted.bytes };
 
     ghost faults = { λ sink. sink.faults };
 
@@ -153,8 +160,8 @@ impl<R: Print> Sink for StdSink<'_, R> {
 
         ensures some { IfOk result (λ n. 0 < n) }
         ensures count { IfOk result (λ n. n ≤ length bytes.now) }
-        ensures ok { IfOk result (λ n. machine_written ≡ append_known machine_written (take n bytes.now)) }
-        ensures err { OnErr result (machine_written ≡ machine_written) }
+        ensures ok { IfOk result (λ n. self.new.noted.bytes ≡ self.old.noted.bytes ++ take n bytes.now) }
+        ensures err { OnErr result (self.new.noted.bytes ≡ self.old.noted.bytes) }
         ensures faults { self.old.faults ≤ self.new.faults }
 
         ensures failed { OnErr result (Rose self.old.faults self.new.faults) }
@@ -163,7 +170,10 @@ impl<R: Print> Sink for StdSink<'_, R> {
         ensures raised { self.new.faults ≡ (if is_err result then next_count self.old.faults else self.old.faults) }
     {
         match self.rt.write_some(bytes) {
-            Ok(count) if count > 0 => Ok(count),
+            Ok(count) if count > 0 => {
+                self.noted.note(&bytes[..count]);
+                Ok(count)
+            }
             _ => {
                 self.faults = self.faults.saturating_add(1);
                 Err(Failed)

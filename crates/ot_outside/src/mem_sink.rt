@@ -60,11 +60,10 @@ impl MemSink {
 }
 
 impl Sink for MemSink {
-    ghost use Rattle.std.specs.Prelude.{Some};
     ghost use Rattle.ot_outside.specs.MemSink.{call_count, failing_calls, fails_next, fault_count, per_call_of};
     ghost use Rattle.ot_outside.specs.MemSink.{room_of, sink_bytes};
 
-    ghost written = { λ sink. Some (sink_bytes sink) };
+    ghost took = { sink_bytes };
 
     ghost faults = { fault_count };
 

@@ -1,7 +1,6 @@
 // A whole file, and all of some bytes.
-ghost use Rattle.std.specs.Prelude.{◌≡◌, ◌<◌, ◌≤◌, ◌+◌, ◌↔◌, ℕ, List, [], length, OnOk, OnErr, IsErrOf};
+ghost use Rattle.std.specs.Prelude.{◌≡◌, ◌<◌, ◌≤◌, ◌+◌, ◌++◌, ◌↔◌, ℕ, List, [], length, OnOk, OnErr, IsErrOf};
 ghost use Rattle.std.specs.Option.{ForSome};
-ghost use Rattle.std.specs.Io.KnownBytes.{append_known};
 ghost use Rattle.ot_outside.specs.Faults.{Rose};
 ghost use Rattle.ot_outside.specs.Reads.{after_reading};
 ghost use Rattle.ot_outside.specs.Whole.{AppendsFront, IsFront};
@@ -96,10 +95,10 @@ pub fn read_all<H: Shelf>(
     }
 }
 
-/// Writes all the bytes. After `Failed` a front of them was appended. It takes no memory.
+/// Writes all the bytes. After `Failed` a front of them was taken. It takes no memory.
 pub fn write_all<S: Sink>(sink: &mut S, bytes: &[u8]) -> Result<(), Failed>
-    ensures ok { OnOk result (S.written sink.new ≡ append_known (S.written sink.old) bytes.now) }
-    ensures err { OnErr result (AppendsFront (S.written sink.old) bytes.now (S.written sink.new)) }
+    ensures ok { OnOk result (S.took sink.new ≡ S.took sink.old ++ bytes.now) }
+    ensures err { OnErr result (AppendsFront (S.took sink.old) bytes.now (S.took sink.new)) }
     ensures faults { S.faults sink.old ≤ S.faults sink.new }
 
     ensures failed { OnErr result (Rose (S.faults sink.old) (S.faults sink.new)) }

@@ -10,7 +10,8 @@ use Rattle.ot_replies.specs.declared.reply.Reply.TheVariants.{Proved, Broken, Sp
 use Rattle.ot_replies.specs.declared.reply.Reply.TheVariants.{CaseRefused, Integrated, Usage, TooLong, EventRefused}
 use Rattle.ot_replies.specs.declared.reply.Reply.TheVariants.{StuckAt, Replayed, Served, Audited, Compared, Drilled}
 use Rattle.ot_replies.specs.declared.reply.Reply.TheVariants.{Reversed, Unlike, Unbroken, Shortest, Certified}
-use Rattle.ot_replies.specs.declared.reply.Reply.TheVariants.{BoundTooLong, AtLeast, Confirmed, ProofRefused}
+use Rattle.ot_replies.specs.declared.reply.Reply.TheVariants.{BoundTooLong, AtLeast, Confirmed, ProofRefused, Templated}
+use Rattle.ot_replies.specs.declared.reply.Reply.TheVariants.{NoTemplate}
 use Rattle.ot_replies.specs.AuditTexts.{audit_status, audit_text, same_status, same_text, spent_text}
 use Rattle.ot_replies.specs.BoundTexts.{at_least_text, bound_limit_text, shortest_text, unbroken_text}
 use Rattle.ot_replies.specs.FaultTexts.{text_fault_text, case_fault_text, proof_refusal_text, refusal_text}
@@ -51,6 +52,8 @@ status_of BoundTooLong = 9
 status_of (AtLeast level cells) = 0
 status_of (Confirmed level) = 0
 status_of (ProofRefused offset why) = 2
+status_of (Templated bytes) = 0
+status_of NoTemplate = 1
 status_of (StuckAt i) = 1
 status_of (Drilled d) = differ_status d.differ
 status_of (EventRefused i fault) = 4
@@ -68,6 +71,10 @@ limit_word files.Case = codes "file"
 
 abbrev pub limit_text : FileKind → List ℕ
 limit_text kind = codes "limit " ++ limit_word kind ++ 10 ∷ []
+
+-- no function has both properties
+abbrev pub no_template_text : List ℕ
+no_template_text = codes "none tp2" ++ 10 ∷ []
 
 abbrev pub text_of : Reply → List ℕ
 text_of (Proved bytes) = bytes
@@ -88,6 +95,8 @@ text_of BoundTooLong = bound_limit_text
 text_of (AtLeast level cells) = at_least_text level cells
 text_of (Confirmed level) = confirmed_text level
 text_of (ProofRefused offset why) = proof_refusal_text offset why
+text_of (Templated bytes) = bytes
+text_of NoTemplate = no_template_text
 text_of (StuckAt i) = stuck_text i
 text_of (Drilled d) = drill_text d
 text_of (EventRefused i fault) = event_fault_text i fault

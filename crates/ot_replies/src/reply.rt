@@ -196,6 +196,12 @@ pub enum Reply {
         why: ProofRefusal,
     },
 
+    /// The text of a function to begin with.
+    Templated(List<u8>),
+
+    /// No function of the head has both properties.
+    NoTemplate,
+
     /// What came of a workload.
     Drilled(Drilled),
 

@@ -78,6 +78,8 @@ pub fn status(reply: &Reply) -> u8
         Reply::AtLeast(..) => 0,
         Reply::Confirmed(_) => 0,
         Reply::ProofRefused { .. } => 2,
+        Reply::Templated(_) => 0,
+        Reply::NoTemplate => 1,
         Reply::StuckAt(_) => 1,
         Reply::EventRefused(..) => 4,
         Reply::Refused { .. } => 2,
@@ -159,6 +161,8 @@ fn write_reply(alloc: Global, reply: &Reply, out: &mut Vec<u8>) -> Result<(), No
         Reply::AtLeast(level, cells) => write_at_least(alloc, *level, *cells, out),
         Reply::Confirmed(level) => write_confirmed(alloc, *level, out),
         Reply::ProofRefused { offset, why } => { write_proof_refusal(alloc, *offset, *why, out) }
+        Reply::Templated(bytes) => append_bytes(bytes.as_slice(), out),
+        Reply::NoTemplate => append_bytes(b"none tp2\n", out),
         Reply::Drilled(drilled) => write_drilled(alloc, drilled, out),
         Reply::Usage => append_bytes(b"usage: otp COMMAND ARGUMENTS\n", out),
         Reply::TooLong(kind) => write_limit(alloc, *kind, out),
@@ -174,13 +178,14 @@ fn written(alloc: Global, reply: &Reply) -> Result<Vec<u8>, NoMemory>
     Ok(text)
 }
 
-/// The text of a reply. A certificate and a proof are not copied.
+/// The text of a reply. A certificate, a proof and a function are not copied.
 pub fn text(alloc: Global, reply: Reply) -> Result<Vec<u8>, NoMemory>
     ensures { IfOk result (λ text. text.items ≡ text_of reply) }
 {
     match reply {
         Reply::Proved(bytes) => Ok(bytes.into_vec()),
         Reply::Certified(bytes) => Ok(bytes.into_vec()),
+        Reply::Templated(bytes) => Ok(bytes.into_vec()),
         other => written(alloc, &other),
     }
 }

@@ -47,4 +47,4 @@ module _ (f : Function) (names : List ObName) (ob : ObName) (others : List ObNam
         listed = fails.listed;
         leads = fails.leads;
       })
-  others_fail Spent fails = tt
+  others_fail (Spent cause) fails = tt

@@ -1,5 +1,5 @@
 -- What a function comes to at a level, by a search for a proof with lemmas.
-use Rattle.std.specs.Prelude.{◌≡◌, ℕ, ◌≤◌, IsTrue, List, length, Ok}
+use Rattle.std.specs.Prelude.{◌≡◌, ◌⊎◌, ℕ, ◌<◌, ◌≤◌, IsTrue, List, length, Ok}
 use Rattle.std.specs.List.{Contains}
 use Rattle.fn_rules.specs.declared.function.Level.{Level}
 use Rattle.fn_rules.specs.declared.function.ObName.{ObName}
@@ -13,6 +13,9 @@ use Rattle.ot_questions.specs.Obligation.{plan_of}
 use Rattle.ot_confirm.specs.Judgement.{judgement_of}
 use Rattle.failing_ends.specs.Endings.{AnswersLeadTo}
 use Rattle.plan_proofs.specs.declared.planning.TheConstants.{MAX_BYTES}
+use Rattle.plan_proofs.specs.declared.ended.Questions.{Questions}
+use Rattle.plan_proofs.specs.declared.ended.SpentCause.{SpentCause}
+use Rattle.plan_proofs.specs.declared.ended.SpentCause.TheVariants.{Budget, Bytes, NoWay}
 use Rattle.ot_settle.specs.declared.settled.Settled.{Settled}
 use Rattle.ot_settle.specs.declared.settled.Settled.TheVariants.{Yes, No, Spent}
 
@@ -38,4 +41,18 @@ abbrev pub IsSettled : Function → Level → Settled → Type 0
 IsSettled f level (Yes bytes) = IsShownByProof f level bytes.items
 IsSettled f level (No ob answers why) =
     IsFailing f (obligations_of f.head level) ob answers.items why × HoldsBefore f ob
-IsSettled f level Spent = Unit {0}
+IsSettled f level (Spent cause) = Unit {0}
+
+-- what is so where nothing is said, by the cause. The budget: all questions that searches may ask were asked, or all
+-- that the walks that write may ask again. The bytes: more were written than a proof may have. No way on: there was
+-- room for a proof
+abbrev pub IsCause : ℕ → Questions → ℕ → SpentCause → Type 0
+IsCause budget asked written Budget = (asked.asked ≡ budget) ⊎ (asked.again ≡ budget)
+IsCause budget asked written Bytes = MAX_BYTES < written
+IsCause budget asked written NoWay = written ≤ MAX_BYTES
+
+-- nothing is said only for a cause that is so
+abbrev pub HasCause : ℕ → Questions → ℕ → Settled → Type 0
+HasCause budget asked written (Yes bytes) = Unit {0}
+HasCause budget asked written (No ob answers why) = Unit {0}
+HasCause budget asked written (Spent cause) = IsCause budget asked written cause

@@ -1,38 +1,58 @@
 //! The search of obligations one after another.
-ghost use Rattle.std.specs.Prelude.{◌≡◌, ◌≤◌, true, IsTrue, IfOk};
+ghost use Rattle.std.specs.Prelude.{◌≡◌, ◌+◌, ◌<◌, ◌^◌, true, IsTrue, IfOk, length};
 ghost use Rattle.std.specs.List.{list_all};
 ghost use Rattle.fn_rules.specs.Obligations.{is_obligation};
 ghost use Rattle.fn_rules.specs.Rules.{function_of};
 ghost use Rattle.ot_questions.specs.Obligation.{plan_of};
 ghost use Rattle.ot_settle.specs.Searching.{FailsAmong};
-ghost use Rattle.plan_proofs.specs.Searching.{FailsOnlySo};
+ghost use Rattle.plan_proofs.specs.Searching.{FailsOnlySo, IsWithin, MaySpend, SpendsOnlySo};
 ghost use Rattle.failing_ends.specs.Endings.{IsFailingEnd};
 
 use crate::ended::FailingOb;
 use crate::text::Text;
 use ask_core::NoMemory;
 use bumpalo::Bump;
-use failing_ends::FailingEnd;
+use failing_ends::{FailingEnd, failing_end};
 use fn_rules::{ObName, Rules};
 use ot_questions::Why;
-use plan_proofs::{Ended, FindingStarts, Searched, search_plan};
+use plan_proofs::{Ended, FindingStarts, Questions, Searched, SpentCause, search_plan};
 use std::alloc::Global;
 
-// Searches the plan of an obligation, whose goals stand in the arena.
+// Searches the plan of an obligation, whose goals stand in the arena. Answers that lead to no end that fails are no way
+// on.
 fn search_in<'a>(
     alloc: Global,
     bump: &'a Bump,
     rules: &'a Rules,
     ob: ObName,
-    budget: u64,
+    budget: Questions,
     bytes: &mut Vec<u8>,
 ) -> Result<Searched<FailingEnd<Why>>, NoMemory>
     requires listed { IsTrue (is_obligation (function_of rules.now).head ob) }
     ensures ended { IfOk result (λ r. FailsOnlySo (IsFailingEnd (plan_of (function_of rules.now) ob)) r.ended) }
-    ensures within { IfOk result (λ r. r.asked ≤ budget) }
+    ensures within { IfOk result (λ r. IsWithin r.asked budget) }
+    ensures cause { IfOk result (λ r. SpendsOnlySo (MaySpend budget r.asked (length bytes.new.items)) r.ended) }
 {
     let mut asker = FindingStarts::new(alloc, bump, rules, ob);
-    search_plan(alloc, &mut asker, budget, bytes)
+    let found = search_plan(alloc, &mut asker, budget, bytes)?;
+    let asked = found.asked;
+    let ended = found.ended;
+    match ended {
+        Ended::Shown => Ok(searched(Ended::Shown, asked)),
+        Ended::Fails(answers) => match failing_end(alloc, &mut asker, &answers)? {
+            Some(end) => Ok(searched(Ended::Fails(end), asked)),
+            None => Ok(searched(Ended::Spent(SpentCause::NoWay), asked)),
+        },
+        Ended::Spent(cause) => Ok(searched(Ended::Spent(cause), asked)),
+    }
+}
+
+// What a search came to that asked so many questions.
+fn searched<E: Drop>(ended: Ended<E>, asked: Questions) -> Searched<E>
+    ensures ended { result.ended ≡ ended }
+    ensures asked { result.asked ≡ asked }
+{
+    Searched { ended, asked }
 }
 
 // Searches an obligation in an arena of its own, and appends its section where it is shown.
@@ -40,12 +60,13 @@ fn search_ob(
     alloc: Global,
     rules: &Rules,
     ob: ObName,
-    budget: u64,
+    budget: Questions,
     text: &mut Text,
 ) -> Result<Searched<FailingEnd<Why>>, NoMemory>
     requires listed { IsTrue (is_obligation (function_of rules.now).head ob) }
     ensures ended { IfOk result (λ r. FailsOnlySo (IsFailingEnd (plan_of (function_of rules.now) ob)) r.ended) }
-    ensures within { IfOk result (λ r. r.asked ≤ budget) }
+    ensures within { IfOk result (λ r. IsWithin r.asked budget) }
+    ensures cause { IfOk result (λ r. SpendsOnlySo (MaySpend budget r.asked (length text.new.bytes.items)) r.ended) }
 {
     text.begin_section(ob)?;
     let bump = Bump::new(alloc);
@@ -54,43 +75,58 @@ fn search_ob(
     Ok(searched)
 }
 
-/// Searches obligations in order by at most `budget` questions of all of them together, and appends the section of each
-/// that is shown, up to the first that is not.
+// What may still be asked after so many questions.
+fn left_of(budget: Questions, asked: Questions) -> Questions
+    requires { IsWithin asked budget }
+    ensures asked { result.asked + asked.asked ≡ budget.asked }
+    ensures again { result.again + asked.again ≡ budget.again }
+{
+    Questions {
+        asked: budget.asked - asked.asked,
+        again: budget.again - asked.again,
+    }
+}
+
+// So many questions and so many more.
+fn sum_of(one: Questions, more: Questions) -> Questions
+    requires asked { one.asked + more.asked < 2 ^ 64 }
+    requires again { one.again + more.again < 2 ^ 64 }
+    ensures asked { result.asked ≡ one.asked + more.asked }
+    ensures again { result.again ≡ one.again + more.again }
+{
+    Questions {
+        asked: one.asked + more.asked,
+        again: one.again + more.again,
+    }
+}
+
+/// Searches obligations in order, with one budget for all of them together, and appends the section of each that is
+/// shown, up to the first that is not.
 pub(crate) fn search_all(
     alloc: Global,
     rules: &Rules,
     names: &[ObName],
-    budget: u64,
+    budget: Questions,
     text: &mut Text,
 ) -> Result<Searched<FailingOb>, NoMemory>
     requires listed { list_all (is_obligation (function_of rules.now).head) names.now ≡ true }
     ensures ended { IfOk result (λ r. FailsOnlySo (FailsAmong (function_of rules.now) names.now) r.ended) }
-    ensures within { IfOk result (λ r. r.asked ≤ budget) }
+    ensures within { IfOk result (λ r. IsWithin r.asked budget) }
+    ensures cause { IfOk result (λ r. SpendsOnlySo (MaySpend budget r.asked (length text.new.bytes.items)) r.ended) }
 {
     let Some((ob, others)) = names.split_first() else {
-        return Ok(Searched {
-            ended: Ended::Shown,
-            asked: 0,
-        });
+        return Ok(searched(Ended::Shown, Questions { asked: 0, again: 0 }));
     };
     let first = search_ob(alloc, rules, *ob, budget, text)?;
     let asked = first.asked;
     let ended = first.ended;
     match ended {
         Ended::Shown => {
-            let rest = search_all(alloc, rules, others, budget - asked, text)?;
-            Ok(Searched {
-                ended: rest.ended,
-                asked: asked + rest.asked,
-            })
+            let rest = search_all(alloc, rules, others, left_of(budget, asked), text)?;
+            let all = sum_of(asked, rest.asked);
+            Ok(searched(rest.ended, all))
         }
-        Ended::Fails(end) => Ok(Searched {
-            ended: Ended::Fails(FailingOb { ob: *ob, end }),
-            asked,
-        }),
-        Ended::Spent => Ok(Searched {
-            ended: Ended::Spent,
-            asked,
-        }),
+        Ended::Fails(end) => Ok(searched(Ended::Fails(FailingOb { ob: *ob, end }), asked)),
+        Ended::Spent(cause) => Ok(searched(Ended::Spent(cause), asked)),
     }
 }

@@ -2,6 +2,7 @@
 use fn_rules::ObName;
 use ot_prove::Answer;
 use ot_questions::Why;
+use plan_proofs::{Questions, SpentCause};
 
 /// What the obligations of a function at a level come to.
 #[derive(Drop)]
@@ -21,6 +22,15 @@ pub enum Settled {
         why: Why,
     },
 
-    /// Nothing is said: the budget was spent, or the text of the proof had no room.
-    Spent,
+    /// Nothing is said of the function, for this cause.
+    Spent(SpentCause),
+}
+
+/// What the obligations came to, how many questions were asked of all of them together, and how many bytes of a proof
+/// were written.
+#[derive(Drop)]
+pub struct Settlement {
+    pub settled: Settled,
+    pub asked: Questions,
+    pub written: usize,
 }

@@ -1,4 +1,6 @@
 //! The text of a proof, section by section.
+ghost use Rattle.std.specs.Prelude.{◌≤◌, OnOk, length};
+
 use ask_core::NoMemory;
 use fn_rules::{Level, ObName};
 use proof_text::{write_end, write_header, write_line_end, write_ob_line};
@@ -39,7 +41,9 @@ impl Text {
     }
 
     /// Ends the section of an obligation.
-    pub(crate) fn end_section(&mut self, ob: ObName) -> Result<(), NoMemory> {
+    pub(crate) fn end_section(&mut self, ob: ObName) -> Result<(), NoMemory>
+        ensures { OnOk result (length self.old.bytes.items ≤ length self.new.bytes.items) }
+    {
         write_line_end(&mut self.bytes)?;
         if let ObName::Pair(..) = ob {
             self.pairs = self.bytes.len();

@@ -34,6 +34,7 @@ use std::alloc::Global;
 pub struct StartAsker<'a> {
     laid: Laid<'a>,
     ob: ObName,
+    told: u64,
     ghost listed: { IsTrue (is_obligation (function_of laid).head ob) },
     ghost lawful: { IsLawful compare_starts (meaning (function_of laid)) },
 }
@@ -45,11 +46,13 @@ impl<'a> StartAsker<'a> {
         ensures root { ⟦<StartAsker<'a> as Asker>⟧.root result ≡ plan_of (function_of rules.now) ob }
         ensures count { ⟦<StartAsker<'a> as Asker>⟧.name_count result ≡ names.name_count ob }
         ensures starts { ⟦<StartAsker<'a> as Starter>⟧.starts result ≡ starts_of (function_of rules.now) ob }
+        ensures told { ⟦<StartAsker<'a> as Starter>⟧.told result ≡ 0 }
     {
         starts_have_one_value();
         StartAsker {
             laid: Laid::new(bump, rules),
             ob,
+            told: 0,
         }
     }
 
@@ -77,6 +80,7 @@ impl<'a> StartAsker<'a> {
             (ask_goal (function_of self.old.laid) (goal_tree node.now))) }
         ensures laid { self.new.laid ≡ self.old.laid }
         ensures ob { self.new.ob ≡ self.old.ob }
+        ensures told { self.new.told ≡ self.old.told }
     {
         self.laid.turn(node)
     }
@@ -129,13 +133,22 @@ impl<'a> Starter for StartAsker<'a> {
 
     ghost starts = { λ a. starts_of (function_of a.laid) a.ob };
 
+    ghost told = { λ a. a.told };
+
     fn first(&mut self) -> Result<&'a Goal<'a>, NoMemory> {
         self.laid.first(self.ob)
     }
 
     #[inline(always)]
     fn follow(&mut self, node: &'a Goal<'a>) -> Result<Turn<&'a Goal<'a>, Why>, NoMemory> {
-        self.walked(node)
+        match self.walked(node)? {
+            Turn::Ask { lit, yes, no } => {
+                self.told = self.told.saturating_add(1);
+                Ok(Turn::Ask { lit, yes, no })
+            }
+            Turn::Holds => Ok(Turn::Holds),
+            Turn::Fails(why) => Ok(Turn::Fails(why)),
+        }
     }
 
     fn begins(&self, node: &'a Goal<'a>) -> bool {

@@ -1,12 +1,13 @@
 //! What is laid out where transformations begin, and after the last of them, kept so that each of these places is laid
-//! out once.
-ghost use Rattle.std.specs.Prelude.{◌≡◌, IsTrue, IfOk, IfSome};
+//! out once, and found in a time that does not grow with what is kept.
+ghost use Rattle.std.specs.Prelude.{◌≡◌, [], IsTrue, IfOk, IfSome};
 ghost use Rattle.std.specs.List.{All};
 ghost use Rattle.fn_rules.specs.Functions.{Function};
 ghost use Rattle.ot_terms.specs.Goals.{goal_tree};
 ghost use Rattle.marked_goals.specs.Settled.{OpensStart, StandsMarked};
 ghost use Rattle.ot_starts.specs.Kept.{IsKeptStart, IsKeptEnd};
 
+use crate::slots::{Slots, mark_of};
 use ask_core::NoMemory;
 use bumpalo::Bump;
 use laid_goals::is_same_progress;
@@ -19,11 +20,30 @@ pub struct Kept<'a> {
     pub goal: &'a Goal<'a>,
 }
 
+/// Goals that are kept, in the order in which they came, and where they are found.
+#[derive(Drop)]
+pub struct Table<'a> {
+    pub goals: Vec<Kept<'a>, &'a Bump>,
+    pub slots: Slots<'a>,
+}
+
 /// An arena, and what is laid out in it where last results are delivered.
 #[derive(Drop)]
 pub struct Ends<'a> {
     pub bump: &'a Bump,
-    pub kept: Vec<Kept<'a>, &'a Bump>,
+    pub kept: Table<'a>,
+}
+
+impl<'a> Table<'a> {
+    /// Nothing is kept yet. It takes no memory.
+    pub(crate) fn new(bump: &'a Bump) -> Table<'a>
+        ensures { result.goals.items ≡ [] }
+    {
+        Table {
+            goals: Vec::new(bump),
+            slots: Slots::new(bump),
+        }
+    }
 }
 
 fn are_same_two(a: SymOp, b: SymOp, c: SymOp, d: SymOp) -> bool
@@ -68,35 +88,49 @@ fn is_same_goal(left: &Goal<'_>, right: &Goal<'_>) -> bool
     }
 }
 
-/// What is laid out there, if it is kept. A scan over all that is kept, from what was kept last.
-pub(crate) fn found<'a>(kept: &[Kept<'a>], at: &Goal<'_>) -> Option<&'a Goal<'a>>
-    ensures start { (f : Function) → All (IsKeptStart f) kept.now
+// What is laid out there, if the goal at a place is kept for it.
+#[inline]
+fn kept_at<'a>(goals: &[Kept<'a>], place: usize, at: &Goal<'_>) -> Option<&'a Goal<'a>>
+    ensures start { (f : Function) → All (IsKeptStart f) goals.now
         → IfSome result (λ g. OpensStart f (goal_tree at.now) (goal_tree g.now)) }
-    ensures end { (f : Function) → All (IsKeptEnd f) kept.now
+    ensures end { (f : Function) → All (IsKeptEnd f) goals.now
         → IfSome result (λ g. StandsMarked f (goal_tree at.now) (goal_tree g.now)) }
 {
-    for passed in 0..kept.len() {
-        let one = &kept[kept.len() - 1 - passed];
-        if is_same_goal(at, one.at) {
-            return Some(one.goal);
-        }
+    if place >= goals.len() {
+        return None;
+    }
+    let one = &goals[place];
+    if is_same_goal(at, one.at) {
+        return Some(one.goal);
     }
     None
+}
+
+/// What is laid out there, if it is kept and found.
+pub(crate) fn found<'a>(kept: &Table<'a>, at: &Goal<'_>) -> Option<&'a Goal<'a>>
+    ensures start { (f : Function) → All (IsKeptStart f) kept.now.goals.items
+        → IfSome result (λ g. OpensStart f (goal_tree at.now) (goal_tree g.now)) }
+    ensures end { (f : Function) → All (IsKeptEnd f) kept.now.goals.items
+        → IfSome result (λ g. StandsMarked f (goal_tree at.now) (goal_tree g.now)) }
+{
+    let place = kept.slots.place(mark_of(at))?;
+    kept_at(&kept.goals, place, at)
 }
 
 /// The goal, which is kept from now on as what is laid out there.
 #[inline]
 pub(crate) fn learnt<'a>(
-    kept: &mut Vec<Kept<'a>, &'a Bump>,
+    kept: &mut Table<'a>,
     at: &'a Goal<'a>,
     goal: &'a Goal<'a>,
 ) -> Result<&'a Goal<'a>, NoMemory>
     ensures same { IfOk result (λ r. r.now ≡ goal.now) }
-    ensures end { (f : Function) → All (IsKeptEnd f) kept.old.items → StandsMarked f (goal_tree at.now) (goal_tree goal.now)
-        → All (IsKeptEnd f) kept.new.items }
-    ensures start { (f : Function) → All (IsKeptStart f) kept.old.items → OpensStart f (goal_tree at.now)
-        (goal_tree goal.now) → All (IsKeptStart f) kept.new.items }
+    ensures end { (f : Function) → All (IsKeptEnd f) kept.old.goals.items
+        → StandsMarked f (goal_tree at.now) (goal_tree goal.now) → All (IsKeptEnd f) kept.new.goals.items }
+    ensures start { (f : Function) → All (IsKeptStart f) kept.old.goals.items
+        → OpensStart f (goal_tree at.now) (goal_tree goal.now) → All (IsKeptStart f) kept.new.goals.items }
 {
-    kept.push(Kept { at, goal })?;
+    kept.slots.put(mark_of(at), kept.goals.len())?;
+    kept.goals.push(Kept { at, goal })?;
     Ok(goal)
 }

@@ -11,7 +11,7 @@ ghost use Rattle.marked_goals.specs.Marking.{marked_goal, marked_plan};
 ghost use Rattle.ot_starts.specs.Nodes.{IsStop};
 ghost use Rattle.ot_starts.specs.Turns.{TurnsAs};
 
-use crate::kept::{Ends, Kept};
+use crate::kept::{Ends, Table};
 use crate::settling::first_stop;
 use crate::walking::turn_of;
 use ask_core::{NoMemory, Turn};
@@ -24,7 +24,7 @@ use std::marker::Model;
 #[derive(Drop)]
 pub struct Laid<'a> {
     rules: &'a Rules,
-    starts: Vec<Kept<'a>, &'a Bump>,
+    starts: Table<'a>,
     ends: Ends<'a>,
 }
 
@@ -42,8 +42,8 @@ impl<'a> Model for Laid<'a> {
 
     ghost view = { λ s. s.rules.now };
 
-    ghost invariant = { λ s. All (IsKeptStart (function_of s.rules.now)) s.starts.items
-        × All (IsKeptEnd (function_of s.rules.now)) s.ends.kept.items };
+    ghost invariant = { λ s. All (IsKeptStart (function_of s.rules.now)) s.starts.goals.items
+        × All (IsKeptEnd (function_of s.rules.now)) s.ends.kept.goals.items };
 }
 
 impl<'a> Laid<'a> {
@@ -53,10 +53,10 @@ impl<'a> Laid<'a> {
     {
         Laid {
             rules,
-            starts: Vec::new(bump),
+            starts: Table::new(bump),
             ends: Ends {
                 bump,
-                kept: Vec::new(bump),
+                kept: Table::new(bump),
             },
         }
     }

@@ -35,9 +35,9 @@ fn behind_laid<'a>(
 ) -> Result<&'a Goal<'a>, NoMemory>
     requires goal { (ob : ObName) × IsGoalOf (function_of rules.now) ob (goal_tree goal.now) }
     requires open { marks.is_settled (goal_tree goal.now) ≡ false }
-    requires kept { All (IsKeptEnd (function_of rules.now)) ends.old.kept.items }
+    requires kept { All (IsKeptEnd (function_of rules.now)) ends.old.kept.goals.items }
     ensures stands { IfOk result (λ r. StandsMarked (function_of rules.now) (goal_tree goal.now) (goal_tree r.now)) }
-    ensures kept { All (IsKeptEnd (function_of rules.now)) ends.new.kept.items }
+    ensures kept { All (IsKeptEnd (function_of rules.now)) ends.new.kept.goals.items }
 {
     let next = next_of(ends.bump, rules, goal)?;
     laid(rules, ends, next)
@@ -53,9 +53,9 @@ fn next_laid<'a>(
 ) -> Result<&'a Goal<'a>, NoMemory>
     requires goal { (ob : ObName) × IsGoalOf (function_of rules.now) ob (goal_tree goal.now) }
     requires open { marks.is_settled (goal_tree goal.now) ≡ false }
-    requires kept { All (IsKeptEnd (function_of rules.now)) ends.old.kept.items }
+    requires kept { All (IsKeptEnd (function_of rules.now)) ends.old.kept.goals.items }
     ensures stands { IfOk result (λ r. StandsMarked (function_of rules.now) (goal_tree goal.now) (goal_tree r.now)) }
-    ensures kept { All (IsKeptEnd (function_of rules.now)) ends.new.kept.items }
+    ensures kept { All (IsKeptEnd (function_of rules.now)) ends.new.kept.goals.items }
 {
     let at = placed(ends.bump, *goal)?;
     behind_laid(rules, ends, at)
@@ -71,9 +71,9 @@ fn end_built<'a>(
 ) -> Result<&'a Goal<'a>, NoMemory>
     requires goal { (ob : ObName) × IsGoalOf (function_of rules.now) ob (goal_tree goal.now) }
     requires open { marks.is_settled (goal_tree goal.now) ≡ false }
-    requires kept { All (IsKeptEnd (function_of rules.now)) ends.old.kept.items }
+    requires kept { All (IsKeptEnd (function_of rules.now)) ends.old.kept.goals.items }
     ensures stands { IfOk result (λ r. StandsMarked (function_of rules.now) (goal_tree goal.now) (goal_tree r.now)) }
-    ensures kept { All (IsKeptEnd (function_of rules.now)) ends.new.kept.items }
+    ensures kept { All (IsKeptEnd (function_of rules.now)) ends.new.kept.goals.items }
 {
     let at = placed(ends.bump, *goal)?;
     let built = behind_laid(rules, ends, at)?;
@@ -90,9 +90,9 @@ fn end_laid<'a>(
 ) -> Result<&'a Goal<'a>, NoMemory>
     requires goal { (ob : ObName) × IsGoalOf (function_of rules.now) ob (goal_tree goal.now) }
     requires open { marks.is_settled (goal_tree goal.now) ≡ false }
-    requires kept { All (IsKeptEnd (function_of rules.now)) ends.old.kept.items }
+    requires kept { All (IsKeptEnd (function_of rules.now)) ends.old.kept.goals.items }
     ensures stands { IfOk result (λ r. StandsMarked (function_of rules.now) (goal_tree goal.now) (goal_tree r.now)) }
-    ensures kept { All (IsKeptEnd (function_of rules.now)) ends.new.kept.items }
+    ensures kept { All (IsKeptEnd (function_of rules.now)) ends.new.kept.goals.items }
 {
     if let Some(known) = found(&ends.kept, goal) {
         return Ok(known);
@@ -112,10 +112,10 @@ fn form_laid<'a>(
 ) -> Result<&'a Goal<'a>, NoMemory>
     requires goal { (ob : ObName) × IsGoalOf (function_of rules.now) ob (If (form_tree form.now) (goal_tree yes.now)
         (goal_tree no.now)) }
-    requires kept { All (IsKeptEnd (function_of rules.now)) ends.old.kept.items }
+    requires kept { All (IsKeptEnd (function_of rules.now)) ends.old.kept.goals.items }
     ensures stands { IfOk result (λ r. StandsMarked (function_of rules.now) (If (form_tree form.now)
         (goal_tree yes.now) (goal_tree no.now)) (goal_tree r.now)) }
-    ensures kept { All (IsKeptEnd (function_of rules.now)) ends.new.kept.items }
+    ensures kept { All (IsKeptEnd (function_of rules.now)) ends.new.kept.goals.items }
 {
     let on_no = laid(rules, ends, no)?;
     let on_yes = laid(rules, ends, yes)?;
@@ -136,10 +136,10 @@ fn tried_laid<'a>(
     requires a_near { IsNearOp 200 ops.now.a }
     requires b_near { IsNearOp 200 ops.now.b }
     requires atoms_near { HasNearAtoms (formula_of tried.now.guard.now) }
-    requires kept { All (IsKeptEnd (function_of rules.now)) ends.old.kept.items }
+    requires kept { All (IsKeptEnd (function_of rules.now)) ends.old.kept.goals.items }
     ensures stands { IfOk result (λ r. StandsMarked (function_of rules.now)
         (trial_tree ops.now.a ops.now.b (Some tried.now)) (goal_tree r.now)) }
-    ensures kept { All (IsKeptEnd (function_of rules.now)) ends.new.kept.items }
+    ensures kept { All (IsKeptEnd (function_of rules.now)) ends.new.kept.goals.items }
 {
     let on_no = laid(rules, ends, &tried.no)?;
     let on_yes = laid(rules, ends, &tried.yes)?;
@@ -158,10 +158,10 @@ fn cases_laid<'a>(
 ) -> Result<&'a Goal<'a>, NoMemory>
     requires goal { (ob : ObName) × IsGoalOf (function_of rules.now) ob (Choose case ops.now.a ops.now.b plan.now) }
     requires later { marks.is_begun (Choose case ops.now.a ops.now.b plan.now) ≡ false }
-    requires kept { All (IsKeptEnd (function_of rules.now)) ends.old.kept.items }
+    requires kept { All (IsKeptEnd (function_of rules.now)) ends.old.kept.goals.items }
     ensures stands { IfOk result (λ r. StandsMarked (function_of rules.now) (Choose case ops.now.a ops.now.b plan.now)
         (goal_tree r.now)) }
-    ensures kept { All (IsKeptEnd (function_of rules.now)) ends.new.kept.items }
+    ensures kept { All (IsKeptEnd (function_of rules.now)) ends.new.kept.goals.items }
 {
     match trial(rules, case, ops, plan) {
         Some(tried) => tried_laid(rules, ends, ops, &tried),
@@ -178,9 +178,9 @@ pub(crate) fn laid<'a>(
     goal: &Goal<'a>,
 ) -> Result<&'a Goal<'a>, NoMemory>
     requires goal { (ob : ObName) × IsGoalOf (function_of rules.now) ob (goal_tree goal.now) }
-    requires kept { All (IsKeptEnd (function_of rules.now)) ends.old.kept.items }
+    requires kept { All (IsKeptEnd (function_of rules.now)) ends.old.kept.goals.items }
     ensures stands { IfOk result (λ r. StandsMarked (function_of rules.now) (goal_tree goal.now) (goal_tree r.now)) }
-    ensures kept { All (IsKeptEnd (function_of rules.now)) ends.new.kept.items }
+    ensures kept { All (IsKeptEnd (function_of rules.now)) ends.new.kept.goals.items }
 {
     if is_begun(goal) {
         return placed(ends.bump, *goal);

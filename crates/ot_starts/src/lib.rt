@@ -12,6 +12,7 @@ mod kept;
 mod laid;
 mod laying;
 mod settling;
+mod slots;
 mod table;
 mod trying;
 mod walking;

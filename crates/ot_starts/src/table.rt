@@ -9,10 +9,9 @@ ghost use Rattle.marked_goals.specs.Settled.{OpensStart};
 ghost use Rattle.ot_starts.specs.Kept.{IsKeptStart, IsKeptEnd};
 
 use crate::fronts::is_begun;
-use crate::kept::{Ends, Kept, found, learnt};
+use crate::kept::{Ends, Table, found, learnt};
 use crate::laying::laid;
 use ask_core::NoMemory;
-use bumpalo::Bump;
 use fn_rules::{Rules, rules_are_valid};
 use marked_goals::rules_keep_starts;
 use ot_rewrite::{rules_keep_what_is_asked, step};
@@ -28,9 +27,9 @@ fn laid_behind<'a>(
     goal: &'a Goal<'a>,
 ) -> Result<&'a Goal<'a>, NoMemory>
     requires goal { (ob : ObName) × IsGoalOf (function_of rules.now) ob (goal_tree goal.now) }
-    requires ends { All (IsKeptEnd (function_of rules.now)) ends.old.kept.items }
+    requires ends { All (IsKeptEnd (function_of rules.now)) ends.old.kept.goals.items }
     ensures opens { IfOk result (λ r. OpensStart (function_of rules.now) (goal_tree goal.now) (goal_tree r.now)) }
-    ensures ends { All (IsKeptEnd (function_of rules.now)) ends.new.kept.items }
+    ensures ends { All (IsKeptEnd (function_of rules.now)) ends.new.kept.goals.items }
 {
     rules_keep_starts();
     rules_are_valid(rules);
@@ -44,16 +43,16 @@ fn laid_behind<'a>(
 // answer itself.
 fn laid_at<'a>(
     rules: &Rules,
-    starts: &mut Vec<Kept<'a>, &'a Bump>,
+    starts: &mut Table<'a>,
     ends: &mut Ends<'a>,
     goal: &'a Goal<'a>,
 ) -> Result<&'a Goal<'a>, NoMemory>
     requires goal { (ob : ObName) × IsGoalOf (function_of rules.now) ob (goal_tree goal.now) }
-    requires starts { All (IsKeptStart (function_of rules.now)) starts.old.items }
-    requires ends { All (IsKeptEnd (function_of rules.now)) ends.old.kept.items }
+    requires starts { All (IsKeptStart (function_of rules.now)) starts.old.goals.items }
+    requires ends { All (IsKeptEnd (function_of rules.now)) ends.old.kept.goals.items }
     ensures opens { IfOk result (λ r. OpensStart (function_of rules.now) (goal_tree goal.now) (goal_tree r.now)) }
-    ensures starts { All (IsKeptStart (function_of rules.now)) starts.new.items }
-    ensures ends { All (IsKeptEnd (function_of rules.now)) ends.new.kept.items }
+    ensures starts { All (IsKeptStart (function_of rules.now)) starts.new.goals.items }
+    ensures ends { All (IsKeptEnd (function_of rules.now)) ends.new.kept.goals.items }
 {
     if let Some(known) = found(starts, goal) {
         return Ok(known);
@@ -69,17 +68,17 @@ fn laid_at<'a>(
 /// often.
 pub(crate) fn laid_on<'a>(
     rules: &Rules,
-    starts: &mut Vec<Kept<'a>, &'a Bump>,
+    starts: &mut Table<'a>,
     ends: &mut Ends<'a>,
     goal: &'a Goal<'a>,
     most: u32,
 ) -> Result<&'a Goal<'a>, NoMemory>
     requires goal { (ob : ObName) × IsGoalOf (function_of rules.now) ob (goal_tree goal.now) }
-    requires starts { All (IsKeptStart (function_of rules.now)) starts.old.items }
-    requires ends { All (IsKeptEnd (function_of rules.now)) ends.old.kept.items }
+    requires starts { All (IsKeptStart (function_of rules.now)) starts.old.goals.items }
+    requires ends { All (IsKeptEnd (function_of rules.now)) ends.old.kept.goals.items }
     ensures opens { IfOk result (λ r. OpensStart (function_of rules.now) (goal_tree goal.now) (goal_tree r.now)) }
-    ensures starts { All (IsKeptStart (function_of rules.now)) starts.new.items }
-    ensures ends { All (IsKeptEnd (function_of rules.now)) ends.new.kept.items }
+    ensures starts { All (IsKeptStart (function_of rules.now)) starts.new.goals.items }
+    ensures ends { All (IsKeptEnd (function_of rules.now)) ends.new.kept.goals.items }
 {
     if most == 0 || !is_begun(goal) {
         return Ok(goal);

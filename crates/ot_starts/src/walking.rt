@@ -14,7 +14,7 @@ ghost use Rattle.ot_starts.specs.Kept.{IsKeptStart, IsKeptEnd};
 ghost use Rattle.ot_starts.specs.Turns.{TurnsAs};
 
 use crate::fronts::question;
-use crate::kept::{Ends, Kept};
+use crate::kept::{Ends, Table};
 use crate::settling::settled;
 use crate::table::laid_on;
 use ask_core::{NoMemory, Turn};
@@ -109,16 +109,16 @@ fn turn_behind<'a>(
 // How the plan of any goal begins.
 fn turn_on<'a>(
     rules: &Rules,
-    starts: &mut Vec<Kept<'a>, &'a Bump>,
+    starts: &mut Table<'a>,
     ends: &mut Ends<'a>,
     goal: &'a Goal<'a>,
 ) -> Result<Turn<&'a Goal<'a>, Why>, NoMemory>
     requires goal { (ob : ObName) × IsGoalOf (function_of rules.now) ob (goal_tree goal.now) }
-    requires starts { All (IsKeptStart (function_of rules.now)) starts.old.items }
-    requires ends { All (IsKeptEnd (function_of rules.now)) ends.old.kept.items }
+    requires starts { All (IsKeptStart (function_of rules.now)) starts.old.goals.items }
+    requires ends { All (IsKeptEnd (function_of rules.now)) ends.old.kept.goals.items }
     ensures turns { IfOk result (λ t. TurnsAs (function_of rules.now) (goal_tree goal.now) t) }
-    ensures starts { All (IsKeptStart (function_of rules.now)) starts.new.items }
-    ensures ends { All (IsKeptEnd (function_of rules.now)) ends.new.kept.items }
+    ensures starts { All (IsKeptStart (function_of rules.now)) starts.new.goals.items }
+    ensures ends { All (IsKeptEnd (function_of rules.now)) ends.new.kept.goals.items }
 {
     let near = laid_on(rules, starts, ends, goal, MOST_TRANSFORMS)?;
     turn_behind(ends.bump, rules, near)
@@ -128,16 +128,16 @@ fn turn_on<'a>(
 #[inline(always)]
 pub(crate) fn turn_of<'a>(
     rules: &Rules,
-    starts: &mut Vec<Kept<'a>, &'a Bump>,
+    starts: &mut Table<'a>,
     ends: &mut Ends<'a>,
     goal: &'a Goal<'a>,
 ) -> Result<Turn<&'a Goal<'a>, Why>, NoMemory>
     requires goal { (ob : ObName) × IsGoalOf (function_of rules.now) ob (goal_tree goal.now) }
-    requires starts { All (IsKeptStart (function_of rules.now)) starts.old.items }
-    requires ends { All (IsKeptEnd (function_of rules.now)) ends.old.kept.items }
+    requires starts { All (IsKeptStart (function_of rules.now)) starts.old.goals.items }
+    requires ends { All (IsKeptEnd (function_of rules.now)) ends.old.kept.goals.items }
     ensures turns { IfOk result (λ t. TurnsAs (function_of rules.now) (goal_tree goal.now) t) }
-    ensures starts { All (IsKeptStart (function_of rules.now)) starts.new.items }
-    ensures ends { All (IsKeptEnd (function_of rules.now)) ends.new.kept.items }
+    ensures starts { All (IsKeptStart (function_of rules.now)) starts.new.goals.items }
+    ensures ends { All (IsKeptEnd (function_of rules.now)) ends.new.kept.goals.items }
 {
     if let Goal::Ask { order, yes, no } = *goal {
         if question(order.form()).is_some() {

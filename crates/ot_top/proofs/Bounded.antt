@@ -1,6 +1,6 @@
 -- What was written of functions whose shortest document is sought, and of certificates that none is shorter.
-use Rattle.std.proofs.Common.{◌≡◌, ◌≤◌, ◌<◌, ℕ, zero, suc, ℤ, pos, Bool, true, false, List, length, Option, Ok, IsTrue, refl, sym, ap, ◌∙◌, subst}
-use Rattle.std.specs.Prelude.{Result, unsigned_abs}
+use Rattle.std.proofs.Common.{◌≡◌, ◌≢◌, ◌≤◌, ◌<◌, ℕ, ℤ, pos, Bool, true, false, List, length, Option, Ok, IsTrue, refl, sym, ap, ◌∙◌, subst}
+use Rattle.std.specs.Prelude.{Result}
 use Rattle.diff_graph.specs.declared.lit.Lit.{Lit}
 use Rattle.diff_tables.specs.Solutions.{AreLeast, valuation_of}
 use Rattle.ot_model.specs.declared.cell.Cell.{Cell}
@@ -17,18 +17,19 @@ use Rattle.ask_core.specs.Leading.{LeadTo}
 use Rattle.ot_prove.specs.Outcomes.{answered_by}
 use Rattle.ot_prove.specs.declared.outcome.Answer.{Answer}
 use Rattle.ot_questions.specs.declared.why.Why.{Why}
-use Rattle.ot_questions.specs.Names.{index_name, length_name}
+use Rattle.ot_questions.specs.Names.{length_name}
 use Rattle.ot_questions.specs.Obligation.{plan_of}
 use Rattle.refusals.specs.declared.refusal.JudgeError.{JudgeError}
 use Rattle.ot_values.specs.Values.{floors_of, ops_at}
 use Rattle.ot_counter.specs.declared.counter.Counter.{Counter}
 use Rattle.ot_counter.specs.Counters.{Breaks, BreaksBy, IsCounter}
-use Rattle.ot_counter.specs.Documents.{cells_by_place, document_at, shown_cell}
+use Rattle.ot_counter.specs.Documents.{document_at}
 use Rattle.ot_least.specs.declared.short.Short.{Short}
 use Rattle.ot_least.specs.declared.short.Short.TheVariants as shorts
-use Rattle.ot_least.specs.Judgements.{IsLowJudgement}
-use Rattle.ot_least.specs.Lows.{HasAt, IsBroken, IsLow}
-use Rattle.ot_least.specs.Shortest.{HasCells, IsLeast, IsShortWithin, IsTrueOf}
+use Rattle.ot_bound.specs.Judgements.{IsLowJudgement}
+use Rattle.ot_bound.specs.Lows.{HasAt, IsLow}
+use Rattle.ot_least.specs.Shortest.{HasCells, IsBroken, IsLeast, IsShort, IsShortWithin, IsTrueOf}
+use Rattle.ot_least.proofs.Instances.{document_count}
 use Rattle.ot_replies.specs.declared.reply.FileKind.TheVariants as files
 use Rattle.ot_replies.specs.declared.reply.Reply.{Reply}
 use Rattle.ot_replies.specs.declared.reply.Reply.TheVariants as replies
@@ -36,6 +37,7 @@ use Rattle.ot_replies.specs.declared.reply.Subject.TheVariants.{First}
 use Rattle.ot_replies.specs.Limits.{limit_of}
 use Rattle.ot_replies.specs.Texts.{status_of, text_of}
 use Rattle.ot_words.specs.Commands.{Bound, Least}
+use Rattle.ot_words.specs.Words.{most_questions}
 use Rattle.ot_top.specs.Bounded.{IsBoundJudgedAs, IsBounded, IsBoundedAt, IsCertifiedWritten, IsShortestWritten, IsSought, ShowsLeast, ShowsShort}
 use Rattle.ot_commands.specs.Bound.{IsReplyToBound, at_least}
 use Rattle.ot_commands.specs.Least.{IsReplyToLeast, ReplyTellsLeast, TellsShort}
@@ -48,21 +50,14 @@ use Rattle.ot_top.proofs.Showing.{accepted}
 use Rattle.ot_top.proofs.Told.{IsAnswered, file_judged}
 use Rattle.ot_prove.proofs.Leads.{literals_lead}
 
--- so many cells
-cell_count : (n : ℕ) (cell : ℕ → Cell) → length (cells_by_place n cell) ≡ n
-cell_count zero cell = refl
-cell_count (suc n) cell = ap suc (cell_count n (λ t. cell (suc t)))
-
 -- the document of a counterexample has as many cells as the least values of its answers give
-document_count :
+counter_count :
     (f : Function) (ob : ObName) (w : List Lit) (why : Why) (counter : Counter) (cells : ℕ) → IsCounter f ob w why counter
     → HasCells ob w cells → length counter.doc ≡ cells
-document_count f ob w why counter cells is (values, least, count) =
+counter_count f ob w why counter cells is (values, least, count) =
     let same : is.values ≡ values = least_once w (floors_of ob) is.values values is.least least in
     let counted : valuation_of is.values length_name ≡ pos cells = ap (λ (l : List ℤ). valuation_of l length_name) same ∙ count in
-    ap (λ (d : List Cell). length d) is.read.doc
-    ∙ (cell_count (unsigned_abs (valuation_of is.values length_name)) (shown_cell (valuation_of is.values index_name) why) ∙ ap (λ (z : ℤ). unsigned_abs z)
-    counted)
+    ap (λ (d : List Cell). length d) is.read.doc ∙ document_count (valuation_of is.values) why cells counted
 
 -- an accepted certificate is one at its level and its bound
 low_of : (f : Function) (bytes : List ℕ) (shown : Level × ℕ) → IsLowJudgement f bytes (Ok shown) → IsLow bytes f shown.0 shown.1
@@ -150,7 +145,7 @@ module _ (is_text : (bytes : List ℕ) (f : Function) → function_in bytes ≡ 
         (literals_lead why (plan_of f ob) answers is.way) (asked_at ob) (before f ob is.broken) counts in (
           counter,
           rw property is.broken,
-          document_count f ob (answered_by answers) why counter cells counts is.length,
+          counter_count f ob (answered_by answers) why counter cells counts is.length,
           breaks.2,
           breaks.3,
           breaks.4,
@@ -185,15 +180,14 @@ module _ (is_text : (bytes : List ℕ) (f : Function) → function_in bytes ≡ 
 
     -- what was written, by what the search comes to
     short_shown :
-        (cert : Bool) (short : Short) → IsTrueOf f short → IsShortWithin (limit_of files.Certificate) short → TellsShort f cert short r
+        (cert : Bool) (short : Short) → short ≢ shorts.TooLong → IsTrueOf f short → IsShortWithin (limit_of files.Certificate) short → TellsShort f cert short r
         → ShowsShort f bytes cert IsWritten (status_of r) short
-    short_shown cert shorts.Fine is within tells =
+    short_shown cert shorts.Fine never is within tells =
         (ap (λ x. status_of x) tells, is.0, is.1, subst IsWritten (ap (λ x. text_of x) tells) written)
-    short_shown cert (shorts.Least ob answers why cells low) is within tells =
+    short_shown cert (shorts.Least ob answers why cells low) never is within tells =
         least_shown cert ob answers.items why cells low.items is within tells
-    short_shown cert shorts.TooLong is within tells =
-        (ap (λ x. status_of x) tells, subst IsWritten (ap (λ x. text_of x) tells) written)
-    short_shown cert shorts.Spent is within tells =
+    short_shown cert shorts.TooLong never is within tells = absurd (never refl)
+    short_shown cert shorts.Spent never is within tells =
         (ap (λ x. status_of x) tells, subst IsWritten (ap (λ x. text_of x) tells) written)
 
   -- what `least` writes, and its status, come by what the search comes to
@@ -204,10 +198,15 @@ module _ (is_text : (bytes : List ℕ) (f : Function) → function_in bytes ≡ 
       → ((f : Function) (ob : ObName) (w : List Lit) (why : Why) (values : List ℤ) → IsTrue (is_valid f) → IsTrue (is_obligation f.head ob)
       → LeadTo why (plan_of f ob) w → AreLeast w (floors_of ob) values
       → BreaksBy f (level_of ob) (document_at (valuation_of values) why) (ops_at (valuation_of values) ob) why)
+      → ((f : Function) (budget : ℕ) (short : Short) → IsTrue (is_valid f) → IsShort f budget short → short ≢ shorts.TooLong)
       → (words : List (List ℕ)) (holds : List ℕ → Option (List ℕ)) (r : Reply) (IsWritten : List ℕ → Type 0)
       → IsReply words holds r → IsWritten (text_of r) → IsSought words holds IsWritten (status_of r)
-  sought broken_there by_the_cause words holds r IsWritten is_reply written cert name bytes f named told small text =
+  sought broken_there by_the_cause never words holds r IsWritten is_reply written cert name bytes f named told small text =
       let got : IsReplyToLeast f cert r =
       gets (holds name) bytes f told small (texts_are_read bytes f text) First (λ g. IsReplyToLeast g cert r) r
-      (reply_to_asked words holds r (Least cert name) named is_reply) in
-      (got.0, got.1, short_shown broken_there by_the_cause IsWritten bytes f small text r written cert got.0 got.2 got.3 got.4)
+      (reply_to_asked words holds r (Least cert name) named is_reply) in (
+        got.0,
+        got.1,
+        short_shown broken_there by_the_cause IsWritten bytes f small text r written cert got.0
+            (never f most_questions got.0 (is_within_limits bytes f text) got.1) got.2 got.3 got.4,
+      )

@@ -1,8 +1,10 @@
 mod Asking
 mod Audited
+mod Barred
 mod Bounded
 mod Breaking
 mod Confirmed
+mod Followed
 mod NeverLong
 mod OneAudit
 mod OneDecision
@@ -18,5 +20,6 @@ mod Proving
 mod Reversed
 mod Showing
 mod Shows
+mod Templated
 mod Told
 mod Unread

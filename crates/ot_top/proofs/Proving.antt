@@ -168,7 +168,7 @@ proved_settled :
 proved_settled f level r (outcomes.Yes bytes) is shown tells = (bytes.items, shown.judged, shown.short, tells)
 proved_settled f level r (outcomes.No ob answers why) is refuted tells =
     absurd (let one : 0 ≡ 1 = is ∙ ap (λ x. status_of x) tells.2 in omega (arith, one))
-proved_settled f level r outcomes.Spent is said tells =
+proved_settled f level r (outcomes.Spent cause) is said tells =
     absurd (let eight : 0 ≡ 8 = is ∙ ap (λ x. status_of x) tells in omega (arith, eight))
 
 -- the reply that a function gets of which evidence is asked for
@@ -303,7 +303,7 @@ module _ (is_text : (bytes : List ℕ) (f : Function) → function_in bytes ≡ 
           (before_settled f ob refuted.1) tells.1,
       tells.2,
     )
-    broken_settled f level r outcomes.Spent is valid said tells =
+    broken_settled f level r (outcomes.Spent cause) is valid said tells =
         absurd (let eight : 1 ≡ 8 = is ∙ ap (λ x. status_of x) tells in omega (arith, eight))
 
     pub counter_found :

@@ -3,6 +3,7 @@ use Rattle.std.proofs.Common.{◌≡◌, ◌≢◌, ℕ, List, Option, Result, O
 use Rattle.diff_graph.specs.declared.lit.Lit.{Lit}
 use Rattle.fn_rules.specs.declared.function.Level.{Level}
 use Rattle.fn_rules.specs.Functions.{Function}
+use Rattle.fn_rules.specs.Properties.{HasTp1, HasTp2}
 use Rattle.fn_rules.specs.Validity.{is_valid}
 use Rattle.fn_grammar.specs.Grammar.{IsTextOf}
 use Rattle.fn_text.specs.Reading.{function_in}
@@ -18,12 +19,16 @@ use Rattle.ot_replies.specs.declared.reply.Reply.{Reply}
 use Rattle.ot_commands.specs.Given.{IsAnswerOfGiven}
 use Rattle.ot_commands.specs.Replies.{IsReply}
 use Rattle.ot_commands.specs.Steady.{AreSteady}
+use Rattle.ot_heads.specs.Heads.{InsertsAndDeletesOnPlain}
 use Rattle.ot_top.specs.Bounded.{IsBounded, IsSought}
 use Rattle.ot_top.specs.Evidence.{Evidence}
-use Rattle.ot_top.specs.Shown.{HasLevel, IsComplete, IsShownBroken}
+use Rattle.ot_top.specs.Followed.{IsFollowed}
+use Rattle.ot_top.specs.Shown.{HasLevel, IsComplete, IsProved, IsShownBroken}
 use Rattle.ot_top.specs.Shows.{AreKnown, IsOfReply, StatusShows}
+use Rattle.ot_top.specs.Templated.{IsTemplated}
 use Rattle.ot_replies.specs.Texts.{status_of, text_of}
 use Rattle.ot_top.proofs.Audited.{audited, compared}
+use Rattle.ot_top.proofs.Barred.{barred}
 use Rattle.ot_top.proofs.Bounded.{bound_judged}
 use Rattle.ot_top.proofs.Confirmed.{confirm_judged, confirmed}
 use Rattle.ot_top.proofs.Proving.{complete, evidence_level, proved}
@@ -59,11 +64,21 @@ module _ (words : List (List ℕ)) (holds : List ℕ → Option (List ℕ)) (IsW
     (one_judgement :
     (f : Function) (bytes : List ℕ) (one other : Result Level JudgeError) → IsTrue (is_valid f) → IsJudgement f bytes one
     → IsJudgement f bytes other → one ≡ other)
+    (lacks : (f : Function) → InsertsAndDeletesOnPlain f.head → ¬ (HasTp1 f × HasTp2 f))
     (one_list : (p : Plan Why) (w : List Lit) (q r : Questions Why) → QuestionList p w q → QuestionList p w r → q ≡ r)
+    (is_templated : IsAnswered words holds status IsWritten → IsTemplated words IsWritten status)
     (is_broken :
     (e : Evidence) (r : Reply) → 1 ≡ status_of r → IsReply words holds r → IsWritten (text_of r) → IsShownBroken e words holds IsWritten)
     (is_bounded : (r : Reply) → 0 ≡ status_of r → IsReply words holds r → IsWritten (text_of r) → IsBounded words holds IsWritten)
-    (is_sought : (r : Reply) → IsReply words holds r → IsWritten (text_of r) → IsSought words holds IsWritten (status_of r)) where
+    (is_sought : (r : Reply) → IsReply words holds r → IsWritten (text_of r) → IsSought words holds IsWritten (status_of r))
+    (is_followed : (r : Reply) → 0 ≡ status_of r → IsReply words holds r → IsWritten (text_of r) → IsFollowed words holds IsWritten) where
+  -- status 0: the evidence was found, and is written
+  shows_proved : (e : Evidence) → status ≡ 0 → IsProved e words holds IsWritten
+  shows_proved e zero =
+      let told = answered (of_reply status 0 zero (λ e. omega (arith, e)) (λ e. omega (arith, e)) (λ e. omega (arith, e))) in
+      proved is_text is_within_limits (evidence_level has_level confirm_level) one_judgement e words holds told.0 IsWritten
+      (sym zero ∙ told.3) told.1 told.4
+
   -- each status shows what is said of it, from the reply that it is of
   pub shows : StatusShows words holds IsWritten status
   shows =
@@ -72,11 +87,8 @@ module _ (words : List (List ℕ)) (holds : List ℕ → Option (List ℕ)) (IsW
             λ zero.
             let told = answered (of_reply status 0 zero (λ e. omega (arith, e)) (λ e. omega (arith, e)) (λ e. omega (arith, e))) in
             shown has_level is_text words holds told.0 IsWritten (sym zero ∙ told.3) told.1 told.4;
-        proved =
-            λ e zero.
-            let told = answered (of_reply status 0 zero (λ e. omega (arith, e)) (λ e. omega (arith, e)) (λ e. omega (arith, e))) in
-            proved is_text is_within_limits (evidence_level has_level confirm_level) one_judgement e words holds told.0 IsWritten
-            (sym zero ∙ told.3) told.1 told.4;
+        proved = shows_proved;
+        barred = λ e. barred lacks is_read e words holds IsWritten status (shows_proved e);
         broken =
             λ e one.
             let told = answered (of_reply status 1 one (λ e. omega (arith, e)) (λ e. omega (arith, e)) (λ e. omega (arith, e))) in
@@ -106,6 +118,7 @@ module _ (words : List (List ℕ)) (holds : List ℕ → Option (List ℕ)) (IsW
             let told = answered (of_reply status 0 zero (λ e. omega (arith, e)) (λ e. omega (arith, e)) (λ e. omega (arith, e))) in
             confirmed confirm_level is_text words holds told.0 IsWritten (sym zero ∙ told.3) told.1 told.4;
         confirm_judged = λ of_a_reply. confirm_judged is_read words holds status IsWritten (answered of_a_reply);
+        templated = λ of_a_reply. is_templated (answered of_a_reply);
         gone_through = λ of_a_reply. gone_through words holds status IsWritten (answered of_a_reply);
         steady =
             λ name session bytes f named known text agree one.
@@ -115,4 +128,8 @@ module _ (words : List (List ℕ)) (holds : List ℕ → Option (List ℕ)) (IsW
             λ name hub bytes f named known text agree one.
             let told = answered (of_reply status 1 one (λ e. omega (arith, e)) (λ e. omega (arith, e)) (λ e. omega (arith, e))) in
             served is_read words holds told.0 told.2 name hub bytes f named known text agree (sym told.3 ∙ one);
+        followed =
+            λ zero.
+            let told = answered (of_reply status 0 zero (λ e. omega (arith, e)) (λ e. omega (arith, e)) (λ e. omega (arith, e))) in
+            is_followed told.0 (sym zero ∙ told.3) told.1 told.4;
       }

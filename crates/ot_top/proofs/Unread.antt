@@ -27,7 +27,7 @@ use Rattle.proof_sections.specs.declared.refusal.ConfirmError.TheVariants as con
 use Rattle.ot_confirm.specs.Judgement.{judgement_of}
 use Rattle.ot_least.specs.declared.short.Short.{Short}
 use Rattle.ot_least.specs.declared.short.Short.TheVariants as shorts
-use Rattle.ot_least.specs.Judgements.{IsLowJudgement}
+use Rattle.ot_bound.specs.Judgements.{IsLowJudgement}
 use Rattle.ot_settle.specs.declared.settled.Settled.{Settled}
 use Rattle.ot_settle.specs.declared.settled.Settled.TheVariants as outcomes
 use Rattle.ot_decide.specs.declared.verdict.Verdict.{Verdict}
@@ -43,7 +43,8 @@ use Rattle.ot_replies.specs.declared.reply.Reply.TheVariants as replies
 use Rattle.ot_replies.specs.declared.reply.Subject.{Subject}
 use Rattle.ot_replies.specs.declared.reply.Subject.TheVariants.{First, Second}
 use Rattle.ot_words.specs.Commands.{Asked, Prove, Settle, Check, Integrate, Replay, Hub, Audit, Same, Reverse, Least, Bound, Confirm}
-use Rattle.ot_words.specs.Commands.{Drill}
+use Rattle.ot_words.specs.Commands.{Drill, Template}
+use Rattle.ot_top.proofs.Templated.{template_other}
 use Rattle.ot_questions.specs.declared.why.Why.{Why}
 use Rattle.ot_decide.specs.Verdicts.{ObQuestions}
 use Rattle.std.specs.List.{list_all}
@@ -102,7 +103,7 @@ verdict_other f verdicts.Spent r tells = named_so r replies.Spent 8 tells refl (
 settled_other : (f : Function) (settled : Settled) (r : Reply) → TellsSettled f settled r → status_of r ≢ 3
 settled_other f (outcomes.Yes bytes) r tells = named_so r (replies.Proved bytes.items) 0 tells refl (λ e. omega (arith, e))
 settled_other f (outcomes.No ob answers why) r tells = named_so r (replies.Broken tells.0) 1 tells.2 refl (λ e. omega (arith, e))
-settled_other f outcomes.Spent r tells = named_so r replies.Spent 8 tells refl (λ e. omega (arith, e))
+settled_other f (outcomes.Spent cause) r tells = named_so r replies.Spent 8 tells refl (λ e. omega (arith, e))
 
 judgement_other :
     {T : Type 0} (accepts : T → Reply) (judgement : Result T JudgeError) (r : Reply) → ((shown : T) → status_of (accepts shown) ≡ 0)
@@ -283,6 +284,7 @@ module _ (texts_are_read : (bytes : List ℕ) (f : Function) → IsTextOf bytes 
       (λ f gets. certificate_other (IsLowJudgement f) at_least (holds certificate) r (λ shown. refl) gets) reply
   unread_reply (Confirm name proof) reply =
       read_or_not First name [] _ (λ f gets. proof_other f (holds proof) r gets) reply
+  unread_reply (Template level head) reply = template_other level head r reply
   unread_reply (Drill number) reply = drilled_other number reply.0 r reply.2
 
 pub unread :

@@ -1,6 +1,5 @@
 -- What a run answers, and what it leaves where the files, the sink or memory fail.
-use Rattle.std.specs.Prelude.{◌≡◌, ◌≤◌, ◌⊎◌, ℕ, List, Option}
-use Rattle.std.specs.Io.KnownBytes.{append_known}
+use Rattle.std.specs.Prelude.{◌≡◌, ◌≤◌, ◌⊎◌, ◌++◌, ℕ, List, Option}
 use Rattle.ot_outside.specs.Faults.{Rose}
 use Rattle.ot_outside.specs.Reads.{Reads}
 use Rattle.ot_outside.specs.Whole.{AppendsFront}
@@ -31,10 +30,10 @@ pub record CountChange : Type 0 where
 abbrev pub count_change : ℕ → ℕ → CountChange
 count_change before now = record { before = before; now = now }
 
--- what faults and want of memory tell, by the counts of faults of the shelf and of the sink, and by what the sink tells
--- that was written `before` the run and is `now`
+-- what faults and want of memory tell, by the counts of faults of the shelf and of the sink, and by what the sink took
+-- `before` the run and has taken `now`
 pub record Faults (words : List (List ℕ)) (holds : List ℕ → Option (List ℕ)) (shelf sink : CountChange)
-    (before now : Option (List ℕ))
+    (before now : List ℕ)
     (status : ℕ) : Type 0 where
   -- the shelf failed, and nothing was written
   pub shelf_fault : status ≡ SHELF_FAULT → Rose shelf.before shelf.now × (now ≡ before)
@@ -50,5 +49,5 @@ pub record Faults (words : List (List ℕ)) (holds : List ℕ → Option (List �
       ¬ (Rose shelf.before shelf.now) → ¬ (Rose sink.before sink.now)
       → ((status ≡ NO_MEMORY) × (now ≡ before))
       ⊎ ((reply : Reply) × IsReply words holds reply × (status ≡ status_of reply)
-      × (now ≡ append_known before (text_of reply)))
+      × (now ≡ before ++ text_of reply))
   pub sink_faults : sink.before ≤ sink.now

@@ -11,14 +11,14 @@ use Rattle.ot_counter.specs.declared.counter.Counter.{Counter}
 use Rattle.ot_counter.specs.Counters.{Breaks, BreaksBy}
 use Rattle.ot_least.specs.declared.short.Short.{Short}
 use Rattle.ot_least.specs.declared.short.Short.TheVariants as shorts
-use Rattle.ot_least.specs.Judgements.{IsLowJudgement}
-use Rattle.ot_least.specs.Lows.{HasAt, IsBroken, IsLow}
-use Rattle.ot_least.specs.Shortest.{IsShort}
+use Rattle.ot_bound.specs.Judgements.{IsLowJudgement}
+use Rattle.ot_bound.specs.Lows.{HasAt, IsLow}
+use Rattle.ot_least.specs.Shortest.{IsBroken, IsBrokenAt, IsShort}
 use Rattle.ot_replies.specs.declared.reply.FileKind.TheVariants as files
 use Rattle.ot_replies.specs.declared.reply.Reply.{Reply}
 use Rattle.ot_replies.specs.declared.reply.Reply.TheVariants.{AtLeast}
 use Rattle.ot_replies.specs.AuditTexts.{spent_text}
-use Rattle.ot_replies.specs.BoundTexts.{at_least_text, bound_limit_text, shortest_text, unbroken_text}
+use Rattle.ot_replies.specs.BoundTexts.{at_least_text, shortest_text, unbroken_text}
 use Rattle.ot_replies.specs.Limits.{limit_of}
 use Rattle.ot_words.specs.Commands.{Bound, Least}
 use Rattle.ot_words.specs.Words.{asked_by, most_questions}
@@ -74,11 +74,11 @@ IsShortestWritten f cells IsWritten =
     × HasBelow f counter.level cells × IsWritten (shortest_text counter cells)
 
 -- a certificate was written that keeps the limit of its file and that `bound` accepts: the function breaks the property
--- on a document of so many cells, and on none of fewer
+-- at operations on a document of so many cells, and on none of fewer
 abbrev pub IsCertifiedWritten : Function → List ℕ → ℕ → (List ℕ → Type 0) → Type 0
 IsCertifiedWritten f bytes cells IsWritten =
     (level : Level) × (certificate : List ℕ)
-    × IsBroken f level × (¬ HasAt f level cells) × HasBelow f level cells
+    × IsBroken f level × IsBrokenAt f level cells × HasBelow f level cells
     × IsLow certificate f level cells × (length certificate ≤ limit_of files.Certificate)
     × IsBoundedAt bytes certificate level cells × IsWritten certificate
 
@@ -87,17 +87,18 @@ abbrev pub ShowsLeast : Function → List ℕ → Bool → ℕ → (List ℕ →
 ShowsLeast f bytes true cells IsWritten = IsCertifiedWritten f bytes cells IsWritten
 ShowsLeast f bytes false cells IsWritten = IsShortestWritten f cells IsWritten
 
--- what was written of the text of a function and the status, by what the search comes to
+-- what was written of the text of a function and the status, by what the search comes to; no document of a first
+-- counterexample is too long
 abbrev pub ShowsShort : Function → List ℕ → Bool → (List ℕ → Type 0) → ℕ → Short → Type 0
 ShowsShort f bytes cert IsWritten status shorts.Fine = (status ≡ 0) × HasTp1 f × HasTp2 f × IsWritten unbroken_text
 ShowsShort f bytes cert IsWritten status (shorts.Least ob answers why cells low) =
     (status ≡ 1) × ShowsLeast f bytes cert cells IsWritten
-ShowsShort f bytes cert IsWritten status shorts.TooLong = (status ≡ 9) × IsWritten bound_limit_text
+ShowsShort f bytes cert IsWritten status shorts.TooLong = ⊥
 ShowsShort f bytes cert IsWritten status shorts.Spent = (status ≡ 8) × IsWritten spent_text
 
 -- the words ask for the shortest document on which a function breaks a property; where its file is told, is within its
 -- limit and is the text of a function by the grammar, what was written and the status are those of what the searches
--- come to by their questions
+-- come to by their questions: the status is 0, 1 or 8
 abbrev pub IsSought : List (List ℕ) → (List ℕ → Option (List ℕ)) → (List ℕ → Type 0) → ℕ → Type 0
 IsSought words holds IsWritten status =
     (cert : Bool) (name bytes : List ℕ) (f : Function)

@@ -1,7 +1,10 @@
 pub mod Audited
+pub mod Barred
 pub mod Evidence
 pub mod Shown
 pub mod Bounded
 pub mod Confirmed
+pub mod Followed
+pub mod Templated
 pub mod Shows
 pub mod Answers

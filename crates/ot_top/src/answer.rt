@@ -22,6 +22,7 @@ use ot_commands::replay::replay;
 use ot_commands::reverse::reverse;
 use ot_commands::same::same;
 use ot_commands::settle::settle;
+use ot_commands::template::template;
 use ot_outside::Shelf;
 use ot_replies::Reply;
 use ot_words::{Command, read_words};
@@ -68,6 +69,7 @@ fn reply_to<H: Shelf>(alloc: Global, shelf: &mut H, command: &Command<'_>) -> Re
             certificate,
         } => bound(alloc, shelf, function, certificate),
         Command::Confirm { function, proof } => confirm(alloc, shelf, function, proof),
+        Command::Template { level, head } => Ok(template(alloc, level, head)?),
         Command::Drill { number } => Ok(drill(alloc, number)?),
     }
 }

@@ -1,26 +1,28 @@
 //! Laws of replies. Each is the contract of a function that does nothing.
 ghost use Rattle.std.specs.Prelude.{◌≡◌, ◌≢◌, ℕ, Bool, true, false, List, Option, Some};
+ghost use Rattle.fn_rules.specs.declared.function.Head.{Head};
 ghost use Rattle.fn_rules.specs.declared.function.Level.{Level};
+ghost use Rattle.fn_rules.specs.declared.function.Level.TheVariants.{Tp2};
 ghost use Rattle.fn_rules.specs.Functions.{Function};
+ghost use Rattle.ot_heads.specs.Heads.{InsertsAndDeletesOnPlain};
 ghost use Rattle.ot_words.specs.Commands.{Prove, Check, Integrate, Replay, Hub, Audit, Same, Reverse, Least, Bound};
-ghost use Rattle.ot_words.specs.Commands.{Confirm, Drill};
+ghost use Rattle.ot_words.specs.Commands.{Confirm, Drill, Template};
 ghost use Rattle.ot_commands.specs.Hub.{IsReplyToHub};
 ghost use Rattle.ot_commands.specs.Replay.{IsReplyToSession};
 ghost use Rattle.ot_commands.specs.Replies.{IsReplyTo};
 ghost use Rattle.ot_replies.specs.declared.reply.Reply.TheVariants.{BoundTooLong};
 ghost use Rattle.ot_replies.specs.Texts.{status_of};
-ghost use Rattle.ot_top.specs.Evidence.{Evidence, asks_for};
+ghost use Rattle.ot_top.specs.Evidence.{Evidence, IsEvidence, asks_for};
 
 use fn_text::what_is_read_is_in_the_grammar;
 use ot_audit::findings_are_one;
+use ot_bound::bytes_have_one_low_judgement;
 use ot_confirm::proofs_show_the_properties;
 use ot_counter::failing_ends_have_counterexamples;
 use ot_decide::{failing_triples_show_tp1, obligations_have_one_question_list};
+use ot_heads::plain_functions_lack_a_property;
 use ot_judge::{bytes_have_one_judgement, certificates_show_the_properties};
-use ot_least::{
-    bytes_have_one_low_judgement, first_documents_are_never_too_long,
-    functions_have_one_shortest_document,
-};
+use ot_least::{first_documents_are_never_too_long, functions_have_one_shortest_document};
 use ot_replies::Reply;
 use ot_reverse::answers_are_one;
 use ot_session::{makes_have_one_outcome, sessions_begin_as_one, takes_have_one_answer};
@@ -93,6 +95,8 @@ pub fn commands_have_one_reply()
         → holds name ≡ Some bytes → IsReplyTo holds (Prove level budget name) one
         → IsReplyTo holds (Prove level budget name) other
         → (status_of one ≡ status_of other) × (status_of one ≢ 0 → one ≡ other) }
+    ensures template { (holds : List ℕ → Option (List ℕ)) (level : Level) (head : Head) (one other : Reply)
+        → IsReplyTo holds (Template level head) one → IsReplyTo holds (Template level head) other → one ≡ other }
     ensures drill { (holds : List ℕ → Option (List ℕ)) (number : ℕ) (one other : Reply)
         → IsReplyTo holds (Drill number) one → IsReplyTo holds (Drill number) other → one ≡ other }
 {
@@ -123,6 +127,17 @@ pub fn decisions_are_never_both()
     proofs_show_the_properties();
     failing_ends_have_counterexamples();
     failing_triples_show_tp1();
+}
+
+/// There is no evidence that a function for insertions and deletions on plain text has both properties: no bytes are a
+/// certificate of it at level tp2, and none a proof with lemmas.
+pub fn plain_functions_have_no_evidence()
+    ensures { (e : Evidence) (bytes : List ℕ) (f : Function) → InsertsAndDeletesOnPlain f.head
+        → ¬ IsEvidence e bytes f Tp2 }
+{
+    certificates_show_the_properties();
+    proofs_show_the_properties();
+    plain_functions_lack_a_property();
 }
 
 /// Where the function's file is told, no reply of `least` is that the document of the first counterexample has more

@@ -11,7 +11,7 @@ mod program;
 
 pub use laws::{
     commands_have_one_reply, decisions_are_never_both, hubs_have_one_reply,
-    least_is_never_too_long, sessions_have_one_reply,
+    least_is_never_too_long, plain_functions_have_no_evidence, sessions_have_one_reply,
 };
 pub use ot_replies::{ClientEnd, Drilled, EventFault, FileKind, HubEnd, Reply, SiteEnd, Subject};
 pub use program::{NO_MEMORY, SHELF_FAULT, SINK_FAULT, run};

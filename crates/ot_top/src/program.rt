@@ -1,6 +1,5 @@
 //! The call that does all that the program does.
-ghost use Rattle.std.specs.Prelude.{◌≡◌, ◌≢◌, ◌≤◌, ℕ, List, Option, map, IfSome, string_bytes};
-ghost use Rattle.std.specs.Io.KnownBytes.{append_known};
+ghost use Rattle.std.specs.Prelude.{◌≡◌, ◌≢◌, ◌≤◌, ◌++◌, ℕ, List, Option, map, IfSome, string_bytes};
 ghost use Rattle.ot_outside.specs.Faults.{Rose};
 ghost use Rattle.ot_outside.specs.Whole.{AppendsFront};
 ghost use Rattle.ot_outside.specs.Unchanged.{Unchanged};
@@ -14,16 +13,23 @@ ghost use Rattle.ot_words.specs.Words.{asked_by};
 
 use crate::answer::answer;
 use fn_text::{texts_of_functions_are_read, what_is_read_is_in_the_grammar};
+use ot_bound::{bytes_have_one_low_judgement, low_certificates_show_shorter_documents};
 use ot_commands::load::Stop;
 use ot_confirm::proofs_show_the_properties;
 use ot_counter::failing_ends_have_counterexamples;
 use ot_decide::failing_triples_show_tp1;
+use ot_heads::{
+    plain_functions_lack_a_property, plain_text_has_no_transformation, the_test_decides_the_fact,
+};
+use ot_hub::hubs_follow_their_logs;
+use ot_integrate::both_properties_give_one_outcome;
 use ot_judge::{bytes_have_one_judgement, certificates_show_the_properties};
-use ot_least::{bytes_have_one_low_judgement, low_certificates_show_shorter_documents};
+use ot_least::first_documents_are_never_too_long;
 use ot_outside::{Shelf, Sink, write_all};
 use ot_prove::plans_have_one_question_list;
 use ot_questions::Why;
 use ot_replies::{Reply, status, text};
+use ot_templates::templates_have_what_can_be_had;
 use std::alloc::Global;
 
 /// A file could not be opened or read.
@@ -49,14 +55,14 @@ fn write_answer<H: Shelf, S: Sink>(
         × AreSteady (map string_bytes words.now) (H.holds shelf.old) reply
         × IsAnswerOfGiven (map string_bytes words.now) (H.reads shelf.old) (H.reads shelf.new) reply
         × (result ≡ status_of reply)
-        × (S.written out.new ≡ append_known (S.written out.old) (text_of reply)) }
+        × (S.took out.new ≡ S.took out.old ++ text_of reply) }
     ensures shelf_fault { result ≡ SHELF_FAULT → Rose (H.faults shelf.old) (H.faults shelf.new)
-        × (S.written out.new ≡ S.written out.old) }
+        × (S.took out.new ≡ S.took out.old) }
     ensures sink_fault { result ≡ SINK_FAULT →
         Rose (S.faults out.old) (S.faults out.new)
         × ((reply : Reply) × IsReply (map string_bytes words.now) (H.holds shelf.old) reply
-        × AppendsFront (S.written out.old) (text_of reply) (S.written out.new)) }
-    ensures no_memory { result ≡ NO_MEMORY → S.written out.new ≡ S.written out.old }
+        × AppendsFront (S.took out.old) (text_of reply) (S.took out.new)) }
+    ensures no_memory { result ≡ NO_MEMORY → S.took out.new ≡ S.took out.old }
     ensures unchanged { Unchanged H.holds H.offered H.faults shelf.old shelf.new }
     ensures sink_faults { S.faults out.old ≤ S.faults out.new }
 {
@@ -86,18 +92,18 @@ pub fn run<H: Shelf, S: Sink>(alloc: Global, words: &[String], shelf: &mut H, ou
 
     // What is answered, of what the shelf tells and of what its calls gave.
     ensures answered { AnswersCommand (map string_bytes words.now) (H.holds shelf.old) (H.reads shelf.old)
-        (H.reads shelf.new) (λ text. S.written out.new ≡ append_known (S.written out.old) text) result }
+        (H.reads shelf.new) (λ text. S.took out.new ≡ S.took out.old ++ text) result }
 
     // What the status shows, whether the files are known as what the shelf tells or as what its calls gave.
     ensures shows { (holds : List ℕ → Option (List ℕ))
         → AreKnown (map string_bytes words.now) (H.holds shelf.old) (H.reads shelf.old) (H.reads shelf.new) holds
         → StatusShows (map string_bytes words.now) holds
-        (λ text. S.written out.new ≡ append_known (S.written out.old) text) result }
+        (λ text. S.took out.new ≡ S.took out.old ++ text) result }
 
     // When the statuses of faults and of want of memory come, and what was written then.
     ensures faults { Faults (map string_bytes words.now) (H.holds shelf.old)
         (count_change (H.faults shelf.old) (H.faults shelf.new))
-        (count_change (S.faults out.old) (S.faults out.new)) (S.written out.old) (S.written out.new) result }
+        (count_change (S.faults out.old) (S.faults out.new)) (S.took out.old) (S.took out.new) result }
 
     // What is left alone.
     ensures unchanged { Unchanged H.holds H.offered H.faults shelf.old shelf.new }
@@ -107,8 +113,15 @@ pub fn run<H: Shelf, S: Sink>(alloc: Global, words: &[String], shelf: &mut H, ou
     proofs_show_the_properties();
     low_certificates_show_shorter_documents();
     bytes_have_one_low_judgement();
+    first_documents_are_never_too_long();
     failing_triples_show_tp1();
+    hubs_follow_their_logs();
     failing_ends_have_counterexamples();
+    plain_functions_lack_a_property();
+    plain_text_has_no_transformation();
+    the_test_decides_the_fact();
+    templates_have_what_can_be_had();
+    both_properties_give_one_outcome();
     plans_have_one_question_list::<Why>();
     texts_of_functions_are_read();
     what_is_read_is_in_the_grammar();

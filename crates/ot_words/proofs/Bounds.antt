@@ -1,19 +1,27 @@
 -- What words ask for is within its bounds.
-use Rattle.std.proofs.Common.{◌≡◌, ℕ, ◌≤◌, ◌<◌, ◌^◌, Bool, true, false, List, [], ◌∷◌, Option, Some, None, refl, ap, subst, cond}
+use Rattle.std.proofs.Common.{◌≡◌, ℕ, ◌≤◌, ◌<◌, ◌^◌, Bool, true, false, ◌||◌, List, [], ◌∷◌, Option, Some, None, refl, ap, subst, cond}
 use Rattle.std.specs.Prelude.{option_map, option_and_then, codes}
+use Rattle.std.specs.List.{list_any}
 use Rattle.std.specs.Str.{bytes_eq}
 use Rattle.std.specs.Str.Parse.{IsNumeral, digits_value, without_leading_plus}
 use Rattle.clap.proofs.ValueTestLemmas.{Accepts-accepts, accepts-Accepts}
 use Rattle.clap.specs.ValueTests.{is_unsigned_in}
 use Rattle.clap.specs.Words.{Row, first_of}
 use Rattle.clap.specs.declared.builder.value_parser.ValueParser.TheVariants.{Unsigned}
+use Rattle.ot_model.specs.declared.op.Kind.{Kind}
+use Rattle.ot_model.specs.declared.op.Kind.TheVariants as kinds
+use Rattle.ot_model.specs.declared.op.Mode.{Mode}
+use Rattle.ot_model.specs.declared.op.TheConstants.{KINDS}
+use Rattle.fn_rules.specs.declared.function.Head.{Head}
 use Rattle.fn_rules.specs.declared.function.Level.{Level}
+use Rattle.fn_rules.specs.Functions.{is_declared}
 use Rattle.fn_rules.specs.declared.limits.TheConstants.{MOST_ROUNDS}
 use Rattle.ot_words.specs.Commands.{Asked, Prove, Settle, Check, Integrate, Replay, Hub, Audit, Same, Reverse, Least, Bound, Confirm}
-use Rattle.ot_words.specs.Commands.{Drill}
+use Rattle.ot_words.specs.Commands.{Template, Drill}
 use Rattle.clap_words.specs.Found.{found_by}
 use Rattle.ot_words.specs.Words.{IsWithinBounds, asked_by, audit_in, deciding_app, decision_by, decision_in, drill_app, drill_by, drill_in, is_given, least_app}
 use Rattle.ot_words.specs.Words.{least_by, least_in, level_by, most_questions, most_settling_questions, name_by, names_by, number_by, of_two, prove_in, settle_in, two_in}
+use Rattle.ot_words.specs.Words.{head_in, kind_named, mode_named, no_kinds, template_app, template_by, template_in, with_further, with_kind, with_named, with_new}
 
 number_within : (most : ℕ) (text : List ℕ) (n : ℕ) → number_by most text ≡ Some n → n ≤ most
 number_within most text n is = go (is_unsigned_in 1 most text) refl is
@@ -146,6 +154,78 @@ drills_are_within words = go (found_by drill_app words)
         drill_is_within (option_and_then (number_by MOST_ROUNDS) (first_of (codes "number") rows))
         (found_within MOST_ROUNDS (first_of (codes "number") rows))
 
+-- a head with a kind more has a kind
+abbrev HasKind : Head → Type 0
+HasKind head = list_any (is_declared head) KINDS ≡ true
+
+has_kind-with_kind : (head : Head) (k : Kind) → HasKind (with_kind head k)
+has_kind-with_kind head kinds.Ins = refl
+has_kind-with_kind head kinds.Del = go head.ins
+  where
+    go : (b : Bool) → (b || (true || (head.upd || false))) ≡ true
+    go true = refl
+    go false = refl
+has_kind-with_kind head kinds.Upd = go head.ins head.del
+  where
+    go : (b d : Bool) → (b || (d || (true || false))) ≡ true
+    go true d = refl
+    go false true = refl
+    go false false = refl
+
+-- whatever head is told has a kind
+abbrev HaveKind : Option Head → Type 0
+HaveKind found = (head : Head) → found ≡ Some head → HasKind head
+
+none_has_kind : HaveKind None
+none_has_kind head is = absurd (cc)
+
+some_has_kind : (h : Head) → HasKind h → HaveKind (Some h)
+some_has_kind h has head is = let same : h ≡ head = cc in subst HasKind same has
+
+new_has_kind : (head : Head) (k : Kind) → HaveKind (with_new head k)
+new_has_kind head k = go (is_declared head k)
+  where
+    go : (b : Bool) → HaveKind (cond b None (Some (with_kind head k)))
+    go true = none_has_kind
+    go false = some_has_kind (with_kind head k) (has_kind-with_kind head k)
+
+named_has_kind : (head : Head) (word : List ℕ) → HaveKind (with_named head word)
+named_has_kind head word = go (kind_named word)
+  where
+    go : (k : Option Kind) → HaveKind (option_and_then (with_new head) k)
+    go None = none_has_kind
+    go (Some k) = new_has_kind head k
+
+further_has_kind : (word : Option (List ℕ)) (found : Option Head) → HaveKind found → HaveKind (option_and_then (with_further word) found)
+further_has_kind word None have = none_has_kind
+further_has_kind None (Some head) have = have
+further_has_kind (Some word) (Some head) have = named_has_kind head word
+
+first_has_kind : (sites chars : Bool) (word : Option (List ℕ)) (mode : Option Mode)
+    → HaveKind (option_and_then (λ m. option_and_then (with_named (no_kinds sites chars m)) word) mode)
+first_has_kind sites chars word None = none_has_kind
+first_has_kind sites chars None (Some mode) = none_has_kind
+first_has_kind sites chars (Some word) (Some mode) = named_has_kind (no_kinds sites chars mode) word
+
+head_has_kind : (rows : List Row) → HaveKind (head_in rows)
+head_has_kind rows =
+    further_has_kind (first_of (codes "third") rows) _
+    (further_has_kind (first_of (codes "second") rows) _
+    (first_has_kind (is_given (first_of (codes "sites-differ") rows)) (is_given (first_of (codes "chars-differ") rows))
+    (first_of (codes "first") rows) (option_and_then mode_named (first_of (codes "mode") rows))))
+
+template_is_within : (level : Level) (head : Option Head) → HaveKind head → IsWithin (option_map (Template level) head)
+template_is_within level None have = none_is_within
+template_is_within level (Some head) have = some_is_within (Template level head) (have head refl)
+
+templates_are_within : (words : List (List ℕ)) → IsWithin (template_in words)
+unfolding template_in
+templates_are_within words = go (found_by template_app words)
+  where
+    go : (found : Option (List Row)) → IsWithin (option_and_then template_by found)
+    go None = none_is_within
+    go (Some rows) = template_is_within (level_by (first_of (codes "tp1") rows)) (head_in rows) (head_has_kind rows)
+
 -- what words ask for is within its bounds, by the command that the first word names
 pub within_bounds : (words : List (List ℕ)) (asked : Asked) → asked_by words ≡ Some asked → IsWithinBounds asked
 within_bounds [] = none_is_within
@@ -156,5 +236,6 @@ within_bounds (word ∷ words) =
     (decisions_are_within most_settling_questions Settle (λ level b name few. few) (codes "settle") (codes "30000000") words)
     (one_of (bytes_eq word (codes "audit")) (audit_in words) _ (names_are_within Audit (λ n. tt) (name_by (codes "audit") words))
     (one_of (bytes_eq word (codes "least")) (least_in words) _ (leasts_are_within words)
+    (one_of (bytes_eq word (codes "template")) (template_in words) _ (templates_are_within words)
     (one_of (bytes_eq word (codes "drill")) (drill_in words) (two_in word words) (drills_are_within words)
-    (twos_are_within word (names_by word words))))))
+    (twos_are_within word (names_by word words)))))))

@@ -1,10 +1,11 @@
 -- The words of commands, read by clap.
 use Rattle.std.proofs.Common.{◌≡◌, [], ◌∷◌, Some, None, true, false, codes, refl}
 use Rattle.clap.proofs.OnLiterals.{clap_on_literals}
+use Rattle.ot_model.specs.declared.op.Mode.TheVariants.{Plain, Tomb}
 use Rattle.fn_rules.specs.declared.function.Level.TheVariants.{Tp1, Tp2}
 use Rattle.clap_words.specs.Found.{found_by}
-use Rattle.ot_words.specs.Commands.{Prove, Settle, Check, Integrate, Audit, Same, Least}
-use Rattle.ot_words.specs.Words.{asked_by, decision_by, least_in, name_by, names_by}
+use Rattle.ot_words.specs.Commands.{Prove, Settle, Check, Integrate, Audit, Same, Least, Template}
+use Rattle.ot_words.specs.Words.{asked_by, decision_by, least_in, name_by, names_by, template_in}
 
 -- two file names, of which the empty word and `-` are such
 two_names : asked_by (codes "check" ∷ codes "a" ∷ codes "b" ∷ []) ≡ Some (Check (codes "a") (codes "b"))
@@ -126,3 +127,28 @@ certificate_behind = refl
 no_budget : asked_by (codes "least" ∷ codes "--budget=7" ∷ codes "a" ∷ []) ≡ None
 unfolding clap_on_literals least_in found_by
 no_budget = refl
+
+-- the kinds of `template` stand in any order, each once at the most
+one_kind :
+    asked_by (codes "template" ∷ codes "plain" ∷ codes "upd" ∷ [])
+    ≡ Some (Template Tp2 (record { mode = Plain; ins = false; del = false; upd = true; sites_differ = false; chars_differ = false }))
+unfolding clap_on_literals template_in found_by
+one_kind = refl
+
+all_kinds :
+    asked_by (codes "template" ∷ codes "tomb" ∷ codes "--tp1" ∷ codes "upd" ∷ codes "ins" ∷ codes "--sites-differ" ∷ codes "del" ∷ [])
+    ≡ Some (Template Tp1 (record { mode = Tomb; ins = true; del = true; upd = true; sites_differ = true; chars_differ = false }))
+unfolding clap_on_literals template_in found_by
+all_kinds = refl
+
+kind_twice : asked_by (codes "template" ∷ codes "tomb" ∷ codes "ins" ∷ codes "ins" ∷ []) ≡ None
+unfolding clap_on_literals template_in found_by
+kind_twice = refl
+
+no_kind : asked_by (codes "template" ∷ codes "tomb" ∷ []) ≡ None
+unfolding clap_on_literals template_in found_by
+no_kind = refl
+
+no_such_mode : asked_by (codes "template" ∷ codes "text" ∷ codes "ins" ∷ []) ≡ None
+unfolding clap_on_literals template_in found_by
+no_such_mode = refl

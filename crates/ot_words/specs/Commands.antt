@@ -1,5 +1,6 @@
 -- What words ask for: a command, with the names of its files.
 use Rattle.std.specs.Prelude.{ℕ, Bool, List}
+use Rattle.fn_rules.specs.declared.function.Head.{Head}
 use Rattle.fn_rules.specs.declared.function.Level.{Level}
 use Rattle.ot_words.specs.declared.command.Command.{Command}
 use Rattle.ot_words.specs.declared.command.Command.TheVariants as rust
@@ -31,6 +32,8 @@ pub data Asked : Type 0 where
   Bound : List ℕ → List ℕ → Asked
   -- of a function's file and a proof's file: the proof with lemmas is judged
   Confirm : List ℕ → List ℕ → Asked
+  -- a function of a head that has a level is printed
+  Template : Level → Head → Asked
   -- the workload of a number is gone through
   Drill : ℕ → Asked
 
@@ -47,4 +50,5 @@ asked_of (rust.Reverse function other) = Reverse function.now other.now
 asked_of (rust.Least cert function) = Least cert function.now
 asked_of (rust.Bound function certificate) = Bound function.now certificate.now
 asked_of (rust.Confirm function proof) = Confirm function.now proof.now
+asked_of (rust.Template level head) = Template level head
 asked_of (rust.Drill number) = Drill number

@@ -1,6 +1,7 @@
 -- Which words are those of a command, by what clap states of a simple command.
-use Rattle.std.specs.Prelude.{ℕ, ◌≤◌, List, [], ◌∷◌, Option, Some, None, codes, if◌then◌else◌, Bool, true, false}
+use Rattle.std.specs.Prelude.{◌≡◌, ℕ, ◌≤◌, List, [], ◌∷◌, Option, Some, None, codes, if◌then◌else◌, Bool, true, false}
 use Rattle.std.specs.Prelude.{option_map, option_and_then}
+use Rattle.std.specs.List.{list_any}
 use Rattle.std.specs.Str.{bytes_eq}
 use Rattle.std.specs.Str.Parse.{digits_value, without_leading_plus}
 use Rattle.clap.specs.Words.{App, Row, Rule, new_app, new_rule, with_rule, first_of}
@@ -8,11 +9,18 @@ use Rattle.clap.specs.ValueTests.{is_unsigned_in}
 use Rattle.clap.specs.declared.builder.action.ArgAction.TheVariants.{SetTrue}
 use Rattle.clap.specs.declared.builder.value_parser.ValueParser.TheVariants.{Unsigned}
 use Rattle.clap_words.specs.Found.{found_by}
+use Rattle.ot_model.specs.declared.op.Kind.{Kind}
+use Rattle.ot_model.specs.declared.op.Kind.TheVariants as kinds
+use Rattle.ot_model.specs.declared.op.TheConstants.{KINDS}
+use Rattle.ot_model.specs.declared.op.Mode.{Mode}
+use Rattle.ot_model.specs.declared.op.Mode.TheVariants.{Plain, Tomb}
+use Rattle.fn_rules.specs.declared.function.Head.{Head}
 use Rattle.fn_rules.specs.declared.function.Level.{Level}
 use Rattle.fn_rules.specs.declared.function.Level.TheVariants.{Tp1, Tp2}
 use Rattle.fn_rules.specs.declared.limits.TheConstants.{MOST_ROUNDS}
+use Rattle.fn_rules.specs.Functions.{is_declared}
 use Rattle.ot_words.specs.Commands.{Asked, Prove, Settle, Check, Integrate, Replay, Hub, Audit, Same, Reverse, Least}
-use Rattle.ot_words.specs.Commands.{Bound, Confirm, Drill}
+use Rattle.ot_words.specs.Commands.{Bound, Confirm, Template, Drill}
 
 -- the clap command of a name, with no option for help and no arguments
 abbrev pub bare_app : List ℕ → App
@@ -71,6 +79,18 @@ least_app = with_rule (with_rule (bare_app (codes "least")) (flag_rule (codes "c
 -- the clap command `drill`: a number, which clap reads
 abbrev pub drill_app : App
 drill_app = with_rule (bare_app (codes "drill")) number_rule
+
+-- the clap command `template`: three options
+abbrev pub template_options : App
+template_options =
+    with_rule (with_rule (with_rule (bare_app (codes "template")) (flag_rule (codes "tp1")))
+    (flag_rule (codes "sites-differ"))) (flag_rule (codes "chars-differ"))
+
+-- and a mode, a kind, and up to two kinds more
+abbrev pub template_app : App
+template_app =
+    with_rule (with_rule (with_rule (with_rule template_options (required_rule (codes "mode")))
+    (required_rule (codes "first"))) (new_rule (codes "second"))) (new_rule (codes "third"))
 
 -- the values of both arguments, if they are there
 abbrev pub values_in : List Row → Option (List ℕ × List ℕ)
@@ -135,6 +155,60 @@ drill_by rows = option_map Drill (option_and_then (number_by MOST_ROUNDS) (first
 unfoldable pub drill_in : List (List ℕ) → Option Asked
 drill_in words = option_and_then drill_by (found_by drill_app words)
 
+-- the mode and the kind that a word names
+abbrev pub mode_named : List ℕ → Option Mode
+mode_named word =
+    if bytes_eq word (codes "plain") then Some Plain else (if bytes_eq word (codes "tomb") then Some Tomb else None)
+
+abbrev pub kind_named : List ℕ → Option Kind
+kind_named word =
+    if bytes_eq word (codes "ins") then Some kinds.Ins
+    else (if bytes_eq word (codes "del") then Some kinds.Del
+    else (if bytes_eq word (codes "upd") then Some kinds.Upd else None))
+
+-- the head with this kind too
+abbrev pub with_kind : Head → Kind → Head
+with_kind head kinds.Ins = record head { ins = true }
+with_kind head kinds.Del = record head { del = true }
+with_kind head kinds.Upd = record head { upd = true }
+
+-- the head with a kind more, which it had not
+abbrev pub with_new : Head → Kind → Option Head
+with_new head kind = if is_declared head kind then None else Some (with_kind head kind)
+
+-- the head with the kind that a word names, which it had not
+abbrev pub with_named : Head → List ℕ → Option Head
+with_named head word = option_and_then (with_new head) (kind_named word)
+
+-- the same, where there is a word
+abbrev pub with_further : Option (List ℕ) → Head → Option Head
+with_further None head = Some head
+with_further (Some word) head = with_named head word
+
+-- the head of a mode that assumes this, and is for no operations
+abbrev pub no_kinds : Bool → Bool → Mode → Head
+no_kinds sites chars mode =
+    record { mode = mode; ins = false; del = false; upd = false; sites_differ = sites; chars_differ = chars }
+
+-- the head that is found: its mode, one kind, and up to two more
+abbrev pub head_in : List Row → Option Head
+head_in rows =
+    option_and_then (with_further (first_of (codes "third") rows))
+    (option_and_then (with_further (first_of (codes "second") rows))
+    (option_and_then
+    (λ mode. option_and_then
+    (with_named (no_kinds (is_given (first_of (codes "sites-differ") rows))
+    (is_given (first_of (codes "chars-differ") rows)) mode))
+    (first_of (codes "first") rows))
+    (option_and_then mode_named (first_of (codes "mode") rows))))
+
+-- the level and the head that are found
+abbrev pub template_by : List Row → Option Asked
+template_by rows = option_map (Template (level_by (first_of (codes "tp1") rows))) (head_in rows)
+
+unfoldable pub template_in : List (List ℕ) → Option Asked
+template_in words = option_and_then template_by (found_by template_app words)
+
 abbrev pub audit_in : List (List ℕ) → Option Asked
 audit_in words = option_map Audit (name_by (codes "audit") words)
 
@@ -162,12 +236,14 @@ asked_by (word ∷ words) =
     else (if bytes_eq word (codes "settle") then settle_in words
     else (if bytes_eq word (codes "audit") then audit_in words
     else (if bytes_eq word (codes "least") then least_in words
+    else (if bytes_eq word (codes "template") then template_in words
     else (if bytes_eq word (codes "drill") then drill_in words
-    else two_in word words))))
+    else two_in word words)))))
 
--- the number that is asked for is within its bounds
+-- the number that is asked for is within its bounds, and the head has a kind
 abbrev pub IsWithinBounds : Asked → Type 0
 IsWithinBounds (Prove level budget function) = budget ≤ most_questions
 IsWithinBounds (Settle level budget function) = budget ≤ most_settling_questions
+IsWithinBounds (Template level head) = list_any (is_declared head) KINDS ≡ true
 IsWithinBounds (Drill number) = number ≤ MOST_ROUNDS
 IsWithinBounds asked = Unit {0}

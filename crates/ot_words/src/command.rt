@@ -1,5 +1,5 @@
 //! Commands as values.
-use fn_rules::Level;
+use fn_rules::{Head, Level};
 
 /// A command, with the names of its files.
 #[derive(Clone, Copy)]
@@ -113,6 +113,15 @@ pub enum Command<'a> {
 
         /// The name of the proof's file.
         proof: &'a str,
+    },
+
+    /// A function to begin with is printed.
+    Template {
+        /// The level that it is to have.
+        level: Level,
+
+        /// What the function is to be for.
+        head: Head,
     },
 
     /// The workload that is generated from a number is gone through.

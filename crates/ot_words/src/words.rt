@@ -7,14 +7,18 @@ ghost use Rattle.ot_words.specs.Commands.{asked_of, Audit};
 ghost use Rattle.ot_words.specs.Words.{asked_by, audit_in, bare_app, budget_rule, deciding_app, decision_by};
 ghost use Rattle.ot_words.specs.Words.{decision_in, drill_app, drill_by, drill_in, flag_rule, is_given, least_app};
 ghost use Rattle.ot_words.specs.Words.{least_by, least_in, level_by, number_by, number_rule, of_two, one_file};
+ghost use Rattle.clap.specs.Words.{new_rule};
+ghost use Rattle.ot_words.specs.Words.{head_in, kind_named, mode_named, no_kinds, template_app, template_by};
+ghost use Rattle.ot_words.specs.Words.{template_options};
+ghost use Rattle.ot_words.specs.Words.{template_in, with_further, with_kind, with_named, with_new};
 ghost use Rattle.ot_words.specs.Words.{prove_in, required_rule, settle_in, two_files, two_in, values_in};
 
 use crate::command::Command;
 use clap::builder::ValueParser;
 use clap::{Arg, ArgAction, ArgMatches};
 use clap_words::matches_in;
-use fn_rules::{Level, MOST_ROUNDS};
-use ot_model::NoMemory;
+use fn_rules::{Head, Level, MOST_ROUNDS};
+use ot_model::{Kind, Mode, NoMemory};
 use std::alloc::Global;
 
 /// The most questions that `prove` may be allowed, and that a workload's function may have.
@@ -268,6 +272,135 @@ fn drill_in<'a>(alloc: Global, words: &'a [String]) -> Result<Option<Command<'a>
     }
 }
 
+// The three options of `template`.
+fn template_options<'a>(alloc: Global) -> Result<clap::Command<'a>, NoMemory>
+    ensures { IfOk result (λ c. app_of c ≡ template_options) }
+{
+    let with_level = bare_app(alloc, "template").arg(flag_option(alloc, "tp1"))?;
+    let with_sites = with_level.arg(flag_option(alloc, "sites-differ"))?;
+    with_sites.arg(flag_option(alloc, "chars-differ"))
+}
+
+// The clap command `template`: three options, a mode, a kind, and up to two kinds more.
+fn template_app<'a>(alloc: Global) -> Result<clap::Command<'a>, NoMemory>
+    ensures { IfOk result (λ c. app_of c ≡ template_app) }
+{
+    let with_mode = template_options(alloc)?.arg(required_argument(alloc, "mode"))?;
+    let with_kind = with_mode.arg(required_argument(alloc, "first"))?;
+    let with_second = with_kind.arg(Arg::new(alloc, "second"))?;
+    with_second.arg(Arg::new(alloc, "third"))
+}
+
+fn mode_named(word: &str) -> Option<Mode>
+    ensures { result ≡ mode_named word.now }
+{
+    match word {
+        "plain" => Some(Mode::Plain),
+        "tomb" => Some(Mode::Tomb),
+        _ => None,
+    }
+}
+
+fn kind_named(word: &str) -> Option<Kind>
+    ensures { result ≡ kind_named word.now }
+{
+    match word {
+        "ins" => Some(Kind::Ins),
+        "del" => Some(Kind::Del),
+        "upd" => Some(Kind::Upd),
+        _ => None,
+    }
+}
+
+// The head with this kind too.
+fn with_kind(head: Head, kind: Kind) -> Head
+    ensures { result ≡ with_kind head kind }
+{
+    match kind {
+        Kind::Ins => Head { ins: true, ..head },
+        Kind::Del => Head { del: true, ..head },
+        Kind::Upd => Head { upd: true, ..head },
+    }
+}
+
+// The head with a kind more; none where it had it.
+fn with_new(head: Head, kind: Kind) -> Option<Head>
+    ensures { result ≡ with_new head kind }
+{
+    if head.declares(kind) {
+        None
+    } else {
+        Some(with_kind(head, kind))
+    }
+}
+
+// The same, of the kind that a word names.
+fn with_named(head: Head, word: &str) -> Option<Head>
+    ensures { result ≡ with_named head word.now }
+{
+    let kind = kind_named(word)?;
+    with_new(head, kind)
+}
+
+// The same, where there is a word.
+fn with_further(word: Option<&str>, head: Head) -> Option<Head>
+    ensures { result ≡ with_further (option_map (λ s. s.now) word.entry) head }
+{
+    match word {
+        None => Some(head),
+        Some(word) => with_named(head, word),
+    }
+}
+
+// The head of a mode that is for no operations.
+fn no_kinds(sites_differ: bool, chars_differ: bool, mode: Mode) -> Head
+    ensures { result ≡ no_kinds sites_differ chars_differ mode }
+{
+    Head {
+        mode,
+        ins: false,
+        del: false,
+        upd: false,
+        sites_differ,
+        chars_differ,
+    }
+}
+
+// The head that clap finds.
+fn head_in<'a>(matches: &ArgMatches<'a>) -> Option<Head>
+    ensures { result ≡ head_in (rows_of (found_of matches.now)) }
+{
+    let sites_differ = is_given(value_of(matches, "sites-differ"));
+    let chars_differ = is_given(value_of(matches, "chars-differ"));
+    let mode = mode_named(value_of(matches, "mode")?)?;
+    let first = with_named(
+        no_kinds(sites_differ, chars_differ, mode),
+        value_of(matches, "first")?,
+    )?;
+    let second = with_further(value_of(matches, "second"), first)?;
+    with_further(value_of(matches, "third"), second)
+}
+
+// The level and the head that clap finds.
+fn template_by<'a>(matches: &ArgMatches<'a>) -> Option<Command<'a>>
+    ensures { option_map asked_of result ≡ template_by (rows_of (found_of matches.now)) }
+{
+    let level = level_by(value_of(matches, "tp1"));
+    let head = head_in(matches)?;
+    Some(Command::Template { level, head })
+}
+
+// `template [--tp1] [--sites-differ] [--chars-differ] MODE KIND..`
+#[tactic(auto, unfolding(crate::specs::Words::template_in))]
+fn template_in<'a>(alloc: Global, words: &'a [String]) -> Result<Option<Command<'a>>, NoMemory>
+    ensures { IfOk result (λ command. option_map asked_of command ≡ template_in (map string_bytes words.entry.now)) }
+{
+    match matches_in(template_app(alloc)?, words)? {
+        Some(matches) => Ok(template_by(&matches)),
+        None => Ok(None),
+    }
+}
+
 // The command of two files that has the name; none where no such command has it.
 fn of_two<'a>(name: &str, function: &'a str, other: &'a str) -> Option<Command<'a>>
     ensures { option_map asked_of result ≡ of_two name.now (function.now, other.now) }
@@ -340,6 +473,7 @@ pub fn read_words<'a>(alloc: Global, words: &'a [String]) -> Result<Option<Comma
         "settle" => settle_in(alloc, arguments),
         "audit" => audit_in(alloc, arguments),
         "least" => least_in(alloc, arguments),
+        "template" => template_in(alloc, arguments),
         "drill" => drill_in(alloc, arguments),
         other => two_in(alloc, other, arguments),
     }

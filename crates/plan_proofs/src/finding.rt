@@ -8,7 +8,7 @@ ghost use Rattle.ot_terms.specs.Goals.{goal_tree};
 ghost use Rattle.start_laws.specs.Begun.{IsBegunProgress};
 ghost use Rattle.ot_starts.specs.Nodes.{IsStop};
 
-use crate::numbers::{Numbers, Read};
+use crate::numbers::{Numbers, Read, told_otherwise};
 use ask_core::{Asker, NoMemory, Turn};
 use bumpalo::Bump;
 use diff_graph::Lit;
@@ -17,7 +17,7 @@ use ot_questions::Why;
 use ot_starts::{Begun, StartAsker};
 use ot_terms::Goal;
 use plain_list::List;
-use proof_search::{Facts, Finder};
+use proof_search::{Facts, Finder, Told};
 use proof_trees::Starter;
 use start_laws::{StartAt, still_read};
 use std::alloc::Global;
@@ -61,6 +61,7 @@ impl<'a> FindingStarts<'a> {
         requires { IsTrue (is_obligation (function_of rules.now).head ob) }
         ensures root { ⟦<FindingStarts<'a> as Asker>⟧.root result ≡ plan_of (function_of rules.now) ob }
         ensures count { ⟦<FindingStarts<'a> as Asker>⟧.name_count result ≡ names.name_count ob }
+        ensures told { ⟦<FindingStarts<'a> as Starter>⟧.told result ≡ 0 }
     {
         FindingStarts {
             inner: StartAsker::new(bump, rules, ob),
@@ -105,6 +106,8 @@ impl<'a> Starter for FindingStarts<'a> {
 
     ghost starts = { λ a. ⟦<StartAsker<'a> as Starter>⟧.starts a.inner };
 
+    ghost told = { λ a. ⟦<StartAsker<'a> as Starter>⟧.told a.inner };
+
     fn first(&mut self) -> Result<&'a Goal<'a>, NoMemory> {
         self.inner.first()
     }
@@ -136,5 +139,9 @@ impl<'a> Finder for FindingStarts<'a> {
 
     fn number_alike(&mut self, node: &'a Goal<'a>, facts: &Facts) -> Result<usize, NoMemory> {
         number_at(&self.inner, &mut self.numbers, node, Some(facts))
+    }
+
+    fn told_otherwise(&self, node: &'a Goal<'a>) -> Option<Told> {
+        told_otherwise(self.inner.start_at(node)?.last?)
     }
 }

@@ -1,7 +1,8 @@
 //! The search of one plan for a proof with lemmas, and the asker of an obligation whose starts are numbered.
 //!
 //! What the search finds is not trusted: its tree is judged above, with the whole proof, and its answers are walked once
-//! more by integers that meet them.
+//! more by integers that meet them. The layer above relies on what is said of the budget and of the asker: no more is
+//! asked than may be, nothing is said only for a cause that is so, and the asker is as it was, but for its count.
 #![tactic(auto)]
 
 mod ended;
@@ -10,6 +11,6 @@ mod numbers;
 mod planning;
 
 pub use ask_core::NoMemory;
-pub use ended::{Ended, Searched};
+pub use ended::{Ended, Questions, Searched, SpentCause};
 pub use finding::FindingStarts;
 pub use planning::{MAX_BYTES, search_plan};

@@ -2,7 +2,7 @@
 use ask_core::NoMemory;
 use indexmap::IndexSet;
 use ot_questions::{Place, SymOp, Who, position_name, site_name};
-use proof_search::Facts;
+use proof_search::{Facts, Told};
 use std::alloc::Global;
 
 /// Where a result stands.
@@ -37,6 +37,16 @@ fn own_position(op: SymOp) -> Option<u8> {
         }
     }
     None
+}
+
+/// How a result is told, where this is by another position than that of its own operation.
+pub(crate) fn told_otherwise(delivered: SymOp) -> Option<Told> {
+    let own = own_position(delivered)?;
+    let other = delivered.at().var;
+    if own == other {
+        return None;
+    }
+    Some(Told { own, other })
 }
 
 // A place told by another name, where the facts have the two equal up to a constant.

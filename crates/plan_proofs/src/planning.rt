@@ -1,61 +1,87 @@
 //! The search of one plan, by any asker that numbers its starts.
-ghost use Rattle.std.specs.Prelude.{◌≤◌, IfOk};
+ghost use Rattle.std.specs.Prelude.{◌≡◌, ◌+◌, ◌≤◌, IfOk, length};
+ghost use Rattle.proof_trees.specs.Starters.{HasCounted, KeepsStarts};
 ghost use Rattle.proof_search.specs.Owning.{AreOwnLemmas};
-ghost use Rattle.failing_ends.specs.Endings.{IsFailingEnd};
-ghost use Rattle.plan_proofs.specs.Searching.{FailsOnlySo};
+ghost use Rattle.plan_proofs.specs.Searching.{IsWithin, MaySpend, SpendsOnlySo, unasked};
 
-use crate::ended::{Ended, Searched};
+use crate::ended::{Ended, Questions, Searched, SpentCause};
 use ask_core::NoMemory;
-use failing_ends::{FailingEnd, failing_end};
+use diff_graph::Lit;
 use proof_search::{Finder, Lemmas, SearchOutcome, SearchResult, search};
-use proof_writer::write_tree;
+use proof_writer::{TreeEnd, write_tree};
 use std::alloc::Global;
 
 /// The most bytes of the text of a proof.
 pub const MAX_BYTES: usize = 83_886_080;
 
-// What the outcome of the search of an asker's plan comes to, once its tree is written or its answers are walked.
-fn end_of<A: Finder>(
+// Appends the tree of an asker's plan, of which a search that asked so many questions showed these lemmas.
+fn write_shown<A: Finder>(
     alloc: Global,
     asker: &mut A,
-    outcome: SearchOutcome,
     lemmas: &Lemmas<A::Node>,
-    questions: u64,
+    asked: u64,
+    budget: Questions,
     bytes: &mut Vec<u8>,
-) -> Result<Ended<FailingEnd<A::Why>>, NoMemory>
+) -> Result<Searched<Vec<Lit>>, NoMemory>
     requires own { AreOwnLemmas (A.is_own asker.old) lemmas.now }
-    ensures { IfOk result (FailsOnlySo (IsFailingEnd (A.root asker.old))) }
+    ensures asked { IfOk result (λ r. r.asked.asked ≡ asked) }
+    ensures again { IfOk result (λ r. r.asked.again ≤ budget.again) }
+    ensures cause { IfOk result (λ r. SpendsOnlySo (MaySpend budget r.asked (length bytes.new.items)) r.ended) }
+    ensures told { IfOk result (λ r. HasCounted (A.told asker.old) (r.asked.again + unasked r.ended)
+        (A.told asker.new)) }
+    ensures same { KeepsStarts (A.is_own asker.old) (A.is_own asker.new) (A.starts asker.old) (A.starts asker.new) }
+    ensures root { A.root asker.new ≡ A.root asker.old }
 {
-    match outcome {
-        SearchOutcome::Shown => {
-            if write_tree(alloc, asker, lemmas, questions, MAX_BYTES, bytes)? {
-                return Ok(Ended::Shown);
-            }
-            Ok(Ended::Spent)
-        }
-        SearchOutcome::Failing(answers) => match failing_end(alloc, asker, &answers)? {
-            Some(end) => Ok(Ended::Fails(end)),
-            None => Ok(Ended::Spent),
-        },
-        SearchOutcome::Spent => Ok(Ended::Spent),
+    let tree = write_tree(alloc, asker, lemmas, budget.again, MAX_BYTES, bytes)?;
+    let asked = Questions {
+        asked,
+        again: tree.asked,
+    };
+    match tree.ending {
+        TreeEnd::Whole => Ok(searched(Ended::Shown, asked)),
+        TreeEnd::Spent => Ok(searched(Ended::Spent(SpentCause::Budget), asked)),
+        TreeEnd::TooLong => Ok(searched(Ended::Spent(SpentCause::Bytes), asked)),
+        TreeEnd::Stuck => Ok(searched(Ended::Spent(SpentCause::NoWay), asked)),
     }
 }
 
-/// Searches an asker's plan by at most `budget` questions, and appends a tree that shows it.
+// What a search came to that asked so many questions.
+fn searched(ended: Ended<Vec<Lit>>, asked: Questions) -> Searched<Vec<Lit>>
+    ensures ended { result.ended ≡ ended }
+    ensures asked { result.asked ≡ asked }
+{
+    Searched { ended, asked }
+}
+
+/// Searches an asker's plan within a budget, and appends a tree that shows it. Where it fails, the answers lead to an
+/// end that fails; nothing is promised of them.
 pub fn search_plan<A: Finder>(
     alloc: Global,
     asker: &mut A,
-    budget: u64,
+    budget: Questions,
     bytes: &mut Vec<u8>,
-) -> Result<Searched<FailingEnd<A::Why>>, NoMemory>
-    ensures ended { IfOk result (λ r. FailsOnlySo (IsFailingEnd (A.root asker.old)) r.ended) }
-    ensures within { IfOk result (λ r. r.asked ≤ budget) }
+) -> Result<Searched<Vec<Lit>>, NoMemory>
+    ensures within { IfOk result (λ r. IsWithin r.asked budget) }
+    ensures cause { IfOk result (λ r. SpendsOnlySo (MaySpend budget r.asked (length bytes.new.items)) r.ended) }
+
+    // The asker told the questions that were asked, and, where the budget is spent, the one that is one more.
+    ensures told { IfOk result (λ r. HasCounted (A.told asker.old) (r.asked.asked + r.asked.again + unasked r.ended)
+        (A.told asker.new)) }
+
+    // The asker is as it was, but for its count.
+    ensures same { KeepsStarts (A.is_own asker.old) (A.is_own asker.new) (A.starts asker.old) (A.starts asker.new) }
+    ensures root { A.root asker.new ≡ A.root asker.old }
 {
     let SearchResult {
         outcome,
         lemmas,
         asked,
-    } = search(alloc, asker, budget)?;
-    let ended = end_of(alloc, asker, outcome, &lemmas, budget, bytes)?;
-    Ok(Searched { ended, asked })
+    } = search(alloc, asker, budget.asked)?;
+    let only_asked = Questions { asked, again: 0 };
+    match outcome {
+        SearchOutcome::Shown => write_shown(alloc, asker, &lemmas, asked, budget, bytes),
+        SearchOutcome::Failing(answers) => Ok(searched(Ended::Fails(answers), only_asked)),
+        SearchOutcome::Spent => Ok(searched(Ended::Spent(SpentCause::Budget), only_asked)),
+        SearchOutcome::Stuck => Ok(searched(Ended::Spent(SpentCause::NoWay), only_asked)),
+    }
 }

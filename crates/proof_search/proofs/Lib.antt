@@ -1,3 +1,5 @@
 pub mod Beginning
+pub mod Counting
 pub mod Keeping
 pub mod Owning
+pub mod Scouting

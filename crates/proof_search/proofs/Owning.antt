@@ -21,7 +21,7 @@ IfSome-weaker P Q weaker None own = tt
 IfSome-weaker P Q weaker (Some n) own = weaker n own
 
 -- what holds of the nodes of some items holds of the nodes of those that are kept
-nodes_kept :
+pub nodes_kept :
     {X N : Type 0} (node_of : X → N) (P : N → Type 0) (old new : List X) → KeepsNodes node_of old new
     → All (λ x. P (node_of x)) old → All (λ x. P (node_of x)) new
 nodes_kept node_of P old new keeps all = λ k d below.
@@ -126,10 +126,12 @@ module _ {N : Type 0} (is_own : N → Type 0) (old new : Search N) (own : IsOwnS
   -- nor one that has a lemma more of such a node
   pub own_lemma : (n : N) → is_own n → AddsLemma n old new → IsOwnSearch is_own new
   own_lemma n one added = record {
-    at = subst (λ (o : Option N). IfSome o is_own) (sym added.at) own.at;
+    at =
+        ⊎_elim (λ (e : new.at ≡ old.at). subst (λ (o : Option N). IfSome o is_own) (sym e) own.at)
+        (λ (e : new.at ≡ Some n). subst (λ (o : Option N). IfSome o is_own) (sym e) one) added.at;
     waiting = subst (λ (parts : List (WaitingPart N)). All (λ w. is_own w.node) parts) (sym added.waiting) own.waiting;
     levels = subst (λ (held : List (LemmaLevel N)). All (λ l. is_own l.node) held) (sym added.levels) own.levels;
-    lemmas = item_added (λ l. l.node) is_own n one old.lemmas new.lemmas (inr added.lemma) own.lemmas;
+    lemmas = item_added (λ l. l.node) is_own n one old.lemmas new.lemmas added.lemma own.lemmas;
   }
 
   -- nor one that has asked a question with two such parts

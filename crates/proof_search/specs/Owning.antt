@@ -72,10 +72,10 @@ pub record HasAskedInSearch {N : Type 0} (on_yes on_no : N) (old new : Search N)
   pub lemmas : new.lemmas ≡ old.lemmas
   pub asked : new.asked ≡ old.asked + 1
 
--- a lemma of the node is known now
+-- a lemma of the node may be known now, and what is open is as before or its start
 pub record AddsLemma {N : Type 0} (n : N) (old new : Search N) : Type 0 where
-  pub lemma : AddsItem (λ l. l.node) n old.lemmas new.lemmas
-  pub at : new.at ≡ old.at
+  pub lemma : MayAddItem (λ l. l.node) n old.lemmas new.lemmas
+  pub at : (new.at ≡ old.at) ⊎ (new.at ≡ Some n)
   pub waiting : new.waiting.items ≡ old.waiting.items
   pub levels : new.levels.items ≡ old.levels.items
   pub asked : new.asked ≡ old.asked

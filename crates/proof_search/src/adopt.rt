@@ -1,5 +1,5 @@
 //! Lemmas that serve at a start by what is known around the lemmas which are being shown there.
-ghost use Rattle.std.specs.Prelude.{◌<◌, length, IfOk, IfSome, OnOk};
+ghost use Rattle.std.specs.Prelude.{◌≡◌, ◌<◌, length, IfOk, IfSome, OnOk};
 ghost use Rattle.proof_trees.specs.Starters.{KeepsStarts};
 ghost use Rattle.proof_search.specs.Owning.{AreOwnLemmas, KeepsNodes, KeepsPlaces};
 
@@ -7,7 +7,7 @@ use crate::NoMemory;
 use crate::blame::drop_from;
 use crate::finder::Finder;
 use crate::levels::{assume_at, is_still_reached};
-use crate::service::{Any, Known, ServingLemma, serving_of};
+use crate::service::{Any, Known, ServingLemma, serving};
 use diff_graph::Lit;
 use lemma_levels::{Added, Facts, LemmaLevel, Lemmas, Search};
 use std::alloc::Global;
@@ -142,7 +142,17 @@ fn take_wanted<N: Copy>(
     take_all(search, literals.as_slice())
 }
 
-/// Whether a lemma of the start at a node serves by what is known around. The levels assume then what it wants.
+/// What follows at the open place, with each two names that are equal up to a constant somewhere around it.
+fn fixed_around<N: Copy>(search: &Search<N>) -> Facts {
+    let mut facts = search.facts;
+    for level in search.levels.iter().rev() {
+        facts.add_fixed(&level.outer);
+    }
+    facts
+}
+
+/// Whether a lemma of the start at a node, or of the start alike, serves by what is known around. The levels assume then
+/// what it wants.
 #[tactic(auto, using(crate::proofs::Owning::keeping))]
 pub(crate) fn adopt<A: Finder>(
     alloc: Global,
@@ -154,9 +164,10 @@ pub(crate) fn adopt<A: Finder>(
     requires node { A.is_own asker.old node }
     ensures places { OnOk result (KeepsPlaces search.old search.new) }
     ensures same { KeepsStarts (A.is_own asker.old) (A.is_own asker.new) (A.starts asker.old) (A.starts asker.new) }
+    ensures told { A.told asker.new ≡ A.told asker.old }
 {
-    let number = asker.number(node)?;
-    let found = serving_of(alloc, asker, &search.lemmas, number, node, &*search, &Any)?;
+    let facts = fixed_around(search);
+    let found = serving(alloc, asker, &search.lemmas, node, &facts, &*search, &Any)?;
     let Some(found) = found else {
         return Ok(false);
     };

@@ -1,6 +1,8 @@
 //! Askers that number their starts.
+ghost use Rattle.std.specs.Prelude.{◌≡◌};
 ghost use Rattle.proof_trees.specs.Starters.{KeepsStarts};
 
+use crate::told::Told;
 use ask_core::{Asker, NoMemory};
 use lemma_levels::Facts;
 use proof_trees::{Starter, Startless};
@@ -12,15 +14,22 @@ pub trait Finder: Starter {
     /// numbers count up from 0.
     fn number(&mut self, node: Self::Node) -> Result<usize, NoMemory>
         requires { Self.is_own self.old node }
-        ensures { KeepsStarts (Self.is_own self.old) (Self.is_own self.new) (Self.starts self.old)
-            (Self.starts self.new) };
+        ensures same { KeepsStarts (Self.is_own self.old) (Self.is_own self.new) (Self.starts self.old)
+            (Self.starts self.new) }
+        ensures told { Self.told self.new ≡ Self.told self.old };
 
     /// The number of the start alike: of the one at the node, with each result that is read told by its own operation's
     /// position where the facts have the two equal up to a constant.
     fn number_alike(&mut self, node: Self::Node, facts: &Facts) -> Result<usize, NoMemory>
         requires { Self.is_own self.old node }
-        ensures { KeepsStarts (Self.is_own self.old) (Self.is_own self.new) (Self.starts self.old)
-            (Self.starts self.new) };
+        ensures same { KeepsStarts (Self.is_own self.old) (Self.is_own self.new) (Self.starts self.old)
+            (Self.starts self.new) }
+        ensures told { Self.told self.new ≡ Self.told self.old };
+
+    /// How the last result before the start at a node is told, if a start is there and it is told by another position
+    /// than that of its own operation.
+    fn told_otherwise(&self, node: Self::Node) -> Option<Told>
+        requires { Self.is_own self.now node };
 }
 
 impl<A: Asker> Finder for Startless<A> {
@@ -30,5 +39,9 @@ impl<A: Asker> Finder for Startless<A> {
 
     fn number_alike(&mut self, _node: A::Node, _facts: &Facts) -> Result<usize, NoMemory> {
         Ok(0)
+    }
+
+    fn told_otherwise(&self, _node: A::Node) -> Option<Told> {
+        None
     }
 }

@@ -6,8 +6,9 @@
 //! serves by what is known around the lemmas that are being shown, these assume that.
 //!
 //! Nothing of what is found is trusted: who writes a proof by the lemmas has it judged, and who tells of an end that
-//! fails walks there again. The layers above rely on three clauses of `search`: no more is asked than the budget, the
-//! lemmas are of the asker's own nodes, and the asker is as it was.
+//! fails walks there again. The layers above rely on these clauses of `search`: no more is asked than the budget, and
+//! the asker told no more but one question where that is spent; the lemmas are of the asker's own nodes; and the asker
+//! is as it was, but for its count.
 #![tactic(auto)]
 
 mod adopt;
@@ -15,8 +16,10 @@ mod blame;
 mod finder;
 mod levels;
 mod open;
+mod scouts;
 mod seeking;
 mod service;
+mod told;
 mod turns;
 
 pub use ask_core::NoMemory;
@@ -24,3 +27,4 @@ pub use finder::Finder;
 pub use lemma_levels::{Added, Facts, Lemma, Lemmas, MAX_NAMES, NEWEST};
 pub use seeking::{SearchOutcome, SearchResult, search};
 pub use service::{Any, Choice, Known, ServingLemma, serving, serving_of};
+pub use told::Told;

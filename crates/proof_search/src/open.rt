@@ -5,7 +5,7 @@ ghost use Rattle.proof_search.specs.Owning.{BeginsLevel, HasAskedInSearch};
 use crate::NoMemory;
 use crate::levels::assumed;
 use diff_graph::{Lit, negate};
-use lemma_levels::{Facts, LemmaLevel, Search, WaitingPart};
+use lemma_levels::{Facts, LemmaLevel, Search, Sent, WaitingPart};
 use std::alloc::Global;
 
 /// Adds a literal to the facts that stand last.
@@ -34,6 +34,8 @@ fn begin_level<N: Copy>(
         outer: search.facts,
         waiting: search.waiting.len(),
         answers: search.answers.len(),
+        scout: false,
+        sent: search.sent,
     })?;
     search.facts = Facts::new();
     Ok(())
@@ -46,6 +48,8 @@ fn ask<N: Copy>(search: &mut Search<N>, lit: Lit, yes: N, no: N) -> Result<(), N
     ensures { OnOk result (HasAskedInSearch yes no search.old search.new) }
 {
     search.asked += 1;
+    search.begun = false;
+    search.sent = Sent::none();
     if search.facts.implies(lit) {
         search.at = Some(yes);
         return Ok(());

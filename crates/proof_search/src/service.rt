@@ -73,6 +73,7 @@ fn serving_at<A: Finder, C: Choice, K: Known>(
     requires here { A.is_own asker.old here }
     ensures serves { IfOk result (λ found. IfSome found (λ s. ServesNode (A.starts asker.new) lemmas.now here s)) }
     ensures same { KeepsStarts (A.is_own asker.old) (A.is_own asker.new) (A.starts asker.old) (A.starts asker.new) }
+    ensures told { A.told asker.new ≡ A.told asker.old }
 {
     if !choice.takes(place) {
         return Ok(None);
@@ -108,6 +109,7 @@ pub fn serving_of<A: Finder, C: Choice, K: Known>(
     requires here { A.is_own asker.old here }
     ensures serves { IfOk result (λ found. IfSome found (λ s. ServesNode (A.starts asker.new) lemmas.now here s)) }
     ensures same { KeepsStarts (A.is_own asker.old) (A.is_own asker.new) (A.starts asker.old) (A.starts asker.new) }
+    ensures told { A.told asker.new ≡ A.told asker.old }
 {
     let places = lemmas.newest(number);
     'places: for passed in 0..places.len() {
@@ -119,28 +121,31 @@ pub fn serving_of<A: Finder, C: Choice, K: Known>(
     Ok(None)
 }
 
-/// The newest lemma of the start at a node that is wanted and serves there, or else the newest one of the start alike.
+/// The newest lemma of the start at a node that is wanted and serves there, or else the newest one of the start alike
+/// by the facts.
 #[tactic(auto, using(crate::proofs::Owning::keeping))]
-pub fn serving<A: Finder, C: Choice>(
+pub fn serving<A: Finder, C: Choice, K: Known>(
     alloc: Global,
     asker: &mut A,
     lemmas: &Lemmas<A::Node>,
     here: A::Node,
     facts: &Facts,
+    known: &K,
     choice: &C,
 ) -> Result<Option<ServingLemma>, NoMemory>
     requires lemmas { AreOwnLemmas (A.is_own asker.old) lemmas.now }
     requires here { A.is_own asker.old here }
     ensures serves { IfOk result (λ found. IfSome found (λ s. ServesNode (A.starts asker.new) lemmas.now here s)) }
     ensures same { KeepsStarts (A.is_own asker.old) (A.is_own asker.new) (A.starts asker.old) (A.starts asker.new) }
+    ensures told { A.told asker.new ≡ A.told asker.old }
 {
     let number = asker.number(here)?;
-    if let Some(found) = serving_of(alloc, asker, lemmas, number, here, facts, choice)? {
+    if let Some(found) = serving_of(alloc, asker, lemmas, number, here, known, choice)? {
         return Ok(Some(found));
     }
     let alike = asker.number_alike(here, facts)?;
     if alike == number {
         return Ok(None);
     }
-    serving_of(alloc, asker, lemmas, alike, here, facts, choice)
+    serving_of(alloc, asker, lemmas, alike, here, known, choice)
 }

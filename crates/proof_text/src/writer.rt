@@ -1,5 +1,5 @@
 //! Proofs, written part by part.
-ghost use Rattle.std.specs.Prelude.{◌≡◌, ◌+◌, ◌<◌, ◌∷◌, ◌++◌, [], ℤ, OnOk, OnErr, Some};
+ghost use Rattle.std.specs.Prelude.{◌≡◌, ◌+◌, ◌<◌, ◌∷◌, ◌++◌, [], ℤ, OnOk, OnErr};
 ghost use Rattle.std.specs.Fmt.{decimal};
 ghost use Rattle.cert_text.specs.Numbers.{more_numbers_text, numbers_text};
 ghost use Rattle.cert_text.specs.Spelling.{ob_text};
@@ -19,7 +19,7 @@ use proof_trees::ProofTok;
 /// Appends the first line of a proof of a level. After `NoMemory` a front of it was appended.
 pub fn write_header(level: Level, out: &mut Vec<u8>) -> Result<(), NoMemory>
     ensures ok { OnOk result (out.new.items ≡ out.old.items ++ proof_header_text level) }
-    ensures err { OnErr result (AppendsFront (Some out.old.items) (proof_header_text level) (Some out.new.items)) }
+    ensures err { OnErr result (AppendsFront out.old.items (proof_header_text level) out.new.items) }
 {
     append(header_line(level), out)
 }
@@ -27,7 +27,7 @@ pub fn write_header(level: Level, out: &mut Vec<u8>) -> Result<(), NoMemory>
 /// Appends the line before the tree of an obligation. After `NoMemory` a front of it was appended.
 pub fn write_ob_line(name: ObName, out: &mut Vec<u8>) -> Result<(), NoMemory>
     ensures ok { OnOk result (out.new.items ≡ out.old.items ++ ob_text name) }
-    ensures err { OnErr result (AppendsFront (Some out.old.items) (ob_text name) (Some out.new.items)) }
+    ensures err { OnErr result (AppendsFront out.old.items (ob_text name) out.new.items) }
 {
     let line = ob_line(*out.allocator(), name);
     append(line.as_slice(), out)
@@ -36,7 +36,7 @@ pub fn write_ob_line(name: ObName, out: &mut Vec<u8>) -> Result<(), NoMemory>
 /// Appends the newline after a tree. After `NoMemory` nothing was appended.
 pub fn write_line_end(out: &mut Vec<u8>) -> Result<(), NoMemory>
     ensures ok { OnOk result (out.new.items ≡ out.old.items ++ newline_text) }
-    ensures err { OnErr result (AppendsFront (Some out.old.items) newline_text (Some out.new.items)) }
+    ensures err { OnErr result (AppendsFront out.old.items newline_text out.new.items) }
 {
     append_byte(b'\n', out)
 }
@@ -44,7 +44,7 @@ pub fn write_line_end(out: &mut Vec<u8>) -> Result<(), NoMemory>
 /// Appends a token. After `NoMemory` a front of it was appended.
 pub fn write_token(tok: &ProofTok, out: &mut Vec<u8>) -> Result<(), NoMemory>
     ensures ok { OnOk result (out.new.items ≡ out.old.items ++ proof_token_text tok.now) }
-    ensures err { OnErr result (AppendsFront (Some out.old.items) (proof_token_text tok.now) (Some out.new.items)) }
+    ensures err { OnErr result (AppendsFront out.old.items (proof_token_text tok.now) out.new.items) }
 {
     match tok {
         ProofTok::Ask => append_byte(b'?', out),
@@ -57,7 +57,7 @@ pub fn write_token(tok: &ProofTok, out: &mut Vec<u8>) -> Result<(), NoMemory>
 
 fn append(bytes: &[u8], out: &mut Vec<u8>) -> Result<(), NoMemory>
     ensures ok { OnOk result (out.new.items ≡ out.old.items ++ bytes.now) }
-    ensures err { OnErr result (AppendsFront (Some out.old.items) bytes.now (Some out.new.items)) }
+    ensures err { OnErr result (AppendsFront out.old.items bytes.now out.new.items) }
 {
     out.extend_from_slice(bytes)
 }
@@ -66,7 +66,7 @@ fn append(bytes: &[u8], out: &mut Vec<u8>) -> Result<(), NoMemory>
 #[inline]
 fn append_byte(byte: u8, out: &mut Vec<u8>) -> Result<(), NoMemory>
     ensures ok { OnOk result (out.new.items ≡ out.old.items ++ byte ∷ []) }
-    ensures err { OnErr result (AppendsFront (Some out.old.items) (byte ∷ []) (Some out.new.items)) }
+    ensures err { OnErr result (AppendsFront out.old.items (byte ∷ []) out.new.items) }
 {
     out.push(byte)?;
     Ok(())
@@ -83,7 +83,7 @@ fn digit_of(value: u32) -> u8
 // Most numbers have one digit.
 fn write_number(number: u32, out: &mut Vec<u8>) -> Result<(), NoMemory>
     ensures ok { OnOk result (out.new.items ≡ out.old.items ++ decimal number) }
-    ensures err { OnErr result (AppendsFront (Some out.old.items) (decimal number) (Some out.new.items)) }
+    ensures err { OnErr result (AppendsFront out.old.items (decimal number) out.new.items) }
 {
     if number < 10 {
         return append_byte(digit_of(number), out);
@@ -94,8 +94,7 @@ fn write_number(number: u32, out: &mut Vec<u8>) -> Result<(), NoMemory>
 
 fn write_more_numbers(numbers: &[u32], out: &mut Vec<u8>) -> Result<(), NoMemory>
     ensures ok { OnOk result (out.new.items ≡ out.old.items ++ more_numbers_text numbers.now) }
-    ensures err { OnErr result
-        (AppendsFront (Some out.old.items) (more_numbers_text numbers.now) (Some out.new.items)) }
+    ensures err { OnErr result (AppendsFront out.old.items (more_numbers_text numbers.now) out.new.items) }
 {
     let Some((first, rest)) = numbers.split_first() else {
         return Ok(());
@@ -107,7 +106,7 @@ fn write_more_numbers(numbers: &[u32], out: &mut Vec<u8>) -> Result<(), NoMemory
 
 fn write_numbers(numbers: &[u32], out: &mut Vec<u8>) -> Result<(), NoMemory>
     ensures ok { OnOk result (out.new.items ≡ out.old.items ++ numbers_text numbers.now) }
-    ensures err { OnErr result (AppendsFront (Some out.old.items) (numbers_text numbers.now) (Some out.new.items)) }
+    ensures err { OnErr result (AppendsFront out.old.items (numbers_text numbers.now) out.new.items) }
 {
     let Some((first, rest)) = numbers.split_first() else {
         return Ok(());
@@ -118,8 +117,7 @@ fn write_numbers(numbers: &[u32], out: &mut Vec<u8>) -> Result<(), NoMemory>
 
 fn write_cycle(numbers: &[u32], out: &mut Vec<u8>) -> Result<(), NoMemory>
     ensures ok { OnOk result (out.new.items ≡ out.old.items ++ (120 ∷ numbers_text numbers.now ++ 59 ∷ [])) }
-    ensures err { OnErr result
-        (AppendsFront (Some out.old.items) (120 ∷ numbers_text numbers.now ++ 59 ∷ []) (Some out.new.items)) }
+    ensures err { OnErr result (AppendsFront out.old.items (120 ∷ numbers_text numbers.now ++ 59 ∷ []) out.new.items) }
 {
     append_byte(b'x', out)?;
     write_numbers(numbers, out)?;
@@ -128,8 +126,7 @@ fn write_cycle(numbers: &[u32], out: &mut Vec<u8>) -> Result<(), NoMemory>
 
 fn write_cite(number: u32, out: &mut Vec<u8>) -> Result<(), NoMemory>
     ensures ok { OnOk result (out.new.items ≡ out.old.items ++ (99 ∷ decimal number ++ 59 ∷ [])) }
-    ensures err { OnErr result
-        (AppendsFront (Some out.old.items) (99 ∷ decimal number ++ 59 ∷ []) (Some out.new.items)) }
+    ensures err { OnErr result (AppendsFront out.old.items (99 ∷ decimal number ++ 59 ∷ []) out.new.items) }
 {
     append_byte(b'c', out)?;
     write_number(number, out)?;
@@ -138,7 +135,7 @@ fn write_cite(number: u32, out: &mut Vec<u8>) -> Result<(), NoMemory>
 
 fn write_minus(amount: u32, out: &mut Vec<u8>) -> Result<(), NoMemory>
     ensures ok { OnOk result (out.new.items ≡ out.old.items ++ (45 ∷ decimal amount)) }
-    ensures err { OnErr result (AppendsFront (Some out.old.items) (45 ∷ decimal amount) (Some out.new.items)) }
+    ensures err { OnErr result (AppendsFront out.old.items (45 ∷ decimal amount) out.new.items) }
 {
     append_byte(b'-', out)?;
     write_number(amount, out)
@@ -146,7 +143,7 @@ fn write_minus(amount: u32, out: &mut Vec<u8>) -> Result<(), NoMemory>
 
 fn write_offset(offset: i32, out: &mut Vec<u8>) -> Result<(), NoMemory>
     ensures ok { OnOk result (out.new.items ≡ out.old.items ++ offset_text offset) }
-    ensures err { OnErr result (AppendsFront (Some out.old.items) (offset_text offset) (Some out.new.items)) }
+    ensures err { OnErr result (AppendsFront out.old.items (offset_text offset) out.new.items) }
 {
     if offset < 0 {
         write_minus(offset.unsigned_abs(), out)
@@ -158,7 +155,7 @@ fn write_offset(offset: i32, out: &mut Vec<u8>) -> Result<(), NoMemory>
 // A name and the comma after it.
 fn write_name(name: u32, out: &mut Vec<u8>) -> Result<(), NoMemory>
     ensures ok { OnOk result (out.new.items ≡ out.old.items ++ literal_name_text name) }
-    ensures err { OnErr result (AppendsFront (Some out.old.items) (literal_name_text name) (Some out.new.items)) }
+    ensures err { OnErr result (AppendsFront out.old.items (literal_name_text name) out.new.items) }
 {
     write_number(name, out)?;
     append_byte(b',', out)
@@ -166,7 +163,7 @@ fn write_name(name: u32, out: &mut Vec<u8>) -> Result<(), NoMemory>
 
 fn write_literal(literal: &Lit, out: &mut Vec<u8>) -> Result<(), NoMemory>
     ensures ok { OnOk result (out.new.items ≡ out.old.items ++ literal_text literal.now) }
-    ensures err { OnErr result (AppendsFront (Some out.old.items) (literal_text literal.now) (Some out.new.items)) }
+    ensures err { OnErr result (AppendsFront out.old.items (literal_text literal.now) out.new.items) }
 {
     write_name(literal.x as u32, out)?;
     write_name(literal.y as u32, out)?;
@@ -175,8 +172,7 @@ fn write_literal(literal: &Lit, out: &mut Vec<u8>) -> Result<(), NoMemory>
 
 fn write_more_literals(literals: &[Lit], out: &mut Vec<u8>) -> Result<(), NoMemory>
     ensures ok { OnOk result (out.new.items ≡ out.old.items ++ more_literals_text literals.now) }
-    ensures err { OnErr result
-        (AppendsFront (Some out.old.items) (more_literals_text literals.now) (Some out.new.items)) }
+    ensures err { OnErr result (AppendsFront out.old.items (more_literals_text literals.now) out.new.items) }
 {
     let Some((first, rest)) = literals.split_first() else {
         return Ok(());
@@ -188,7 +184,7 @@ fn write_more_literals(literals: &[Lit], out: &mut Vec<u8>) -> Result<(), NoMemo
 
 fn write_literals(literals: &[Lit], out: &mut Vec<u8>) -> Result<(), NoMemory>
     ensures ok { OnOk result (out.new.items ≡ out.old.items ++ literals_text literals.now) }
-    ensures err { OnErr result (AppendsFront (Some out.old.items) (literals_text literals.now) (Some out.new.items)) }
+    ensures err { OnErr result (AppendsFront out.old.items (literals_text literals.now) out.new.items) }
 {
     let Some((first, rest)) = literals.split_first() else {
         return Ok(());
@@ -200,7 +196,7 @@ fn write_literals(literals: &[Lit], out: &mut Vec<u8>) -> Result<(), NoMemory>
 fn write_lemma(literals: &[Lit], out: &mut Vec<u8>) -> Result<(), NoMemory>
     ensures ok { OnOk result (out.new.items ≡ out.old.items ++ (108 ∷ literals_text literals.now ++ 59 ∷ [])) }
     ensures err { OnErr result
-        (AppendsFront (Some out.old.items) (108 ∷ literals_text literals.now ++ 59 ∷ []) (Some out.new.items)) }
+        (AppendsFront out.old.items (108 ∷ literals_text literals.now ++ 59 ∷ []) out.new.items) }
 {
     append_byte(b'l', out)?;
     write_literals(literals, out)?;

@@ -1,5 +1,5 @@
 -- What an asker says of its starts.
-use Rattle.std.specs.Prelude.{◌≡◌, ◌↔◌}
+use Rattle.std.specs.Prelude.{◌≡◌, ◌↔◌, ◌+◌, ◌^◌, ◌<◌, ◌≤◌, ℕ, Result, Ok, Err}
 use Rattle.ask_core.specs.declared.turn.Turn.{Turn}
 use Rattle.ask_core.specs.declared.turn.Turn.TheVariants as turn
 use Rattle.ask_core.specs.Plans.{Plan}
@@ -28,6 +28,17 @@ pub record KeepsStarts {N S W : Type 0} (was_own is_own : N → Type 0) (old new
   pub root : new.root ≡ old.root
   pub compare : new.compare ≡ old.compare
   pub meaning : new.meaning ≡ old.meaning
+
+-- a count of 64 bits rose by so many, as far as it goes
+abbrev pub HasCounted : ℕ → ℕ → ℕ → Type 0
+HasCounted before more now = (now ≤ before + more) × (before + more < 2 ^ 64 → now ≡ before + more)
+
+-- how many questions a turn tells
+abbrev pub questions_in : {N W E : Type 0} → Result (Turn N W) E → ℕ
+questions_in (Ok (turn.Ask lit on_yes on_no)) = 1
+questions_in (Ok turn.Holds) = 0
+questions_in (Ok (turn.Fails why)) = 0
+questions_in (Err e) = 0
 
 -- the asker's own plan is the one with its starts, and each start there stands for the plan that is there
 pub record IsWhole {N S W : Type 0} (root : Plan W) (starts : Starts N S W) : Type 0 where

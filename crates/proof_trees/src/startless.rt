@@ -13,6 +13,7 @@ use std::alloc::Global;
 #[derive(Drop)]
 pub struct Startless<A: Asker> {
     inner: A,
+    told: u64,
 }
 
 impl<A: Asker> Startless<A> {
@@ -21,8 +22,9 @@ impl<A: Asker> Startless<A> {
         ensures root { ⟦<Startless<A> as Asker>⟧.root result ≡ A.root inner }
         ensures count { ⟦<Startless<A> as Asker>⟧.name_count result ≡ A.name_count inner }
         ensures starts { ⟦<Startless<A> as Starter>⟧.starts result ≡ no_starts (A.plan inner) (A.root inner) }
+        ensures told { ⟦<Startless<A> as Starter>⟧.told result ≡ 0 }
     {
-        Startless { inner }
+        Startless { inner, told: 0 }
     }
 }
 
@@ -61,13 +63,18 @@ impl<A: Asker> Starter for Startless<A> {
 
     ghost starts = { λ a. no_starts (A.plan a.inner) (A.root a.inner) };
 
+    ghost told = { λ a. a.told };
+
     fn first(&mut self) -> Result<A::Node, NoMemory> {
         Ok(self.inner.start()?)
     }
 
     fn follow(&mut self, node: A::Node) -> Result<Turn<A::Node, A::Why>, NoMemory> {
         match self.inner.turn(node)? {
-            Turn::Ask { lit, yes, no } => Ok(Turn::Ask { lit, yes, no }),
+            Turn::Ask { lit, yes, no } => {
+                self.told = self.told.saturating_add(1);
+                Ok(Turn::Ask { lit, yes, no })
+            }
             Turn::Holds => Ok(Turn::Holds),
             Turn::Fails(why) => Ok(Turn::Fails(why)),
         }

@@ -32,6 +32,32 @@ pub enum WriterStep {
     /// The tree came to its end.
     Done,
 
-    /// An end that fails, too many questions, or a literal that does not follow.
+    /// A question was met that is one more than may be asked.
+    Spent,
+
+    /// An end that fails, or a literal that does not follow.
     Stuck,
+}
+
+/// How the writing of a tree ended.
+#[derive(Clone, Copy, PartialEq, Eq)]
+pub enum TreeEnd {
+    /// The tree came to its end.
+    Whole,
+
+    /// A question was met that is one more than may be asked.
+    Spent,
+
+    /// The text has more bytes than it may have.
+    TooLong,
+
+    /// The walk found no way on: an end fails, or a literal does not follow.
+    Stuck,
+}
+
+/// How the writing of a tree ended, and how many questions were asked.
+#[derive(Clone, Copy)]
+pub struct TreeWritten {
+    pub ending: TreeEnd,
+    pub asked: u64,
 }

@@ -1,6 +1,7 @@
 //! The walk of a writer: the places that are still to be written, and which lemmas are.
 ghost use Rattle.std.specs.Prelude.{◌≡◌, ◌≤◌, OnOk, IfOk, length};
 ghost use Rattle.proof_trees.specs.declared.limits.TheConstants.{MAX_LITERALS};
+ghost use Rattle.proof_writer.specs.Counting.{TakesNone, TakesOne};
 ghost use Rattle.proof_writer.specs.Nodes.{HasNode, HasNoOthers, HasOneMore, AddsOnlyParts};
 ghost use Rattle.proof_writer.specs.Texts.{ExtendsText};
 
@@ -35,7 +36,8 @@ impl<N: Copy> PlanWalk<N> {
         lemmas: usize,
         questions: u64,
     ) -> Result<PlanWalk<N>, NoMemory>
-        ensures { IfOk result (λ w. (n : N) → HasNode n w → first ≡ n) }
+        ensures nodes { IfOk result (λ w. (n : N) → HasNode n w → first ≡ n) }
+        ensures left { IfOk result (λ w. w.left ≡ questions) }
     {
         Ok(PlanWalk {
             present: Some(TreePlace {
@@ -57,6 +59,7 @@ impl<N: Copy> PlanWalk<N> {
     pub fn next(&mut self, out: &mut Vec<u8>) -> Result<WriterStep, NoMemory>
         ensures front { ExtendsText out.old.items out.new.items }
         ensures nodes { OnOk result (HasNoOthers self.old self.new) }
+        ensures left { IfOk result (λ step. TakesNone step self.old.left self.new.left) }
     {
         match self.waiting.pop() {
             None => Ok(WriterStep::Done),
@@ -83,6 +86,7 @@ impl<N: Copy> PlanWalk<N> {
     pub fn hold(&mut self, out: &mut Vec<u8>) -> Result<WriterStep, NoMemory>
         ensures front { ExtendsText out.old.items out.new.items }
         ensures nodes { OnOk result (HasNoOthers self.old self.new) }
+        ensures left { IfOk result (λ step. TakesNone step self.old.left self.new.left) }
     {
         put(ProofTok::Holds, out)?;
         self.present = None;
@@ -101,9 +105,10 @@ impl<N: Copy> PlanWalk<N> {
     ) -> Result<WriterStep, NoMemory>
         ensures front { ExtendsText out.old.items out.new.items }
         ensures nodes { OnOk result (AddsOnlyParts yes no self.old self.new) }
+        ensures left { IfOk result (λ step. TakesOne step self.old.left self.new.left) }
     {
         if self.left == 0 {
-            return Ok(WriterStep::Stuck);
+            return Ok(WriterStep::Spent);
         }
         self.left -= 1;
         put(ProofTok::Ask, out)?;
@@ -136,6 +141,7 @@ impl<N: Copy> PlanWalk<N> {
     fn split(&mut self, lit: Lit, number: u32) -> Result<(), NoMemory>
         ensures present { OnOk result (self.new.present ≡ self.old.present) }
         ensures waiting { OnOk result (self.new.waiting.items ≡ self.old.waiting.items) }
+        ensures left { OnOk result (self.new.left ≡ self.old.left) }
     {
         let mut of_no = self.facts;
         of_no.try_add(negate(lit), number);
@@ -154,6 +160,7 @@ impl<N: Copy> PlanWalk<N> {
     ) -> Result<WriterStep, NoMemory>
         ensures front { ExtendsText out.old.items out.new.items }
         ensures nodes { OnOk result (HasOneMore at.node self.old self.new) }
+        ensures left { IfOk result (λ step. TakesNone step self.old.left self.new.left) }
     {
         let Some(literals) = literals_at(lemmas, lemma) else {
             return Ok(WriterStep::Stuck);
@@ -186,6 +193,7 @@ impl<N: Copy> PlanWalk<N> {
     ) -> Result<WriterStep, NoMemory>
         ensures front { ExtendsText out.old.items out.new.items }
         ensures nodes { OnOk result (HasNoOthers self.old self.new) }
+        ensures left { IfOk result (λ step. TakesNone step self.old.left self.new.left) }
     {
         let Some(number) = self.numbers.number(found.place) else {
             return Ok(WriterStep::Stuck);
@@ -215,6 +223,7 @@ impl<N: Copy> PlanWalk<N> {
         ensures front { ExtendsText out.old.items out.new.items }
         ensures present { OnOk result (self.new.present ≡ self.old.present) }
         ensures waiting { OnOk result (self.new.waiting.items ≡ self.old.waiting.items) }
+        ensures left { OnOk result (self.new.left ≡ self.old.left) }
     {
         'literals: for literal in literals {
             if !self

@@ -1,19 +1,21 @@
 //! The call that writes a tree.
-ghost use Rattle.std.specs.Prelude.{◌≡◌, ◌≤◌, IsTrue, IfOk, IfSome, OnOk, length};
-ghost use Rattle.proof_trees.specs.Starters.{KeepsStarts};
+ghost use Rattle.std.specs.Prelude.{◌≡◌, ◌+◌, ◌≤◌, IfOk, IfSome, OnOk, length};
+ghost use Rattle.proof_trees.specs.Starters.{HasCounted, KeepsStarts};
 ghost use Rattle.proof_search.specs.Owning.{AreOwnLemmas};
+ghost use Rattle.proof_writer.specs.Counting.{HasTaken, IsOfLength, unasked, unasked_after, unasked_at};
+ghost use Rattle.proof_writer.specs.declared.place.TreeEnd.TheVariants.{Spent};
 ghost use Rattle.proof_writer.specs.Nodes.{AreOwnNodes};
 ghost use Rattle.proof_writer.specs.Texts.{ExtendsText};
 
-use crate::place::{TreePlace, WriterStep};
+use crate::place::{TreeEnd, TreePlace, TreeWritten, WriterStep};
 use crate::walk::PlanWalk;
+use crate::written::Unbegun;
 use ask_core::{NoMemory, Turn};
-use proof_search::{Finder, Lemmas, serving, serving_of};
+use proof_search::{Choice, Finder, Lemmas, serving, serving_of};
 use std::alloc::Global;
 
 /// Appends the text of a tree that shows an asker's own plan, by the lemmas that a search of it showed, each of which
-/// is begun at most once. True where it came to its end. False where more than so many questions were to be asked, an
-/// end fails, or the text has more than `most` bytes; some front of a tree was appended then, as after want of memory.
+/// is begun at most once. By any end but that of the tree some front of a tree was appended, as after want of memory.
 pub fn write_tree<A: Finder>(
     alloc: Global,
     asker: &mut A,
@@ -21,14 +23,19 @@ pub fn write_tree<A: Finder>(
     questions: u64,
     most: usize,
     out: &mut Vec<u8>,
-) -> Result<bool, NoMemory>
+) -> Result<TreeWritten, NoMemory>
     requires { AreOwnLemmas (A.is_own asker.old) lemmas.now }
 
     // What stood there stands in front of the tree.
     ensures front { ExtendsText out.old.items out.new.items }
-    ensures within { IfOk result (λ done. IsTrue done → length out.new.items ≤ most) }
+    ensures room { IfOk result (λ w. IsOfLength most w.ending (length out.new.items)) }
 
-    // The asker is as it was.
+    // The asker told the questions that were asked, and, where no more might be, the one that is one more.
+    ensures within { IfOk result (λ w. w.asked ≤ questions) }
+    ensures told { IfOk result (λ w. HasCounted (A.told asker.old) (w.asked + unasked w.ending) (A.told asker.new)) }
+    ensures spent { IfOk result (λ w. w.ending ≡ Spent → w.asked ≡ questions) }
+
+    // The asker is as it was, but for its count.
     ensures same { KeepsStarts (A.is_own asker.old) (A.is_own asker.new) (A.starts asker.old) (A.starts asker.new) }
     ensures root { A.root asker.new ≡ A.root asker.old }
 {
@@ -43,23 +50,29 @@ fn walk_through<A: Finder>(
     questions: u64,
     most: usize,
     out: &mut Vec<u8>,
-) -> Result<bool, NoMemory>
+) -> Result<TreeWritten, NoMemory>
     requires { AreOwnLemmas (A.is_own asker.old) lemmas.now }
     ensures front { ExtendsText out.old.items out.new.items }
-    ensures within { IfOk result (λ done. IsTrue done → length out.new.items ≤ most) }
+    ensures within { IfOk result (λ w. w.asked ≤ questions) }
+    ensures room { IfOk result (λ w. IsOfLength most w.ending (length out.new.items)) }
+    ensures told { IfOk result (λ w. HasCounted (A.told asker.old) (w.asked + unasked w.ending) (A.told asker.new)) }
+    ensures spent { IfOk result (λ w. w.ending ≡ Spent → w.asked ≡ questions) }
     ensures same { KeepsStarts (A.is_own asker.old) (A.is_own asker.new) (A.starts asker.old) (A.starts asker.new) }
 {
     let first = asker.first()?;
     let mut walk = PlanWalk::begin(alloc, first, lemmas.len(), questions)?;
     'turns: for _ in 0..turns_of(questions, lemmas.len()) {
-        if let Some(done) = turn(alloc, asker, lemmas, most, &mut walk, out)? {
-            return Ok(done);
+        if let Some(ending) = turn(alloc, asker, lemmas, most, &mut walk, out)? {
+            let asked = questions - walk.left;
+            return Ok(TreeWritten { ending, asked });
         }
     }
-    Ok(false)
+    let asked = questions - walk.left;
+    let ending = TreeEnd::Stuck;
+    Ok(TreeWritten { ending, asked })
 }
 
-// One step, and whether it was the last one: then the answer says whether the tree came to its end.
+// One step, and how the tree ends if it was the last one.
 fn turn<A: Finder>(
     alloc: Global,
     asker: &mut A,
@@ -67,22 +80,31 @@ fn turn<A: Finder>(
     most: usize,
     walk: &mut PlanWalk<A::Node>,
     out: &mut Vec<u8>,
-) -> Result<Option<bool>, NoMemory>
+) -> Result<Option<TreeEnd>, NoMemory>
     requires lemmas { AreOwnLemmas (A.is_own asker.old) lemmas.now }
     requires nodes { AreOwnNodes (A.is_own asker.old) walk.old }
     ensures front { ExtendsText out.old.items out.new.items }
-    ensures within { IfOk result (λ last. IfSome last (λ done. IsTrue done → length out.new.items ≤ most)) }
+    ensures room { IfOk result (λ last. IfSome last (λ ending. IsOfLength most ending (length out.new.items))) }
     ensures nodes { OnOk result (AreOwnNodes (A.is_own asker.new) walk.new) }
     ensures same { KeepsStarts (A.is_own asker.old) (A.is_own asker.new) (A.starts asker.old) (A.starts asker.new) }
+    ensures taken { IfOk result (λ last. HasTaken walk.old.left walk.new.left (A.told asker.old) (A.told asker.new)
+        (unasked_after last)) }
 {
     let step = step(alloc, asker, lemmas, walk, out)?;
-    if out.len() > most {
-        return Ok(Some(false));
-    }
+    Ok(end_after(step, out.len(), most))
+}
+
+// How a tree ends with a step after which the text has so many bytes, if it does.
+fn end_after(step: WriterStep, bytes: usize, most: usize) -> Option<TreeEnd>
+    ensures room { IfSome result (λ ending. IsOfLength most ending bytes) }
+    ensures unasked { unasked_after result ≡ unasked_at step }
+{
     match step {
-        WriterStep::More => Ok(None),
-        WriterStep::Done => Ok(Some(true)),
-        WriterStep::Stuck => Ok(Some(false)),
+        WriterStep::Spent => Some(TreeEnd::Spent),
+        WriterStep::Stuck => Some(TreeEnd::Stuck),
+        _ if bytes > most => Some(TreeEnd::TooLong),
+        WriterStep::Done => Some(TreeEnd::Whole),
+        WriterStep::More => None,
     }
 }
 
@@ -108,6 +130,8 @@ fn step<A: Finder>(
     ensures front { ExtendsText out.old.items out.new.items }
     ensures nodes { OnOk result (AreOwnNodes (A.is_own asker.new) walk.new) }
     ensures same { KeepsStarts (A.is_own asker.old) (A.is_own asker.new) (A.starts asker.old) (A.starts asker.new) }
+    ensures taken { IfOk result (λ step. HasTaken walk.old.left walk.new.left (A.told asker.old) (A.told asker.new)
+        (unasked_at step)) }
 {
     let Some(place) = walk.present else {
         return walk.next(out);
@@ -139,6 +163,8 @@ fn follow<A: Finder>(
     ensures front { ExtendsText out.old.items out.new.items }
     ensures nodes { OnOk result (AreOwnNodes (A.is_own asker.new) walk.new) }
     ensures same { KeepsStarts (A.is_own asker.old) (A.is_own asker.new) (A.starts asker.old) (A.starts asker.new) }
+    ensures taken { IfOk result (λ step. HasTaken walk.old.left walk.new.left (A.told asker.old) (A.told asker.new)
+        (unasked_at step)) }
 {
     match asker.follow(place.node)? {
         Turn::Ask { lit, yes, no } => walk.ask(alloc, place.length, lit, yes, no, out),
@@ -162,15 +188,19 @@ fn use_lemma<A: Finder>(
     ensures front { ExtendsText out.old.items out.new.items }
     ensures nodes { OnOk result (AreOwnNodes (A.is_own asker.new) walk.new) }
     ensures same { KeepsStarts (A.is_own asker.old) (A.is_own asker.new) (A.starts asker.old) (A.starts asker.new) }
+    ensures taken { IfOk result (λ step. HasTaken walk.old.left walk.new.left (A.told asker.old) (A.told asker.new)
+        (unasked_at step)) }
 {
-    if let Some(found) = serving(alloc, asker, lemmas, place.node, &walk.facts, &walk.numbers)? {
+    let facts = &walk.facts;
+    let numbers = &walk.numbers;
+    if let Some(found) = serving(alloc, asker, lemmas, place.node, facts, facts, numbers)? {
         return walk.cite(alloc, lemmas, &found, place.length, out);
     }
     begin_lemma(alloc, asker, lemmas, walk, place, out)
 }
 
-// Begins the newest lemma of the start that was not begun and serves. Where there is none, the walk goes on without
-// one.
+// Begins the first lemma of a scout of the start that was not begun, or else the newest one of the start that was not
+// begun and serves. Where there is none, the walk goes on without one.
 fn begin_lemma<A: Finder>(
     alloc: Global,
     asker: &mut A,
@@ -185,6 +215,8 @@ fn begin_lemma<A: Finder>(
     ensures front { ExtendsText out.old.items out.new.items }
     ensures nodes { OnOk result (AreOwnNodes (A.is_own asker.new) walk.new) }
     ensures same { KeepsStarts (A.is_own asker.old) (A.is_own asker.new) (A.starts asker.old) (A.starts asker.new) }
+    ensures taken { IfOk result (λ step. HasTaken walk.old.left walk.new.left (A.told asker.old) (A.told asker.new)
+        (unasked_at step)) }
 {
     match unbegun_at(alloc, asker, lemmas, walk, place.node)? {
         Some(lemma) => walk.learn(lemmas, lemma, place, out),
@@ -192,7 +224,18 @@ fn begin_lemma<A: Finder>(
     }
 }
 
-// The newest lemma of the start at a node that was not begun and serves there.
+// The first of the lemmas at these places that was not begun.
+fn first_unbegun(unbegun: &Unbegun, places: &[usize]) -> Option<usize> {
+    for place in places {
+        if unbegun.takes(*place) {
+            return Some(*place);
+        }
+    }
+    None
+}
+
+// The first lemma of a scout of the start at a node that was not begun, or else the newest one of the start that was not
+// begun and serves there.
 fn unbegun_at<A: Finder>(
     alloc: Global,
     asker: &mut A,
@@ -202,9 +245,14 @@ fn unbegun_at<A: Finder>(
 ) -> Result<Option<usize>, NoMemory>
     requires lemmas { AreOwnLemmas (A.is_own asker.old) lemmas.now }
     requires here { A.is_own asker.old here }
-    ensures { KeepsStarts (A.is_own asker.old) (A.is_own asker.new) (A.starts asker.old) (A.starts asker.new) }
+    ensures same { KeepsStarts (A.is_own asker.old) (A.is_own asker.new) (A.starts asker.old) (A.starts asker.new) }
+    ensures told { A.told asker.new ≡ A.told asker.old }
 {
     let number = asker.number(here)?;
+    let scout = first_unbegun(&walk.unbegun, lemmas.scouts(number));
+    if scout.is_some() {
+        return Ok(scout);
+    }
     let found = serving_of(
         alloc,
         asker,

@@ -4,7 +4,7 @@ use crate::two_names::TwoNames;
 use ask_core::NoMemory;
 use proof_search::search;
 use proof_trees::Startless;
-use proof_writer::write_tree;
+use proof_writer::{TreeEnd, write_tree};
 use std::alloc::Global;
 
 // The tree of the plan, whose second question is refuted by the answers to both.
@@ -15,8 +15,8 @@ fn is_written(alloc: Global, most: usize) -> Result<bool, NoMemory> {
     let mut asker = Startless::new(TwoNames { strict: true });
     let sought = search(alloc, &mut asker, 2)?;
     let mut bytes = Vec::new(alloc);
-    let done = write_tree(alloc, &mut asker, &sought.lemmas, 2, most, &mut bytes)?;
-    Ok(done && sought.asked == 2 && bytes.as_slice() == TREE.as_bytes())
+    let tree = write_tree(alloc, &mut asker, &sought.lemmas, 2, most, &mut bytes)?;
+    Ok(tree.ending == TreeEnd::Whole && sought.asked == 2 && bytes.as_slice() == TREE.as_bytes())
 }
 
 #[test]

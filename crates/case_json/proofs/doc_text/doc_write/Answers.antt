@@ -1,4 +1,4 @@
-use Rattle.std.proofs.Common.{◌++◌, List, ℕ, take, drop, ◌+◌, get_or, false, Some, append_assoc, sym, ap, ◌∙◌, subst}
+use Rattle.std.proofs.Common.{◌++◌, List, ℕ, take, drop, ◌+◌, get_or, false, append_assoc, sym, ap, ◌∙◌, subst}
 use Rattle.ot_model.specs.declared.cell.Cell.{Cell}
 use Rattle.ot_outside.specs.Whole.{AppendsFront}
 use Rattle.case_json.proofs.Writing.{doc_bytes, cell_bytes, doc_bytes-take_more, doc_bytes-around, front_of_rest, on_err}
@@ -17,8 +17,8 @@ returns-in_err-write_cell-clause-err c =
     let new : List ℕ = c.write_cell.new.out.items in
     let written : List ℕ = doc_bytes (take i doc) in
     let text : List ℕ = cell_bytes (get_or doc i no_cell) in
-    let front : AppendsFront (Some (old ++ written)) text (Some new) =
-    subst (λ (before : List ℕ). AppendsFront (Some before) text (Some new)) c.loop-cell.invariant
+    let front : AppendsFront (old ++ written) text new =
+    subst (λ (before : List ℕ). AppendsFront before text new) c.loop-cell.invariant
     c.in_err-write_cell.ensures.err in
     on_err c.from_residual.result
     (rw (← c.cells-cell-items.ensures) (front_of_rest old new (doc_bytes doc) written text (doc_bytes (drop (i + 1) doc))

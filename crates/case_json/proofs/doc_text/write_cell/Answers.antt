@@ -1,4 +1,4 @@
-use Rattle.std.proofs.Common.{◌∷◌, [], ◌++◌, List, ℕ, Some, subst}
+use Rattle.std.proofs.Common.{◌∷◌, [], ◌++◌, List, ℕ, subst}
 use Rattle.std.specs.Prelude.{encode_utf8_all}
 use Rattle.std.proofs.lemmas.Result.{on_err_weaker}
 use lib.Utf8.{encode}
@@ -15,7 +15,7 @@ returns-clause-err c =
     let text : List ℕ = encode_utf8_all (char_text c.args.cell.ch) in
     on_err_weaker c.char_write-2.result
     (λ behind.
-    let front : AppendsFront (Some (old ++ tilde ∷ [])) text (Some new) =
-    subst (λ (before : List ℕ). AppendsFront (Some before) text (Some new)) c.in_ok-push.ensures.items behind in
+    let front : AppendsFront (old ++ tilde ∷ []) text new =
+    subst (λ (before : List ℕ). AppendsFront before text new) c.in_ok-push.ensures.items behind in
     rw c.if-cell.false (front_behind old (tilde ∷ []) new text front))
     c.char_write-2.ensures.err

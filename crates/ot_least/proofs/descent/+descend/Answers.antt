@@ -6,8 +6,7 @@ use Rattle.fn_rules.specs.declared.function.ObName.{ObName}
 use Rattle.fn_rules.specs.Obligations.{level_of}
 use Rattle.fn_rules.specs.Rules.{function_of}
 use Rattle.ot_least.specs.Endings.{IsEndedBy}
-use Rattle.ot_least.specs.Lows.{IsBroken}
-use Rattle.ot_least.specs.Shortest.{IsShortWithin, IsTrueOf}
+use Rattle.ot_least.specs.Shortest.{IsBroken, IsShortWithin, IsTrueOf}
 use Rattle.ot_least.proofs.Descents.{FallsTo, falls_least, falls_on, falls_spent, is_low, is_true, same_level, short_within}
 use Rattle.ot_least.proofs.descent.+descend.Goals as goal
 
@@ -27,10 +26,9 @@ returns-in-AllHold-clause-holds t c =
     let e = c.args.end in
     let bytes = c.search_shorter.new.cert.items in
     let turn = rw c.in-AllHold.is at c.in_ok-search_shorter.ensures in
-    let valid = c.rules_are_valid.ensures in
     IfOk-weaker c.least.result (IsEndedBy e bytes) (IsTrueOf f)
     (λ short ended.
-    is_true f valid (λ ob why w v n. c.failing_ends_break_at_their_length.ensures f ob why w v n valid)
+    is_true f (λ ob why w cells. c.failing_ends_break_at_their_length.ensures.instance f ob why w cells c.rules_are_valid.ensures)
     (λ cert level bound n. c.low_certificates_show_shorter_documents.ensures cert f level bound n) e bytes short ended
     c.requires.ending c.requires.broken (is_low f c.args.budget e bytes turn short ended c.requires.bounded))
     c.least.ensures

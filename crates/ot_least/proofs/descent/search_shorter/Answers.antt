@@ -7,7 +7,7 @@ use Rattle.fn_rules.specs.Obligations.{is_obligation}
 use Rattle.fn_rules.specs.Rules.{function_of}
 use Rattle.ot_questions.specs.Obligation.{plan_below}
 use Rattle.ot_decide.specs.Proving.{AreSettled}
-use Rattle.ot_least.specs.Lows.{low_header_text, parts_of}
+use Rattle.ot_bound.specs.Lows.{low_header_text, parts_of}
 use Rattle.ot_least.proofs.descent.search_shorter.Goals as goal
 
 pub search_all-requires-clause-listed : goal.search_all-requires-clause-listed

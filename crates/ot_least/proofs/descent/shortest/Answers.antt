@@ -32,6 +32,5 @@ descend_from-requires-clause-broken c =
     first_holds f decided.0 c.in-No.ob failing
     (λ k l m. c.failing_triples_show_tp1.ensures f decided.0 k l m failing)
     decided.1 decided.2.1.first (ap (λ (o : ObName). level_of o) (sym c.in_ok-end-in-No.ensures.ob) ∙ second))
-    (breaks_at f c.rules_are_valid.ensures
-    (λ ob why w v n. c.failing_ends_break_at_their_length.ensures f ob why w v n c.rules_are_valid.ensures)
+    (breaks_at f (λ ob why w cells. c.failing_ends_break_at_their_length.ensures.instance f ob why w cells c.rules_are_valid.ensures)
     end c.in_ok-end-in-No.ensures.ending)

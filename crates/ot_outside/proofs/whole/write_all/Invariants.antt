@@ -1,12 +1,11 @@
-use Rattle.std.proofs.Common.{length, ◌-◌, ◌≡◌, ◌≤◌, take}
-use Rattle.std.specs.Io.KnownBytes.{append_known}
+use Rattle.std.proofs.Common.{length, ◌-◌, ◌++◌, ◌≡◌, ◌≤◌, take}
 use Rattle.ot_outside.proofs.whole.write_all.Given as goal
 
 -- the bytes before `done` were appended
 abbrev pub invariant-loop-done : goal.invariant-loop-done
 invariant-loop-done g l = record {
   in_range : l.done ≤ length l.bytes;
-  appended : g.S.Sink.written l.sink ≡ append_known (g.S.Sink.written l.fn.sink) (take l.done l.bytes);
+  appended : g.S.Sink.took l.sink ≡ g.S.Sink.took l.fn.sink ++ take l.done l.bytes;
   faults : g.S.Sink.faults l.fn.sink ≤ g.S.Sink.faults l.sink;
 }
 

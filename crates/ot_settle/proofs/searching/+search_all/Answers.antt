@@ -11,12 +11,14 @@ use Rattle.ot_settle.proofs.searching.+search_all.Goals as goal
 
 pub returns-in_ok-rest-in-Shown-clause-ended : goal.returns-in_ok-rest-in-Shown-clause-ended
 returns-in_ok-rest-in-Shown-clause-ended t c =
-    others_fail (function_of c.args.rules.now) c.args.names.now c.in-Some.ob.now c.in-Some.others.now c.in-Some.ensures.cases.0
-    c.requires.listed c.in_ok-rest-in-Shown.rest.ended c.in_ok-rest-in-Shown.ensures.ended
+    rw c.searched-in-Shown.ensures.ended
+    (others_fail (function_of c.args.rules.now) c.args.names.now c.in-Some.ob.now c.in-Some.others.now c.in-Some.ensures.cases.0
+    c.requires.listed c.in_ok-rest-in-Shown.rest.ended c.in_ok-rest-in-Shown.ensures.ended)
 
 pub returns-in-Fails-clause-ended : goal.returns-in-Fails-clause-ended
 returns-in-Fails-clause-ended t c =
     let f = function_of c.args.rules.now in
-    first_fails f c.args.names.now c.in-Some.ob.now c.in-Some.others.now c.in-Some.ensures.cases.0 c.requires.listed c.in-Fails.end
+    rw c.searched-in-Fails.ensures.ended
+    (first_fails f c.args.names.now c.in-Some.ob.now c.in-Some.others.now c.in-Some.ensures.cases.0 c.requires.listed c.in-Fails.end
     (subst (λ (e : Ended (FailingEnd Why)). FailsOnlySo (IsFailingEnd (plan_of f c.in-Some.ob.now)) e) c.in-Fails.is
-    c.in_ok-first.ensures.ended)
+    c.in_ok-first.ensures.ended))

@@ -12,7 +12,7 @@ returns-in_err-push-clause-end c f kept stands =
 pub returns-clause-end : goal.returns-clause-end
 returns-clause-end c f kept stands =
     All-same (IsKeptEnd f) c.push.new.self.items _ c.in_ok-push.ensures.items
-    (All-push (IsKeptEnd f) c.args.kept.now.items _ kept stands)
+    (All-push (IsKeptEnd f) c.args.kept.now.goals.items _ kept stands)
 
 pub returns-in_err-push-clause-start : goal.returns-in_err-push-clause-start
 returns-in_err-push-clause-start c f kept opens =
@@ -21,4 +21,4 @@ returns-in_err-push-clause-start c f kept opens =
 pub returns-clause-start : goal.returns-clause-start
 returns-clause-start c f kept opens =
     All-same (IsKeptStart f) c.push.new.self.items _ c.in_ok-push.ensures.items
-    (All-push (IsKeptStart f) c.args.kept.now.items _ kept opens)
+    (All-push (IsKeptStart f) c.args.kept.now.goals.items _ kept opens)

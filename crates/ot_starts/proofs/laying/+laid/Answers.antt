@@ -154,8 +154,7 @@ end_built-returns-clause-kept t c =
 -- what is kept of the same goal stands for it
 pub end_laid-returns-in-Some-clause-stands : goal.end_laid-returns-in-Some-clause-stands
 end_laid-returns-in-Some-clause-stands t c =
-    let f = function_of c.args.rules.now in
-    c.in-Some.ensures.end f (subst (λ (kept : List Kept). All (IsKeptEnd f) kept) (sym c.deref.ensures.value) c.requires.kept)
+    c.in-Some.ensures.end (function_of c.args.rules.now) c.requires.kept
 
 -- two goals by a form, or by the guard of a case, which are lighter and of the obligation
 pub form_laid-laid-requires : goal.form_laid-laid-requires

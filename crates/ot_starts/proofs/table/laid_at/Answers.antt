@@ -12,8 +12,7 @@ use Rattle.ot_starts.proofs.table.laid_at.Goals as goal
 -- what is kept of the same goal stands for it but for the start
 pub returns-in-Some-clause-opens : goal.returns-in-Some-clause-opens
 returns-in-Some-clause-opens c =
-    let f = function_of c.args.rules.now in
-    c.in-Some.ensures.start f (subst (λ (kept : List Kept). All (IsKeptStart f) kept) (sym c.deref.ensures.value) c.requires.starts)
+    c.in-Some.ensures.start (function_of c.args.rules.now) c.requires.starts
 
 -- and what is kept from now on does so too
 pub returns-clause-opens : goal.returns-clause-opens

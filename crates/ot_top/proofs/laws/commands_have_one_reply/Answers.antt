@@ -1,5 +1,5 @@
 use Rattle.ot_judge.specs.Refusals.{IsJudgement}
-use Rattle.ot_least.specs.Judgements.{IsLowJudgement}
+use Rattle.ot_bound.specs.Judgements.{IsLowJudgement}
 use Rattle.ot_replies.specs.declared.reply.Reply.TheVariants.{Accepted}
 use Rattle.ot_commands.specs.Bound.{at_least}
 use Rattle.ot_commands.specs.Hub.{IsReplyToHub}
@@ -11,6 +11,7 @@ use Rattle.ot_top.proofs.OneJudgement.{both_replied_once}
 use Rattle.ot_top.proofs.OneShortest.{certified_replied_once, least_replied_once}
 use Rattle.ot_top.proofs.Reversed.{reverse_replied_once}
 use Rattle.ot_top.proofs.OneOutcome.{file_replied_once, integrate_replied_once}
+use Rattle.ot_top.proofs.Templated.{template_replied_once}
 use Rattle.ot_top.proofs.OneVerdict.{prove_replied_once}
 use Rattle.ot_top.proofs.laws.commands_have_one_reply.Goals as goal
 
@@ -78,6 +79,9 @@ pub returns-clause-prove : goal.returns-clause-prove
 returns-clause-prove c =
     λ holds level budget name bytes one other told first second.
     prove_replied_once c.obligations_have_one_question_list.ensures.one holds level budget name bytes one other told first second
+
+pub returns-clause-template : goal.returns-clause-template
+returns-clause-template c = λ holds level head one other first second. template_replied_once holds level head one other first second
 
 pub returns-clause-drill : goal.returns-clause-drill
 returns-clause-drill c =

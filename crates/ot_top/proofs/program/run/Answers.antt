@@ -1,12 +1,13 @@
 -- What a reply that was written shows, by its status.
-use Rattle.std.proofs.Common.{◌≡◌, map}
+use Rattle.std.proofs.Common.{◌≡◌, ℕ, ◌++◌, List, map}
 use Rattle.std.specs.Prelude.{string_bytes}
-use Rattle.std.specs.Io.KnownBytes.{append_known}
 use Rattle.ot_top.proofs.Bounded.{bounded, sought}
 use Rattle.ot_top.proofs.Confirmed.{confirmed_level}
+use Rattle.ot_top.proofs.Followed.{followed}
 use Rattle.ot_top.proofs.Proving.{broken}
 use Rattle.ot_top.proofs.Showing.{has_level}
 use Rattle.ot_top.proofs.Shows.{reply_known, shows}
+use Rattle.ot_top.proofs.Templated.{templated}
 use Rattle.ot_top.proofs.Told.{named, whole}
 use Rattle.ot_top.proofs.program.run.Goals as goal
 
@@ -15,11 +16,13 @@ pub returns-clause-shows : goal.returns-clause-shows
 returns-clause-shows g c =
     λ holds known.
     let words = map string_bytes c.args.words.now in
+    let is_written : List ℕ → Type 0 =
+    λ text. g.S.Sink.took c.write_answer.new.out ≡ g.S.Sink.took c.args.out.now ++ text in
     let laws = c.certificates_show_the_properties.ensures in
     let confirms = c.proofs_show_the_properties.ensures in
     let grammar = c.what_is_read_is_in_the_grammar.ensures in
     let counters = c.failing_ends_have_counterexamples.ensures in
-    shows words holds (λ text. g.S.Sink.written c.write_answer.new.out ≡ append_known (g.S.Sink.written c.args.out.now) text) c.write_answer.result
+    shows words holds is_written c.write_answer.result
     (λ of_a_reply.
     let told = c.write_answer.ensures.replied of_a_reply.0 of_a_reply.1 of_a_reply.2 in
     let reply = reply_known words (g.H.Shelf.holds c.args.shelf.now) holds (g.H.Shelf.reads c.args.shelf.now)
@@ -27,15 +30,16 @@ returns-clause-shows g c =
     (told.0, reply.0, reply.1, told.4, told.5)) (has_level laws.tp1 laws.tp2 laws.one_outcome)
     (confirmed_level confirms.tp1 confirms.tp2 confirms.one_outcome) grammar.text grammar.valid
     c.texts_of_functions_are_read.ensures.read c.bytes_have_one_judgement.ensures
-    c.plans_have_one_question_list.ensures.one
-    (λ e r. broken grammar.text grammar.valid counters.broken counters.by_the_cause c.failing_triples_show_tp1.ensures e words holds r
-    (λ text. g.S.Sink.written c.write_answer.new.out ≡ append_known (g.S.Sink.written c.args.out.now) text))
+    c.plain_functions_lack_a_property.ensures c.plans_have_one_question_list.ensures.one
+    (templated (λ head. (c.the_test_decides_the_fact.ensures head).0) (λ head. (c.the_test_decides_the_fact.ensures head).1)
+    (λ head is t keeps. c.plain_text_has_no_transformation.ensures head t is keeps) c.templates_have_what_can_be_had.ensures.tp1
+    c.templates_have_what_can_be_had.ensures.tp2 c.both_properties_give_one_outcome.ensures grammar.text words holds c.write_answer.result is_written)
+    (λ e r. broken grammar.text grammar.valid counters.broken counters.by_the_cause c.failing_triples_show_tp1.ensures e words holds r is_written)
     (λ r. bounded grammar.text grammar.valid c.texts_of_functions_are_read.ensures.read c.low_certificates_show_shorter_documents.ensures
-    c.bytes_have_one_low_judgement.ensures words holds r
-    (λ text. g.S.Sink.written c.write_answer.new.out ≡ append_known (g.S.Sink.written c.args.out.now) text))
+    c.bytes_have_one_low_judgement.ensures words holds r is_written)
     (λ r. sought grammar.text grammar.valid c.texts_of_functions_are_read.ensures.read c.low_certificates_show_shorter_documents.ensures
-    c.bytes_have_one_low_judgement.ensures counters.broken counters.by_the_cause words holds r
-    (λ text. g.S.Sink.written c.write_answer.new.out ≡ append_known (g.S.Sink.written c.args.out.now) text))
+    c.bytes_have_one_low_judgement.ensures counters.broken counters.by_the_cause c.first_documents_are_never_too_long.ensures words holds r is_written)
+    (λ r. followed grammar.text c.hubs_follow_their_logs.ensures.log c.hubs_follow_their_logs.ensures.clients words holds r is_written)
 
 pub returns-clause-answered : goal.returns-clause-answered
 returns-clause-answered g c =

@@ -1,3 +1,4 @@
+use Rattle.proof_search.proofs.Counting.{none_asked, HasAsked-trans}
 use Rattle.proof_search.proofs.Keeping.{KeepsStarts-refl, KeepsStarts-trans}
 use Rattle.proof_search.proofs.seeking.take_turns.Goals as goal
 
@@ -6,6 +7,7 @@ turns-init g c = record {
   within = c.requires.within;
   own = c.requires.own;
   same = KeepsStarts-refl (g.A.Asker.is_own c.args.asker.now) (g.A.Starter.starts c.args.asker.now);
+  asked = none_asked;
 }
 
 pub step-requires-clause-within : goal.step-requires-clause-within
@@ -19,6 +21,7 @@ turns-preserved g c = record {
   within = c.in_ok-ending.ensures.within;
   own = c.in_ok-ending.ensures.own;
   same = KeepsStarts-trans c.turns.invariant.same c.step.ensures.same;
+  asked = HasAsked-trans c.turns.invariant.asked (rw c.in_default.is at c.in_ok-ending.ensures.asked);
 }
 
 pub returns-in_err-ending-clause-same : goal.returns-in_err-ending-clause-same

@@ -29,14 +29,14 @@ number-requires g c =
     c.requires.levels c.in-Some.ensures.items).0
 
 pub returns-in_err-number-in-Some-clause-same : goal.returns-in_err-number-in-Some-clause-same
-returns-in_err-number-in-Some-clause-same g c = c.number.ensures
+returns-in_err-number-in-Some-clause-same g c = c.number.ensures.same
 
 pub returns-in_ok-number-in-Some-clause-asked : goal.returns-in_ok-number-in-Some-clause-asked
 returns-in_ok-number-in-Some-clause-asked g c =
     on_ok_weaker c.end_level.result (λ (added : AddsLemma c.in-Some.level.node _ c.end_level.new.search). added.asked) c.end_level.ensures.adds
 
 pub returns-in_ok-number-in-Some-clause-same : goal.returns-in_ok-number-in-Some-clause-same
-returns-in_ok-number-in-Some-clause-same g c = c.number.ensures
+returns-in_ok-number-in-Some-clause-same g c = c.number.ensures.same
 
 pub returns-in_ok-number-in-Some-clause-own : goal.returns-in_ok-number-in-Some-clause-own
 returns-in_ok-number-in-Some-clause-own g c =
@@ -47,7 +47,7 @@ returns-in_ok-number-in-Some-clause-own g c =
     let before = record c.args.search.now { levels = c.pop.new.self } in
     on_ok_weaker c.end_level.result
     (own_lemma (g.A.Asker.is_own c.number.new.self) before c.end_level.new.search
-    (search_kept c.number.ensures before
+    (search_kept c.number.ensures.same before
     (record { at = own.at; waiting = own.waiting; levels = popped.1; lemmas = own.lemmas }))
-    c.in-Some.level.node ((c.number.ensures.own c.in-Some.level.node).0 popped.0))
+    c.in-Some.level.node ((c.number.ensures.same.own c.in-Some.level.node).0 popped.0))
     c.end_level.ensures.adds

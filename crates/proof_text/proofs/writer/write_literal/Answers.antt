@@ -1,4 +1,4 @@
-use Rattle.std.proofs.Common.{◌++◌, ℕ, ℤ, FitsSigned, List, OnErr, Result, Some, append_assoc, of_z, rules, subst, to_z, to_z-of_z, w32}
+use Rattle.std.proofs.Common.{◌++◌, ℕ, ℤ, FitsSigned, List, OnErr, Result, append_assoc, of_z, rules, subst, to_z, to_z-of_z, w32}
 use Rattle.ot_outside.specs.Whole.{AppendsFront}
 use Rattle.proof_text.specs.Spelling.{literal_name_text, offset_text}
 use Rattle.proof_text.proofs.WriterLemmas.{both_pieces, error_behind, error_in_first, error_in_next}
@@ -7,10 +7,10 @@ use Rattle.proof_text.proofs.writer.write_literal.Goals as goal
 -- what is told of a number that fits is told of it
 told :
     {T E : Type 0} (r : Result T E) (before after : List ℕ) (k : ℤ) → FitsSigned w32 k
-    → OnErr r (AppendsFront (Some before) (offset_text (to_z w32 (of_z w32 k))) (Some after))
-    → OnErr r (AppendsFront (Some before) (offset_text k) (Some after))
+    → OnErr r (AppendsFront before (offset_text (to_z w32 (of_z w32 k))) after)
+    → OnErr r (AppendsFront before (offset_text k) after)
 told r before after k fits h =
-    subst (λ (x : ℤ). OnErr r (AppendsFront (Some before) (offset_text x) (Some after))) (to_z-of_z fits) h
+    subst (λ (x : ℤ). OnErr r (AppendsFront before (offset_text x) after)) (to_z-of_z fits) h
 
 pub returns-in_err-write_name-clause-err : goal.returns-in_err-write_name-clause-err
 returns-in_err-write_name-clause-err c =

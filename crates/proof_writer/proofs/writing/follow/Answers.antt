@@ -1,5 +1,7 @@
-use Rattle.std.proofs.lemmas.Result.{on_ok_weaker}
+use Rattle.std.proofs.lemmas.Result.{on_ok_weaker, IfOk-weaker}
 use Rattle.proof_writer.proofs.Walking.{nodes_kept, own_others, own_parts}
+use Rattle.proof_writer.specs.Counting.{TakesNone}
+use Rattle.proof_writer.proofs.Counting.{step_tells_none}
 use Rattle.proof_writer.proofs.writing.follow.Goals as goal
 
 pub returns-in_err-lit-clause-same : goal.returns-in_err-lit-clause-same
@@ -36,3 +38,8 @@ returns-in-Fails-clause-nodes g c = nodes_kept c.follow.ensures.same c.args.walk
 
 pub returns-in-Fails-clause-same : goal.returns-in-Fails-clause-same
 returns-in-Fails-clause-same g c = c.follow.ensures.same
+
+pub returns-in-Holds-clause-taken : goal.returns-in-Holds-clause-taken
+returns-in-Holds-clause-taken g c =
+    IfOk-weaker c.hold.result (λ step. TakesNone step c.args.walk.now.left c.hold.new.self.left) _
+    (step_tells_none (rw c.in-Holds.is at c.in_ok-lit.ensures.told)) c.hold.ensures.left

@@ -1,6 +1,9 @@
-use Rattle.std.proofs.lemmas.Result.{on_ok_weaker}
+use Rattle.std.proofs.lemmas.Result.{on_ok_weaker, IfOk-weaker}
 use Rattle.proof_search.proofs.Keeping.{KeepsStarts-refl}
 use Rattle.proof_writer.proofs.Walking.{own_others, present_own}
+use Rattle.std.proofs.Common.{refl}
+use Rattle.proof_writer.specs.Counting.{TakesNone}
+use Rattle.proof_writer.proofs.Counting.{step_takes_none}
 use Rattle.proof_writer.proofs.writing.step.Goals as goal
 
 pub is_start-requires : goal.is_start-requires
@@ -44,3 +47,8 @@ returns-clause-nodes g c = c.use_lemma.ensures.nodes
 
 pub returns-clause-same : goal.returns-clause-same
 returns-clause-same g c = c.use_lemma.ensures.same
+
+pub returns-in_default-clause-taken : goal.returns-in_default-clause-taken
+returns-in_default-clause-taken g c =
+    IfOk-weaker c.next.result (λ step. TakesNone step c.args.walk.now.left c.next.new.self.left) _
+    (step_takes_none refl) c.next.ensures.left

@@ -1,6 +1,8 @@
-use Rattle.std.proofs.lemmas.Result.{on_ok_weaker}
+use Rattle.std.proofs.lemmas.Result.{on_ok_weaker, IfOk-weaker}
 use Rattle.proof_search.proofs.Keeping.{KeepsStarts-trans}
 use Rattle.proof_writer.proofs.Walking.{lemmas_kept, nodes_kept, own_others}
+use Rattle.proof_writer.specs.Counting.{TakesNone}
+use Rattle.proof_writer.proofs.Counting.{step_takes_none}
 use Rattle.proof_writer.proofs.writing.use_lemma.Goals as goal
 
 pub returns-in-Some-clause-front : goal.returns-in-Some-clause-front
@@ -32,3 +34,8 @@ returns-clause-nodes g c = c.begin_lemma.ensures.nodes
 
 pub returns-clause-same : goal.returns-clause-same
 returns-clause-same g c = KeepsStarts-trans c.serving.ensures.same c.begin_lemma.ensures.same
+
+pub returns-in-Some-clause-taken : goal.returns-in-Some-clause-taken
+returns-in-Some-clause-taken g c =
+    IfOk-weaker c.cite.result (λ step. TakesNone step c.args.walk.now.left c.cite.new.self.left) _
+    (step_takes_none c.serving.ensures.told) c.cite.ensures.left

@@ -126,6 +126,7 @@ invariant_of-self-in-Ok c =
     record {
       small = s.small;
       kept = rw items (IsHubKept-down f s.made s.server all s.kept place (inside m) to.client same.kept same.edits same.messages);
+      followed = s.followed;
       counted = rw items (AreCountedEdits-same s.server.log all s.counted c.args.client (there m) to.client same.edits same.messages);
       in_step = λ tp1 chars. rw items (∥∥₁_map {B = AreInStep f s.first s.server (slice_set all place to.client)} (s.in_step tp1 chars) (λ k.
           led_to (λ (client : Client). AreInStep f s.first s.server (slice_set all place client)) (client_step f c.args.client entry one) to.client
@@ -159,7 +160,7 @@ invariant_of-self-in-Err c =
     (client_step (function_of s.rules) (c.args.client - 1 + 1) c.in-Some.entry (client_at c.deref_mut.result.now (c.args.client - 1))))
     c.in-Err.refusal c.in-Err.ensures ∙ c.deref_mut.ensures.value in
     let items : (with_items s.clients new).items ≡ s.clients.items = items_same s.clients new same in
-    record { small = s.small; kept = rw items s.kept; counted = rw items s.counted; in_step = rw items s.in_step }
+    record { small = s.small; kept = rw items s.kept; followed = s.followed; counted = rw items s.counted; in_step = rw items s.in_step }
 
 -- the client's step was refused, and so was that of the hub
 pub returns-in-Err-clause-moved : goal.returns-in-Err-clause-moved

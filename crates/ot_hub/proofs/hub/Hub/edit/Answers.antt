@@ -51,6 +51,7 @@ invariant_of-self-in-Ok c =
           c.enabled_operations_are_near.ensures.wider c.enabled_operations_are_near.ensures.enabled c.documents_grow_by_one_cell_at_most.ensures
           f.head.mode c.args.op (CanEdit-kept f s.made s.server all s.kept place inside c.args.op enabled few)
           declared few);
+      followed = s.followed;
       counted = rw items (AreCountedEdits-set s.server.log all s.counted c.args.client there (edited f.head.mode c.args.op one)
           (omega (arith, length-append one.messages (record { place = one.received; op = c.args.op } ∷ []))));
       in_step = λ tp1 chars. rw items (∥∥₁_map (s.in_step tp1 chars) (λ k. AreInStep-edited f (c.functions_keep_forms.ensures f)
@@ -129,7 +130,7 @@ pub invariant_of-self-in-Err : goal.invariant_of-self-in-Err
 invariant_of-self-in-Err c =
     let s = c.args.self.now in
     let items = items_same s.clients c.edit_at.new.clients (c.in-Err.ensures.err ∙ c.deref_mut.ensures.value) in
-    record { small = s.small; kept = rw items s.kept; counted = rw items s.counted; in_step = rw items s.in_step }
+    record { small = s.small; kept = rw items s.kept; followed = s.followed; counted = rw items s.counted; in_step = rw items s.in_step }
 
 pub returns-in-Err-clause-edited : goal.returns-in-Err-clause-edited
 returns-in-Err-clause-edited c =

@@ -8,6 +8,10 @@ invariant_of-result-clause-kept c =
     rw (c.in_ok-fresh_server.ensures, c.in_ok-fresh_clients.ensures)
     (IsHubKept-begun c.args.doc.now c.args.clients (function_of c.in_ok-try_clone.field-0) c.requires.clients.1 c.requires.cells)
 
+pub invariant_of-result-clause-followed : goal.invariant_of-result-clause-followed
+invariant_of-result-clause-followed c =
+    rw (c.in_ok-try_clone-2.ensures, c.in_ok-fresh_server.ensures) refl
+
 pub invariant_of-result-clause-counted : goal.invariant_of-result-clause-counted
 invariant_of-result-clause-counted c =
     rw (c.in_ok-fresh_server.ensures, c.in_ok-fresh_clients.ensures) (AreCountedEdits-begun c.args.doc.now c.args.clients)

@@ -10,7 +10,8 @@ use Rattle.ot_hub.specs.declared.client.Client.{Client}
 use Rattle.ot_hub.specs.declared.placed.PlacedOp.{PlacedOp}
 use Rattle.ot_hub.specs.declared.placed.Entry.{Entry}
 use Rattle.ot_hub.specs.declared.answer.Move.TheVariants as moves
-use Rattle.ot_hub.specs.InStep.{AreInStep, AreCountedEdits}
+use Rattle.ot_hub.specs.Chains.{document_after_all}
+use Rattle.ot_hub.specs.InStep.{AreInStep, AreCountedEdits, operations}
 use Rattle.ot_hub.specs.declared.server.Server.{Server}
 use Rattle.ot_hub.specs.Clients.{client_at, sent}
 use Rattle.ot_hub.specs.declared.limits.TheConstants.{MAX_EDITS}
@@ -24,6 +25,7 @@ use Rattle.ot_hub.proofs.Near.{KeepsNear, keeps_near}
 use Rattle.ot_hub.specs.Views.{HubData, hub_view_of, IsClient, HasMoved}
 use Rattle.ot_hub.proofs.Stepping.{up_with-first, up_with-none, some_first, HasMoved-refused, refused-same}
 use Rattle.ot_hub.proofs.Acting.{done-not_stuck, no_site-not_stuck, refusal-stuck, inside_of, client_read, items_set}
+use Rattle.ot_hub.proofs.Sending.{follows-after}
 use Rattle.ot_hub.proofs.Together.{led_to, not_stuck, AreCountedEdits-up, AreInStep-up}
 use Rattle.ot_hub.proofs.hub.Hub.up.Goals.{In-Some, After-sent_at}
 use Rattle.ot_hub.proofs.hub.Hub.up.Goals as goal
@@ -114,7 +116,7 @@ invariant_of-self-in-Err c =
     let same : new ≡ s.server =
     refused-same s.server new (server_step (function_of s.rules) c.args.client c.in-Some.message s.server)
     c.in-Err.refusal c.in-Err.ensures in
-    record { small = s.small; kept = rw same s.kept; counted = rw same s.counted; in_step = rw same s.in_step }
+    record { small = s.small; kept = rw same s.kept; followed = rw same s.followed; counted = rw same s.counted; in_step = rw same s.in_step }
 
 pub returns-in-Ok-clause-never_stuck : goal.returns-in-Ok-clause-never_stuck
 returns-in-Ok-clause-never_stuck c tp1 chars = done-not_stuck _
@@ -151,6 +153,8 @@ invariant_of-self c =
     record {
       small = s.small;
       kept = rw items (IsHubKept-up f has.wider s.made s.server new all s.kept place (inside m) (some m) new_kept longer sides);
+      followed = subst (λ (server : Server). server.doc ≡ document_after_all mode (operations server.log) s.first) went.new_is
+          (follows-after mode s.first c.args.client went.it s.server s.followed);
       counted = rw items (subst (λ (log : List Entry). AreCountedEdits log (slice_set all place (sent one)))
           (ap (λ (server : Server). server.log) went.new_is)
           (AreCountedEdits-up s.server.log all s.counted c.args.client (there m) went.it.op (some m)));

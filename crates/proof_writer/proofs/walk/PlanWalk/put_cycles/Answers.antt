@@ -8,6 +8,7 @@ literals-preserved g c =
       front = ExtendsText-trans c.args.out.now.items c.literals.out.items c.put_cycle.new.out.items known.front c.put_cycle.ensures;
       present = known.present;
       waiting = known.waiting;
+      left = known.left;
     }
 
 pub returns-in_err-put_cycle-clause-front : goal.returns-in_err-put_cycle-clause-front

@@ -7,4 +7,5 @@ invariant-literals g l = record {
   front : ExtendsText l.fn.out.items l.out.items;
   present : l.self.present ≡ l.fn.self.present;
   waiting : l.self.waiting.items ≡ l.fn.self.waiting.items;
+  left : l.self.left ≡ l.fn.self.left;
 }

@@ -1,0 +1,9 @@
+mod FirstBytes
+mod Fronts
+mod HeaderFits
+mod KeptFeeds
+mod LowRun
+mod LowShows
+mod OneHeader
+mod OneLow
+mod PartsListed

@@ -1,0 +1,5 @@
+pub mod Instances
+pub mod Forms
+pub mod Alone
+pub mod Theorem
+pub mod Tests

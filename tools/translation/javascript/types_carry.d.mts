@@ -1,0 +1,3 @@
+
+/** Two operations have no case, or one has no place in the document. */
+export class Stuck extends Error {}
