@@ -24,7 +24,7 @@ drawn by.
 | mixed | cut by p1 - p2 beside the characters, where both have one, and the sites in one guard |
 | deep | cut by p1 - p2 in guards that nest 32 deep |
 | pinned | points that two comparisons pin, the results told by p2; the usual cases stand behind them |
-| random | cut by guards of up to 16 atoms that are drawn, some results at points told by p2 |
+| random | cut by guards of up to 16 atoms that are drawn, each at few distances, some results at points told by p2 |
 """
 import os
 import random
@@ -258,15 +258,23 @@ def drawn_guard(draw, both, atoms):
     return f"{'not ' * (draw.random() < 0.2)}({left} {draw.choice(['and', 'or'])} {right})"
 
 
+def window(sign, begun, end):
+    """The distances from one on, up to before another one, below or above."""
+    if sign < 0:
+        return f"p1 <= p2{plus(-begun)} and p2 < p1{plus(end)}"
+    return f"p2 <= p1{plus(-begun)} and p1 < p2{plus(end)}"
+
+
 def random_block(draw, kinds, number, block, cases):
+    """Guards of up to 16 atoms, each of which holds at few distances, so that the later cases are taken too."""
     both, lines = "del" not in kinds, []
     for _ in range(max(cases - len(block.tie) - 2, 0)):
-        distance, guard = draw.choice([-1, 1]) * draw.randint(1, 98), drawn_guard(draw, both, draw.randint(1, 14))
-        if draw.random() < 0.2:
-            lines.append(at_point(block, f"p1 = p2{plus(distance)} and {guard}", distance))
+        sign, begun, guard = draw.choice([-1, 1]), draw.randint(1, 98), drawn_guard(draw, both, draw.randint(1, 14))
+        if draw.random() < 0.1:
+            lines.append(at_point(block, f"p1 = p2{plus(sign * begun)} and {guard}", sign * begun))
         else:
-            half, result = draw.choice([("p1 < p2", block.front), ("p2 < p1", block.behind)])
-            lines.append(f"case {half} and {guard} : {result}")
+            result = block.front if sign < 0 else block.behind
+            lines.append(f"case {window(sign, begun, min(begun + draw.randint(1, 12), 99))} and {guard} : {result}")
     return lines + usual(block)
 
 

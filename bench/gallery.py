@@ -102,23 +102,33 @@ class Entry:
         self.name, text = name, text_of(name)
         self.function = brute.read_function(text)
         self.what, self.said = comments(text)
+        self.source = self.said["From"].rstrip(".")
         path = path_of(name)
-        self.status, answer = run("prove", path)
-        self.counts = questions(path, "--tp1"), questions(path)
-        self.tp1_status, tp1_answer = run("prove", "--tp1", path)
-        self.certificate = answer if self.status == 0 else tp1_answer if self.tp1_status == 0 else None
+        # The highest level that it has: its name, how many questions decide it, and the size of the certificate.
+        self.proved = proved(path, "tp2") or proved(path, "tp1", "--tp1")
         status, least = run("least", path)
         self.broken = Counterexample(least) if status == 1 else None
         self.audit = audit_word(run("audit", path)[1])
 
+    def link(self):
+        return f"[`{self.name}`]({self.name}.ot)"
+
+    def is_slip(self):
+        return self.name.startswith("slip-")
+
     def row(self):
-        tp2 = "yes" if self.status == 0 else "no" if self.tp1_status == 0 else "not asked"
-        size = f"{len(self.certificate):,} (tp{2 - self.status})" if self.certificate else ""
-        cause, cells = (self.broken.cause, f"{self.broken.cells}") if self.broken else ("", "")
-        first, second = (f"{count:,}" for count in self.counts)
-        name, source = f"[`{self.name}`]({self.name}.ot)", self.said["From"].rstrip(".")
-        properties = ["no", tp2, first, ""] if self.tp1_status else ["yes", tp2, first, second]
-        return [name, source, *properties, size, cause, cells, self.audit]
+        level, count, size = self.proved
+        return [self.link(), self.source, level, f"{count:,}", f"{size:,}"]
+
+    def sentence(self):
+        """What is wrong with one that is refuted, with its authors where it was published."""
+        authors = f" ({self.source})" if re.search(r"\b(19|20)\d\d\b", self.source) else ""
+        return f"- {self.link()}{authors} lacks {self.broken.level.upper()}: {self.broken.cause}. {self.what}"
+
+
+def proved(path, level, *options):
+    status, certificate = run("prove", *options, path)
+    return (level, questions(path, *options), len(certificate)) if status == 0 else None
 
 
 def audit_word(text):
@@ -190,13 +200,12 @@ def diagram(entry):
     for (_, form, document), wanted in zip(ways, (broken.left, broken.right)):
         assert result_text(broken, form, document) == wanted, (entry.name, form, document, wanted)
     columns = [table_of(steps) for steps, _, _ in ways]
-    heads = [f"first site {a.site}'s {shown(a)}", f"first site {b.site}'s {shown(b)}"]
-    if a.site == b.site:
-        heads = [f"first {shown(a)}", f"first {shown(b)}"]
+    is_said = rest or a.site == b.site  # else the heads say who makes what
+    heads = [f"first {shown(op)}" if is_said else f"first site {op.site}'s {shown(op)}" for op in (a, b)]
     width = max(map(len, columns[0] + heads[:1])) + 4
     height = max(map(len, columns))
     left, right = ([head] + column + [""] * (height - len(column)) for head, column in zip(heads, columns))
-    made = [f"site {op.site} makes {shown(op)}" for op in broken.operations]
+    made = [f"site {op.site} makes {shown(op)}" for op in broken.operations if is_said]
     lines = [f"{'all' if rest else 'both'} begin with {document_text(broken.document)}", *made, ""]
     lines += [f"{one:{width}}{other}".rstrip() for one, other in zip(left, right)]
     return "\n".join(lines)
@@ -207,20 +216,49 @@ def table_of(steps):
     return [f"  {text:{width}}  {document}".rstrip() for text, document in steps]
 
 
-HEADS = ["function", "from", "TP1", "TP2", "questions, tp1", "questions, both", "bytes", "cause", "cells", "audit"]
+HEADS = ["function", "from", "level", "questions", "bytes"]
+AUDITS = {"open": "Some operations have no case in", "a case never": "A case is never taken in"}
+
+
+def audits(entries):
+    """What `audit` finds, by functions: of all others each case is taken and each block total."""
+    for word, meaning in AUDITS.items():
+        names = ", ".join(f"`{entry.name}`" for entry in entries if word in entry.audit)
+        if names:
+            yield f"- {meaning} {names}."
+
+
+def broken_alike(entries):
+    """The diagrams, each with the functions that break so, in the order of the first of them."""
+    found = {}
+    for entry in entries:
+        if entry.broken:
+            found.setdefault(diagram(entry), []).append(entry)
+    return found.items()
+
+
+def wrapped(item):
+    return textwrap.wrap(item, 120, subsequent_indent="  ", break_on_hyphens=False)
 
 
 def generated():
     with concurrent.futures.ThreadPoolExecutor(4) as pool:
         entries = list(pool.map(Entry, names()))
     lines = ["| " + " | ".join(HEADS) + " |", "|" + "---|" * len(HEADS)]
-    lines += ["| " + " | ".join(entry.row()) + " |" for entry in entries]
+    lines += ["| " + " | ".join(entry.row()) + " |" for entry in entries if entry.proved]
+    lines += ["", "`otp audit` finds besides:", ""]
+    lines += [line for item in audits(entries) for line in wrapped(item)]
     lines += ["", "## What breaks the refuted ones", ""]
-    for entry in entries:
-        if entry.broken:
-            told = f"**`{entry.name}`** lacks {entry.broken.level.upper()}: {entry.broken.cause}. {entry.what}"
-            lines += [*textwrap.wrap(told, 120, break_on_hyphens=False), "", "```text", diagram(entry), "```", ""]
-    return "\n".join(lines)
+    slips = []
+    for shape, broken in broken_alike(entries):
+        if all(map(Entry.is_slip, broken)):
+            slips += broken
+            continue
+        lines += [line for entry in broken for line in wrapped(entry.sentence())]
+        lines += ["", "```text", shape, "```", ""]
+    lines += ["The other slips, whose documents `otp least` prints:", ""]
+    lines += [line for entry in slips for line in wrapped(entry.sentence())]
+    return "\n".join(lines) + "\n"
 
 
 def main():

@@ -4,10 +4,10 @@
 usage: gate.py [--page] [WORD..]      (`rt ci WORD..`; with `--anew` what earlier runs kept is proved again)
 
 What the gate prints is passed on. At the end come the time on the clock, the processor time of the whole run (user and
-system, of all that it started), and the table of docs/CONTRIBUTING.md: the proof of each crate, with what is built of
-it, that of its tests, and its must-fail edits with the proof that they begin with. Seconds that belong to no crate, such
-as those that the gate itself spends on copies and sums of files, stand below the table. With `--page` the table is put
-in place of the one on the page, if the gate passed. The status is the gate's.
+system, of all that it started), and a table: the proof of each crate, with what is built of it, that of its tests, and
+its must-fail edits with the proof that they begin with. Seconds that belong to no crate, such as those that the gate
+itself spends on copies and sums of files, stand below the table. With `--page` it writes docs/GATE.md anew with them, if
+the gate passed. The status is the gate's.
 
 Each check has one job, as in `.ci/run` (RT_JOBS=N in the environment says how many run side by side).
 
@@ -27,7 +27,20 @@ sys.path.insert(0, os.path.join(TOP, "tools"))
 
 import toolchain  # noqa: E402
 
-PAGE = os.path.join(TOP, "docs/CONTRIBUTING.md")
+PAGE = os.path.join(TOP, "docs/GATE.md")
+# The page, which `checks/pages` looks for a row of each crate on.
+TEXT = """# What the gate takes
+
+`bench/gate.py --anew --page` writes this page: one run of the gate from nothing.
+
+{times}
+
+Processor seconds by crate, of its proof, its tests and its must-fail edits:
+
+{table}
+
+{rest}
+"""
 HEAD = "| crate | proof | tests | edits |"
 TICKS = os.sysconf("SC_CLK_TCK")
 PARTS = ("proof", "tests", "edits")
@@ -125,17 +138,6 @@ def table(seconds):
     return "\n".join([HEAD, "|---|---|---|---|", *rows, row("all", whole)])
 
 
-def put_on_page(lines):
-    """Puts the table in place of the one on the page."""
-    with open(PAGE, encoding="utf-8") as page:
-        text = page.read()
-    text, count = re.subn(re.escape(HEAD) + r"(\n\|.*)+", lambda _: lines, text)
-    if count != 1:
-        sys.exit(f"gate: {PAGE} has {count} tables of this kind, and not one")
-    with open(PAGE, "w", encoding="utf-8") as page:
-        page.write(text)
-
-
 def minutes(seconds):
     return f"{int(seconds) // 60} min {int(seconds) % 60:02} s"
 
@@ -152,12 +154,14 @@ def main():
     watch.join()
     used = resource.getrusage(resource.RUSAGE_CHILDREN)
     whole = used.ru_utime + used.ru_stime
-    print(f"\nThe gate took {minutes(time.monotonic() - start)} on {len(os.sched_getaffinity(0))} processors, and "
-          f"{whole / 60:.1f} processor minutes (user {used.ru_utime / 60:.1f}, system {used.ru_stime / 60:.1f}).\n")
-    print(table(book.seconds))
-    print(f"\nNot booked on a crate: {whole - sum(book.seconds.values()):.0f} s.")
+    times = (f"The gate took {minutes(time.monotonic() - start)} on {len(os.sched_getaffinity(0))} processors, and "
+             f"{whole / 60:.1f} processor minutes.")
+    rest = f"Not booked on a crate: {whole - sum(book.seconds.values()):.0f} s."
+    print(f"\n{times} User {used.ru_utime / 60:.1f}, system {used.ru_stime / 60:.1f}.\n")
+    print(f"{table(book.seconds)}\n\n{rest}")
     if "--page" in sys.argv and status == 0:
-        put_on_page(table(book.seconds))
+        with open(PAGE, "w", encoding="utf-8") as page:
+            page.write(TEXT.format(times=times, table=table(book.seconds), rest=rest))
     sys.exit(status)
 
 

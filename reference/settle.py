@@ -114,7 +114,8 @@ class Lemmas:
         self.scouts.setdefault(key_of(self.count, lemma.results), []).append(lemma)
 
     def scouts_of(self, results):
-        return self.scouts.get(key_of(self.count, results), [])
+        """The first lemmas of scouts of a start."""
+        return self.scouts.get(key_of(self.count, results), [])[:NEWEST]
 
     def of(self, results):
         """The newest lemmas of a start, newest first, but for those of too many literals."""

@@ -1,6 +1,6 @@
 # Completions of otp for bash: source this file.
 _otp() {
-    local commands="prove settle check least bound confirm audit same reverse integrate replay hub template drill"
+    local commands="prove settle explain check least bound confirm audit same reverse integrate replay hub trace template drill"
     local word=${COMP_WORDS[COMP_CWORD]} command=${COMP_WORDS[1]} ending=
     COMPREPLY=()
     if [ "$COMP_CWORD" -eq 1 ]; then
@@ -10,6 +10,8 @@ _otp() {
     case $command:$word in
         help:*) [ "$COMP_CWORD" -eq 2 ] && COMPREPLY=($(compgen -W "$commands" -- "$word")); return ;;
         prove:-*|settle:-*) COMPREPLY=($(compgen -W "--tp1 --budget" -- "$word")); return ;;
+        explain:-*) COMPREPLY=($(compgen -W "--tp1" -- "$word")); return ;;
+        trace:-*) COMPREPLY=($(compgen -W "--session --hub" -- "$word")); return ;;
         least:-*) COMPREPLY=($(compgen -W "--cert" -- "$word")); return ;;
         template:-*) COMPREPLY=($(compgen -W "--tp1 --sites-differ --chars-differ" -- "$word")); return ;;
         template:*) COMPREPLY=($(compgen -W "plain tomb ins del upd" -- "$word")); return ;;

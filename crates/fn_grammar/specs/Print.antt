@@ -71,6 +71,10 @@ result_tokens kind results.Nop = Known words.Nop ∷ []
 abbrev pub case_tokens : Kind → GuardedCase → List Token
 case_tokens kind c = Known words.Case ∷ guard_tokens Loose c.guard ++ Colon ∷ result_tokens kind c.res ++ LineEnd ∷ []
 
+-- a case in its line, whose first operation is of this kind, without the word `case` and the line's end
+abbrev pub clause_tokens : Kind → GuardedCase → List Token
+clause_tokens kind c = guard_tokens Loose c.guard ++ Colon ∷ result_tokens kind c.res
+
 -- the lines of a block
 abbrev pub block_tokens : Kind → Kind → List GuardedCase → List Token
 block_tokens first second cases =
@@ -123,3 +127,7 @@ function_tokens f =
 -- the canonical text of a function
 abbrev pub printed : Function → List ℕ
 printed f = spelled (function_tokens f)
+
+-- the canonical text of a case whose first operation is of this kind, without the word `case` and the line's end
+abbrev pub printed_case : Kind → GuardedCase → List ℕ
+printed_case kind c = spelled (clause_tokens kind c)

@@ -9,7 +9,7 @@
 mod printer;
 mod theorems;
 
-pub use printer::canonical_text;
+pub use printer::{canonical_text, case_text};
 pub use std::alloc::AllocError as NoMemory;
 pub use theorems::{
     canonical_guards_have_the_fewest_parentheses, canonical_text_lexes_back,

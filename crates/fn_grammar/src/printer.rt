@@ -1,13 +1,14 @@
 //! The canonical text of a function: first its tokens, then their bytes.
 ghost use Rattle.std.specs.Prelude.{◌≡◌, ◌≤◌, ◌<◌, ◌^◌, ◌++◌, length, map, IsTrue, IfOk, OnOk, unsigned_abs};
+ghost use Rattle.std.specs.Prelude.{option_map, slice_get};
 ghost use Rattle.std.specs.List.{All, flat_map};
 ghost use Rattle.fn_rules.specs.Formulas.{formula_of, other_side};
-ghost use Rattle.fn_rules.specs.Functions.{case_of};
+ghost use Rattle.fn_rules.specs.Functions.{case_of, cases_of, is_declared_pair};
 ghost use Rattle.fn_rules.specs.Rules.{function_of};
 ghost use Rattle.fn_rules.specs.Validity.{is_valid};
 ghost use Rattle.fn_moves.specs.Languages.{language_for};
 ghost use Rattle.fn_grammar.specs.Print.{offset_tokens, atom_tokens, guard_tokens, result_tokens, case_tokens};
-ghost use Rattle.fn_grammar.specs.Print.{block_tokens, kind_tokens};
+ghost use Rattle.fn_grammar.specs.Print.{block_tokens, clause_tokens, kind_tokens, printed_case};
 ghost use Rattle.fn_grammar.specs.Print.{declared_block, blocks_with, function_tokens, printed, head_tokens};
 ghost use Rattle.fn_grammar.specs.Print.{assumption_tokens};
 ghost use Rattle.fn_grammar.specs.Print.{first_lines};
@@ -16,7 +17,7 @@ ghost use Rattle.fn_grammar.specs.Offsets.{HasOffset, HasOffsets, HasResultOffse
 
 use crate::NoMemory;
 use fn_moves::Language;
-use fn_rules::{Atom, Case, Guard, Head, Res, Rules, Side, Sort, Tightness};
+use fn_rules::{Atom, Case, Guard, Head, Res, Rules, Side, Sort, Tightness, rules_are_valid};
 use fn_tokens::{Sign, Token, Word, spell};
 use ot_model::{KINDS, Kind, Mode};
 use std::alloc::Global;
@@ -269,4 +270,43 @@ pub fn canonical_text(alloc: Global, rules: &Rules) -> Result<Vec<u8>, NoMemory>
     let mut tokens = Vec::new(alloc);
     push_function(&mut tokens, rules)?;
     Ok(spell(alloc, &tokens)?)
+}
+
+fn push_clause(out: &mut Vec<Token>, kind: Kind, case: &Case) -> Result<(), NoMemory>
+    requires { HasCaseOffsets (case_of case.now) }
+    ensures { OnOk result (out.new.items ≡ out.old.items ++ clause_tokens kind (case_of case.now)) }
+{
+    push_guard(out, &case.guard, Tightness::Loose)?;
+    out.push(Token::Colon)?;
+    push_result(out, kind, &case.res)?;
+    Ok(())
+}
+
+fn clause_text(alloc: Global, kind: Kind, case: &Case) -> Result<Vec<u8>, NoMemory>
+    requires { HasCaseOffsets (case_of case.now) }
+    ensures { IfOk result (λ text. text.items ≡ printed_case kind (case_of case.now)) }
+{
+    let mut tokens = Vec::new(alloc);
+    push_clause(&mut tokens, kind, case)?;
+    Ok(spell(alloc, &tokens)?)
+}
+
+/// The canonical text of the case at this place of the block for two kinds, without the word `case` and the line's
+/// end. None where there is no such case.
+pub fn case_text(
+    alloc: Global,
+    rules: &Rules,
+    first: Kind,
+    second: Kind,
+    number: usize,
+) -> Result<Option<Vec<u8>>, NoMemory>
+    requires { IsTrue (is_declared_pair (function_of rules.now).head first second) }
+    ensures { IfOk result (λ text. option_map (λ t. t.items) text
+        ≡ option_map (printed_case first) (slice_get (cases_of (function_of rules.now) first second) number)) }
+{
+    rules_are_valid(rules);
+    match rules.cases(first, second).get(number) {
+        Some(case) => Ok(Some(clause_text(alloc, first, case)?)),
+        None => Ok(None),
+    }
 }

@@ -7,6 +7,7 @@ pub mod GoingOn
 pub mod Refusals
 pub mod Reader
 pub mod Made
+pub mod Wrong
 pub use Rattle.fn_rules.specs.Formulas
 pub use Rattle.fn_rules.specs.Functions
 pub use Rattle.fn_rules.specs.Rules

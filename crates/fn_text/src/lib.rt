@@ -13,6 +13,7 @@ mod reading;
 mod round_trip;
 mod stop;
 mod theorems;
+mod wrong;
 
 pub use fn_grammar::{canonical_guards_have_the_fewest_parentheses, canonical_text_lexes_back};
 pub use fn_moves::{FaultKind, TextFault};
@@ -26,3 +27,4 @@ pub use theorems::{
     canonical_texts_are_read_back, files_have_one_answer, refusals_are_final,
     texts_of_functions_are_read,
 };
+pub use wrong::{WrongToken, first_wrong};

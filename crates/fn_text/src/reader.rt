@@ -132,7 +132,7 @@ impl FunctionReader {
         chosen(alloc, any, conjunction)
     }
 
-    fn new(alloc: Global) -> FunctionReader
+    pub(crate) fn new(alloc: Global) -> FunctionReader
         ensures { state_of result ≡ first_state to_formulas }
     {
         FunctionReader {
@@ -341,8 +341,15 @@ impl FunctionReader {
         Ok(())
     }
 
+    /// What is kept of the tokens that were read.
+    pub(crate) fn control(&self) -> Control
+        ensures { result ≡ (state_of self.now).control }
+    {
+        self.control
+    }
+
     /// Reads one token.
-    fn turn(&mut self, alloc: Global, at: &Placed) -> Result<(), TextError>
+    pub(crate) fn turn(&mut self, alloc: Global, at: &Placed) -> Result<(), TextError>
         ensures { GivesView (λ _. state_of self.new) result (turn to_formulas (state_of self.old) at.now) }
     {
         match self.control.move_for(at) {

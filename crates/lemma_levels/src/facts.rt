@@ -62,29 +62,6 @@ fn is_small(lit: Lit) -> bool
     -MAX_LITERAL_OFFSET - 1 <= lit.k && lit.k <= MAX_LITERAL_OFFSET + 1
 }
 
-/// Where `x <= y + there` and `y <= x + back` have no integers, the offset of the second one, weakened where it is
-/// below 0, as far as 0 or as it may be.
-#[inline(always)]
-fn shutting_offset(there: i32, back: i32) -> Option<i32> {
-    let weakest = (-1_i32).saturating_sub(there);
-    if back > weakest || back < -MAX_LITERAL_OFFSET || back > MAX_LITERAL_OFFSET {
-        return None;
-    }
-    if back < 0 {
-        return Some(weakest.min(0));
-    }
-    Some(back)
-}
-
-/// That of two literals whose offset is nearer to 0, or the first one.
-#[inline(always)]
-fn nearest(found: Option<Lit>, lit: Lit) -> Lit {
-    match found {
-        Some(first) if first.k.unsigned_abs() <= lit.k.unsigned_abs() => first,
-        _ => lit,
-    }
-}
-
 impl Facts {
     /// No facts.
     pub fn new() -> Facts
@@ -151,64 +128,6 @@ impl Facts {
         }
         self.table.add(lit, number);
         Added::Yes
-    }
-
-    /// Adds literals, all under one number, up to the first one that cannot be added, which is the answer.
-    pub fn add_up_to_excluded(&mut self, literals: &[Lit], number: u32) -> Option<Lit> {
-        for lit in literals {
-            if !matches!(self.try_add(*lit, number), Added::Yes) {
-                return Some(*lit);
-            }
-        }
-        None
-    }
-
-    /// The least `k` for which `x <= y + k` follows, if there is one.
-    #[inline(always)]
-    pub fn least(&self, x: u8, y: u8) -> Option<i32> {
-        if x as usize >= MAX_NAMES || y as usize >= MAX_NAMES {
-            return None;
-        }
-        self.table.tightest(x, y)
-    }
-
-    /// Adds what other facts say of each two names, as far as some integers meet it.
-    pub fn add_possible(&mut self, other: &Facts) {
-        for x in 0..MAX_NAMES as u8 {
-            for y in 0..MAX_NAMES as u8 {
-                if let Some(k) = other.least(x, y) {
-                    self.try_add(Lit { x, y, k }, 0);
-                }
-            }
-        }
-    }
-
-    /// The same of each two names that are equal up to a constant by the other facts.
-    pub fn add_fixed(&mut self, other: &Facts) {
-        for x in 0..MAX_NAMES as u8 {
-            for y in 0..MAX_NAMES as u8 {
-                if let Some(k) = other.distance(x, y) {
-                    self.try_add(Lit { x, y, k }, 0);
-                }
-            }
-        }
-    }
-
-    /// A literal that follows from the facts around and that no integers meet with these, if one of two names does.
-    /// It is weakened where it is below 0, as far as 0 or as it may be. Of several it is the one that is nearest to 0
-    /// then.
-    pub fn shut_out_by(&self, around: &Facts) -> Option<Lit> {
-        let mut found: Option<Lit> = None;
-        for x in 0..MAX_NAMES as u8 {
-            for y in 0..MAX_NAMES as u8 {
-                if let (Some(there), Some(back)) = (self.least(x, y), around.least(y, x)) {
-                    if let Some(k) = shutting_offset(there, back) {
-                        found = Some(nearest(found, Lit { x: y, y: x, k }));
-                    }
-                }
-            }
-        }
-        found
     }
 
     /// Why a literal is excluded: where it is, the answer is true, and the numbers of a negative cycle stand in

@@ -7,7 +7,7 @@ use plain_list::List;
 use std::alloc::Global;
 use std::marker::Model;
 
-/// How many lemmas of one start are looked at, the newest ones.
+/// How many lemmas of one start are looked at, the newest ones; and of those of scouts the first ones.
 pub const NEWEST: usize = 64;
 
 /// A lemma: what is left at the start of the node holds where the literals are met.
@@ -97,11 +97,16 @@ impl<N: Copy> Lemmas<N> {
         Ok(())
     }
 
-    /// The places of the lemmas of scouts of the start with this number, in the order in which they were shown.
-    pub fn scouts(&self, number: usize) -> &[usize] {
+    /// The places of the first lemmas of scouts of the start with this number, in the order in which they were shown.
+    pub fn scouts(&self, number: usize) -> &[usize]
+        ensures { length result.now ≤ NEWEST }
+    {
         match self.scouts.get(number) {
             None => &[],
-            Some(places) => places.as_slice(),
+            Some(places) => {
+                let most = places.len().min(NEWEST);
+                &places[..most]
+            }
         }
     }
 

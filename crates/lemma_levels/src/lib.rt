@@ -9,11 +9,13 @@
 //! literal may be asked and added, since its names and its offset are tested first.
 #![tactic(auto)]
 
+mod distances;
 mod facts;
 mod lemmas;
 mod open;
 
 pub use ask_core::NoMemory;
+pub use distances::Distances;
 pub use facts::{Added, Facts, MAX_NAMES};
 pub use lemmas::{Lemma, Lemmas, NEWEST};
 pub use open::{LemmaLevel, Search, Sent, WaitingPart};

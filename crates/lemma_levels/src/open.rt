@@ -1,7 +1,7 @@
 //! A search under way.
 ghost use Rattle.std.specs.Prelude.{◌≡◌, [], Some};
 
-use crate::facts::Facts;
+use crate::distances::Distances;
 use crate::lemmas::Lemmas;
 use diff_graph::Lit;
 use std::alloc::Global;
@@ -31,7 +31,7 @@ impl Sent {
 pub struct LemmaLevel<N: Copy> {
     pub node: N,
     pub literals: Vec<Lit>,
-    pub outer: Facts,
+    pub outer: Distances,
     pub waiting: usize,
     pub answers: usize,
     pub scout: bool,
@@ -57,12 +57,12 @@ pub struct Search<N: Copy> {
     pub at: Option<N>,
     pub levels: Vec<LemmaLevel<N>>,
     pub waiting: Vec<WaitingPart<N>>,
-    pub followed: Vec<Facts>,
+    pub followed: Vec<Distances>,
     pub answers: Vec<Lit>,
-    pub facts: Facts,
+    pub facts: Distances,
     pub lemmas: Lemmas<N>,
     pub asked: u64,
-    pub within: Vec<Facts>,
+    pub within: Vec<Distances>,
     pub begun: bool,
     pub sent: Sent,
 }
@@ -83,7 +83,7 @@ impl<N: Copy> Search<N> {
             waiting: Vec::new(alloc),
             followed: Vec::new(alloc),
             answers: Vec::new(alloc),
-            facts: Facts::new(),
+            facts: Distances::new(),
             lemmas: Lemmas::new(alloc),
             asked: 0,
             within: Vec::new(alloc),

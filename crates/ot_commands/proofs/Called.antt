@@ -12,7 +12,8 @@ use Rattle.ot_replies.specs.declared.reply.Reply.{Reply}
 use Rattle.ot_replies.specs.declared.reply.Subject.{Subject}
 use Rattle.ot_replies.specs.declared.reply.Subject.TheVariants.{First}
 use Rattle.ot_replies.specs.Texts.{status_of}
-use Rattle.ot_commands.specs.Facts.{FunctionAnd, IsSteadyUnder, NothingMore, OneFunction, Opens}
+use Rattle.ot_commands.specs.Facts.{FunctionAnd, FunctionText, IsSteadyUnder, NothingMore, OneFunction, Opens}
+use Rattle.ot_replies.specs.declared.reply.FileKind.TheVariants as files
 use Rattle.ot_commands.specs.Given.{ForTold, IsReadFirst, IsReplyOfOpened}
 use Rattle.ot_commands.specs.Load.{GoesOnBehind, Holds, IsFunctionRefusal, IsReadAs, IsReplyToFile, IsReplyToFunction}
 use Rattle.ot_commands.proofs.Given.{bytes_told, first_behind, have_read_both, known_first, known_second, read_told, refusal_told}
@@ -71,6 +72,14 @@ pub one_given :
     → ForTold new.bytes (λ told. IsReplyToFunction First told (λ f. Gets f r) r)
     → IsReplyOfOpened old new (OneFunction name Gets) NothingMore r
 one_given old new name Gets opened r replies =
+    (opened, λ holds tells. (replies (holds name) (known_first old new name new.bytes (holds name) (inl opened) tells), tt))
+
+-- the same, where it is the bytes that get a reply
+pub text_given :
+    (old new : Reads) (name : List ℕ) (Gets : List ℕ → Reply → Type 0) → new ≡ after_reading name new.bytes old → (r : Reply)
+    → ForTold new.bytes (λ told. IsReplyToFile files.Function told (λ b. Gets b r) r)
+    → IsReplyOfOpened old new (FunctionText name Gets) NothingMore r
+text_given old new name Gets opened r replies =
     (opened, λ holds tells. (replies (holds name) (known_first old new name new.bytes (holds name) (inl opened) tells), tt))
 
 module _ {E : Type 0} (Gets : Function → Option (List ℕ) → Reply → Type 0) (f : Function) (called : Result Reply E) where

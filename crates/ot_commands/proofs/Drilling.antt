@@ -68,7 +68,7 @@ shown_verdict :
     (f : Function) (bytes : List ℕ) (verdict : Verdict) → IsDecidedAs f Tp2 most_questions verdict
     → (most_questions ≤ most_questions → IsVerdictWithin (limit_of files.Certificate) verdict) → TellsVerdict f verdict (Proved bytes)
     → IsShownBy f bytes
-shown_verdict f bytes (verdicts.Yes certificate) decided within tells =
+shown_verdict f bytes (verdicts.Yes certificate asked) decided within tells =
     let same : bytes ≡ certificate.items = cc in
     let proof = decided.2.2 in record {
       certificate = subst (λ (b : List ℕ). IsCertificate b f Tp2) (sym same) (proof.trees, proof.fit, proof.text);
@@ -98,7 +98,7 @@ module _ (broken_there :
   other_verdict :
       (r : Reply) (verdict : Verdict) → IsDecidedAs f Tp2 most_questions verdict → TellsVerdict f verdict r
       → ((bytes : List ℕ) → r ≢ Proved bytes) → HasTooMany f r
-  other_verdict r (verdicts.Yes certificate) decided tells other = absurd (other certificate.items tells)
+  other_verdict r (verdicts.Yes certificate asked) decided tells other = absurd (other certificate.items tells)
   other_verdict r (verdicts.No ob answers why) decided tells other =
       let refuted = decided.2.1 in
       absurd (never_broken f tp1 tp2 (level_of ob) _ _

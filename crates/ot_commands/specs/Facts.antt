@@ -12,6 +12,8 @@ pub data Opens : Type 1 where
   NoFile : (Reply → Type 0) → Opens
   -- a function's file: this is the reply that the function gets
   OneFunction : List ℕ → (Function → Reply → Type 0) → Opens
+  -- a function's file: this is the reply that its bytes get, also where they are the text of no function
+  FunctionText : List ℕ → (List ℕ → Reply → Type 0) → Opens
   -- a function's file and another one: this is the reply that the function gets, of what is told of the other file
   FunctionAnd : List ℕ → List ℕ → (Function → Option (List ℕ) → Reply → Type 0) → Opens
   -- two functions' files: this is the reply that both functions get

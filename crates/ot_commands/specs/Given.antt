@@ -5,7 +5,7 @@ use Rattle.ot_outside.specs.Reads.{Reads, after_reading}
 use Rattle.ot_replies.specs.declared.reply.Reply.{Reply}
 use Rattle.ot_words.specs.Commands.{Asked}
 use Rattle.ot_words.specs.Words.{asked_by}
-use Rattle.ot_commands.specs.Facts.{FunctionAnd, NoFile, OneFunction, Opens, TwoFunctions}
+use Rattle.ot_commands.specs.Facts.{FunctionAnd, FunctionText, NoFile, OneFunction, Opens, TwoFunctions}
 use Rattle.ot_commands.specs.Replies.{IsReply, IsReplyToOpened, facts_of}
 use Rattle.ot_commands.specs.Steady.{AreSteady}
 
@@ -34,6 +34,7 @@ HaveRead old new first second =
 abbrev pub WereOpened : Reads → Reads → Opens → Type 0
 WereOpened old new (NoFile Gets) = Unit {0}
 WereOpened old new (OneFunction function Gets) = new ≡ after_reading function new.bytes old
+WereOpened old new (FunctionText function Gets) = new ≡ after_reading function new.bytes old
 WereOpened old new (FunctionAnd function other Gets) = HaveRead old new function other
 WereOpened old new (TwoFunctions function other Gets) = HaveRead old new function other
 
@@ -50,6 +51,7 @@ TellBoth old new holds first second =
 abbrev pub TellsOpened : Reads → Reads → (List ℕ → Option (List ℕ)) → Opens → Type 0
 TellsOpened old new holds (NoFile Gets) = Unit {0}
 TellsOpened old new holds (OneFunction function Gets) = ForSome (holds function) (IsReadFirst old new function)
+TellsOpened old new holds (FunctionText function Gets) = ForSome (holds function) (IsReadFirst old new function)
 TellsOpened old new holds (FunctionAnd function other Gets) = TellBoth old new holds function other
 TellsOpened old new holds (TwoFunctions function other Gets) = TellBoth old new holds function other
 

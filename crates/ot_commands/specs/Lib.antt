@@ -2,6 +2,7 @@ pub mod Facts
 pub mod Load
 pub mod Prove
 pub mod Settle
+pub mod Explain
 pub mod Certificate
 pub mod Check
 pub mod Bound
@@ -10,6 +11,7 @@ pub mod Integrate
 pub mod Replay
 pub mod Running
 pub mod Hub
+pub mod Trace
 pub mod Audit
 pub mod Same
 pub mod Reverse

@@ -26,7 +26,7 @@ TellsCounter f ob answers why r =
 
 -- the reply tells the verdict: the bytes of the certificate, or the counterexample of the first failing end
 abbrev pub TellsVerdict : Function → Verdict → Reply → Type 0
-TellsVerdict f (verdicts.Yes bytes) r = r ≡ Proved bytes.items
+TellsVerdict f (verdicts.Yes bytes asked) r = r ≡ Proved bytes.items
 TellsVerdict f (verdicts.No ob answers why) r = TellsCounter f ob answers.items why r
 TellsVerdict f verdicts.Spent r = r ≡ Spent
 

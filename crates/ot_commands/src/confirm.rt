@@ -69,8 +69,8 @@ fn reply_by(
     }
 }
 
-// A proof is judged: no more bytes of its file than it may have. Where it is too long, or a read fails, what was read of
-// it is judged: a refusal that no further byte can change comes first.
+// A proof is judged: no more bytes of its file than it may have. Where it is too long, or a read fails, what was read
+// of it is judged: a refusal that no further byte can change comes first.
 struct Confirming;
 
 impl FileCommand for Confirming {

@@ -199,8 +199,12 @@ fn ended(alloc: Global, hub: &Hub, clients: u32) -> Result<Reply, NoMemory>
     }))
 }
 
-// The reply to a hub.
-fn run_script(alloc: Global, rules: &Rules, script: &HubScript) -> Result<Reply, NoMemory>
+/// The reply to a hub.
+pub(crate) fn run_script(
+    alloc: Global,
+    rules: &Rules,
+    script: &HubScript,
+) -> Result<Reply, NoMemory>
     requires { IsHubPlayable script.now }
     ensures reply { IfOk result (IsReplyToHubScript (function_of rules.now) (Ok script.now)) }
     ensures steady { MakesClientsAgree (function_of rules.now) → IfOk result (λ r. status_of r ≢ 1) }

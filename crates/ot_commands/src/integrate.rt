@@ -74,8 +74,8 @@ fn ends_of(alloc: Global, rules: &Rules, trial: &Trial) -> Result<List<End>, NoM
     Ok(ends)
 }
 
-// How the orders of a case end, as a reply.
-fn outcomes(alloc: Global, rules: &Rules, trial: &Trial) -> Result<Reply, NoMemory>
+/// How the orders of a case end, as a reply.
+pub(crate) fn outcomes(alloc: Global, rules: &Rules, trial: &Trial) -> Result<Reply, NoMemory>
     requires { IsReadyTrial (function_of rules.now) trial.now }
     ensures { IfOk result (TellsOutcomes (outcomes_of (function_of rules.now) trial.now)) }
 {

@@ -75,7 +75,7 @@ impl FunctionCommand for Proving {
 
     fn reply(&self, alloc: Global, rules: &Rules) -> Result<Reply, NoMemory> {
         match prove_all(alloc, rules, self.level, self.budget)? {
-            Verdict::Yes(bytes) => Ok(Reply::Proved(List::from_vec(bytes))),
+            Verdict::Yes { bytes, .. } => Ok(Reply::Proved(List::from_vec(bytes))),
             Verdict::No { ob, answers, why } => broken_by(alloc, rules, ob, &answers, why),
             Verdict::Spent => Ok(Reply::Spent),
         }

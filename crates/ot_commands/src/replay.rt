@@ -191,8 +191,8 @@ fn ended(session: Session) -> Result<Reply, NoMemory>
     Ok(Reply::Replayed(ends, differ))
 }
 
-// The reply to a session.
-fn run_script(alloc: Global, rules: &Rules, script: &Script) -> Result<Reply, NoMemory>
+/// The reply to a session.
+pub(crate) fn run_script(alloc: Global, rules: &Rules, script: &Script) -> Result<Reply, NoMemory>
     requires { IsPlayable script.now }
     ensures reply { IfOk result (IsReplyToScript (function_of rules.now) (Ok script.now)) }
     ensures steady { MakesSitesAgree (function_of rules.now) → IfOk result (λ r. status_of r ≢ 1) }

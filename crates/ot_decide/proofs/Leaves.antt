@@ -91,9 +91,9 @@ module _ {W : Type 0} where
 
 -- 1,000,000 questions and 24 obligations
 pub few_leaves :
-    (f : Function) (level : Level) (budget : ℕ) (bytes : Vec ℕ Global) (decided : IsDecidedAs f level budget (Yes bytes))
+    (f : Function) (level : Level) (budget asked : ℕ) (bytes : Vec ℕ Global) (decided : IsDecidedAs f level budget (Yes bytes asked))
     → budget ≤ 1000000 → HaveFewLeaves 1000024 73 decided.2.2.trees
-few_leaves f level budget bytes (lists, asked, (within, none, proof)) few =
+few_leaves f level budget count bytes (lists, asked, (within, none, proof)) few =
     let obs = obligations_of f.head level in
     let counted : leaves_in proof.trees ≡ count_in lists + length obs =
     all_counted (plan_of f) obs proof.trees lists proof.fit proof.ask asked none in

@@ -46,11 +46,12 @@ module _ (head : Head) (plan : ObName → Plan Why) where
       subst (λ (x : List Tok). AreSpellable x) (sym proof.spelled) (whole_spelled proof.tree (plan ob) short proof.fits)
 
   -- where no obligations are left, all of them hold
-  pub none_left : (budget : ℕ) (before : List ℕ) → AreSettled head plan [] budget before before search.AllHold
+  pub none_left : (budget : ℕ) (before : List ℕ) → AreSettled head plan [] budget before before (search.AllHold budget)
   none_left budget before = (
     [],
     refl,
     record {
+      counted = omega arith;
       within = omega arith;
       none_fails = refl;
       trees = [];
@@ -96,9 +97,10 @@ module _ (head : Head) (plan : ObName → Plan Why) where
 
     -- where those behind the obligation are proved, so are all, with its tree in front
     behind_proved :
-        (later : List (ObQuestions Why)) (before middle after : List ℕ) → middle ≡ before ++ section_text ob tree.tokens
-        → AreProved plan obs (budget - asked) later middle after → AreProved plan (ob ∷ obs) budget (behind later) before after
-    behind_proved later before middle after wrote proved =
+        (later : List (ObQuestions Why)) (left : ℕ) (before middle after : List ℕ) → middle ≡ before ++ section_text ob tree.tokens
+        → AreProved plan obs (budget - asked) later left middle after
+        → AreProved plan (ob ∷ obs) budget (behind later) left before after
+    behind_proved later left before middle after wrote proved =
         let proof = searched.decided.3 in
         let spellable = whole_spelled proof.tree (plan ob) short proof.fits in
         let more = sections_text obs proved.trees in
@@ -108,6 +110,7 @@ module _ (head : Head) (plan : ObName → Plan Why) where
         let few =
         section_few ob proof.tree (length searched.questions.asked) more proof.fits spellable (ap length proof.questions) in
         record {
+          counted = omega (arith, proved.counted, searched.decided.0, searched.decided.2);
           within = omega (arith, proved.within, searched.decided.0, searched.decided.2);
           none_fails = behind_failing later ∙ proved.none_fails;
           trees = proof.tree ∷ proved.trees;
@@ -123,7 +126,8 @@ module _ (head : Head) (plan : ObName → Plan Why) where
         → middle ≡ before ++ section_text ob tree.tokens
         → Settles head plan obs (budget - asked) later middle after s
         → Settles head plan (ob ∷ obs) budget (behind later) before after s
-    behind_settles later before middle after search.AllHold wrote settles = behind_proved later before middle after wrote settles
+    behind_settles later before middle after (search.AllHold left) wrote settles =
+        behind_proved later left before middle after wrote settles
     behind_settles later before middle after (search.Fails other answers why) wrote settles = (
       omega (arith, settles.0, searched.decided.0, searched.decided.2),
       record {
@@ -193,10 +197,10 @@ module _ (f : Function) (level : Level) (budget : ℕ) (obs : List ObName) (are 
   decided_spent (lists, asked, decided) =
       (lists, subst (λ (n : List ObName). AreAsked (plan_of f) n lists) are asked, decided)
 
-  module _ (bytes : Vec ℕ Global) (begun : before ≡ header_text obs level) (ended : bytes.items ≡ after ++ end_text)
-      (settled : AreSettled f.head (plan_of f) obs budget before after search.AllHold) where
+  module _ (bytes : Vec ℕ Global) (left : ℕ) (begun : before ≡ header_text obs level) (ended : bytes.items ≡ after ++ end_text)
+      (settled : AreSettled f.head (plan_of f) obs budget before after (search.AllHold left)) where
     -- where all of them hold, the bytes are a certificate of the level, and the verdict is yes
-    pub decided_yes : IsDecidedAs f level budget (verdict.Yes bytes)
+    pub decided_yes : IsDecidedAs f level budget (verdict.Yes bytes (budget - left))
     decided_yes =
         let lists = settled.0 in
         let proved = settled.2 in
@@ -208,6 +212,7 @@ module _ (f : Function) (level : Level) (budget : ℕ) (obs : List ObName) (are 
             proved.within,
             proved.none_fails,
             record {
+              counted = omega (arith, proved.counted);
               trees = proved.trees;
               fit = subst (λ (n : List ObName). AreAnswers (plan_of f) n proved.trees) are proved.fit;
               ask = proved.ask;
@@ -221,7 +226,7 @@ module _ (f : Function) (level : Level) (budget : ℕ) (obs : List ObName) (are 
     few_yes limit =
         let proved = settled.2 in
         let header : length before ≤ 13 = subst (λ (x : List ℕ). length x ≤ 13) (sym begun) (header_text_few obs level) in
-        let count : length obs ≤ 24 = subst (λ (n : List ObName). length n ≤ 24) (sym are) (obligations_few f.head level) in
+        let obligations : length obs ≤ 24 = subst (λ (n : List ObName). length n ≤ 24) (sym are) (obligations_few f.head level) in
         let lines : length after ≡ length before + length (sections_text obs proved.trees) =
         ap length proved.written ∙ length-append before (sections_text obs proved.trees) in
         let whole : length bytes.items ≡ length after + length end_text = ap length ended ∙ length-append after end_text in

@@ -11,10 +11,11 @@ use Rattle.ot_decide.specs.declared.verdict.SearchVerdict.{SearchVerdict}
 use Rattle.ot_decide.specs.declared.verdict.SearchVerdict.TheVariants.{AllHold, Fails, Spent}
 use Rattle.ot_decide.specs.Verdicts.{ObQuestions, AreAsked, count_in, failing_in, AskTheQuestions, IsRefutation}
 
--- all obligations hold, and their trees, with exactly these questions, were written behind the bytes before: at most 74
--- bytes a question and 89 an obligation
+-- all obligations hold, so many questions are left of the budget, and their trees, with exactly these questions, were
+-- written behind the bytes before: at most 74 bytes a question and 89 an obligation
 pub record AreProved (plan : ObName → Plan Why) (obs : List ObName) (budget : ℕ) (lists : List (ObQuestions Why))
-    (before after : List ℕ) : Type 0 where
+    (left : ℕ) (before after : List ℕ) : Type 0 where
+  pub counted : left + count_in lists ≡ budget
   pub within : count_in lists ≤ budget
   pub none_fails : failing_in lists ≡ None
   pub trees : List AnswerTree
@@ -27,7 +28,7 @@ pub record AreProved (plan : ObName → Plan Why) (obs : List ObName) (budget : 
 -- there are more questions than the budget allows
 abbrev pub Settles :
     Head → (ObName → Plan Why) → List ObName → ℕ → List (ObQuestions Why) → List ℕ → List ℕ → SearchVerdict → Type 0
-Settles head plan obs budget lists before after AllHold = AreProved plan obs budget lists before after
+Settles head plan obs budget lists before after (AllHold left) = AreProved plan obs budget lists left before after
 Settles head plan obs budget lists before after (Fails ob answers why) =
     (count_in lists ≤ budget) × IsRefutation head plan lists ob answers.items why
 Settles head plan obs budget lists before after Spent = budget < count_in lists

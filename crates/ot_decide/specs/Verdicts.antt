@@ -58,9 +58,10 @@ AskTheQuestions plan (t ∷ trees) [] = ⊥
 AskTheQuestions plan (t ∷ trees) (l ∷ lists) =
     (l.questions.asked ≡ asked_along t (plan l.ob) []) × AskTheQuestions plan trees lists
 
--- the bytes are a certificate of the function at the level, with exactly these questions
-pub record IsCertificateAsking (f : Function) (level : Level) (lists : List (ObQuestions Why))
+-- the bytes are a certificate of the function at the level, with exactly these questions, and there are so many
+pub record IsCertificateAsking (f : Function) (level : Level) (lists : List (ObQuestions Why)) (asked : ℕ)
     (bytes : List ℕ) : Type 0 where
+  pub counted : asked ≡ count_in lists
   pub trees : List AnswerTree
   pub fit : AreAnswers (plan_of f) (obligations_of f.head level) trees
   pub ask : AskTheQuestions (plan_of f) trees lists
@@ -76,10 +77,10 @@ pub record IsRefutation (head : Head) (plan : ObName → Plan Why) (lists : List
   pub possible : IsPossible (answered_by answers)
 
 -- the verdict is that of these question lists: there are more questions than the budget allows, or there is a failing
--- end, or the bytes are a certificate
+-- end, or the bytes are a certificate, and there are so many questions
 abbrev pub IsVerdict : Function → Level → ℕ → List (ObQuestions Why) → Verdict → Type 0
-IsVerdict f level budget lists (Yes bytes) =
-    (count_in lists ≤ budget) × (failing_in lists ≡ None) × IsCertificateAsking f level lists bytes.items
+IsVerdict f level budget lists (Yes bytes asked) =
+    (count_in lists ≤ budget) × (failing_in lists ≡ None) × IsCertificateAsking f level lists asked bytes.items
 IsVerdict f level budget lists (No ob answers why) =
     (count_in lists ≤ budget) × IsRefutation f.head (plan_of f) lists ob answers.items why
 IsVerdict f level budget lists Spent = budget < count_in lists
@@ -92,6 +93,6 @@ IsDecidedAs f level budget verdict =
 
 -- so many bytes at the most, where it is a certificate
 abbrev pub IsVerdictWithin : ℕ → Verdict → Type 0
-IsVerdictWithin limit (Yes bytes) = length bytes.items ≤ limit
+IsVerdictWithin limit (Yes bytes asked) = length bytes.items ≤ limit
 IsVerdictWithin limit (No ob answers why) = Unit {0}
 IsVerdictWithin limit Spent = Unit {0}

@@ -18,7 +18,8 @@ const ROOM: usize = 2_097_152;
 /// together: the obligations in order, up to the first one that fails somewhere.
 ///
 /// `Spent` comes exactly where there are more questions, `No` exactly where there are not and one of the obligations
-/// fails, and else `Yes`, with a certificate that has exactly these questions. The error is want of memory.
+/// fails, and else `Yes`, with a certificate that has exactly these questions, and their number. The error is want of
+/// memory.
 pub fn prove_all(
     alloc: Global,
     rules: &Rules,
@@ -36,9 +37,10 @@ pub fn prove_all(
     let mut bytes = Vec::with_capacity(alloc, ROOM)?;
     write_header(&names, level, &mut bytes)?;
     match search_all(alloc, rules, None, &names, budget, &mut bytes)? {
-        SearchVerdict::AllHold => {
+        SearchVerdict::AllHold { left } => {
             write_end(&mut bytes)?;
-            Ok(Verdict::Yes(bytes))
+            let asked = budget - left;
+            Ok(Verdict::Yes { bytes, asked })
         }
         SearchVerdict::Fails { ob, answers, why } => Ok(Verdict::No { ob, answers, why }),
         SearchVerdict::Spent => Ok(Verdict::Spent),

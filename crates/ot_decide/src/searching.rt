@@ -101,7 +101,8 @@ fn search_ob(
 /// while it is searched. With `below` they are searched on the documents of fewer cells than that alone.
 ///
 /// `Spent` comes exactly where there are more questions, `Fails` exactly where there are not and one of the obligations
-/// fails, and else `AllHold`, with sections that have exactly these questions. The error is want of memory.
+/// fails, and else `AllHold`, with sections that have exactly these questions, and how many the
+/// budget still allows. The error is want of memory.
 pub fn search_all(
     alloc: Global,
     rules: &Rules,
@@ -119,7 +120,7 @@ pub fn search_all(
     obligations_have_one_question_list();
     rules_are_valid(rules);
     let Some((ob, others)) = names.split_first() else {
-        return Ok(SearchVerdict::AllHold);
+        return Ok(SearchVerdict::AllHold { left: budget });
     };
     let tree = begin_ob(*ob, mem::replace(bytes, Vec::new(alloc)))?;
     match search_ob(alloc, rules, below, *ob, budget, tree)? {

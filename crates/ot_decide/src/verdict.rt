@@ -7,7 +7,10 @@ use ot_questions::Why;
 #[derive(Drop)]
 pub enum SearchVerdict {
     /// All hold.
-    AllHold,
+    AllHold {
+        /// How many questions the budget still allows.
+        left: u64,
+    },
 
     /// One of them fails, after answers that some integers meet.
     Fails {
@@ -28,8 +31,14 @@ pub enum SearchVerdict {
 /// What the obligations of a function at a level come to.
 #[derive(Drop)]
 pub enum Verdict {
-    /// All hold: the bytes of a certificate.
-    Yes(Vec<u8>),
+    /// All hold.
+    Yes {
+        /// The bytes of a certificate.
+        bytes: Vec<u8>,
+
+        /// How many questions were asked of all of them together.
+        asked: u64,
+    },
 
     /// One of them fails, after answers that some integers meet.
     No {

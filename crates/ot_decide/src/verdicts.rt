@@ -42,15 +42,15 @@ pub fn obligations_have_one_question_list()
 
 /// The bytes of a `Yes` are a certificate of the function at its level.
 pub fn proofs_are_certificates()
-    ensures { (f : Function) (level : Level) (budget : ℕ) (bytes : Vec ℕ Global)
-        → IsDecidedAs f level budget (Yes bytes) → IsCertificate bytes.items f level }
+    ensures { (f : Function) (level : Level) (budget asked : ℕ) (bytes : Vec ℕ Global)
+        → IsDecidedAs f level budget (Yes bytes asked) → IsCertificate bytes.items f level }
 {}
 
 /// The trees of a `Yes` by at most 1,000,000 questions have at most 1,000,024 leaves together, each of at most 73
 /// bytes: one leaf more than questions in each tree, and at most 24 trees.
 pub fn certificates_have_few_leaves()
-    ensures { (f : Function) (level : Level) (budget : ℕ) (bytes : Vec ℕ Global)
-        (decided : IsDecidedAs f level budget (Yes bytes))
+    ensures { (f : Function) (level : Level) (budget asked : ℕ) (bytes : Vec ℕ Global)
+        (decided : IsDecidedAs f level budget (Yes bytes asked))
         → budget ≤ 1000000 → HaveFewLeaves 1000024 73 decided.2.2.trees }
 {}
 

@@ -54,7 +54,7 @@ module _ (f : Function) (list : List PlacedOp) (place i : ℕ) (inside : i < len
   pub rest-dropped : nat_le place here.place ≡ false → rest i ≡ rest (i + 1)
   rest-dropped before = rw (drop_more list i no_one inside, before) refl
 
-  rest-kept : nat_le place here.place ≡ true → rest i ≡ here ∷ rest (i + 1)
+  pub rest-kept : nat_le place here.place ≡ true → rest i ≡ here ∷ rest (i + 1)
   rest-kept kept = rw (drop_more list i no_one inside, kept) refl
 
   -- one that the operation is carried over

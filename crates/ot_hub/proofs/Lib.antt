@@ -2,6 +2,7 @@ pub mod Across
 pub mod Acting
 pub mod Beginning
 pub mod Carrying
+pub mod Crossings
 mod Examples
 pub mod Follows
 pub mod Keeping

@@ -7,6 +7,7 @@ pub mod Kept
 pub mod Meeting
 pub mod InStep
 pub mod Views
+pub mod Crossings
 pub mod Theorem
 pub use Rattle.ot_model.specs.Effect
 pub use Rattle.fn_rules.specs.Properties

@@ -21,7 +21,7 @@ pub(crate) struct Crossed {
 }
 
 /// Both transformations of two operations that were made on one document. None where one has no result.
-fn cross(rules: &Rules, own: &Op, other: &Op) -> Option<Crossed>
+pub(crate) fn cross(rules: &Rules, own: &Op, other: &Op) -> Option<Crossed>
     requires own { IsUsable (function_of rules.now) (farthest_carried 0) own.now }
     requires other { IsUsable (function_of rules.now) (farthest_carried 0) other.now }
     ensures { result ≡ crossed (function_of rules.now) own.now other.now }

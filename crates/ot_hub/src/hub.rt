@@ -1,5 +1,7 @@
 //! The hub.
 ghost use Rattle.std.specs.Prelude.{◌≡◌, ◌≢◌, ◌≤◌, length, IfOk, IsTrue, ◌↔◌, true, false, Err};
+ghost use Rattle.std.specs.Prelude.{slice_get};
+ghost use Rattle.std.specs.List.{All};
 ghost use Rattle.ot_model.specs.declared.limits.TheConstants.{MAX_CELLS};
 ghost use Rattle.fn_rules.specs.Rules.{function_of};
 ghost use Rattle.fn_rules.specs.Properties.{HasTp1};
@@ -10,14 +12,16 @@ ghost use Rattle.ot_hub.specs.declared.limits.TheConstants.{MAX_CLIENTS};
 
 use crate::answer::{Edit, Move, Moved};
 use crate::client::{Client, edit_at, fresh_clients, sent_at, take_at};
+use crate::crossing::{Crossing, crossings};
 use crate::limits::MAX_EDITS;
-use crate::placed::{entry_at, first_of, has_declared_kind, is_made_at};
+use crate::placed::{Entry, PlacedOp, entry_at, first_of, has_declared_kind, is_made_at};
 use crate::server::{Server, fresh_server};
 use fn_rules::{
     Rules, enabled_operations_are_near, functions_keep_forms, rules_are_valid, tp1_holds_of_forms,
     transform_keeps_all_but_the_position, transform_stays_near,
 };
 use ot_model::{Doc, NoMemory, Op, documents_grow_by_one_cell_at_most, enabled};
+use plain_list::List;
 use std::alloc::Global;
 
 /// A server and its clients.
@@ -39,6 +43,7 @@ pub struct Hub {
 
 impl Hub {
     ghost use Rattle.ot_hub.specs.declared.answer.Move.TheVariants as moves;
+    ghost use Rattle.ot_hub.specs.Crossings.{CanBothMove, down_crossings, up_crossings};
     ghost use Rattle.ot_hub.specs.Theorem.{FollowsLog, ServerFollowsLog};
     ghost use Rattle.ot_hub.specs.Views.{hub_view_of, IsClient, begun_hub, client_of, HasEdited, up_step, down_step};
     ghost use Rattle.ot_hub.specs.Views.{HasMoved};
@@ -111,6 +116,56 @@ impl Hub {
         ensures { result ≡ length (client_of (hub_view_of self.now) client).pending }
     {
         self.at(client).pending.len() as u32
+    }
+
+    /// The oldest message of a client, if there is one.
+    pub fn message(&self, client: u32) -> Option<PlacedOp>
+        requires { IsClient (length (hub_view_of self.now).clients) client }
+        ensures { result ≡ slice_get (client_of (hub_view_of self.now) client).messages 0 }
+    {
+        first_of(&self.at(client).messages)
+    }
+
+    /// The next entry of the log for a client, if there is one.
+    pub fn next_entry(&self, client: u32) -> Option<Entry>
+        requires { IsClient (length (hub_view_of self.now).clients) client }
+        ensures { result ≡ slice_get (hub_view_of self.now).server.log
+            (client_of (hub_view_of self.now) client).received }
+    {
+        entry_at(&self.server.log, self.at(client).received)
+    }
+
+    /// The pairs that cross where the server takes the oldest message of a client.
+    pub fn up_crossings(&self, client: u32) -> Result<List<Crossing>, NoMemory>
+        requires { IsClient (length (hub_view_of self.now).clients) client }
+        ensures crossings { IfOk result (λ found. found ≡ up_crossings (hub_view_of self.now) client) }
+        ensures usable { IfOk result (All (CanBothMove (hub_view_of self.now).function)) }
+    {
+        let alloc = *self.clients.allocator();
+        let Some(message) = self.message(client) else {
+            return Ok(List::new(alloc));
+        };
+        enabled_operations_are_near();
+        let ahead = self.server.ahead[client as usize - 1].as_slice();
+        Ok(crossings(alloc, &self.rules, message.op, ahead, message.place)?)
+    }
+
+    /// The pairs that cross where a client takes the next entry of the log.
+    pub fn down_crossings(&self, client: u32) -> Result<List<Crossing>, NoMemory>
+        requires { IsClient (length (hub_view_of self.now).clients) client }
+        ensures crossings { IfOk result (λ found. found ≡ down_crossings (hub_view_of self.now) client) }
+        ensures usable { IfOk result (All (CanBothMove (hub_view_of self.now).function)) }
+    {
+        let alloc = *self.clients.allocator();
+        let Some(entry) = self.next_entry(client) else {
+            return Ok(List::new(alloc));
+        };
+        if entry.client == client {
+            return Ok(List::new(alloc));
+        }
+        enabled_operations_are_near();
+        let pending = self.at(client).pending.as_slice();
+        Ok(crossings(alloc, &self.rules, entry.op, pending, 0)?)
     }
 
     /// A client makes an operation, which it executes at once; it is pending and on its way to the server.

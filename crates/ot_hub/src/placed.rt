@@ -12,14 +12,14 @@ use plain_list::List;
 /// An operation with a place of the log, counted from 0: for an entry that the server keeps for a client,
 /// its own place; for what a client made, the place of the first entry that it had not received then.
 #[derive(Clone, Copy)]
-pub(crate) struct PlacedOp {
+pub struct PlacedOp {
     pub place: u32,
     pub op: Op,
 }
 
 /// An entry of the log: whose operation it was, and what the server executed.
 #[derive(Clone, Copy)]
-pub(crate) struct Entry {
+pub struct Entry {
     pub client: u32,
     pub op: Op,
 }

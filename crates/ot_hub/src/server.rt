@@ -84,8 +84,8 @@ impl Server {
         self.take_carried(alloc, rules, client, form, own)
     }
 
-    /// Takes what a client's message became: executes it, puts it at the end of the log, and tells it to the other clients.
-    /// What it was carried over becomes `own`. A server without memory is as it was.
+    /// Takes what a client's message became: executes it, puts it at the end of the log, and tells it to the other
+    /// clients. What it was carried over becomes `own`. A server without memory is as it was.
     fn take_carried(
         &mut self,
         alloc: Global,

@@ -82,7 +82,7 @@ module _ (f : Function) (budget : ℕ) (e : Ending) (bytes : List ℕ) where
   falls_spent (lists, asked, more) = (lists ∷ [], (asked, inl (more, refl)))
 
   -- all hold: the certificate is whole
-  module _ (turn : IsTurn f budget e bytes search.AllHold) (answer : Short) (ended : IsEndedBy e bytes answer) where
+  module _ (count : ℕ) (turn : IsTurn f budget e bytes (search.AllHold count)) (answer : Short) (ended : IsEndedBy e bytes answer) where
     text : ended.0.items ≡ low_header_text (level_of e.ob) e.cells ++ sections_text parts turn.2.trees ++ end_text
     text = ended.1 ∙ ap (λ (x : List ℕ). x ++ end_text) turn.2.written
 

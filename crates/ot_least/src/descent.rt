@@ -86,7 +86,7 @@ fn descend(alloc: Global, rules: &Rules, budget: u64, end: Ending) -> Result<Sho
     parts_are_obligations();
     let mut cert = Vec::new(alloc);
     match search_shorter(alloc, rules, budget, &end, &mut cert)? {
-        SearchVerdict::AllHold => {
+        SearchVerdict::AllHold { .. } => {
             low_certificates_show_shorter_documents();
             failing_ends_break_at_their_length();
             rules_are_valid(rules);
@@ -139,7 +139,7 @@ pub fn shortest(alloc: Global, rules: &Rules, budget: u64) -> Result<Short, NoMe
     triple_plans_mean_tp2();
     rules_are_valid(rules);
     match prove_all(alloc, rules, Level::Tp2, budget)? {
-        Verdict::Yes(_) => Ok(Short::Fine),
+        Verdict::Yes { .. } => Ok(Short::Fine),
         Verdict::No { ob, answers, why } => {
             let end = ending_at(alloc, rules, ob, answers, why)?;
             descend_from(alloc, rules, budget, end)

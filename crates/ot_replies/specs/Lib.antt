@@ -10,4 +10,5 @@ pub mod DrillTexts
 pub mod AuditTexts
 pub mod ReversalTexts
 pub mod BoundTexts
+pub mod ExplainTexts
 pub mod Texts

@@ -1,5 +1,5 @@
 -- The status and the text of a reply.
-use Rattle.std.specs.Prelude.{ℕ, if◌then◌else◌, List, [], ◌∷◌, ◌++◌, codes, map, Option, Some, None}
+use Rattle.std.specs.Prelude.{ℕ, nat_le, if◌then◌else◌, List, [], ◌∷◌, ◌++◌, codes, map, Option, Some, None}
 use Rattle.case_json.specs.declared.fault.CaseFault.{CaseFault}
 use Rattle.case_json.specs.declared.fault.CaseFault.TheVariants as faults
 use Rattle.ot_integrate.specs.Ends.{outcome_of}
@@ -11,7 +11,7 @@ use Rattle.ot_replies.specs.declared.reply.Reply.TheVariants.{CaseRefused, Integ
 use Rattle.ot_replies.specs.declared.reply.Reply.TheVariants.{StuckAt, Replayed, Served, Audited, Compared, Drilled}
 use Rattle.ot_replies.specs.declared.reply.Reply.TheVariants.{Reversed, Unlike, Unbroken, Shortest, Certified}
 use Rattle.ot_replies.specs.declared.reply.Reply.TheVariants.{BoundTooLong, AtLeast, Confirmed, ProofRefused, Templated}
-use Rattle.ot_replies.specs.declared.reply.Reply.TheVariants.{NoTemplate}
+use Rattle.ot_replies.specs.declared.reply.Reply.TheVariants.{NoTemplate, Explained, Traced}
 use Rattle.ot_replies.specs.AuditTexts.{audit_status, audit_text, same_status, same_text, spent_text}
 use Rattle.ot_replies.specs.BoundTexts.{at_least_text, bound_limit_text, shortest_text, unbroken_text}
 use Rattle.ot_replies.specs.FaultTexts.{text_fault_text, case_fault_text, proof_refusal_text, refusal_text}
@@ -19,6 +19,7 @@ use Rattle.ot_replies.specs.OrderTexts.{orders_text}
 use Rattle.ot_replies.specs.CounterTexts.{counter_text}
 use Rattle.ot_replies.specs.LevelTexts.{accepted_text, confirmed_text}
 use Rattle.ot_replies.specs.DrillTexts.{drill_text}
+use Rattle.ot_replies.specs.ExplainTexts.{explanation_status, explanation_text}
 use Rattle.ot_replies.specs.HubTexts.{hub_text}
 use Rattle.ot_replies.specs.ReversalTexts.{reversal_status, reversal_text, unlike_text}
 use Rattle.ot_replies.specs.SessionTexts.{event_fault_text, sites_text, stuck_text}
@@ -32,6 +33,11 @@ case_status fault = 4
 abbrev pub differ_status : {X : Type 0} → Option X → ℕ
 differ_status None = 0
 differ_status (Some found) = 1
+
+-- the status of a trace, which is that of the reply at its end: such a one is none of a fault of the outside, and none is
+-- above 9
+abbrev pub traced_status : ℕ → ℕ
+traced_status status = if nat_le status 5 then status else (if nat_le status 8 then 8 else 9)
 
 abbrev pub status_of : Reply → ℕ
 status_of (Proved bytes) = 0
@@ -54,6 +60,8 @@ status_of (Confirmed level) = 0
 status_of (ProofRefused offset why) = 2
 status_of (Templated bytes) = 0
 status_of NoTemplate = 1
+status_of (Explained explanation) = explanation_status explanation
+status_of (Traced bytes status) = traced_status status
 status_of (StuckAt i) = 1
 status_of (Drilled d) = differ_status d.differ
 status_of (EventRefused i fault) = 4
@@ -97,6 +105,8 @@ text_of (Confirmed level) = confirmed_text level
 text_of (ProofRefused offset why) = proof_refusal_text offset why
 text_of (Templated bytes) = bytes
 text_of NoTemplate = no_template_text
+text_of (Explained explanation) = explanation_text explanation
+text_of (Traced bytes status) = bytes
 text_of (StuckAt i) = stuck_text i
 text_of (Drilled d) = drill_text d
 text_of (EventRefused i fault) = event_fault_text i fault

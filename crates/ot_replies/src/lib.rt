@@ -5,5 +5,8 @@ mod reply;
 mod texts;
 
 pub use ot_session::SiteEnd;
-pub use reply::{ClientEnd, Drilled, EventFault, FileKind, HubEnd, Reply, Subject};
+pub use reply::{
+    ClientEnd, Drilled, EventFault, Explanation, FileKind, Ground, HubEnd, Reply, Subject,
+    Unsettled,
+};
 pub use texts::{status, text};

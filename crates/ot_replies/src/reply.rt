@@ -88,6 +88,45 @@ pub enum EventFault {
     Number,
 }
 
+/// What shows that a function has the properties of a level.
+#[derive(Clone, Copy)]
+pub enum Ground {
+    /// The obligations ask so many questions, and hold after each answer.
+    Questions(u64),
+
+    /// There is a proof with lemmas, of so many bytes.
+    Proof(u64),
+}
+
+/// Why `settle` said nothing of a function.
+#[derive(Clone, Copy)]
+pub enum Unsettled {
+    /// All questions were asked that it may ask.
+    Questions,
+
+    /// The proof has more bytes than one may have.
+    Bytes,
+
+    /// It found no proof.
+    NoProof,
+}
+
+/// Why a function has the properties of a level, or where it breaks one.
+#[derive(Drop)]
+pub enum Explanation {
+    /// It has them.
+    Holds(Level, Ground),
+
+    /// It breaks one of them: where, and how; and what became of the operations, step by step.
+    Breaks(Counter, List<u8>),
+
+    /// Its obligations ask more questions than `prove` may ask, and `settle` said nothing of it either.
+    Open(Unsettled),
+
+    /// The text is that of no function: its first fault, and what helps to mend it.
+    Misread(TextFault, List<u8>),
+}
+
 /// What came of a workload.
 #[derive(Drop)]
 pub struct Drilled {
@@ -204,6 +243,13 @@ pub enum Reply {
 
     /// What came of a workload.
     Drilled(Drilled),
+
+    /// Why a function has the properties of a level, or where it breaks one.
+    Explained(Explanation),
+
+    /// What happened in a case, a session or a hub, step by step, and the lines of the command that runs it; and what it
+    /// ends with.
+    Traced(List<u8>, u8),
 
     /// The words are not those of a command.
     Usage,

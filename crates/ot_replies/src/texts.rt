@@ -3,6 +3,7 @@ ghost use Rattle.std.specs.Prelude.{◌≡◌, ◌++◌, [], IfOk, OnOk};
 ghost use Rattle.cert_text.specs.Spelling.{level_text};
 ghost use Rattle.ot_replies.specs.LevelTexts.{accepted_text, confirmed_text};
 ghost use Rattle.ot_replies.specs.Texts.{case_status, differ_status, status_of, text_of, limit_text, limit_word};
+ghost use Rattle.ot_replies.specs.Texts.{traced_status};
 
 mod appending;
 mod audits;
@@ -10,6 +11,7 @@ mod bounds;
 mod counters;
 mod documents;
 mod drills;
+mod explanations;
 mod faults;
 mod hubs;
 mod lines;
@@ -24,6 +26,7 @@ use bounds::{write_at_least, write_shortest};
 use case_json::CaseFault;
 use counters::write_counter;
 use drills::write_drilled;
+use explanations::{explanation_status, write_explanation};
 use faults::{write_case_fault, write_proof_refusal, write_refusal, write_text_fault};
 use fn_rules::Level;
 use hubs::write_hub;
@@ -54,6 +57,17 @@ fn differ_status<T: Copy>(differ: Option<T>) -> u8
     }
 }
 
+// The status of a trace, which is that of the reply at its end: such a one is none of a fault of the outside, and none is
+// above 9.
+fn traced_status(status: u8) -> u8
+    ensures { result ≡ traced_status status }
+{
+    if status <= 5 {
+        return status;
+    }
+    if status <= 8 { 8 } else { 9 }
+}
+
 /// The exit status of a reply.
 pub fn status(reply: &Reply) -> u8
     ensures { result ≡ status_of reply.now }
@@ -80,6 +94,8 @@ pub fn status(reply: &Reply) -> u8
         Reply::ProofRefused { .. } => 2,
         Reply::Templated(_) => 0,
         Reply::NoTemplate => 1,
+        Reply::Explained(explanation) => explanation_status(explanation),
+        Reply::Traced(_, status) => traced_status(*status),
         Reply::StuckAt(_) => 1,
         Reply::EventRefused(..) => 4,
         Reply::Refused { .. } => 2,
@@ -164,6 +180,8 @@ fn write_reply(alloc: Global, reply: &Reply, out: &mut Vec<u8>) -> Result<(), No
         Reply::Templated(bytes) => append_bytes(bytes.as_slice(), out),
         Reply::NoTemplate => append_bytes(b"none tp2\n", out),
         Reply::Drilled(drilled) => write_drilled(alloc, drilled, out),
+        Reply::Explained(explanation) => write_explanation(alloc, explanation, out),
+        Reply::Traced(bytes, _) => append_bytes(bytes.as_slice(), out),
         Reply::Usage => append_bytes(b"usage: otp COMMAND ARGUMENTS\n", out),
         Reply::TooLong(kind) => write_limit(alloc, *kind, out),
     }
@@ -178,7 +196,7 @@ fn written(alloc: Global, reply: &Reply) -> Result<Vec<u8>, NoMemory>
     Ok(text)
 }
 
-/// The text of a reply. A certificate, a proof and a function are not copied.
+/// The text of a reply. A certificate, a proof, a function and a trace are not copied.
 pub fn text(alloc: Global, reply: Reply) -> Result<Vec<u8>, NoMemory>
     ensures { IfOk result (λ text. text.items ≡ text_of reply) }
 {
@@ -186,6 +204,7 @@ pub fn text(alloc: Global, reply: Reply) -> Result<Vec<u8>, NoMemory>
         Reply::Proved(bytes) => Ok(bytes.into_vec()),
         Reply::Certified(bytes) => Ok(bytes.into_vec()),
         Reply::Templated(bytes) => Ok(bytes.into_vec()),
+        Reply::Traced(bytes, _) => Ok(bytes.into_vec()),
         other => written(alloc, &other),
     }
 }

@@ -1,5 +1,5 @@
 -- What a function comes to at a level, by a search for a proof with lemmas.
-use Rattle.std.specs.Prelude.{◌≡◌, ◌⊎◌, ℕ, ◌<◌, ◌≤◌, IsTrue, List, length, Ok}
+use Rattle.std.specs.Prelude.{◌≡◌, ◌⊎◌, ℕ, ◌<◌, ◌≤◌, Bool, false, IsTrue, List, length, Ok}
 use Rattle.std.specs.List.{Contains}
 use Rattle.fn_rules.specs.declared.function.Level.{Level}
 use Rattle.fn_rules.specs.declared.function.ObName.{ObName}
@@ -43,16 +43,16 @@ IsSettled f level (No ob answers why) =
     IsFailing f (obligations_of f.head level) ob answers.items why × HoldsBefore f ob
 IsSettled f level (Spent cause) = Unit {0}
 
--- what is so where nothing is said, by the cause. The budget: all questions that searches may ask were asked, or all
--- that the walks that write may ask again. The bytes: more were written than a proof may have. No way on: there was
--- room for a proof
-abbrev pub IsCause : ℕ → Questions → ℕ → SpentCause → Type 0
-IsCause budget asked written Budget = (asked.asked ≡ budget) ⊎ (asked.again ≡ budget)
-IsCause budget asked written Bytes = MAX_BYTES < written
-IsCause budget asked written NoWay = written ≤ MAX_BYTES
+-- what is so where nothing is said, by the cause; no two of them are so at once. The budget: a question was met that is
+-- more than may be asked, where all that searches, or the walks that write, may ask was asked. The bytes: no such
+-- question was met, and more was written than a proof may have. No way on: none was met, and there was room for a proof
+abbrev pub IsCause : ℕ → Questions → Bool → ℕ → SpentCause → Type 0
+IsCause budget asked over written Budget = IsTrue over × ((asked.asked ≡ budget) ⊎ (asked.again ≡ budget))
+IsCause budget asked over written Bytes = (over ≡ false) × (MAX_BYTES < written)
+IsCause budget asked over written NoWay = (over ≡ false) × (written ≤ MAX_BYTES)
 
 -- nothing is said only for a cause that is so
-abbrev pub HasCause : ℕ → Questions → ℕ → Settled → Type 0
-HasCause budget asked written (Yes bytes) = Unit {0}
-HasCause budget asked written (No ob answers why) = Unit {0}
-HasCause budget asked written (Spent cause) = IsCause budget asked written cause
+abbrev pub HasCause : ℕ → Questions → Bool → ℕ → Settled → Type 0
+HasCause budget asked over written (Yes bytes) = Unit {0}
+HasCause budget asked over written (No ob answers why) = Unit {0}
+HasCause budget asked over written (Spent cause) = IsCause budget asked over written cause

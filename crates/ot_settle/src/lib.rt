@@ -1,8 +1,9 @@
 //! Deciding a function by a search for a proof with lemmas.
 //!
-//! The obligations of a level are searched in order with one budget of questions for all of them together, and one of as
-//! many for the walks that write what was shown; both are kept. What the search finds is not trusted: the text of a proof is judged as a whole before it is handed over, and answers to a
-//! failing end are walked once more, by integers that meet them. Where nothing is said, the cause is.
+//! The obligations of a level are searched in order with one budget of questions for all of them together, and one of
+//! as many for the walks that write what was shown; both are kept. What the search finds is not trusted: the text of a
+//! proof is judged as a whole before it is handed over, and answers to a failing end are walked once more, by integers
+//! that meet them. Where nothing is said, the cause is.
 #![tactic(auto)]
 
 mod ended;

@@ -31,28 +31,30 @@ fn search_in<'a>(
     requires listed { IsTrue (is_obligation (function_of rules.now).head ob) }
     ensures ended { IfOk result (λ r. FailsOnlySo (IsFailingEnd (plan_of (function_of rules.now) ob)) r.ended) }
     ensures within { IfOk result (λ r. IsWithin r.asked budget) }
-    ensures cause { IfOk result (λ r. SpendsOnlySo (MaySpend budget r.asked (length bytes.new.items)) r.ended) }
+    ensures cause { IfOk result (λ r. SpendsOnlySo (MaySpend budget r.asked r.over (length bytes.new.items)) r.ended) }
 {
     let mut asker = FindingStarts::new(alloc, bump, rules, ob);
     let found = search_plan(alloc, &mut asker, budget, bytes)?;
     let asked = found.asked;
+    let over = found.over;
     let ended = found.ended;
     match ended {
-        Ended::Shown => Ok(searched(Ended::Shown, asked)),
+        Ended::Shown => Ok(searched(Ended::Shown, asked, over)),
         Ended::Fails(answers) => match failing_end(alloc, &mut asker, &answers)? {
-            Some(end) => Ok(searched(Ended::Fails(end), asked)),
-            None => Ok(searched(Ended::Spent(SpentCause::NoWay), asked)),
+            Some(end) => Ok(searched(Ended::Fails(end), asked, over)),
+            None => Ok(searched(Ended::Spent(SpentCause::NoWay), asked, false)),
         },
-        Ended::Spent(cause) => Ok(searched(Ended::Spent(cause), asked)),
+        Ended::Spent(cause) => Ok(searched(Ended::Spent(cause), asked, over)),
     }
 }
 
-// What a search came to that asked so many questions.
-fn searched<E: Drop>(ended: Ended<E>, asked: Questions) -> Searched<E>
+// What a search came to that asked so many questions, and whether it met one more than it may ask.
+fn searched<E: Drop>(ended: Ended<E>, asked: Questions, over: bool) -> Searched<E>
     ensures ended { result.ended ≡ ended }
     ensures asked { result.asked ≡ asked }
+    ensures over { result.over ≡ over }
 {
-    Searched { ended, asked }
+    Searched { ended, asked, over }
 }
 
 // Searches an obligation in an arena of its own, and appends its section where it is shown.
@@ -66,7 +68,8 @@ fn search_ob(
     requires listed { IsTrue (is_obligation (function_of rules.now).head ob) }
     ensures ended { IfOk result (λ r. FailsOnlySo (IsFailingEnd (plan_of (function_of rules.now) ob)) r.ended) }
     ensures within { IfOk result (λ r. IsWithin r.asked budget) }
-    ensures cause { IfOk result (λ r. SpendsOnlySo (MaySpend budget r.asked (length text.new.bytes.items)) r.ended) }
+    ensures cause { IfOk result (λ r.
+        SpendsOnlySo (MaySpend budget r.asked r.over (length text.new.bytes.items)) r.ended) }
 {
     text.begin_section(ob)?;
     let bump = Bump::new(alloc);
@@ -112,21 +115,26 @@ pub(crate) fn search_all(
     requires listed { list_all (is_obligation (function_of rules.now).head) names.now ≡ true }
     ensures ended { IfOk result (λ r. FailsOnlySo (FailsAmong (function_of rules.now) names.now) r.ended) }
     ensures within { IfOk result (λ r. IsWithin r.asked budget) }
-    ensures cause { IfOk result (λ r. SpendsOnlySo (MaySpend budget r.asked (length text.new.bytes.items)) r.ended) }
+    ensures cause { IfOk result (λ r.
+        SpendsOnlySo (MaySpend budget r.asked r.over (length text.new.bytes.items)) r.ended) }
 {
     let Some((ob, others)) = names.split_first() else {
-        return Ok(searched(Ended::Shown, Questions { asked: 0, again: 0 }));
+        return Ok(searched(Ended::Shown, Questions { asked: 0, again: 0 }, false));
     };
     let first = search_ob(alloc, rules, *ob, budget, text)?;
     let asked = first.asked;
+    let over = first.over;
     let ended = first.ended;
     match ended {
         Ended::Shown => {
             let rest = search_all(alloc, rules, others, left_of(budget, asked), text)?;
             let all = sum_of(asked, rest.asked);
-            Ok(searched(rest.ended, all))
+            Ok(searched(rest.ended, all, rest.over))
         }
-        Ended::Fails(end) => Ok(searched(Ended::Fails(FailingOb { ob: *ob, end }), asked)),
-        Ended::Spent(cause) => Ok(searched(Ended::Spent(cause), asked)),
+        Ended::Fails(end) => {
+            let failing = FailingOb { ob: *ob, end };
+            Ok(searched(Ended::Fails(failing), asked, over))
+        }
+        Ended::Spent(cause) => Ok(searched(Ended::Spent(cause), asked, over)),
     }
 }

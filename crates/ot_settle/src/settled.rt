@@ -26,11 +26,12 @@ pub enum Settled {
     Spent(SpentCause),
 }
 
-/// What the obligations came to, how many questions were asked of all of them together, and how many bytes of a proof
-/// were written.
+/// What the obligations came to, how many questions were asked of all of them together, whether one was met that is
+/// more than may be asked, and how many bytes of a proof were written.
 #[derive(Drop)]
 pub struct Settlement {
     pub settled: Settled,
     pub asked: Questions,
+    pub over: bool,
     pub written: usize,
 }

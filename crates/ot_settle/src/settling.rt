@@ -1,5 +1,5 @@
 //! The search of all obligations of a function for a proof with lemmas.
-ghost use Rattle.std.specs.Prelude.{◌≡◌, ℕ, ◌≤◌, IfOk, length};
+ghost use Rattle.std.specs.Prelude.{◌≡◌, ℕ, ◌≤◌, false, IfOk, length};
 ghost use Rattle.fn_rules.specs.Obligations.{obligations_of};
 ghost use Rattle.fn_rules.specs.Rules.{function_of};
 ghost use Rattle.plan_proofs.specs.Searching.{MaySpend};
@@ -19,7 +19,7 @@ use std::alloc::Global;
 
 // Why nothing is said where so many bytes are no proof.
 fn cause_of(written: usize) -> SpentCause
-    ensures { (budget : ℕ) (asked : Questions) → IsCause budget asked written result }
+    ensures { (budget : ℕ) (asked : Questions) → IsCause budget asked false written result }
 {
     if written > MAX_BYTES {
         return SpentCause::Bytes;
@@ -29,9 +29,15 @@ fn cause_of(written: usize) -> SpentCause
 
 // Why nothing is said where a search of obligations says nothing. Where it found no way on and its text is too long
 // already, it is the text.
-fn cause_after(found: SpentCause, written: usize, asked: Questions, budget: Questions) -> SpentCause
-    requires { MaySpend budget asked written found }
-    ensures { budget.asked ≡ budget.again → IsCause budget.asked asked written result }
+fn cause_after(
+    found: SpentCause,
+    written: usize,
+    asked: Questions,
+    over: bool,
+    budget: Questions,
+) -> SpentCause
+    requires { MaySpend budget asked over written found }
+    ensures { budget.asked ≡ budget.again → IsCause budget.asked asked over written result }
 {
     match found {
         SpentCause::Budget => SpentCause::Budget,
@@ -50,7 +56,7 @@ fn shown(
 ) -> Result<Settlement, NoMemory>
     ensures settled { IfOk result (λ r. IsSettled (function_of rules.now) level r.settled) }
     ensures asked { IfOk result (λ r. r.asked ≡ asked) }
-    ensures spent { IfOk result (λ r. (budget : ℕ) → HasCause budget r.asked r.written r.settled) }
+    ensures spent { IfOk result (λ r. (budget : ℕ) → HasCause budget r.asked r.over r.written r.settled) }
 {
     let bytes = text.whole()?;
     let written = bytes.len();
@@ -60,15 +66,18 @@ fn shown(
     Ok(settlement(Settled::Yes(bytes), asked, written))
 }
 
-// What the obligations came to, by so many questions and with so many bytes written.
+// What the obligations came to, by so many questions, with none met that is more than may be asked, and with so many
+// bytes written.
 fn settlement(settled: Settled, asked: Questions, written: usize) -> Settlement
     ensures settled { result.settled ≡ settled }
     ensures asked { result.asked ≡ asked }
+    ensures over { result.over ≡ false }
     ensures written { result.written ≡ written }
 {
     Settlement {
         settled,
         asked,
+        over: false,
         written,
     }
 }
@@ -96,7 +105,7 @@ fn refuted(
     requires fails { FailsAmong (function_of rules.now) (obligations_of (function_of rules.now).head level) failing }
     ensures settled { IfOk result (λ r. IsSettled (function_of rules.now) level r.settled) }
     ensures asked { IfOk result (λ r. r.asked ≡ asked) }
-    ensures spent { IfOk result (λ r. (budget : ℕ) → HasCause budget r.asked r.written r.settled) }
+    ensures spent { IfOk result (λ r. (budget : ℕ) → HasCause budget r.asked r.over r.written r.settled) }
 {
     let written = text.bytes.len();
     match failing.ob {
@@ -111,8 +120,8 @@ fn refuted(
 }
 
 /// Decides whether a function has the properties of a level, by a proof with lemmas or by answers that some integers
-/// meet, with at most `budget` questions of the searches of all its obligations together, and as many again of the walks
-/// that write what they showed.
+/// meet, with at most `budget` questions of the searches of all its obligations together, and as many again of the
+/// walks that write what they showed.
 ///
 /// `Spent` says nothing of the function, and its cause. The error is want of memory.
 pub fn settle_all(
@@ -128,7 +137,7 @@ pub fn settle_all(
     ensures again { IfOk result (λ r. r.asked.again ≤ budget) }
 
     // Nothing is said only for a cause that is so.
-    ensures spent { IfOk result (λ r. HasCause budget r.asked r.written r.settled) }
+    ensures spent { IfOk result (λ r. HasCause budget r.asked r.over r.written r.settled) }
 {
     obligations_are_those_of_the_kinds();
     let head = rules.head();
@@ -144,9 +153,15 @@ pub fn settle_all(
         Ended::Shown => shown(alloc, rules, level, text, asked),
         Ended::Fails(failing) => refuted(alloc, rules, level, failing, &text, asked),
         Ended::Spent(found) => {
+            let over = searched.over;
             let written = text.bytes.len();
-            let cause = cause_after(found, written, asked, whole);
-            Ok(settlement(Settled::Spent(cause), asked, written))
+            let cause = cause_after(found, written, asked, over, whole);
+            Ok(Settlement {
+                settled: Settled::Spent(cause),
+                asked,
+                over,
+                written,
+            })
         }
     }
 }

@@ -4,6 +4,7 @@ mod Barred
 mod Bounded
 mod Breaking
 mod Confirmed
+mod Explained
 mod Followed
 mod NeverLong
 mod OneAudit
@@ -22,4 +23,5 @@ mod Showing
 mod Shows
 mod Templated
 mod Told
+mod Traced
 mod Unread

@@ -87,15 +87,15 @@ alike r s same = (ap (λ x. status_of x) same, λ other. same)
 verdict_told_once :
     (f : Function) (level : Level) (budget : ℕ) (lists : List (ObQuestions Why)) (one other : Verdict) (r s : Reply)
     → IsVerdict f level budget lists one → IsVerdict f level budget lists other → TellsVerdict f one r → TellsVerdict f other s → AreAlike r s
-verdict_told_once f level budget lists (verdicts.Yes bytes) (verdicts.Yes others) r s is so tells says =
+verdict_told_once f level budget lists (verdicts.Yes bytes asked) (verdicts.Yes others again) r s is so tells says =
     let first : status_of r ≡ 0 = ap (λ x. status_of x) tells in
     let second : status_of s ≡ 0 = ap (λ x. status_of x) says in
     (first ∙ sym second, λ other. absurd (other first))
-verdict_told_once f level budget lists (verdicts.Yes bytes) (verdicts.No ob answers why) r s is so tells says =
+verdict_told_once f level budget lists (verdicts.Yes bytes asked) (verdicts.No ob answers why) r s is so tells says =
     absurd (let none : failing_in lists ≡ None = is.1 in let some = so.1.first in cc)
-verdict_told_once f level budget lists (verdicts.Yes bytes) verdicts.Spent r s is so tells says =
+verdict_told_once f level budget lists (verdicts.Yes bytes asked) verdicts.Spent r s is so tells says =
     absurd (let few = is.0 in omega (arith, few, so))
-verdict_told_once f level budget lists (verdicts.No ob answers why) (verdicts.Yes bytes) r s is so tells says =
+verdict_told_once f level budget lists (verdicts.No ob answers why) (verdicts.Yes bytes asked) r s is so tells says =
     absurd (let none : failing_in lists ≡ None = so.1 in let some = is.1.first in cc)
 verdict_told_once f level budget lists (verdicts.No ob answers why) (verdicts.No name others cause) r s is so tells says =
     let x : FailingOb Why = record { ob = ob; end = record { answers = answered_by answers.items; why = why } } in
@@ -110,7 +110,7 @@ verdict_told_once f level budget lists (verdicts.No ob answers why) (verdicts.No
     same_end lists x y first second = cc
 verdict_told_once f level budget lists (verdicts.No ob answers why) verdicts.Spent r s is so tells says =
     absurd (let few = is.0 in omega (arith, few, so))
-verdict_told_once f level budget lists verdicts.Spent (verdicts.Yes bytes) r s is so tells says =
+verdict_told_once f level budget lists verdicts.Spent (verdicts.Yes bytes asked) r s is so tells says =
     absurd (let few = so.0 in omega (arith, few, is))
 verdict_told_once f level budget lists verdicts.Spent (verdicts.No ob answers why) r s is so tells says =
     absurd (let few = so.0 in omega (arith, few, is))

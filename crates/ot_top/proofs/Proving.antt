@@ -153,7 +153,7 @@ proved_verdict :
     → TellsVerdict f verdict r
     → (certificate : List ℕ) × IsCertificate certificate f level
     × (budget ≤ most_questions → length certificate ≤ limit_of files.Certificate) × (r ≡ Proved certificate)
-proved_verdict f level budget r (verdicts.Yes bytes) is decided within tells =
+proved_verdict f level budget r (verdicts.Yes bytes asked) is decided within tells =
     let proof = decided.2.2 in
     (bytes.items, (proof.trees, proof.fit, proof.text), within, tells)
 proved_verdict f level budget r (verdicts.No ob answers why) is decided within tells =
@@ -270,7 +270,7 @@ module _ (is_text : (bytes : List ℕ) (f : Function) → function_in bytes ≡ 
         (f : Function) (level : Level) (budget : ℕ) (r : Reply) (verdict : Verdict) → 1 ≡ status_of r → IsTrue (is_valid f)
         → IsDecidedAs f level budget verdict → TellsVerdict f verdict r
         → (counter : Counter) × IsBrokenBy f level counter × (r ≡ Broken counter)
-    broken_verdict f level budget r (verdicts.Yes bytes) is valid decided tells =
+    broken_verdict f level budget r (verdicts.Yes bytes asked) is valid decided tells =
         absurd (let zero : 1 ≡ 0 = is ∙ ap (λ x. status_of x) tells in omega (arith, zero))
     broken_verdict f level budget r (verdicts.No ob answers why) is valid decided tells =
         let refuted = decided.2.1 in
@@ -346,7 +346,7 @@ above_budget budget count many = grind (arith, nat_tests)
 status_of_verdict :
     (f : Function) (level : Level) (budget : ℕ) (r : Reply) (verdict : Verdict) (lists : List (ObQuestions Why))
     → IsVerdict f level budget lists verdict → TellsVerdict f verdict r → status_of r ≡ status_by budget lists
-status_of_verdict f level budget r (verdicts.Yes bytes) lists holding tells =
+status_of_verdict f level budget r (verdicts.Yes bytes asked) lists holding tells =
     let few = within_budget budget (count_in lists) holding.0 in
     let none : failing_in lists ≡ None = holding.1 in
     rw (tells, few, none) refl

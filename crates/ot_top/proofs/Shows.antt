@@ -22,6 +22,7 @@ use Rattle.ot_commands.specs.Steady.{AreSteady}
 use Rattle.ot_heads.specs.Heads.{InsertsAndDeletesOnPlain}
 use Rattle.ot_top.specs.Bounded.{IsBounded, IsSought}
 use Rattle.ot_top.specs.Evidence.{Evidence}
+use Rattle.ot_top.specs.Explained.{IsExplained}
 use Rattle.ot_top.specs.Followed.{IsFollowed}
 use Rattle.ot_top.specs.Shown.{HasLevel, IsComplete, IsProved, IsShownBroken}
 use Rattle.ot_top.specs.Shows.{AreKnown, IsOfReply, StatusShows}
@@ -36,6 +37,7 @@ use Rattle.ot_top.proofs.Reversed.{reversed}
 use Rattle.ot_top.proofs.Showing.{shown}
 use Rattle.ot_commands.proofs.Steady.{served, steady}
 use Rattle.ot_top.proofs.Told.{IsAnswered, gone_through, judged}
+use Rattle.ot_top.proofs.Traced.{traced_file}
 use Rattle.ot_top.proofs.Unread.{unread}
 
 -- the reply, of what the shelf tells and of what its calls gave, is the reply of what is known
@@ -66,6 +68,7 @@ module _ (words : List (List ℕ)) (holds : List ℕ → Option (List ℕ)) (IsW
     → IsJudgement f bytes other → one ≡ other)
     (lacks : (f : Function) → InsertsAndDeletesOnPlain f.head → ¬ (HasTp1 f × HasTp2 f))
     (one_list : (p : Plan Why) (w : List Lit) (q r : Questions Why) → QuestionList p w q → QuestionList p w r → q ≡ r)
+    (is_explained : IsAnswered words holds status IsWritten → IsExplained words holds IsWritten status)
     (is_templated : IsAnswered words holds status IsWritten → IsTemplated words IsWritten status)
     (is_broken :
     (e : Evidence) (r : Reply) → 1 ≡ status_of r → IsReply words holds r → IsWritten (text_of r) → IsShownBroken e words holds IsWritten)
@@ -118,6 +121,8 @@ module _ (words : List (List ℕ)) (holds : List ℕ → Option (List ℕ)) (IsW
             let told = answered (of_reply status 0 zero (λ e. omega (arith, e)) (λ e. omega (arith, e)) (λ e. omega (arith, e))) in
             confirmed confirm_level is_text words holds told.0 IsWritten (sym zero ∙ told.3) told.1 told.4;
         confirm_judged = λ of_a_reply. confirm_judged is_read words holds status IsWritten (answered of_a_reply);
+        traced = λ of_a_reply. traced_file is_read words holds status IsWritten (answered of_a_reply);
+        explained = λ of_a_reply. is_explained (answered of_a_reply);
         templated = λ of_a_reply. is_templated (answered of_a_reply);
         gone_through = λ of_a_reply. gone_through words holds status IsWritten (answered of_a_reply);
         steady =

@@ -1,7 +1,8 @@
 -- What statuses tell, from the reply that was written.
 use Rattle.std.proofs.Common.{◌≡◌, ◌≢◌, ◌≤◌, ◌⊎◌, ℕ, true, false, Bool, List, length, take, Option, Some, None, Result, Ok, Err, refl, ap, ◌∙◌, subst, inl, inr}
 use Rattle.std.proofs.Common.{arith}
-use Rattle.std.specs.Prelude.{is_ok, if◌then◌else◌}
+use Rattle.std.specs.Prelude.{is_ok, nat_le, if◌then◌else◌}
+use Rattle.std.proofs.lemmas.Bool.Decides.{nat_tests}
 use Rattle.std.specs.List.{list_all}
 use Rattle.std.proofs.lemmas.Bool.{cases_eq}
 use Rattle.std.proofs.lemmas.List.{take_all}
@@ -14,6 +15,7 @@ use Rattle.refusals.specs.declared.refusal.JudgeError.{JudgeError}
 use Rattle.refusals.specs.declared.refusal.JudgeError.TheVariants as judge
 use Rattle.ot_judge.specs.Refusals.{IsJudgement}
 use Rattle.ot_replies.specs.declared.reply.Drilled.{Drilled}
+use Rattle.ot_replies.specs.declared.reply.Explanation.TheVariants as explanations
 use Rattle.ot_replies.specs.declared.reply.FileKind.TheVariants as files
 use Rattle.ot_replies.specs.declared.reply.Reply.{Reply}
 use Rattle.ot_replies.specs.declared.reply.Reply.TheVariants as replies
@@ -31,7 +33,7 @@ use Rattle.ot_replies.specs.AuditTexts.{is_total}
 use Rattle.ot_replies.specs.DrillTexts.{drill_text}
 use Rattle.ot_replies.specs.Limits.{limit_of}
 use Rattle.ot_top.specs.Shown.{IsGoneThrough, IsJudgedAs}
-use Rattle.ot_replies.specs.Texts.{differ_status, status_of, text_of}
+use Rattle.ot_replies.specs.Texts.{differ_status, status_of, text_of, traced_status}
 use Rattle.ot_top.proofs.Proving.{gets, reply_to_asked}
 use Rattle.ot_commands.proofs.Steady.{steady_asked}
 
@@ -56,59 +58,93 @@ three status =
           ]
     ]
 
--- no reply has a greater status than 9
-case_named : (fault : CaseFault) → status_of (replies.CaseRefused fault) ≤ 9
-case_named faults.Json = omega arith
-case_named (faults.Field name) = omega arith
-case_named (faults.Kind i) = omega arith
-case_named (faults.Enabled i) = omega arith
-case_named (faults.Pair i j) = omega arith
-case_named (faults.Order i) = omega arith
-case_named (faults.Limit name) = omega arith
+-- the status of a reply is none of a fault of the outside, and none is above 9
+abbrev pub IsReplyStatus : ℕ → Type 0
+IsReplyStatus s = (s ≤ 5) ⊎ ((8 ≤ s) × (s ≤ 9))
 
-differ_named : {X : Type 0} → (differ : Option X) → differ_status differ ≤ 9
-differ_named None = omega arith
-differ_named (Some pair) = omega arith
+pub at_most_nine : (s : ℕ) → IsReplyStatus s → s ≤ 9
+at_most_nine s (inl low) = omega (arith, low)
+at_most_nine s (inr high) = high.1
 
-same_named : (same : Bool) → (if same then 0 else 1) ≤ 9
-same_named same = elim same as (λ b. (if b then 0 else 1) ≤ 9) [ true ↦ omega arith | false ↦ omega arith ]
+pub no_fault : (s : ℕ) → IsReplyStatus s → (s ≢ 6) × (s ≢ 7)
+no_fault s (inl low) = (λ six. omega (arith, low, six), λ seven. omega (arith, low, seven))
+no_fault s (inr high) = (λ six. omega (arith, high.0, six), λ seven. omega (arith, high.0, seven))
 
--- the status of each reply is at most 9
-reply_named : (r : Reply) → status_of r ≤ 9
-reply_named (replies.Proved bytes) = omega arith
-reply_named (replies.Broken counter) = omega arith
-reply_named replies.Spent = omega arith
-reply_named (replies.Accepted level) = omega arith
-reply_named (replies.Refused offset why) = omega arith
-reply_named (replies.FunctionRefused subject fault) = omega arith
-reply_named (replies.CaseRefused fault) = case_named fault
-reply_named (replies.EventRefused i fault) = omega arith
-reply_named (replies.StuckAt i) = omega arith
-reply_named (replies.Integrated ends same) = same_named same
-reply_named (replies.Replayed ends differ) = differ_named differ
-reply_named (replies.Served end) = differ_named end.differ
-reply_named (replies.Audited (audits.Blocks blocks)) = same_named (list_all is_total blocks)
-reply_named (replies.Audited audits.Spent) = omega arith
-reply_named (replies.Compared sames.Everywhere) = omega arith
-reply_named (replies.Compared sames.Heads) = omega arith
-reply_named (replies.Compared (sames.Differ k l a b left right)) = omega arith
-reply_named (replies.Compared sames.Spent) = omega arith
-reply_named (replies.Reversed backs.Yes) = omega arith
-reply_named (replies.Reversed (backs.No doc a b there back)) = omega arith
-reply_named (replies.Reversed backs.Spent) = omega arith
-reply_named replies.Unlike = omega arith
-reply_named replies.Unbroken = omega arith
-reply_named (replies.Shortest counter cells) = omega arith
-reply_named (replies.Certified bytes) = omega arith
-reply_named replies.BoundTooLong = omega arith
-reply_named (replies.AtLeast level cells) = omega arith
-reply_named (replies.Confirmed level) = omega arith
-reply_named (replies.ProofRefused offset why) = omega arith
-reply_named (replies.Templated bytes) = omega arith
-reply_named replies.NoTemplate = omega arith
-reply_named (replies.Drilled d) = differ_named d.differ
-reply_named replies.Usage = omega arith
-reply_named (replies.TooLong kind) = omega arith
+eight : IsReplyStatus 8
+eight = inr (omega arith, omega arith)
+
+nine : IsReplyStatus 9
+nine = inr (omega arith, omega arith)
+
+case_named : (fault : CaseFault) → IsReplyStatus (status_of (replies.CaseRefused fault))
+case_named faults.Json = inl (omega arith)
+case_named (faults.Field name) = inl (omega arith)
+case_named (faults.Kind i) = inl (omega arith)
+case_named (faults.Enabled i) = inl (omega arith)
+case_named (faults.Pair i j) = inl (omega arith)
+case_named (faults.Order i) = inl (omega arith)
+case_named (faults.Limit name) = nine
+
+differ_named : {X : Type 0} → (differ : Option X) → IsReplyStatus (differ_status differ)
+differ_named None = inl (omega arith)
+differ_named (Some pair) = inl (omega arith)
+
+same_named : (same : Bool) → IsReplyStatus (if same then 0 else 1)
+same_named same = elim same as (λ b. IsReplyStatus (if b then 0 else 1)) [ true ↦ inl (omega arith) | false ↦ inl (omega arith) ]
+
+-- a trace has such a status, whatever it was made with
+high_named : (test : Bool) → IsReplyStatus (if test then 8 else 9)
+high_named true = eight
+high_named false = nine
+
+traced_named : (status : ℕ) → IsReplyStatus (traced_status status)
+traced_named status = go (nat_le status 5) refl
+  where
+    go : (test : Bool) → nat_le status 5 ≡ test → IsReplyStatus (if test then status else (if nat_le status 8 then 8 else 9))
+    go true low = inl (grind (arith, nat_tests))
+    go false high = high_named (nat_le status 8)
+
+-- the status of each reply is one
+pub reply_status : (r : Reply) → IsReplyStatus (status_of r)
+reply_status (replies.Proved bytes) = inl (omega arith)
+reply_status (replies.Broken counter) = inl (omega arith)
+reply_status replies.Spent = eight
+reply_status (replies.Accepted level) = inl (omega arith)
+reply_status (replies.Refused offset why) = inl (omega arith)
+reply_status (replies.FunctionRefused subject fault) = inl (omega arith)
+reply_status (replies.CaseRefused fault) = case_named fault
+reply_status (replies.EventRefused i fault) = inl (omega arith)
+reply_status (replies.StuckAt i) = inl (omega arith)
+reply_status (replies.Integrated ends same) = same_named same
+reply_status (replies.Replayed ends differ) = differ_named differ
+reply_status (replies.Served end) = differ_named end.differ
+reply_status (replies.Audited (audits.Blocks blocks)) = same_named (list_all is_total blocks)
+reply_status (replies.Audited audits.Spent) = eight
+reply_status (replies.Compared sames.Everywhere) = inl (omega arith)
+reply_status (replies.Compared sames.Heads) = inl (omega arith)
+reply_status (replies.Compared (sames.Differ k l a b left right)) = inl (omega arith)
+reply_status (replies.Compared sames.Spent) = eight
+reply_status (replies.Reversed backs.Yes) = inl (omega arith)
+reply_status (replies.Reversed (backs.No doc a b there back)) = inl (omega arith)
+reply_status (replies.Reversed backs.Spent) = eight
+reply_status replies.Unlike = inl (omega arith)
+reply_status replies.Unbroken = inl (omega arith)
+reply_status (replies.Shortest counter cells) = inl (omega arith)
+reply_status (replies.Certified bytes) = inl (omega arith)
+reply_status replies.BoundTooLong = nine
+reply_status (replies.AtLeast level cells) = inl (omega arith)
+reply_status (replies.Confirmed level) = inl (omega arith)
+reply_status (replies.ProofRefused offset why) = inl (omega arith)
+reply_status (replies.Templated bytes) = inl (omega arith)
+reply_status replies.NoTemplate = inl (omega arith)
+reply_status (replies.Traced bytes status) = traced_named status
+reply_status (replies.Explained (explanations.Holds level basis)) = inl (omega arith)
+reply_status (replies.Explained (explanations.Breaks counter steps)) = inl (omega arith)
+reply_status (replies.Explained (explanations.Open cause)) = eight
+reply_status (replies.Explained (explanations.Misread fault hint)) = inl (omega arith)
+reply_status (replies.Drilled d) = differ_named d.differ
+reply_status replies.Usage = inl (omega arith)
+reply_status (replies.TooLong kind) = nine
 
 pub named : (status : ℕ) → (status ≢ 6 → status ≢ 7 → status ≢ 10 → (r : Reply) × (status ≡ status_of r)) → status ≤ 10
 named status answered =
@@ -116,7 +152,10 @@ named status answered =
       | inl (inl six) ↦ omega arith
       | inl (inr (inl seven)) ↦ omega arith
       | inl (inr (inr ten)) ↦ omega arith
-      | inr none ↦ (let reply = answered none.0 none.1 none.2 in let few = reply_named reply.0 in let is = reply.1 in omega arith)
+      | inr none ↦ (
+          let reply = answered none.0 none.1 none.2 in
+          let few = at_most_nine (status_of reply.0) (reply_status reply.0) in
+          let is = reply.1 in omega arith)
     ]
 
 -- where neither count rises, memory was wanting or the reply was written

@@ -1,7 +1,9 @@
 -- The status 3 is that of a function's file that is reached and is the text of no function.
 use Rattle.std.proofs.Common.{◌≡◌, ◌≢◌, ◌+◌, ℕ, true, false, Bool, List, [], ◌∷◌, take, Option, Some, None, Result, Ok, Err, refl, sym, ap, ◌∙◌, subst, inl}
 use Rattle.std.proofs.Common.{inr, arith}
-use Rattle.std.specs.Prelude.{if◌then◌else◌}
+use Rattle.std.specs.Prelude.{nat_le, if◌then◌else◌}
+use Rattle.ot_words.specs.declared.command.TraceKind.{TraceKind}
+use Rattle.ot_commands.specs.Trace.{IsReplyToTraced, IsTracedAs, TellsCase, TellsHubScript, TellsSession}
 use Rattle.diff_graph.specs.declared.lit.Lit.{Lit}
 use Rattle.fn_rules.specs.declared.function.ObName.{ObName}
 use Rattle.fn_rules.specs.Functions.{Function}
@@ -43,7 +45,11 @@ use Rattle.ot_replies.specs.declared.reply.Reply.TheVariants as replies
 use Rattle.ot_replies.specs.declared.reply.Subject.{Subject}
 use Rattle.ot_replies.specs.declared.reply.Subject.TheVariants.{First, Second}
 use Rattle.ot_words.specs.Commands.{Asked, Prove, Settle, Check, Integrate, Replay, Hub, Audit, Same, Reverse, Least, Bound, Confirm}
-use Rattle.ot_words.specs.Commands.{Drill, Template}
+use Rattle.ot_words.specs.Commands.{Drill, Template, Explain, Trace}
+use Rattle.ot_words.specs.declared.command.TraceKind.TheVariants as traces
+use Rattle.fn_moves.specs.declared.fault.TextFault.{TextFault}
+use Rattle.ot_commands.specs.Explain.{IsReplyToRead, IsReplyToText}
+use Rattle.ot_top.proofs.Explained.{bytes_get, read_other, text_gets}
 use Rattle.ot_top.proofs.Templated.{template_other}
 use Rattle.ot_questions.specs.declared.why.Why.{Why}
 use Rattle.ot_decide.specs.Verdicts.{ObQuestions}
@@ -72,7 +78,7 @@ use Rattle.ot_commands.specs.Settle.{TellsSettled}
 use Rattle.fn_rules.specs.declared.function.Level.{Level}
 use Rattle.ot_top.specs.Shown.{IsUnread, IsUnreadFrom, function_names}
 use Rattle.ot_replies.specs.Limits.{limit_of}
-use Rattle.ot_replies.specs.Texts.{differ_status, status_of}
+use Rattle.ot_replies.specs.Texts.{differ_status, status_of, traced_status}
 use Rattle.ot_commands.proofs.HubStatus.{refused_other}
 use Rattle.ot_top.proofs.Proving.{reply_to_asked}
 use Rattle.ot_commands.proofs.RunsBy.{runs_other}
@@ -96,7 +102,7 @@ refused_case fault r same is = case_other fault (sym (ap (λ x. status_of x) sam
 
 -- what is told of a function that was read has another status, whatever the command
 verdict_other : (f : Function) (verdict : Verdict) (r : Reply) → TellsVerdict f verdict r → status_of r ≢ 3
-verdict_other f (verdicts.Yes bytes) r tells = named_so r (replies.Proved bytes.items) 0 tells refl (λ e. omega (arith, e))
+verdict_other f (verdicts.Yes bytes asked) r tells = named_so r (replies.Proved bytes.items) 0 tells refl (λ e. omega (arith, e))
 verdict_other f (verdicts.No ob answers why) r tells = named_so r (replies.Broken tells.0) 1 tells.2 refl (λ e. omega (arith, e))
 verdict_other f verdicts.Spent r tells = named_so r replies.Spent 8 tells refl (λ e. omega (arith, e))
 
@@ -197,6 +203,18 @@ hub_script_other f (Err fault) r tells = refused_case fault r tells
 hub_script_other f (Ok script) r tells =
     runs_other TellsHub IsRefusedHubEvent IsDone 3 hub_other refused_other (begun_hub f script.doc script.clients) 0 script.events r tells
 
+case_end_other : (f : Function) (read : Result Trial CaseFault) (told : List ℕ) (end : Reply) → TellsCase f read told end → status_of end ≢ 3
+case_end_other f (Err fault) told end tells = refused_case fault end tells.1
+case_end_other f (Ok t) told end tells = outcomes_other _ end tells.1
+
+session_end_other : (f : Function) (read : Result Script CaseFault) (told : List ℕ) (end : Reply) → TellsSession f read told end → status_of end ≢ 3
+session_end_other f (Err fault) told end tells = refused_case fault end tells.1
+session_end_other f (Ok script) told end tells = script_other f (Ok script) end tells.1
+
+hub_end_other : (f : Function) (read : Result HubScript CaseFault) (told : List ℕ) (end : Reply) → TellsHubScript f read told end → status_of end ≢ 3
+hub_end_other f (Err fault) told end tells = refused_case fault end tells.1
+hub_end_other f (Ok script) told end tells = hub_script_other f (Ok script) end tells.1
+
 case_reply_other : (f : Function) (bytes : List ℕ) (r : Reply) → IsReplyToCase f bytes r → status_of r ≢ 3
 unfolding IsReplyToCase
 case_reply_other f bytes r tells = trial_other f (trial_in f bytes) r tells
@@ -213,6 +231,28 @@ file_other : (told : Option (List ℕ)) (Gets : List ℕ → Type 0) (r : Reply)
     → IsReplyToFile files.Case told Gets r → status_of r ≢ 3
 file_other told Gets r other (inl longer) = named_so r (replies.TooLong files.Case) 9 longer.1 refl (λ e. omega (arith, e))
 file_other told Gets r other (inr gets) = other gets.0 gets.2
+
+-- what is told step by step has the status of the reply that it ends with
+end_other : (events : TraceKind) (f : Function) (bytes told : List ℕ) (end : Reply) → IsTracedAs events f bytes told end → status_of end ≢ 3
+unfolding IsTracedAs
+end_other traces.Case f bytes told end tells = case_end_other f (trial_in f bytes) told end tells
+end_other traces.Session f bytes told end tells = session_end_other f (script_in bytes) told end tells
+end_other traces.Hub f bytes told end tells = hub_end_other f (hub_script_in bytes) told end tells
+
+high_other : (test : Bool) → ◌≢◌ {A = ℕ} (if test then 8 else 9) 3
+high_other true is = absurd (omega (arith, is))
+high_other false is = absurd (omega (arith, is))
+
+status_other : (s : ℕ) → s ≢ 3 → traced_status s ≢ 3
+status_other s other = go (nat_le s 5)
+  where
+    go : (test : Bool) → ◌≢◌ {A = ℕ} (if test then s else (if nat_le s 8 then 8 else 9)) 3
+    go true = other
+    go false = high_other (nat_le s 8)
+
+traced_other : (events : TraceKind) (f : Function) (bytes : List ℕ) (r : Reply) → IsReplyToTraced events f bytes r → status_of r ≢ 3
+traced_other events f bytes r (told, end, lines, tells, says, same) is =
+    status_other (status_of end) (end_other events f bytes told end tells) (sym (ap (λ x. status_of x) same) ∙ is)
 
 audit_other : (audit : AnyAudit) (r : Reply) → r ≡ replies.Audited audit → status_of r ≢ 3
 audit_other (audits.Blocks blocks) r same = λ is. same_other (list_all is_total blocks) (sym (ap (λ x. status_of x) same) ∙ is)
@@ -256,12 +296,32 @@ module _ (texts_are_read : (bytes : List ℕ) (f : Function) → IsTextOf bytes 
     λ g text. behind f gets,
   )
 
+  -- a text that gets a reply also where it is refused is refused with this status
+  refused_text :
+      (level : Level) (bytes : List ℕ) (read : Result Function TextFault) → function_in bytes ≡ read → ((f : Function) → ¬ IsTextOf bytes f)
+      → IsReplyToRead level bytes read r → status_of r ≡ 3
+  refused_text level bytes (Ok f) is none got = absurd (none f (is_text bytes f is))
+  refused_text level bytes (Err fault) is none got = ap (λ x. status_of x) got
+
+  text_or_not :
+      (level : Level) (name : List ℕ) → IsReplyToFile files.Function (holds name) (λ b. IsReplyToText level b r) r
+      → IsUnreadFrom holds (status_of r) (name ∷ [])
+  text_or_not level name reply bytes is small =
+      let got : IsReplyToText level bytes r = bytes_get (holds name) bytes (λ b. IsReplyToText level b r) r is small reply in (
+        λ none. refused_text level bytes (function_in bytes) refl none (text_gets level bytes (function_in bytes) r refl got),
+        λ f text. read_other f level r (text_gets level bytes (Ok f) r (texts_are_read bytes f text) got),
+      )
+
   -- a reply has the status 3 exactly where a function's file that is reached is the text of no function
   unread_reply : (asked : Asked) → IsReplyTo holds asked r → IsUnreadFrom holds (status_of r) (function_names asked)
   unread_reply (Prove level budget name) reply =
       read_or_not First name [] _ (λ f gets. verdict_other f gets.0 r gets.3) reply
   unread_reply (Settle level budget name) reply =
       read_or_not First name [] _ (λ f gets. settled_other f gets.0 r gets.2) reply
+  unread_reply (Explain level name) reply = text_or_not level name reply
+  unread_reply (Trace events name file) reply =
+      read_or_not First name [] _
+      (λ f gets. file_other (holds file) (λ b. IsReplyToTraced events f b r) r (λ b. traced_other events f b r) gets) reply
   unread_reply (Check name certificate) reply =
       read_or_not First name [] _ (λ f gets. certificate_other (IsJudgement f) replies.Accepted (holds certificate) r (λ level. refl) gets) reply
   unread_reply (Integrate name case) reply =

@@ -5,6 +5,8 @@ pub mod Shown
 pub mod Bounded
 pub mod Confirmed
 pub mod Followed
+pub mod Explained
+pub mod Traced
 pub mod Templated
 pub mod Shows
 pub mod Answers

@@ -27,7 +27,7 @@ use Rattle.ot_replies.specs.declared.reply.Drilled.{Drilled}
 use Rattle.ot_replies.specs.declared.reply.Reply.TheVariants.{Spent}
 use Rattle.ot_words.specs.Commands.{Asked, Check, Drill, Prove}
 use Rattle.ot_commands.specs.Drill.{IsDrilled}
-use Rattle.ot_commands.specs.Facts.{FunctionAnd, NoFile, OneFunction, Opens, TwoFunctions}
+use Rattle.ot_commands.specs.Facts.{FunctionAnd, FunctionText, NoFile, OneFunction, Opens, TwoFunctions}
 use Rattle.ot_commands.specs.Replies.{facts_of}
 use Rattle.ot_replies.specs.DrillTexts.{drill_text}
 use Rattle.ot_replies.specs.CounterTexts.{counter_text}
@@ -127,6 +127,7 @@ IsJudgedAs words holds status =
 abbrev pub names_of_functions : Opens → List (List ℕ)
 names_of_functions (NoFile Gets) = []
 names_of_functions (OneFunction function Gets) = function ∷ []
+names_of_functions (FunctionText function Gets) = function ∷ []
 names_of_functions (FunctionAnd function other Gets) = function ∷ []
 names_of_functions (TwoFunctions function other Gets) = function ∷ other ∷ []
 

@@ -7,12 +7,14 @@ use Rattle.ot_top.specs.Barred.{IsBarred}
 use Rattle.ot_top.specs.Bounded.{IsBoundJudgedAs, IsBounded, IsSought}
 use Rattle.ot_top.specs.Confirmed.{IsConfirmJudgedAs, IsConfirmed}
 use Rattle.ot_top.specs.Evidence.{Evidence}
+use Rattle.ot_top.specs.Explained.{IsExplained}
 use Rattle.ot_top.specs.Followed.{IsFollowed}
 use Rattle.ot_commands.specs.Given.{TellsGivenOf}
 use Rattle.ot_commands.specs.Hub.{IsServed}
 use Rattle.ot_commands.specs.Replay.{IsSteadyReplay}
 use Rattle.ot_commands.specs.Reverse.{IsReversed}
 use Rattle.ot_top.specs.Templated.{IsTemplated}
+use Rattle.ot_top.specs.Traced.{IsTraced}
 use Rattle.ot_top.specs.Shown.{IsComplete, IsGoneThrough, IsJudgedAs, IsProved, IsShown, IsShownBroken, IsUnread}
 
 -- the status is that of a reply: neither the files nor the sink failed, and there was memory
@@ -22,12 +24,13 @@ IsOfReply status = (status ≢ SHELF_FAULT) × (status ≢ SINK_FAULT) × (statu
 -- what holds of the words where `holds` tells their files: what is accepted or confirmed, and what `prove` or `settle`
 -- write evidence of, has the properties that were written or asked, what is broken fails at the instance that was
 -- written, `prove` and `settle` never end with 0 at level tp2 of a function for insertions and deletions on plain text,
--- the statuses of `prove`, `check` and `confirm` are those that the questions and the judgement give, 3 comes
--- where a function's file is reached that is the text of none, where a function makes sites agree they are not found
--- apart, nor clients and their server, the end that `hub` writes is that of a hub whose documents follow its log,
--- `audit`, `same` and `reverse` write what is so of all operations, no document is shorter than `least` and `bound`
--- say, `template` writes a function that has what is asked, or no transformation has
--- it, and no event of a workload is refused, no site of it is stuck, and no two sites of it differ
+-- the statuses of `prove`, `check` and `confirm` are those that the questions and the judgement give, 3 comes where a
+-- function's file is reached that is the text of none, where a function makes sites agree they are not found apart, nor
+-- clients and their server, the end that `hub` writes is that of a hub whose documents follow its log, `audit`, `same`
+-- and `reverse` write what is so of all operations, no document is shorter than `least` and `bound` say, `trace` writes
+-- what happened and what the command answers that runs the file, `explain` writes why a function has what is asked or
+-- where it breaks it, `template` writes a function that has what is asked, or no transformation has it, and no event of
+-- a workload is refused, no site of it is stuck, and no two sites of it differ
 pub record StatusShows (words : List (List ℕ)) (holds : List ℕ → Option (List ℕ)) (IsWritten : List ℕ → Type 0)
     (status : ℕ) : Type 0 where
   pub sound : status ≡ 0 → IsShown words holds IsWritten
@@ -48,6 +51,8 @@ pub record StatusShows (words : List (List ℕ)) (holds : List ℕ → Option (L
   pub bound_judged : IsOfReply status → IsBoundJudgedAs words holds status
   pub confirmed : status ≡ 0 → IsConfirmed words holds IsWritten
   pub confirm_judged : IsOfReply status → IsConfirmJudgedAs words holds status
+  pub traced : IsOfReply status → IsTraced words holds IsWritten status
+  pub explained : IsOfReply status → IsExplained words holds IsWritten status
   pub templated : IsOfReply status → IsTemplated words IsWritten status
   pub gone_through : IsOfReply status → IsGoneThrough words status IsWritten
 

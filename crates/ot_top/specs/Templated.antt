@@ -16,7 +16,8 @@ abbrev pub HasNone : Head → Type 0
 HasNone head = (t : Transformation) → KeepsOperations t → ¬ (HasTp1Of head t × HasTp2Of head t)
 
 -- the words ask for a function of a head: what was written is, by the grammar, the text of a function of that head that
--- has the level that is asked; or both properties are asked, no transformation of the head has both, and that was written
+-- has the level that is asked; or both properties are asked, no transformation of the head has both, and that was
+-- written
 abbrev pub IsTemplated : List (List ℕ) → (List ℕ → Type 0) → ℕ → Type 0
 IsTemplated words IsWritten status =
     (level : Level) (head : Head) → asked_by words ≡ Some (Template level head)

@@ -13,6 +13,7 @@ use ot_commands::bound::bound;
 use ot_commands::check::check;
 use ot_commands::confirm::confirm;
 use ot_commands::drill::drill;
+use ot_commands::explain::explain;
 use ot_commands::hub::hub;
 use ot_commands::integrate::integrate;
 use ot_commands::least::least;
@@ -23,6 +24,7 @@ use ot_commands::reverse::reverse;
 use ot_commands::same::same;
 use ot_commands::settle::settle;
 use ot_commands::template::template;
+use ot_commands::trace::trace;
 use ot_outside::Shelf;
 use ot_replies::Reply;
 use ot_words::{Command, read_words};
@@ -50,6 +52,7 @@ fn reply_to<H: Shelf>(alloc: Global, shelf: &mut H, command: &Command<'_>) -> Re
             budget,
             function,
         } => settle(alloc, shelf, level, budget, function),
+        Command::Explain { level, function } => explain(alloc, shelf, level, function),
         Command::Check {
             function,
             certificate,
@@ -60,6 +63,11 @@ fn reply_to<H: Shelf>(alloc: Global, shelf: &mut H, command: &Command<'_>) -> Re
             function,
             hub: name,
         } => hub(alloc, shelf, function, name),
+        Command::Trace {
+            events,
+            function,
+            file,
+        } => trace(alloc, shelf, events, function, file),
         Command::Audit { function } => audit(alloc, shelf, function),
         Command::Same { function, other } => same(alloc, shelf, function, other),
         Command::Reverse { function, other } => reverse(alloc, shelf, function, other),

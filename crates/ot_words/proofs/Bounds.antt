@@ -17,10 +17,11 @@ use Rattle.fn_rules.specs.declared.function.Level.{Level}
 use Rattle.fn_rules.specs.Functions.{is_declared}
 use Rattle.fn_rules.specs.declared.limits.TheConstants.{MOST_ROUNDS}
 use Rattle.ot_words.specs.Commands.{Asked, Prove, Settle, Check, Integrate, Replay, Hub, Audit, Same, Reverse, Least, Bound, Confirm}
-use Rattle.ot_words.specs.Commands.{Template, Drill}
+use Rattle.ot_words.specs.Commands.{Template, Drill, Explain, Trace}
+use Rattle.ot_words.specs.declared.command.TraceKind.{TraceKind}
 use Rattle.clap_words.specs.Found.{found_by}
-use Rattle.ot_words.specs.Words.{IsWithinBounds, asked_by, audit_in, deciding_app, decision_by, decision_in, drill_app, drill_by, drill_in, is_given, least_app}
-use Rattle.ot_words.specs.Words.{least_by, least_in, level_by, most_questions, most_settling_questions, name_by, names_by, number_by, of_two, prove_in, settle_in, two_in}
+use Rattle.ot_words.specs.Words.{IsWithinBounds, asked_by, audit_in, deciding_app, decision_by, decision_in, drill_app, drill_by, drill_in, explain_by, explain_in, flagged_app, is_given}
+use Rattle.ot_words.specs.Words.{least_by, least_in, level_by, most_questions, most_settling_questions, name_by, names_by, number_by, of_two, prove_in, settle_in, trace_app, trace_by, trace_in, trace_kind, two_in, values_in}
 use Rattle.ot_words.specs.Words.{head_in, kind_named, mode_named, no_kinds, template_app, template_by, template_in, with_further, with_kind, with_named, with_new}
 
 number_within : (most : ℕ) (text : List ℕ) (n : ℕ) → number_by most text ≡ Some n → n ≤ most
@@ -133,12 +134,36 @@ module _ (most : ℕ) (Asks : Level → ℕ → List ℕ → Asked)
 
 leasts_are_within : (words : List (List ℕ)) → IsWithin (least_in words)
 unfolding least_in
-leasts_are_within words = go (found_by least_app words)
+leasts_are_within words = go (found_by (flagged_app (codes "least") (codes "cert")) words)
   where
     go : (found : Option (List Row)) → IsWithin (option_and_then least_by found)
     go None = none_is_within
     go (Some rows) =
         names_are_within (Least (is_given (first_of (codes "cert") rows))) (λ n. tt) (first_of (codes "function") rows)
+
+explains_are_within : (words : List (List ℕ)) → IsWithin (explain_in words)
+unfolding explain_in
+explains_are_within words = go (found_by (flagged_app (codes "explain") (codes "tp1")) words)
+  where
+    go : (found : Option (List Row)) → IsWithin (option_and_then explain_by found)
+    go None = none_is_within
+    go (Some rows) =
+        names_are_within (Explain (level_by (first_of (codes "tp1") rows))) (λ n. tt) (first_of (codes "function") rows)
+
+trace_is_within :
+    (events : Option TraceKind) (names : Option (List ℕ × List ℕ))
+    → IsWithin (option_and_then (λ e. option_map (λ (n : List ℕ × List ℕ). Trace e n.0 n.1) names) events)
+trace_is_within None names = none_is_within
+trace_is_within (Some events) names = names_are_within (λ (n : List ℕ × List ℕ). Trace events n.0 n.1) (λ n. tt) names
+
+traces_are_within : (words : List (List ℕ)) → IsWithin (trace_in words)
+unfolding trace_in
+traces_are_within words = go (found_by trace_app words)
+  where
+    go : (found : Option (List Row)) → IsWithin (option_and_then trace_by found)
+    go None = none_is_within
+    go (Some rows) =
+        trace_is_within (trace_kind (is_given (first_of (codes "session") rows)) (is_given (first_of (codes "hub") rows))) (values_in rows)
 
 drill_is_within : (number : Option ℕ) → ((n : ℕ) → number ≡ Some n → n ≤ MOST_ROUNDS) → IsWithin (option_map Drill number)
 drill_is_within None few = none_is_within
@@ -234,8 +259,10 @@ within_bounds (word ∷ words) =
     (decisions_are_within most_questions Prove (λ level b name few. few) (codes "prove") (codes "1000000") words)
     (one_of (bytes_eq word (codes "settle")) (settle_in words) _
     (decisions_are_within most_settling_questions Settle (λ level b name few. few) (codes "settle") (codes "30000000") words)
+    (one_of (bytes_eq word (codes "explain")) (explain_in words) _ (explains_are_within words)
+    (one_of (bytes_eq word (codes "trace")) (trace_in words) _ (traces_are_within words)
     (one_of (bytes_eq word (codes "audit")) (audit_in words) _ (names_are_within Audit (λ n. tt) (name_by (codes "audit") words))
     (one_of (bytes_eq word (codes "least")) (least_in words) _ (leasts_are_within words)
     (one_of (bytes_eq word (codes "template")) (template_in words) _ (templates_are_within words)
     (one_of (bytes_eq word (codes "drill")) (drill_in words) (two_in word words) (drills_are_within words)
-    (twos_are_within word (names_by word words)))))))
+    (twos_are_within word (names_by word words)))))))))

@@ -4,8 +4,9 @@ use Rattle.clap.proofs.OnLiterals.{clap_on_literals}
 use Rattle.ot_model.specs.declared.op.Mode.TheVariants.{Plain, Tomb}
 use Rattle.fn_rules.specs.declared.function.Level.TheVariants.{Tp1, Tp2}
 use Rattle.clap_words.specs.Found.{found_by}
-use Rattle.ot_words.specs.Commands.{Prove, Settle, Check, Integrate, Audit, Same, Least, Template}
-use Rattle.ot_words.specs.Words.{asked_by, decision_by, least_in, name_by, names_by, template_in}
+use Rattle.ot_words.specs.Commands.{Prove, Settle, Check, Integrate, Audit, Same, Least, Template, Explain, Trace}
+use Rattle.ot_words.specs.declared.command.TraceKind.TheVariants as traces
+use Rattle.ot_words.specs.Words.{asked_by, decision_by, explain_in, least_in, name_by, names_by, template_in, trace_in}
 
 -- two file names, of which the empty word and `-` are such
 two_names : asked_by (codes "check" ∷ codes "a" ∷ codes "b" ∷ []) ≡ Some (Check (codes "a") (codes "b"))
@@ -127,6 +128,32 @@ certificate_behind = refl
 no_budget : asked_by (codes "least" ∷ codes "--budget=7" ∷ codes "a" ∷ []) ≡ None
 unfolding clap_on_literals least_in found_by
 no_budget = refl
+
+-- and that of `explain`
+explained : asked_by (codes "explain" ∷ codes "a" ∷ codes "--tp1" ∷ []) ≡ Some (Explain Tp1 (codes "a"))
+unfolding clap_on_literals explain_in found_by
+explained = refl
+
+explained_within : asked_by (codes "explain" ∷ codes "--budget=7" ∷ codes "a" ∷ []) ≡ None
+unfolding clap_on_literals explain_in found_by
+explained_within = refl
+
+-- `trace` takes a case where no option says otherwise, and one option at the most
+traced_case : asked_by (codes "trace" ∷ codes "a" ∷ codes "b" ∷ []) ≡ Some (Trace traces.Case (codes "a") (codes "b"))
+unfolding clap_on_literals trace_in found_by
+traced_case = refl
+
+traced_session : asked_by (codes "trace" ∷ codes "a" ∷ codes "--session" ∷ codes "b" ∷ []) ≡ Some (Trace traces.Session (codes "a") (codes "b"))
+unfolding clap_on_literals trace_in found_by
+traced_session = refl
+
+traced_hub : asked_by (codes "trace" ∷ codes "--hub" ∷ codes "a" ∷ codes "b" ∷ []) ≡ Some (Trace traces.Hub (codes "a") (codes "b"))
+unfolding clap_on_literals trace_in found_by
+traced_hub = refl
+
+traced_both : asked_by (codes "trace" ∷ codes "--hub" ∷ codes "--session" ∷ codes "a" ∷ codes "b" ∷ []) ≡ None
+unfolding clap_on_literals trace_in found_by
+traced_both = refl
 
 -- the kinds of `template` stand in any order, each once at the most
 one_kind :

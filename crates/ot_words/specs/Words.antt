@@ -20,7 +20,9 @@ use Rattle.fn_rules.specs.declared.function.Level.TheVariants.{Tp1, Tp2}
 use Rattle.fn_rules.specs.declared.limits.TheConstants.{MOST_ROUNDS}
 use Rattle.fn_rules.specs.Functions.{is_declared}
 use Rattle.ot_words.specs.Commands.{Asked, Prove, Settle, Check, Integrate, Replay, Hub, Audit, Same, Reverse, Least}
-use Rattle.ot_words.specs.Commands.{Bound, Confirm, Template, Drill}
+use Rattle.ot_words.specs.Commands.{Bound, Confirm, Template, Drill, Explain, Trace}
+use Rattle.ot_words.specs.declared.command.TraceKind.{TraceKind}
+use Rattle.ot_words.specs.declared.command.TraceKind.TheVariants as traces
 
 -- the clap command of a name, with no option for help and no arguments
 abbrev pub bare_app : List ℕ → App
@@ -43,9 +45,13 @@ two_files name = with_rule (with_rule (bare_app name) (required_rule (codes "fir
 abbrev pub most_questions : ℕ
 most_questions = 1000000
 
--- the most questions that `settle` may be allowed; where the words do not say, it is allowed 30,000,000
+-- the most questions that `settle` may be allowed
 abbrev pub most_settling_questions : ℕ
 most_settling_questions = 100000000
+
+-- how many questions `settle` is allowed where the words do not say
+abbrev pub settling_questions : ℕ
+settling_questions = 30000000
 
 -- an option of a name that is given or not
 abbrev pub flag_rule : List ℕ → Rule
@@ -71,10 +77,18 @@ deciding_app name most otherwise =
     with_rule (with_rule (with_rule (bare_app name) (flag_rule (codes "tp1"))) (budget_rule most otherwise))
     (required_rule (codes "function"))
 
--- the clap command `least`: an option, and a file name
-abbrev pub least_app : App
-least_app = with_rule (with_rule (bare_app (codes "least")) (flag_rule (codes "cert")))
-    (required_rule (codes "function"))
+-- the clap command of a name that takes one option and a file name
+abbrev pub flagged_app : List ℕ → List ℕ → App
+flagged_app name flag = with_rule (with_rule (bare_app name) (flag_rule flag)) (required_rule (codes "function"))
+
+-- the clap command `trace`: two options
+abbrev pub trace_options : App
+trace_options =
+    with_rule (with_rule (bare_app (codes "trace")) (flag_rule (codes "session"))) (flag_rule (codes "hub"))
+
+-- and two file names
+abbrev pub trace_app : App
+trace_app = with_rule (with_rule trace_options (required_rule (codes "first"))) (required_rule (codes "second"))
 
 -- the clap command `drill`: a number, which clap reads
 abbrev pub drill_app : App
@@ -146,7 +160,30 @@ abbrev pub least_by : List Row → Option Asked
 least_by rows = option_map (Least (is_given (first_of (codes "cert") rows))) (first_of (codes "function") rows)
 
 unfoldable pub least_in : List (List ℕ) → Option Asked
-least_in words = option_and_then least_by (found_by least_app words)
+least_in words = option_and_then least_by (found_by (flagged_app (codes "least") (codes "cert")) words)
+
+-- the level and the name that are found
+abbrev pub explain_by : List Row → Option Asked
+explain_by rows = option_map (Explain (level_by (first_of (codes "tp1") rows))) (first_of (codes "function") rows)
+
+unfoldable pub explain_in : List (List ℕ) → Option Asked
+explain_in words = option_and_then explain_by (found_by (flagged_app (codes "explain") (codes "tp1")) words)
+
+-- what the options say that the other file holds: `--session`, `--hub`, or else a case; both say nothing
+abbrev pub trace_kind : Bool → Bool → Option TraceKind
+trace_kind true true = None
+trace_kind true false = Some traces.Session
+trace_kind false true = Some traces.Hub
+trace_kind false false = Some traces.Case
+
+-- what the options say, and the names that are found
+abbrev pub trace_by : List Row → Option Asked
+trace_by rows =
+    option_and_then (λ events. option_map (λ names. Trace events names.0 names.1) (values_in rows))
+    (trace_kind (is_given (first_of (codes "session") rows)) (is_given (first_of (codes "hub") rows)))
+
+unfoldable pub trace_in : List (List ℕ) → Option Asked
+trace_in words = option_and_then trace_by (found_by trace_app words)
 
 -- the number that is found
 abbrev pub drill_by : List Row → Option Asked
@@ -234,11 +271,13 @@ asked_by [] = None
 asked_by (word ∷ words) =
     if bytes_eq word (codes "prove") then prove_in words
     else (if bytes_eq word (codes "settle") then settle_in words
+    else (if bytes_eq word (codes "explain") then explain_in words
+    else (if bytes_eq word (codes "trace") then trace_in words
     else (if bytes_eq word (codes "audit") then audit_in words
     else (if bytes_eq word (codes "least") then least_in words
     else (if bytes_eq word (codes "template") then template_in words
     else (if bytes_eq word (codes "drill") then drill_in words
-    else two_in word words)))))
+    else two_in word words)))))))
 
 -- the number that is asked for is within its bounds, and the head has a kind
 abbrev pub IsWithinBounds : Asked → Type 0

@@ -1,6 +1,19 @@
 //! Commands as values.
 use fn_rules::{Head, Level};
 
+/// What the file holds whose events `trace` tells.
+#[derive(Clone, Copy)]
+pub enum TraceKind {
+    /// A case.
+    Case,
+
+    /// A session.
+    Session,
+
+    /// A hub.
+    Hub,
+}
+
 /// A command, with the names of its files.
 #[derive(Clone, Copy)]
 pub enum Command<'a> {
@@ -23,6 +36,15 @@ pub enum Command<'a> {
 
         /// How many questions may be asked.
         budget: u64,
+
+        /// The name of the function's file.
+        function: &'a str,
+    },
+
+    /// It is told why a function has the properties of a level, or where it breaks one.
+    Explain {
+        /// The level.
+        level: Level,
 
         /// The name of the function's file.
         function: &'a str,
@@ -62,6 +84,18 @@ pub enum Command<'a> {
 
         /// The name of the hub's file.
         hub: &'a str,
+    },
+
+    /// The orders of a case, or the events of a session or of a hub, are told one by one.
+    Trace {
+        /// What the other file holds.
+        events: TraceKind,
+
+        /// The name of the function's file.
+        function: &'a str,
+
+        /// The name of the other file.
+        file: &'a str,
     },
 
     /// What the guards of a function reach is looked for.

@@ -5,5 +5,5 @@
 mod command;
 mod words;
 
-pub use command::Command;
-pub use words::{MOST_QUESTIONS, read_words};
+pub use command::{Command, TraceKind};
+pub use words::{MOST_QUESTIONS, SETTLING_QUESTIONS, read_words};

@@ -5,7 +5,8 @@ ghost use Rattle.clap.specs.Words.{app_of, first_of, found_of, rows_of, rule_of}
 ghost use Rattle.fn_rules.specs.declared.limits.TheConstants.{MOST_ROUNDS};
 ghost use Rattle.ot_words.specs.Commands.{asked_of, Audit};
 ghost use Rattle.ot_words.specs.Words.{asked_by, audit_in, bare_app, budget_rule, deciding_app, decision_by};
-ghost use Rattle.ot_words.specs.Words.{decision_in, drill_app, drill_by, drill_in, flag_rule, is_given, least_app};
+ghost use Rattle.ot_words.specs.Words.{decision_in, drill_app, drill_by, drill_in, explain_by, explain_in, flag_rule};
+ghost use Rattle.ot_words.specs.Words.{flagged_app, is_given, trace_app, trace_by, trace_in, trace_kind, trace_options};
 ghost use Rattle.ot_words.specs.Words.{least_by, least_in, level_by, number_by, number_rule, of_two, one_file};
 ghost use Rattle.clap.specs.Words.{new_rule};
 ghost use Rattle.ot_words.specs.Words.{head_in, kind_named, mode_named, no_kinds, template_app, template_by};
@@ -13,7 +14,7 @@ ghost use Rattle.ot_words.specs.Words.{template_options};
 ghost use Rattle.ot_words.specs.Words.{template_in, with_further, with_kind, with_named, with_new};
 ghost use Rattle.ot_words.specs.Words.{prove_in, required_rule, settle_in, two_files, two_in, values_in};
 
-use crate::command::Command;
+use crate::command::{Command, TraceKind};
 use clap::builder::ValueParser;
 use clap::{Arg, ArgAction, ArgMatches};
 use clap_words::matches_in;
@@ -23,6 +24,9 @@ use std::alloc::Global;
 
 /// The most questions that `prove` may be allowed, and that a workload's function may have.
 pub const MOST_QUESTIONS: u64 = 1_000_000;
+
+/// How many questions `settle` is allowed where the words do not say.
+pub const SETTLING_QUESTIONS: u64 = 30_000_000;
 
 // The most questions that `settle` may be allowed.
 const MOST_SETTLING_QUESTIONS: u64 = 100_000_000;
@@ -77,12 +81,32 @@ fn deciding_app<'a>(
     with_options.arg(required_argument(alloc, "function"))
 }
 
-// The clap command `least`: an option, and a file name.
-fn least_app<'a>(alloc: Global) -> Result<clap::Command<'a>, NoMemory>
-    ensures { IfOk result (λ c. app_of c ≡ least_app) }
+// The clap command of a name that takes one option and a file name.
+fn flagged_app<'a>(
+    alloc: Global,
+    name: &'a str,
+    flag: &'a str,
+) -> Result<clap::Command<'a>, NoMemory>
+    ensures { IfOk result (λ c. app_of c ≡ flagged_app name.entry.now flag.entry.now) }
 {
-    let with_flag = bare_app(alloc, "least").arg(flag_option(alloc, "cert"))?;
+    let with_flag = bare_app(alloc, name).arg(flag_option(alloc, flag))?;
     with_flag.arg(required_argument(alloc, "function"))
+}
+
+// The options of `trace`.
+fn trace_options<'a>(alloc: Global) -> Result<clap::Command<'a>, NoMemory>
+    ensures { IfOk result (λ c. app_of c ≡ trace_options) }
+{
+    let with_session = bare_app(alloc, "trace").arg(flag_option(alloc, "session"))?;
+    with_session.arg(flag_option(alloc, "hub"))
+}
+
+// The clap command `trace`: two options, and two file names.
+fn trace_app<'a>(alloc: Global) -> Result<clap::Command<'a>, NoMemory>
+    ensures { IfOk result (λ c. app_of c ≡ trace_app) }
+{
+    let with_first = trace_options(alloc)?.arg(required_argument(alloc, "first"))?;
+    with_first.arg(required_argument(alloc, "second"))
 }
 
 // The number of `drill`, which is at most `MOST_ROUNDS`.
@@ -245,8 +269,67 @@ fn least_by<'a>(matches: &ArgMatches<'a>) -> Option<Command<'a>>
 fn least_in<'a>(alloc: Global, words: &'a [String]) -> Result<Option<Command<'a>>, NoMemory>
     ensures { IfOk result (λ command. option_map asked_of command ≡ least_in (map string_bytes words.entry.now)) }
 {
-    match matches_in(least_app(alloc)?, words)? {
+    match matches_in(flagged_app(alloc, "least", "cert")?, words)? {
         Some(matches) => Ok(least_by(&matches)),
+        None => Ok(None),
+    }
+}
+
+// The level and the name that clap finds.
+fn explain_by<'a>(matches: &ArgMatches<'a>) -> Option<Command<'a>>
+    ensures { option_map asked_of result ≡ explain_by (rows_of (found_of matches.now)) }
+{
+    let level = level_by(value_of(matches, "tp1"));
+    let function = value_of(matches, "function")?;
+    Some(Command::Explain { level, function })
+}
+
+// `explain [--tp1] FUNCTION`
+#[tactic(auto, unfolding(crate::specs::Words::explain_in))]
+fn explain_in<'a>(alloc: Global, words: &'a [String]) -> Result<Option<Command<'a>>, NoMemory>
+    ensures { IfOk result (λ command. option_map asked_of command ≡ explain_in (map string_bytes words.entry.now)) }
+{
+    match matches_in(flagged_app(alloc, "explain", "tp1")?, words)? {
+        Some(matches) => Ok(explain_by(&matches)),
+        None => Ok(None),
+    }
+}
+
+// What the options say that the other file holds; nothing where they say two things.
+fn trace_kind(session: bool, hub: bool) -> Option<TraceKind>
+    ensures { result ≡ trace_kind session hub }
+{
+    match (session, hub) {
+        (true, true) => None,
+        (true, false) => Some(TraceKind::Session),
+        (false, true) => Some(TraceKind::Hub),
+        (false, false) => Some(TraceKind::Case),
+    }
+}
+
+// What the options say, and the names that clap finds.
+fn trace_by<'a>(matches: &ArgMatches<'a>) -> Option<Command<'a>>
+    ensures { option_map asked_of result ≡ trace_by (rows_of (found_of matches.now)) }
+{
+    let session = is_given(value_of(matches, "session"));
+    let hub = is_given(value_of(matches, "hub"));
+    let events = trace_kind(session, hub)?;
+    let function = value_of(matches, "first")?;
+    let file = value_of(matches, "second")?;
+    Some(Command::Trace {
+        events,
+        function,
+        file,
+    })
+}
+
+// `trace [--session | --hub] FUNCTION FILE`
+#[tactic(auto, unfolding(crate::specs::Words::trace_in))]
+fn trace_in<'a>(alloc: Global, words: &'a [String]) -> Result<Option<Command<'a>>, NoMemory>
+    ensures { IfOk result (λ command. option_map asked_of command ≡ trace_in (map string_bytes words.entry.now)) }
+{
+    match matches_in(trace_app(alloc)?, words)? {
+        Some(matches) => Ok(trace_by(&matches)),
         None => Ok(None),
     }
 }
@@ -471,6 +554,8 @@ pub fn read_words<'a>(alloc: Global, words: &'a [String]) -> Result<Option<Comma
     match name.as_str() {
         "prove" => prove_in(alloc, arguments),
         "settle" => settle_in(alloc, arguments),
+        "explain" => explain_in(alloc, arguments),
+        "trace" => trace_in(alloc, arguments),
         "audit" => audit_in(alloc, arguments),
         "least" => least_in(alloc, arguments),
         "template" => template_in(alloc, arguments),

@@ -1,5 +1,5 @@
 -- What a search says of what was searched, why it says nothing, and how many questions it asks.
-use Rattle.std.specs.Prelude.{◌≡◌, ◌⊎◌, ℕ, ◌<◌, ◌≤◌}
+use Rattle.std.specs.Prelude.{◌≡◌, ◌⊎◌, ℕ, ◌<◌, ◌≤◌, Bool, false, IsTrue}
 use Rattle.plan_proofs.specs.declared.ended.Ended.{Ended}
 use Rattle.plan_proofs.specs.declared.ended.Ended.TheVariants.{Shown, Fails, Spent}
 use Rattle.plan_proofs.specs.declared.ended.Questions.{Questions}
@@ -18,12 +18,14 @@ pub record IsWithin (questions budget : Questions) : Type 0 where
   pub asked : questions.asked ≤ budget.asked
   pub again : questions.again ≤ budget.again
 
--- the cause is so: all that searches, or the walks that write, may ask was asked; or the text has more bytes than a
--- proof may have; what keeps a search from finding a way on is not told
-abbrev pub MaySpend : Questions → Questions → ℕ → SpentCause → Type 0
-MaySpend budget asked count Budget = (asked.asked ≡ budget.asked) ⊎ (asked.again ≡ budget.again)
-MaySpend budget asked count Bytes = MAX_BYTES < count
-MaySpend budget asked count NoWay = Unit {0}
+-- the cause is so: a question was met that is more than may be asked, where all that searches, or the walks that write,
+-- may ask was asked; or none was met, and the text has more bytes than a proof may have; or none was met, and what
+-- keeps a search from finding a way on is not told
+abbrev pub MaySpend : Questions → Questions → Bool → ℕ → SpentCause → Type 0
+MaySpend budget asked over count Budget =
+    IsTrue over × ((asked.asked ≡ budget.asked) ⊎ (asked.again ≡ budget.again))
+MaySpend budget asked over count Bytes = (over ≡ false) × (MAX_BYTES < count)
+MaySpend budget asked over count NoWay = over ≡ false
 
 -- nothing is said only for a cause that is so
 abbrev pub SpendsOnlySo : {E : Type 0} → (SpentCause → Type 0) → Ended E → Type 0

@@ -34,9 +34,10 @@ pub struct Questions {
     pub again: u64,
 }
 
-/// What a search came to, and how many questions were asked.
+/// What a search came to, how many questions were asked, and whether one was met that is more than may be asked.
 #[derive(Drop)]
 pub struct Searched<E> {
     pub ended: Ended<E>,
     pub asked: Questions,
+    pub over: bool,
 }

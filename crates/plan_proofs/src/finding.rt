@@ -17,32 +17,32 @@ use ot_questions::Why;
 use ot_starts::{Begun, StartAsker};
 use ot_terms::Goal;
 use plain_list::List;
-use proof_search::{Facts, Finder, Told};
+use proof_search::{Distances, Finder, Pins, Told};
 use proof_trees::Starter;
 use start_laws::{StartAt, still_read};
 use std::alloc::Global;
 
 // What is read of a start.
-fn read_of(start: &StartAt<'_>, facts: Option<&Facts>) -> Read
+fn read_of<P: Pins>(start: &StartAt<'_>, pinned: Option<&P>) -> Read
     requires { IsBegunProgress start.now.progress.now start.now.last }
 {
     let results = start.results();
     let got = results.as_slice();
-    Read::new(got.len(), still_read(start.progress.ob, got), facts)
+    Read::new(got.len(), still_read(start.progress.ob, got), pinned)
 }
 
 // The number of what is read of the start at a node, and 0 where no transformation begins.
 #[inline]
-fn number_at<'a>(
+fn number_at<'a, P: Pins>(
     asker: &StartAsker<'a>,
     numbers: &mut Numbers,
     node: &'a Goal<'a>,
-    facts: Option<&Facts>,
+    pinned: Option<&P>,
 ) -> Result<usize, NoMemory>
     requires { IsStop (function_of asker.now.laid) asker.now.ob (goal_tree node.now) }
 {
     match asker.start_at(node) {
-        Some(start) => numbers.number(read_of(&start, facts)),
+        Some(start) => numbers.number(read_of(&start, pinned)),
         None => Ok(0),
     }
 }
@@ -134,11 +134,11 @@ impl<'a> Starter for FindingStarts<'a> {
 
 impl<'a> Finder for FindingStarts<'a> {
     fn number(&mut self, node: &'a Goal<'a>) -> Result<usize, NoMemory> {
-        number_at(&self.inner, &mut self.numbers, node, None)
+        number_at::<Distances>(&self.inner, &mut self.numbers, node, None)
     }
 
-    fn number_alike(&mut self, node: &'a Goal<'a>, facts: &Facts) -> Result<usize, NoMemory> {
-        number_at(&self.inner, &mut self.numbers, node, Some(facts))
+    fn number_alike<P: Pins>(&mut self, node: &'a Goal<'a>, pinned: &P) -> Result<usize, NoMemory> {
+        number_at(&self.inner, &mut self.numbers, node, Some(pinned))
     }
 
     fn told_otherwise(&self, node: &'a Goal<'a>) -> Option<Told> {

@@ -9,7 +9,7 @@ use crate::finder::Finder;
 use crate::levels::{assume_at, is_still_reached};
 use crate::service::{Any, Known, ServingLemma, serving};
 use diff_graph::Lit;
-use lemma_levels::{Added, Facts, LemmaLevel, Lemmas, Search};
+use lemma_levels::{Added, Distances, LemmaLevel, Lemmas, Search};
 use std::alloc::Global;
 
 impl<N: Copy> Known for Search<N> {
@@ -77,8 +77,8 @@ fn assume_within<N: Copy>(
 }
 
 /// Adds a literal to what follows, if some integers meet it with this.
-fn is_added(facts: &mut Facts, lit: Lit) -> bool {
-    matches!(facts.try_add(lit, 0), Added::Yes)
+fn is_added(facts: &mut Distances, lit: Lit) -> bool {
+    matches!(facts.try_add(lit), Added::Yes)
 }
 
 /// Has the levels assume a literal that follows from what is known around. False where no integers lead here then.
@@ -143,7 +143,7 @@ fn take_wanted<N: Copy>(
 }
 
 /// What follows at the open place, with each two names that are equal up to a constant somewhere around it.
-fn fixed_around<N: Copy>(search: &Search<N>) -> Facts {
+fn fixed_around<N: Copy>(search: &Search<N>) -> Distances {
     let mut facts = search.facts;
     for level in search.levels.iter().rev() {
         facts.add_fixed(&level.outer);

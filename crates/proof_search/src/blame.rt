@@ -5,7 +5,7 @@ ghost use Rattle.proof_search.specs.Owning.{KeepsNodes, KeepsPlaces, IsMendedWit
 use crate::NoMemory;
 use crate::levels::{add_around, assume_at, is_still_reached};
 use diff_graph::Lit;
-use lemma_levels::{Facts, LemmaLevel, MAX_NAMES, Search};
+use lemma_levels::{Distances, LemmaLevel, MAX_NAMES, Search};
 
 /// What became of an end that fails.
 #[derive(Clone, Copy)]
@@ -38,8 +38,8 @@ enum Mended {
 fn innermost_shut<N: Copy>(
     levels: &[LemmaLevel<N>],
     answers: &[Lit],
-    facts: &Facts,
-    within: &mut Vec<Facts>,
+    facts: &Distances,
+    within: &mut Vec<Distances>,
 ) -> Result<Option<usize>, NoMemory>
     ensures { IfOk result (λ found. IfSome found (λ number. number < length levels.now)) }
 {
@@ -63,7 +63,7 @@ fn shut_out<N: Copy>(
     levels: &mut [LemmaLevel<N>],
     number: usize,
     answers: &[Lit],
-    within: &Facts,
+    within: &Distances,
 ) -> Result<bool, NoMemory>
     requires { number < length levels.old }
     ensures { KeepsNodes (λ l. l.node) levels.old levels.new }
@@ -79,7 +79,7 @@ fn shut_out<N: Copy>(
             return Ok(false);
         };
         assume_at(levels, number, lit)?;
-        inner.try_add(lit, 0);
+        inner.try_add(lit);
     }
     Ok(false)
 }
@@ -88,7 +88,7 @@ fn shut_out<N: Copy>(
 fn mend<N: Copy>(
     levels: &mut [LemmaLevel<N>],
     answers: &[Lit],
-    within: &[Facts],
+    within: &[Distances],
     first: usize,
 ) -> Result<Mended, NoMemory>
     ensures nodes { KeepsNodes (λ l. l.node) levels.old levels.new }

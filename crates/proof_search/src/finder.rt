@@ -2,9 +2,9 @@
 ghost use Rattle.std.specs.Prelude.{◌≡◌};
 ghost use Rattle.proof_trees.specs.Starters.{KeepsStarts};
 
+use crate::service::Pins;
 use crate::told::Told;
 use ask_core::{Asker, NoMemory};
-use lemma_levels::Facts;
 use proof_trees::{Starter, Startless};
 
 /// An asker that numbers its starts, so that what was shown at one of them is found again. Nothing is promised of the
@@ -19,8 +19,8 @@ pub trait Finder: Starter {
         ensures told { Self.told self.new ≡ Self.told self.old };
 
     /// The number of the start alike: of the one at the node, with each result that is read told by its own operation's
-    /// position where the facts have the two equal up to a constant.
-    fn number_alike(&mut self, node: Self::Node, facts: &Facts) -> Result<usize, NoMemory>
+    /// position where the two are pinned to one another.
+    fn number_alike<P: Pins>(&mut self, node: Self::Node, pinned: &P) -> Result<usize, NoMemory>
         requires { Self.is_own self.old node }
         ensures same { KeepsStarts (Self.is_own self.old) (Self.is_own self.new) (Self.starts self.old)
             (Self.starts self.new) }
@@ -37,7 +37,7 @@ impl<A: Asker> Finder for Startless<A> {
         Ok(0)
     }
 
-    fn number_alike(&mut self, _node: A::Node, _facts: &Facts) -> Result<usize, NoMemory> {
+    fn number_alike<P: Pins>(&mut self, _node: A::Node, _pinned: &P) -> Result<usize, NoMemory> {
         Ok(0)
     }
 

@@ -4,7 +4,7 @@ ghost use Rattle.proof_search.specs.Owning.{KeepsNodes};
 
 use crate::NoMemory;
 use diff_graph::Lit;
-use lemma_levels::{Facts, LemmaLevel};
+use lemma_levels::{Distances, LemmaLevel};
 
 /// Makes a literal on the same names as strong as the given one, if there is one.
 fn strengthen(literals: &mut [Lit], lit: Lit) -> bool {
@@ -45,7 +45,7 @@ fn add_assumed_around<N: Copy>(levels: &mut [LemmaLevel<N>], number: usize) -> b
     ensures { KeepsNodes (λ l. l.node) levels.old levels.new }
 {
     let mut outer = levels[number].outer;
-    let excluded = outer.add_up_to_excluded(assumed(&levels[..number]), 0);
+    let excluded = outer.add_up_to_excluded(assumed(&levels[..number]));
     levels[number].outer = outer;
     excluded.is_none()
 }
@@ -65,7 +65,7 @@ pub(crate) fn is_still_reached<N: Copy>(
 /// Adds what is known around a level to what followed within it, up to a literal that no integers meet with this, which
 /// is the answer.
 pub(crate) fn add_around<N: Copy>(
-    inner: &mut Facts,
+    inner: &mut Distances,
     levels: &[LemmaLevel<N>],
     number: usize,
     answers: &[Lit],
@@ -74,9 +74,9 @@ pub(crate) fn add_around<N: Copy>(
 {
     let around = &levels[..number];
     let known = part(answers, answers_before(around), levels[number].answers);
-    match inner.add_up_to_excluded(assumed(around), 0) {
+    match inner.add_up_to_excluded(assumed(around)) {
         Some(lit) => Some(lit),
-        None => inner.add_up_to_excluded(known, 0),
+        None => inner.add_up_to_excluded(known),
     }
 }
 

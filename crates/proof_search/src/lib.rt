@@ -24,7 +24,7 @@ mod turns;
 
 pub use ask_core::NoMemory;
 pub use finder::Finder;
-pub use lemma_levels::{Added, Facts, Lemma, Lemmas, MAX_NAMES, NEWEST};
+pub use lemma_levels::{Added, Distances, Facts, Lemma, Lemmas, MAX_NAMES, NEWEST};
 pub use seeking::{SearchOutcome, SearchResult, search};
-pub use service::{Any, Choice, Known, ServingLemma, serving, serving_of};
+pub use service::{Any, Choice, Known, Pins, ServingLemma, serving, serving_of};
 pub use told::Told;

@@ -5,14 +5,14 @@ ghost use Rattle.proof_search.specs.Owning.{BeginsLevel, HasAskedInSearch};
 use crate::NoMemory;
 use crate::levels::assumed;
 use diff_graph::{Lit, negate};
-use lemma_levels::{Facts, LemmaLevel, Search, Sent, WaitingPart};
+use lemma_levels::{Distances, LemmaLevel, Search, Sent, WaitingPart};
 use std::alloc::Global;
 
 /// Adds a literal to the facts that stand last.
 #[inline(always)]
-fn add_to_last(followed: &mut [Facts], lit: Lit) {
+fn add_to_last(followed: &mut [Distances], lit: Lit) {
     if let Some(facts) = followed.last_mut() {
-        facts.try_add(lit, 0);
+        facts.try_add(lit);
     }
 }
 
@@ -37,7 +37,7 @@ fn begin_level<N: Copy>(
         scout: false,
         sent: search.sent,
     })?;
-    search.facts = Facts::new();
+    search.facts = Distances::new();
     Ok(())
 }
 
@@ -67,7 +67,7 @@ fn ask<N: Copy>(search: &mut Search<N>, lit: Lit, yes: N, no: N) -> Result<(), N
         answer,
     })?;
     search.answers.push(lit)?;
-    search.facts.try_add(lit, 0);
+    search.facts.try_add(lit);
     search.at = Some(yes);
     Ok(())
 }
@@ -113,7 +113,7 @@ pub(crate) fn answer<N: Copy>(
     Ok(
         search
             .facts
-            .add_up_to_excluded(assumed(&search.levels), 0)
+            .add_up_to_excluded(assumed(&search.levels))
             .is_none(),
     )
 }

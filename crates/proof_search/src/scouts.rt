@@ -13,7 +13,7 @@ use crate::NoMemory;
 use crate::blame::drop_from;
 use crate::told::Told;
 use diff_graph::Lit;
-use lemma_levels::{Added, Facts, LemmaLevel, MAX_NAMES, Search, Sent};
+use lemma_levels::{Added, Distances, LemmaLevel, MAX_NAMES, Search, Sent};
 use std::alloc::Global;
 
 /// How far from one another two positions are where a scout goes, farther than guards and results tell apart.
@@ -26,7 +26,7 @@ const MOST_KNOWN: usize = 23;
 #[derive(Drop)]
 struct Outset {
     literals: Vec<Lit>,
-    facts: Facts,
+    facts: Distances,
 }
 
 /// The literal that leads far below or above the other position.
@@ -58,8 +58,8 @@ fn is_first(sent: &mut Sent, below: bool) -> bool {
 }
 
 /// What is known around the levels.
-fn known_around<N: Copy>(levels: &[LemmaLevel<N>], level: &LemmaLevel<N>) -> Facts {
-    let mut known = Facts::new();
+fn known_around<N: Copy>(levels: &[LemmaLevel<N>], level: &LemmaLevel<N>) -> Distances {
+    let mut known = Distances::new();
     for around in levels {
         known.add_possible(&around.outer);
     }
@@ -71,7 +71,7 @@ fn known_around<N: Copy>(levels: &[LemmaLevel<N>], level: &LemmaLevel<N>) -> Fac
 fn take_up(outset: &mut Outset, lit: Lit) -> Result<(), NoMemory> {
     if outset.literals.len() < MOST_KNOWN
         && !outset.facts.implies(lit)
-        && matches!(outset.facts.try_add(lit, 0), Added::Yes)
+        && matches!(outset.facts.try_add(lit), Added::Yes)
     {
         outset.literals.push(lit)?;
     }
@@ -80,13 +80,13 @@ fn take_up(outset: &mut Outset, lit: Lit) -> Result<(), NoMemory> {
 
 /// The literals that a scout begins with: one that leads far away, and what is known around; none where no integers meet
 /// these.
-fn outset_of(alloc: Global, known: &Facts, far: Lit) -> Result<Option<Outset>, NoMemory> {
+fn outset_of(alloc: Global, known: &Distances, far: Lit) -> Result<Option<Outset>, NoMemory> {
     if known.excludes(far) {
         return Ok(None);
     }
     let mut outset = Outset {
         literals: Vec::new(alloc),
-        facts: Facts::new(),
+        facts: Distances::new(),
     };
     take_up(&mut outset, far)?;
     for x in 0..MAX_NAMES as u8 {
@@ -106,7 +106,7 @@ fn outset_of(alloc: Global, known: &Facts, far: Lit) -> Result<Option<Outset>, N
 fn due<N: Copy>(
     alloc: Global,
     levels: &[LemmaLevel<N>],
-    facts: &Facts,
+    facts: &Distances,
     told: Told,
     level: &mut LemmaLevel<N>,
 ) -> Result<Option<Outset>, NoMemory>

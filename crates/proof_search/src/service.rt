@@ -7,7 +7,7 @@ ghost use Rattle.proof_search.specs.Owning.{AreOwnLemmas, ServesNode};
 use crate::NoMemory;
 use crate::finder::Finder;
 use diff_graph::Lit;
-use lemma_levels::{Facts, Lemmas};
+use lemma_levels::{Distances, Facts, Lemmas};
 use plain_list::List;
 use proof_trees::MAX_LITERALS;
 use std::alloc::Global;
@@ -38,6 +38,31 @@ impl Known for Facts {
     #[inline(always)]
     fn shows(&self, lit: Lit) -> bool {
         self.implies(lit)
+    }
+}
+
+impl Known for Distances {
+    #[inline(always)]
+    fn shows(&self, lit: Lit) -> bool {
+        self.implies(lit)
+    }
+}
+
+/// What pins names to one another.
+pub trait Pins {
+    /// The constant `k` for which `x = y + k` follows, if there is one.
+    fn apart(&self, x: u8, y: u8) -> Option<i32>;
+}
+
+impl Pins for Facts {
+    fn apart(&self, x: u8, y: u8) -> Option<i32> {
+        self.distance(x, y)
+    }
+}
+
+impl Pins for Distances {
+    fn apart(&self, x: u8, y: u8) -> Option<i32> {
+        self.distance(x, y)
     }
 }
 
@@ -122,14 +147,14 @@ pub fn serving_of<A: Finder, C: Choice, K: Known>(
 }
 
 /// The newest lemma of the start at a node that is wanted and serves there, or else the newest one of the start alike
-/// by the facts.
+/// by what pins names there.
 #[tactic(auto, using(crate::proofs::Owning::keeping))]
-pub fn serving<A: Finder, C: Choice, K: Known>(
+pub fn serving<A: Finder, C: Choice, K: Known, P: Pins>(
     alloc: Global,
     asker: &mut A,
     lemmas: &Lemmas<A::Node>,
     here: A::Node,
-    facts: &Facts,
+    pinned: &P,
     known: &K,
     choice: &C,
 ) -> Result<Option<ServingLemma>, NoMemory>
@@ -143,7 +168,7 @@ pub fn serving<A: Finder, C: Choice, K: Known>(
     if let Some(found) = serving_of(alloc, asker, lemmas, number, here, known, choice)? {
         return Ok(Some(found));
     }
-    let alike = asker.number_alike(here, facts)?;
+    let alike = asker.number_alike(here, pinned)?;
     if alike == number {
         return Ok(None);
     }

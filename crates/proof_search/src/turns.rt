@@ -15,7 +15,7 @@ use crate::scouts::{give_up, scout};
 use crate::service::{Any, serving};
 use ask_core::Turn;
 use diff_graph::Lit;
-use lemma_levels::{Facts, Lemma, LemmaLevel, Search, Sent};
+use lemma_levels::{Distances, Lemma, LemmaLevel, Search, Sent};
 use plain_list::List;
 use proof_trees::MAX_LITERALS;
 use std::alloc::Global;
@@ -197,7 +197,7 @@ fn go_on<N: Copy>(search: &mut Search<N>) -> Result<Option<SearchEnd>, NoMemory>
 
 /// Whether a lemma of these literals can be written, and some integers meet them.
 fn is_useful(literals: &[Lit]) -> bool {
-    literals.len() <= MAX_LITERALS && Facts::new().add_up_to_excluded(literals, 0).is_none()
+    literals.len() <= MAX_LITERALS && Distances::new().add_up_to_excluded(literals).is_none()
 }
 
 /// Keeps the lemma of a scout, and goes back to its start.

@@ -23,7 +23,7 @@ module _ {N : Type 0} (n : N) where
         | inl here ↦ inl (inr here)
         | inr last ↦ inr last
       ]
-  waits_before (Cycle picks ∷ parts) one waits = waits_before parts one waits
+  waits_before (Cycle count ∷ parts) one waits = waits_before parts one waits
   waits_before (Learn place ∷ parts) one waits = waits_before parts one waits
 
   -- a node that waits still waits among more
@@ -31,13 +31,13 @@ module _ {N : Type 0} (n : N) where
   waits_among [] more waits = absurd waits
   waits_among (Part p ∷ parts) more (inl is) = inl is
   waits_among (Part p ∷ parts) more (inr waits) = inr (waits_among parts more waits)
-  waits_among (Cycle picks ∷ parts) more waits = waits_among parts more waits
+  waits_among (Cycle count ∷ parts) more waits = waits_among parts more waits
   waits_among (Learn place ∷ parts) more waits = waits_among parts more waits
 
   waits_last : (parts : List (WriterTask N)) (p : TreePlace N) → p.node ≡ n → Waits n (parts ++ Part p ∷ [])
   waits_last [] p is = inl is
   waits_last (Part q ∷ parts) p is = inr (waits_last parts p is)
-  waits_last (Cycle picks ∷ parts) p is = waits_last parts p is
+  waits_last (Cycle count ∷ parts) p is = waits_last parts p is
   waits_last (Learn place ∷ parts) p is = waits_last parts p is
 
   -- after a place, a cycle or a lemma was pushed
@@ -51,9 +51,9 @@ module _ {N : Type 0} (n : N) where
       ]
 
   pub waits_cycle :
-      (old new : List (WriterTask N)) (picks : List ℕ) → new ≡ old ++ Cycle picks ∷ [] → Waits n new → Waits n old
-  waits_cycle old new picks is waits =
-      elim (waits_before old (Cycle picks) (subst (λ (parts : List (WriterTask N)). Waits n parts) is waits))
+      (old new : List (WriterTask N)) (count : ℕ) → new ≡ old ++ Cycle count ∷ [] → Waits n new → Waits n old
+  waits_cycle old new count is waits =
+      elim (waits_before old (Cycle count) (subst (λ (parts : List (WriterTask N)). Waits n parts) is waits))
       as (λ x. Waits n old) [ inl before ↦ before | inr none ↦ absurd none ]
 
   pub waits_learn :
@@ -102,10 +102,10 @@ module _ {N : Type 0} (old : PlanWalk N) where
         inr (inr (inr (subst (λ (items : List (WriterTask N)). Waits n items) same waits)))
 
     pub parts_of_yes :
-        (picks : List ℕ) → node ≡ on_yes → parts ≡ old.waiting.items ++ Cycle picks ∷ [] → (n : N)
+        (count : ℕ) → node ≡ on_yes → parts ≡ old.waiting.items ++ Cycle count ∷ [] → (n : N)
         → (node ≡ n) ⊎ Waits n parts → (on_yes ≡ n) ⊎ ((on_no ≡ n) ⊎ HasNode n old)
-    parts_of_yes picks is pushed n (inl here) = inl (sym is ∙ here)
-    parts_of_yes picks is pushed n (inr waits) = inr (inr (inr (waits_cycle n old.waiting.items parts picks pushed waits)))
+    parts_of_yes count is pushed n (inl here) = inl (sym is ∙ here)
+    parts_of_yes count is pushed n (inr waits) = inr (inr (inr (waits_cycle n old.waiting.items parts count pushed waits)))
 
     pub parts_of_both :
         (p : TreePlace N) → node ≡ on_yes → p.node ≡ on_no → parts ≡ old.waiting.items ++ Part p ∷ [] → (n : N)

@@ -14,7 +14,7 @@ IsPresent n (Some p) = p.node ≡ n
 abbrev pub Waits : {N : Type 0} → N → List (WriterTask N) → Type 0
 Waits n [] = ⊥
 Waits n (Part p ∷ parts) = (p.node ≡ n) ⊎ Waits n parts
-Waits n (Cycle picks ∷ parts) = Waits n parts
+Waits n (Cycle count ∷ parts) = Waits n parts
 Waits n (Learn place ∷ parts) = Waits n parts
 
 -- a place of the node is the present one, or waits

@@ -1,6 +1,4 @@
 //! The places of a tree that is being written.
-use ask_core::Picks;
-
 /// A place of a plan at which a tree is to be written: its node, how many literals its list has, and whether a lemma
 /// was just begun here.
 #[derive(Clone, Copy)]
@@ -11,13 +9,14 @@ pub struct TreePlace<N> {
 }
 
 /// What waits behind the present place.
-#[derive(Drop)]
-pub enum WriterTask<N: Copy> {
+#[derive(Clone, Copy)]
+pub enum WriterTask<N> {
     /// A place. Its facts stand with those of the other places that wait.
     Part(TreePlace<N>),
 
-    /// The cycle of a part that no integers lead to.
-    Cycle(Picks),
+    /// The cycle of a part that no integers lead to, of so many numbers. They stand with those of the other cycles that
+    /// wait.
+    Cycle(usize),
 
     /// No token: the tree of the lemma at this place of the list has ended.
     Learn(usize),

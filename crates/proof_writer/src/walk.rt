@@ -6,7 +6,7 @@ ghost use Rattle.proof_writer.specs.Nodes.{HasNode, HasNoOthers, HasOneMore, Add
 ghost use Rattle.proof_writer.specs.Texts.{ExtendsText};
 
 use crate::place::{TreePlace, WriterStep, WriterTask};
-use crate::token::{cycle_of, literals_of, put, put_cycle};
+use crate::token::{literals_of, put, put_ask, put_cycle};
 use crate::written::{LemmaNumbers, Unbegun};
 use ask_core::NoMemory;
 use diff_graph::{Lit, negate};
@@ -15,7 +15,8 @@ use proof_trees::{Literals, ProofTok};
 use std::alloc::Global;
 
 /// A walk under way. The literals at the present place give `facts`, each under its place in the list there; those of
-/// the places that wait give `behind`, the next one's last. `cycle` is where the numbers of a cycle are put.
+/// the places that wait give `behind`, the next one's last. `cycles` has the numbers of the cycles that wait, the next
+/// one's last, and `cycle` is where those of one are put.
 #[derive(Drop)]
 pub struct PlanWalk<N: Copy> {
     pub present: Option<TreePlace<N>>,
@@ -26,6 +27,7 @@ pub struct PlanWalk<N: Copy> {
     pub unbegun: Unbegun,
     pub left: u64,
     pub cycle: Vec<u32>,
+    pub cycles: Vec<u32>,
 }
 
 impl<N: Copy> PlanWalk<N> {
@@ -52,6 +54,7 @@ impl<N: Copy> PlanWalk<N> {
             unbegun: Unbegun::new(alloc, lemmas)?,
             left: questions,
             cycle: Vec::new(alloc),
+            cycles: Vec::new(alloc),
         })
     }
 
@@ -63,8 +66,8 @@ impl<N: Copy> PlanWalk<N> {
     {
         match self.waiting.pop() {
             None => Ok(WriterStep::Done),
-            Some(WriterTask::Cycle(picks)) => {
-                put(ProofTok::Cycle(picks), out)?;
+            Some(WriterTask::Cycle(count)) => {
+                put_last_cycle(&mut self.cycles, count, out)?;
                 Ok(WriterStep::More)
             }
             Some(WriterTask::Learn(place)) => {
@@ -72,10 +75,9 @@ impl<N: Copy> PlanWalk<N> {
                 Ok(WriterStep::More)
             }
             Some(WriterTask::Part(place)) => {
-                let Some(facts) = self.behind.pop() else {
+                if !take_last(&mut self.behind, &mut self.facts) {
                     return Ok(WriterStep::Stuck);
-                };
-                self.facts = facts;
+                }
                 self.present = Some(place);
                 Ok(WriterStep::More)
             }
@@ -96,7 +98,6 @@ impl<N: Copy> PlanWalk<N> {
     /// Writes a question at the present place, whose list has so many literals.
     pub fn ask(
         &mut self,
-        alloc: Global,
         number: u32,
         lit: Lit,
         yes: N,
@@ -111,14 +112,14 @@ impl<N: Copy> PlanWalk<N> {
             return Ok(WriterStep::Spent);
         }
         self.left -= 1;
-        put(ProofTok::Ask, out)?;
+        put_ask(out)?;
         let on_yes = part(yes, number);
         let on_no = part(no, number);
         let negation = negate(lit);
 
         // Where one answer is excluded, the other one follows and adds nothing to the facts.
         if self.facts.write_why_excluded(&mut self.cycle, lit, number)? {
-            put_cycle(alloc, &self.cycle, out)?;
+            put_cycle(&self.cycle, out)?;
             self.present = Some(on_no);
             return Ok(WriterStep::More);
         }
@@ -126,8 +127,8 @@ impl<N: Copy> PlanWalk<N> {
             .facts
             .write_why_excluded(&mut self.cycle, negation, number)?
         {
-            self.waiting
-                .push(WriterTask::Cycle(cycle_of(alloc, &self.cycle)))?;
+            self.cycles.extend_from_slice(&self.cycle)?;
+            self.waiting.push(WriterTask::Cycle(self.cycle.len()))?;
             self.present = Some(on_yes);
             return Ok(WriterStep::More);
         }
@@ -143,10 +144,9 @@ impl<N: Copy> PlanWalk<N> {
         ensures waiting { OnOk result (self.new.waiting.items ≡ self.old.waiting.items) }
         ensures left { OnOk result (self.new.left ≡ self.old.left) }
     {
-        let mut of_no = self.facts;
-        of_no.try_add(negate(lit), number);
+        self.behind.push(self.facts)?;
+        add_to_last(&mut self.behind, negate(lit), number);
         self.facts.try_add(lit, number);
-        self.behind.push(of_no)?;
         Ok(())
     }
 
@@ -185,7 +185,6 @@ impl<N: Copy> PlanWalk<N> {
     /// each literal of the lemma and for each condition.
     pub fn cite(
         &mut self,
-        alloc: Global,
         lemmas: &Lemmas<N>,
         found: &ServingLemma,
         length: u32,
@@ -202,10 +201,10 @@ impl<N: Copy> PlanWalk<N> {
             return Ok(WriterStep::Stuck);
         };
         put(ProofTok::Cite(number), out)?;
-        if !self.put_cycles(alloc, lemma.literals.as_slice(), length, out)? {
+        if !self.put_cycles(lemma.literals.as_slice(), length, out)? {
             return Ok(WriterStep::Stuck);
         }
-        if !self.put_cycles(alloc, found.conditions.as_slice(), length, out)? {
+        if !self.put_cycles(found.conditions.as_slice(), length, out)? {
             return Ok(WriterStep::Stuck);
         }
         self.present = None;
@@ -215,7 +214,6 @@ impl<N: Copy> PlanWalk<N> {
     // Writes for each literal the cycle that shows that it follows, where it does.
     fn put_cycles(
         &mut self,
-        alloc: Global,
         literals: &[Lit],
         number: u32,
         out: &mut Vec<u8>,
@@ -232,9 +230,36 @@ impl<N: Copy> PlanWalk<N> {
             {
                 return Ok(false);
             }
-            put_cycle(alloc, &self.cycle, out)?;
+            put_cycle(&self.cycle, out)?;
         }
         Ok(true)
+    }
+}
+
+// Appends the last cycle of those that wait, of so many numbers, which does not wait then.
+fn put_last_cycle(cycles: &mut Vec<u32>, count: usize, out: &mut Vec<u8>) -> Result<(), NoMemory>
+    ensures { ExtendsText out.old.items out.new.items }
+{
+    let first = cycles.len().saturating_sub(count);
+    put_cycle(&cycles[first..], out)?;
+    cycles.truncate(first);
+    Ok(())
+}
+
+// Takes the facts that stand last, in place of those that are given. False where there are none.
+fn take_last(behind: &mut Vec<Facts>, facts: &mut Facts) -> bool {
+    let Some(last) = behind.last() else {
+        return false;
+    };
+    *facts = *last;
+    behind.truncate(behind.len().saturating_sub(1));
+    true
+}
+
+// Adds a literal to the facts that stand last, under a number.
+fn add_to_last(behind: &mut [Facts], lit: Lit, number: u32) {
+    if let Some(facts) = behind.last_mut() {
+        facts.try_add(lit, number);
     }
 }
 

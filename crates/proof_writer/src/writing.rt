@@ -137,7 +137,7 @@ fn step<A: Finder>(
         return walk.next(out);
     };
     if !is_start(asker, place) {
-        return follow(alloc, asker, walk, place, out);
+        return follow(asker, walk, place, out);
     }
     use_lemma(alloc, asker, lemmas, walk, place, out)
 }
@@ -152,7 +152,6 @@ fn is_start<A: Finder>(asker: &A, place: TreePlace<A::Node>) -> bool
 
 // Writes a question, or that the plan holds, at the present place.
 fn follow<A: Finder>(
-    alloc: Global,
     asker: &mut A,
     walk: &mut PlanWalk<A::Node>,
     place: TreePlace<A::Node>,
@@ -167,7 +166,7 @@ fn follow<A: Finder>(
         (unasked_at step)) }
 {
     match asker.follow(place.node)? {
-        Turn::Ask { lit, yes, no } => walk.ask(alloc, place.length, lit, yes, no, out),
+        Turn::Ask { lit, yes, no } => walk.ask(place.length, lit, yes, no, out),
         Turn::Holds => walk.hold(out),
         Turn::Fails(_) => Ok(WriterStep::Stuck),
     }
@@ -194,7 +193,7 @@ fn use_lemma<A: Finder>(
     let facts = &walk.facts;
     let numbers = &walk.numbers;
     if let Some(found) = serving(alloc, asker, lemmas, place.node, facts, facts, numbers)? {
-        return walk.cite(alloc, lemmas, &found, place.length, out);
+        return walk.cite(lemmas, &found, place.length, out);
     }
     begin_lemma(alloc, asker, lemmas, walk, place, out)
 }
@@ -220,7 +219,7 @@ fn begin_lemma<A: Finder>(
 {
     match unbegun_at(alloc, asker, lemmas, walk, place.node)? {
         Some(lemma) => walk.learn(lemmas, lemma, place, out),
-        None => follow(alloc, asker, walk, place, out),
+        None => follow(asker, walk, place, out),
     }
 }
 

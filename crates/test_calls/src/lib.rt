@@ -14,3 +14,7 @@ mod least;
 mod reversals;
 #[cfg(test)]
 mod settled;
+#[cfg(test)]
+mod steps;
+#[cfg(test)]
+mod traces;

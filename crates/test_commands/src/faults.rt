@@ -32,6 +32,7 @@ const COMMANDS: &[(&str, u32, u8, &str)] = &[
         1,
         "no tp2 operations\ndoc [y]\nop 1 ins 1 a 1\nop 2 del 0 2\nop 3 ins 0 c 3\nleft ins 0 c 3\nright ins 1 c 3\n",
     ),
+    ("explain --tp1 marks.ot", 3, 0, "yes tp1\nquestions 49\n"),
     (
         "integrate sites.ot three.json",
         6,

@@ -158,8 +158,7 @@ pub(crate) fn write_counter(
     counter: &Counter,
     out: &mut Vec<u8>,
 ) -> Result<(), NoMemory>
-    requires { out.old.items ≡ [] }
-    ensures { OnOk result (out.new.items ≡ counter_text counter.now) }
+    ensures { OnOk result (out.new.items ≡ out.old.items ++ counter_text counter.now) }
 {
     write_failure(alloc, counter.level, counter.why, out)?;
     write_doc_line(&counter.doc, out)?;

@@ -34,15 +34,15 @@ returns-in-AllHold c =
     let before = c.write_header.new.out.items in
     let after = c.search_all.new.bytes.items in
     let settled =
-    subst (λ (s : SearchVerdict). AreSettled f.head (plan_of f) obs c.args.budget before after s) c.in-AllHold.is c.in_ok-search_all.ensures.settled in
+    subst (λ (s : SearchVerdict). AreSettled f.head (plan_of f) obs c.args.budget before after s) c.in-AllHold.is c.in_ok-left.ensures.settled in
     let begun : before ≡ header_text obs c.args.level =
     c.in_ok-write_header.ensures.ok
     ∙ ap (λ (x : List ℕ). x ++ header_text c.deref.result.now c.args.level) c.in_ok-bytes.ensures.items
     ∙ ap (λ (n : List ObName). header_text n c.args.level) (c.deref.ensures.value ∙ sym c.deref-2.ensures.value) in
     let ended = c.in_ok-write_end-in-AllHold.ensures.ok in
     record {
-      decides = decided_yes f c.args.level c.args.budget obs are before after c.write_end.new.out begun ended settled;
-      within = few_yes f c.args.level c.args.budget obs are before after c.write_end.new.out begun ended settled;
+      decides = decided_yes f c.args.level c.args.budget obs are before after c.write_end.new.out c.in-AllHold.left begun ended settled;
+      within = few_yes f c.args.level c.args.budget obs are before after c.write_end.new.out c.in-AllHold.left begun ended settled;
     }
 
 -- an obligation fails: no, with the answers that lead there
@@ -55,7 +55,7 @@ returns-in-Fails c =
     let before = c.write_header.new.out.items in
     let after = c.search_all.new.bytes.items in
     let settled =
-    subst (λ (s : SearchVerdict). AreSettled f.head (plan_of f) obs c.args.budget before after s) c.in-Fails.is c.in_ok-search_all.ensures.settled in
+    subst (λ (s : SearchVerdict). AreSettled f.head (plan_of f) obs c.args.budget before after s) c.in-Fails.is c.in_ok-left.ensures.settled in
     record {
       decides =
           decided_no f c.args.level c.args.budget obs are before after c.in-Fails.ob c.in-Fails.answers c.in-Fails.why settled;
@@ -72,7 +72,7 @@ returns c =
     let before = c.write_header.new.out.items in
     let after = c.search_all.new.bytes.items in
     let settled =
-    subst (λ (s : SearchVerdict). AreSettled f.head (plan_of f) obs c.args.budget before after s) c.in-Spent.is c.in_ok-search_all.ensures.settled in
+    subst (λ (s : SearchVerdict). AreSettled f.head (plan_of f) obs c.args.budget before after s) c.in-Spent.is c.in_ok-left.ensures.settled in
     record {
       decides = decided_spent f c.args.level c.args.budget obs are before after settled;
       within = λ _. tt;

@@ -17,7 +17,7 @@ returns-in-AllHold-clause-falls t c =
     let e = c.args.end in
     let bytes = c.search_shorter.new.cert.items in
     let turn = rw c.in-AllHold.is at c.in_ok-search_shorter.ensures in
-    IfOk-weaker c.least.result (IsEndedBy e bytes) (FallsTo f c.args.budget e bytes) (falls_least f c.args.budget e bytes turn) c.least.ensures
+    IfOk-weaker c.least.result (IsEndedBy e bytes) (FallsTo f c.args.budget e bytes) (falls_least f c.args.budget e bytes c.in-AllHold.left turn) c.least.ensures
 
 -- the property is broken at this length and at no lesser one, as the bytes certify
 pub returns-in-AllHold-clause-holds : goal.returns-in-AllHold-clause-holds
@@ -30,7 +30,7 @@ returns-in-AllHold-clause-holds t c =
     (λ short ended.
     is_true f (λ ob why w cells. c.failing_ends_break_at_their_length.ensures.instance f ob why w cells c.rules_are_valid.ensures)
     (λ cert level bound n. c.low_certificates_show_shorter_documents.ensures cert f level bound n) e bytes short ended
-    c.requires.ending c.requires.broken (is_low f c.args.budget e bytes turn short ended c.requires.bounded))
+    c.requires.ending c.requires.broken (is_low f c.args.budget e bytes c.in-AllHold.left turn short ended c.requires.bounded))
     c.least.ensures
 
 -- the certificate keeps the limit of a file
@@ -43,7 +43,7 @@ returns-in-AllHold-clause-within t c =
     let few = c.parts_are_obligations.ensures.few f.head (level_of e.ob) in
     λ limit.
     IfOk-weaker c.least.result (IsEndedBy e bytes) (IsShortWithin 83886080)
-    (λ short ended. short_within f c.args.budget e bytes turn short ended c.requires.bounded few limit) c.least.ensures
+    (λ short ended. short_within f c.args.budget e bytes c.in-AllHold.left turn short ended c.requires.bounded few limit) c.least.ensures
 
 -- the shorter failing end is of the same property
 pub descend-requires : goal.descend-requires

@@ -3,8 +3,9 @@ use Rattle.std.proofs.Common.{◌≡◌, ℕ, ◌++◌, List, map}
 use Rattle.std.specs.Prelude.{string_bytes}
 use Rattle.ot_top.proofs.Bounded.{bounded, sought}
 use Rattle.ot_top.proofs.Confirmed.{confirmed_level}
+use Rattle.ot_top.proofs.Explained.{explained}
 use Rattle.ot_top.proofs.Followed.{followed}
-use Rattle.ot_top.proofs.Proving.{broken}
+use Rattle.ot_top.proofs.Proving.{broken, counter_found, evidence_level}
 use Rattle.ot_top.proofs.Showing.{has_level}
 use Rattle.ot_top.proofs.Shows.{reply_known, shows}
 use Rattle.ot_top.proofs.Templated.{templated}
@@ -31,6 +32,10 @@ returns-clause-shows g c =
     (confirmed_level confirms.tp1 confirms.tp2 confirms.one_outcome) grammar.text grammar.valid
     c.texts_of_functions_are_read.ensures.read c.bytes_have_one_judgement.ensures
     c.plain_functions_lack_a_property.ensures c.plans_have_one_question_list.ensures.one
+    (explained
+    (evidence_level (has_level laws.tp1 laws.tp2 laws.one_outcome) (confirmed_level confirms.tp1 confirms.tp2 confirms.one_outcome))
+    (counter_found grammar.text grammar.valid counters.broken counters.by_the_cause c.failing_triples_show_tp1.ensures)
+    c.texts_of_functions_are_read.ensures.read grammar.valid words holds c.write_answer.result is_written)
     (templated (λ head. (c.the_test_decides_the_fact.ensures head).0) (λ head. (c.the_test_decides_the_fact.ensures head).1)
     (λ head is t keeps. c.plain_text_has_no_transformation.ensures head t is keeps) c.templates_have_what_can_be_had.ensures.tp1
     c.templates_have_what_can_be_had.ensures.tp2 c.both_properties_give_one_outcome.ensures grammar.text words holds c.write_answer.result is_written)

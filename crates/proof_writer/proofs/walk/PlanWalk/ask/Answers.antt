@@ -15,28 +15,31 @@ returns-clause-nodes g c =
     (pushed_on c.args.self.now.waiting.items c.split.new.self.waiting.items c.push-2.new.self.items
     (Part c.part-on_no.result) c.in_ok-split.ensures.waiting c.in_ok-push-2.ensures.items)
 
-pub returns-in_err-put-clause-front : goal.returns-in_err-put-clause-front
-returns-in_err-put-clause-front g c = c.put.ensures
+pub returns-in_err-put_ask-clause-front : goal.returns-in_err-put_ask-clause-front
+returns-in_err-put_ask-clause-front g c = c.put_ask.ensures
 
 pub returns-in_err-put_cycle-clause-front : goal.returns-in_err-put_cycle-clause-front
 returns-in_err-put_cycle-clause-front g c =
-    ExtendsText-trans c.args.out.now.items c.put.new.out.items c.put_cycle.new.out.items c.put.ensures c.put_cycle.ensures
+    ExtendsText-trans c.args.out.now.items c.put_ask.new.out.items c.put_cycle.new.out.items c.put_ask.ensures c.put_cycle.ensures
 
 pub returns-then-branch-clause-front : goal.returns-then-branch-clause-front
 returns-then-branch-clause-front g c =
-    ExtendsText-trans c.args.out.now.items c.put.new.out.items c.put_cycle.new.out.items c.put.ensures c.put_cycle.ensures
+    ExtendsText-trans c.args.out.now.items c.put_ask.new.out.items c.put_cycle.new.out.items c.put_ask.ensures c.put_cycle.ensures
 
 pub returns-then-branch-2-clause-front : goal.returns-then-branch-2-clause-front
-returns-then-branch-2-clause-front g c = c.put.ensures
+returns-then-branch-2-clause-front g c = c.put_ask.ensures
 
 pub returns-in_err-push-clause-front : goal.returns-in_err-push-clause-front
-returns-in_err-push-clause-front g c = c.put.ensures
+returns-in_err-push-clause-front g c = c.put_ask.ensures
 
 pub returns-in_err-split-clause-front : goal.returns-in_err-split-clause-front
-returns-in_err-split-clause-front g c = c.put.ensures
+returns-in_err-split-clause-front g c = c.put_ask.ensures
 
 pub returns-in_err-push-2-clause-front : goal.returns-in_err-push-2-clause-front
-returns-in_err-push-2-clause-front g c = c.put.ensures
+returns-in_err-push-2-clause-front g c = c.put_ask.ensures
 
 pub returns-clause-front : goal.returns-clause-front
-returns-clause-front g c = c.put.ensures
+returns-clause-front g c = c.put_ask.ensures
+
+pub returns-in_err-extend_from_slice-clause-front : goal.returns-in_err-extend_from_slice-clause-front
+returns-in_err-extend_from_slice-clause-front g c = c.put_ask.ensures

@@ -1,0 +1,4 @@
+pub mod Misfits
+pub mod Paths
+pub mod Lines
+pub mod PathTexts

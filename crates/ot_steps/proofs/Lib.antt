@@ -1,0 +1,6 @@
+pub mod FirstCases
+pub mod SamePlaces
+pub mod CaseData
+pub mod Usable
+pub mod Repeated
+mod Examples

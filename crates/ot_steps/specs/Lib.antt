@@ -1,0 +1,11 @@
+pub mod Taken
+pub mod Differences
+pub mod Steps
+pub mod Columns
+pub mod ShortDocuments
+pub mod StepTexts
+pub mod CaseLines
+pub mod ExplainedTexts
+pub use Rattle.fn_rules.specs.Rules
+pub use Rattle.fn_rules.specs.Transformation
+pub use Rattle.ot_counter.specs.Counters
